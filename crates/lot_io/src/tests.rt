@@ -1,0 +1,110 @@
+use crate::{DiskShelf, MemoryShelf, MemorySink, ReadFault, Sink, StdSink, read_file, write_file};
+use std::alloc::{AllocError, Global};
+use std::collections::BTreeMap;
+use std::test::Fail;
+
+// A shelf with no file, whose appends and fetches of these numbers fail.
+fn empty_shelf(alloc: Global, appends: &[u64], fetches: &[u64]) -> Result<MemoryShelf, AllocError> {
+    Ok(MemoryShelf::new(
+        alloc,
+        BTreeMap::new(alloc),
+        Vec::from_slice(alloc, fetches)?,
+        Vec::new(alloc),
+        Vec::from_slice(alloc, appends)?,
+    ))
+}
+
+fn length_of(shelf: &MemoryShelf, name: &str) -> Option<usize> {
+    shelf.files.get(name).map(|bytes| bytes.len())
+}
+
+#[test]
+fn files_come_back_whole(rt: HostRuntime) -> Result<(), Fail> {
+    let alloc = rt.alloc();
+    let mut bytes = vec![in alloc; 7u8; 131_082]?;
+    bytes.push(b'x')?;
+    let mut shelf = empty_shelf(alloc, &[], &[])?;
+    assert_eq!(rt; write_file(&mut shelf, "a", bytes.as_slice()), Ok(()));
+    assert_eq!(rt; (shelf.starts, shelf.appends), (1, 3));
+    let read = read_file(alloc, &mut shelf, "a", 131_083)?;
+    assert!(rt; read.as_slice() == bytes.as_slice());
+    assert_eq!(rt; (shelf.fetches, shelf.given), (4, 131_083));
+    Ok(())
+}
+
+#[test]
+fn a_failing_append_leaves_half_a_piece(rt: HostRuntime) -> Result<(), Fail> {
+    let alloc = rt.alloc();
+    let bytes = vec![in alloc; 7u8; 131_082]?;
+    for (fails, left) in [(1u64, 32_768usize), (2, 98_304), (3, 131_077)] {
+        let mut shelf = empty_shelf(alloc, &[fails], &[])?;
+        assert!(rt; write_file(&mut shelf, "a", bytes.as_slice()).is_err());
+        assert_eq!(rt; length_of(&shelf, "a"), Some(left), "append {fails} fails");
+        assert_eq!(rt; (shelf.write_faults, shelf.wants), (1, 0));
+    }
+    Ok(())
+}
+
+#[test]
+fn files_are_refused_by_cause(rt: HostRuntime) -> Result<(), Fail> {
+    let alloc = rt.alloc();
+    let mut shelf = empty_shelf(alloc, &[], &[5])?;
+    assert_eq!(rt; write_file(&mut shelf, "a", b"12345"), Ok(()));
+    for (name, most, want) in [
+        ("b", 9u64, ReadFault::Missing),
+        ("a", 4, ReadFault::TooLong),
+        ("a", 0, ReadFault::TooLong),
+    ] {
+        assert_eq!(rt;
+            read_file(alloc, &mut shelf, name, most).err(),
+            Some(want),
+            "{name} {most}"
+        );
+    }
+    assert_eq!(rt;
+        read_file(alloc, &mut shelf, "a", 5).err(),
+        Some(ReadFault::Failed)
+    );
+    assert!(rt; read_file(alloc, &mut shelf, "a", 5)?.as_slice() == b"12345".as_slice());
+    assert_eq!(rt; (shelf.misses, shelf.faults), (1, 1));
+    Ok(())
+}
+
+#[test]
+fn a_failing_put_adds_half(rt: HostRuntime) -> Result<(), Fail> {
+    let alloc = rt.alloc();
+    let mut sink = MemorySink::new(alloc, vec![in alloc; 2u64]?);
+    assert!(rt; sink.put(b"ab").is_ok());
+    assert!(rt; sink.put(b"cde").is_err());
+    assert!(rt; sink.put(b"f").is_ok());
+    assert!(rt; sink.bytes.as_slice() == b"abcf".as_slice());
+    assert_eq!(rt; (sink.puts, sink.faults, sink.wants), (3, 1, 0));
+    Ok(())
+}
+
+#[test]
+fn real_files_and_output(rt: HostRuntime) -> Result<(), Fail> {
+    let alloc = rt.alloc();
+    let bytes = vec![in alloc; 7u8; 65_537]?;
+    let mut shelf = DiskShelf::new(rt.clone()?);
+    assert_eq!(rt;
+        write_file(&mut shelf, "a", b"longer than what follows"),
+        Ok(())
+    );
+    assert_eq!(rt; write_file(&mut shelf, "a", bytes.as_slice()), Ok(()));
+    assert!(rt; read_file(alloc, &mut shelf, "a", 65_537)?.as_slice() == bytes.as_slice());
+    assert_eq!(rt;
+        read_file(alloc, &mut shelf, "b", 9).err(),
+        Some(ReadFault::Missing)
+    );
+    assert_eq!(rt;
+        read_file(alloc, &mut shelf, ".", 9).err(),
+        Some(ReadFault::Failed)
+    );
+    assert!(rt; write_file(&mut shelf, "no/such/folder", b"x").is_err());
+    assert_eq!(rt; (shelf.misses, shelf.faults, shelf.write_faults), (1, 1, 1));
+    let mut sink = StdSink::new(std::io::writer(&rt));
+    assert!(rt; sink.put(b"printed\n").is_ok());
+    assert_eq!(rt; sink.faults, 0);
+    Ok(())
+}
