@@ -1,0 +1,3 @@
+pub mod Document
+pub mod Model
+pub mod Held

@@ -1,0 +1,9 @@
+use Rattle.std.proofs.Common.{◌≡◌, ◌∙◌, refl, sym, ap, subst, rules}
+use Rattle.lot_model.specs.Drafts.{HasOneItemOnePeriod, IsOneItem, one_item_problem}
+use Rattle.lot_model.proofs.OneItem.{first_item, draft_is}
+use Rattle.lot_model.proofs.instance.Instance.from_draft.Goals as goal
+
+pub instance-requires : goal.instance-requires
+instance-requires c =
+    let form : HasOneItemOnePeriod c.args.draft = c.if-not-has_one_item_one_period.ensures.0 (search rules) in
+    subst IsOneItem (sym c.index.ensures) (first_item c.args.draft.items.items c.index.result.now form.items)

@@ -1,0 +1,6 @@
+pub mod Sums
+pub mod Plans
+pub mod Least
+pub mod Bounds
+pub mod Same
+pub mod Totals

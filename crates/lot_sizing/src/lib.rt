@@ -1,0 +1,31 @@
+//! The terms in which the planner's contracts speak.
+//!
+//! A problem is the multi-item, multi-level, capacitated lot-sizing problem with setups and
+//! backlogging in big time buckets, as Pochet and Wolsey model it in "Production Planning by Mixed
+//! Integer Programming". `specs/` has what a problem is (`Problem`), what a plan is, when it is
+//! feasible and what it costs (`Plan`), what holds of all feasible plans (`Best`), how much of an
+//! item any of them makes (`Totals`), the stocks and backlogs that go with quantities (`Least`), and
+//! the texts that the program writes (`Texts`). `proofs/` has laws about these.
+//!
+//! Items, resources and periods are counted from 1. All numbers are whole and of any size.
+#![tactic(auto)]
+
+/// A component, and how many units of it go into one unit of the item.
+#[derive(Clone, Copy, Debug, PartialEq, Eq)]
+pub struct Need {
+    /// The component's number.
+    pub item: u32,
+    /// Units of the component in one unit of the item.
+    pub quantity: u64,
+}
+
+/// A resource, and the time that the item takes on it.
+#[derive(Clone, Copy, Debug, PartialEq, Eq)]
+pub struct Usage {
+    /// The resource's number.
+    pub resource: u32,
+    /// Time of one unit, in time units of the resource.
+    pub unit: u64,
+    /// Time of a setup, in time units of the resource.
+    pub setup: u64,
+}
