@@ -1,5 +1,5 @@
 -- Keys in a list of names, and lists of one element.
-use Rattle.std.proofs.Common.{◌≡◌, ℕ, List, [], ◌∷◌, Bool, Option, Some, None, length, map, slice_index_or, refl, ap, arith}
+use Rattle.std.proofs.Common.{◌≡◌, List, [], ◌∷◌, Bool, Some, None, length, map, slice_index_or, refl, ap, arith}
 use Rattle.std.specs.Prelude.{◌||◌}
 use Rattle.std.specs.List.{list_any}
 use Rattle.toml.specs.View.{items_view, view}

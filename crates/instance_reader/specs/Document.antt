@@ -1,5 +1,5 @@
 -- What bytes mean as a TOML document (TOML 1.0), and what stands under its keys.
-use Rattle.std.specs.Prelude.{◌≡◌, ℕ, ℤ, pos, Bool, true, ◌&&◌, List, ◌∷◌, [], Option, Some, None, if◌then◌else◌}
+use Rattle.std.specs.Prelude.{ℕ, ℤ, pos, Bool, true, ◌&&◌, List, Option, Some, None, if◌then◌else◌}
 use Rattle.std.specs.List.{list_any}
 use Rattle.std.specs.Str.{is_utf8, bytes_eq}
 use Rattle.toml.specs.Data.{Data, Items, item, no_items, Members, member, no_members, as_integer}

@@ -1,7 +1,6 @@
 -- What bytes mean as a model, so far as models are built: one item over one period.
-use Rattle.std.specs.Prelude.{◌≡◌, ℕ, ◌^◌, ℤ, pos, negsuc, Bool, true, false, ◌&&◌, ◌==◌, nat_le, length, List, [], ◌∷◌, Option, Some, None, Result, Ok, Err, option_map, option_and_then, if◌then◌else◌, codes}
-use Rattle.std.specs.List.{list_all}
-use Rattle.toml.specs.Data.{Data, Members, as_array, as_integer, as_str, as_table, get_member}
+use Rattle.std.specs.Prelude.{◌≡◌, ℕ, ◌^◌, ℤ, pos, negsuc, Bool, false, ◌&&◌, ◌==◌, nat_le, List, [], ◌∷◌, Option, Some, None, Result, Ok, Err, option_and_then, if◌then◌else◌, codes}
+use Rattle.toml.specs.Data.{Members, as_array, as_integer, as_str, as_table, get_member}
 use Rattle.lot_sizing.specs.Problem.{Problem, is_name}
 use Rattle.lot_model.specs.declared.fault.ModelFault.{ModelFault}
 use Rattle.lot_model.specs.declared.fault.ModelCode.TheVariants.{NotToml}

@@ -1,9 +1,8 @@
 -- The problem of one item over one period is within the limits.
-use Rattle.std.proofs.Common.{◌≡◌, ◌≤◌, ◌<◌, ◌+◌, ◌-◌, ◌*◌, ◌^◌, ◌∙◌, ℕ, ℤ, pos, negsuc, List, [], ◌∷◌, Option, Some, None, length, map, slice_index_or, string_bytes, sym, ap, subst, refl, arith, rules}
-use Rattle.std.specs.List.{All}
-use Rattle.lot_sizing.specs.Problem.{Item, Problem, IsItem, IsSeries, IsName, IsResource, HasLists, AreNeeds, AreUses, IsWithinLimits, item_at, resource_at, no_item}
+use Rattle.std.proofs.Common.{◌≡◌, ◌≤◌, ◌<◌, ◌-◌, ◌^◌, ℕ, ℤ, pos, negsuc, List, [], ◌∷◌, None, length, map, slice_index_or, ap, refl, arith}
+use Rattle.lot_sizing.specs.Problem.{IsItem, IsSeries}
 use Rattle.lot_model.specs.Drafts.{AreOneItem, HasNothingElse, HasOneItemOnePeriod, IsOneItem, IsOneNumber, item_of, natural, one_item_problem, problem_of_draft}
-use Rattle.lot_model.specs.Views.{IsBuilt, IsOneItemOnePeriod}
+use Rattle.lot_model.specs.Views.{IsBuilt}
 use Rattle.lot_model.specs.declared.draft.Draft.{Draft}
 use Rattle.lot_model.specs.declared.draft.DraftItem.{DraftItem}
 

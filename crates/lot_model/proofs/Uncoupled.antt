@@ -1,5 +1,5 @@
 -- The largest totals of problems where no item goes into another.
-use Rattle.std.proofs.Common.{◌≡◌, ◌≤◌, ◌<◌, ◌+◌, ◌-◌, ◌*◌, ◌∙◌, ℕ, [], sym, ap, refl, arith}
+use Rattle.std.proofs.Common.{◌≡◌, ◌+◌, ◌-◌, ◌*◌, ◌∙◌, ℕ, ap, refl, arith}
 use Rattle.lot_sizing.specs.Sums.{sum_to}
 use Rattle.lot_sizing.specs.Problem.{Problem, item_at, item_count, demand, per_unit}
 use Rattle.lot_sizing.specs.Totals.{AreLargestTotals}

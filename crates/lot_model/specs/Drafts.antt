@@ -1,5 +1,5 @@
 -- Which drafts are instances so far, and of what problem.
-use Rattle.std.specs.Prelude.{◌≡◌, ℕ, ◌+◌, ◌≤◌, ◌^◌, ℤ, pos, negsuc, List, [], ◌∷◌, map, Option, Some, None, option_map, unwrap_or, string_bytes}
+use Rattle.std.specs.Prelude.{◌≡◌, ℕ, ◌+◌, ◌≤◌, ◌^◌, ℤ, pos, negsuc, List, [], ◌∷◌, map, None, option_map, unwrap_or, string_bytes}
 use Rattle.lot_sizing.specs.Problem.{Problem, Item, IsName}
 use Rattle.lot_model.specs.declared.draft.Draft.{Draft}
 use Rattle.lot_model.specs.declared.draft.DraftItem.{DraftItem}

@@ -1,5 +1,5 @@
 -- The problem that the fields of an instance stand for, and the form that it has so far.
-use Rattle.std.specs.Prelude.{◌≡◌, ℕ, [], Option, None}
+use Rattle.std.specs.Prelude.{◌≡◌, [], None}
 use Rattle.lot_sizing.specs.Problem.{Problem, item_at, item_count, IsWithinLimits}
 use Rattle.lot_model.specs.declared.instance.Instance.TheInside.{Inside}
 

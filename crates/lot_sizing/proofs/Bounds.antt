@@ -1,9 +1,8 @@
 -- How large the numbers of a feasible plan can be where no item goes into another.
-use Rattle.std.proofs.Common.{◌≡◌, ◌≤◌, ◌<◌, ◌+◌, ◌-◌, ◌*◌, ◌^◌, ◌∙◌, ℕ, [], refl, sym, ap, arith}
-use Rattle.lot_sizing.specs.Sums.{sum_to}
-use Rattle.lot_sizing.specs.Problem.{Problem, item_at, item_count, demand, per_unit, IsWithinLimits}
+use Rattle.std.proofs.Common.{◌≡◌, ◌≤◌, ◌<◌, ◌+◌, ◌-◌, ◌*◌, ◌^◌, ◌∙◌, ℕ, refl, arith}
+use Rattle.lot_sizing.specs.Problem.{Problem, item_count, demand, per_unit, IsWithinLimits}
 use Rattle.lot_sizing.specs.Plan.{Plan, Table, IsFeasible, used_up}
-use Rattle.lot_sizing.specs.Least.{supply, outflow, least_stock, least_backlog, HasChoice, HasNoNeeds}
+use Rattle.lot_sizing.specs.Least.{outflow, least_stock, least_backlog, HasChoice, HasNoNeeds}
 use Rattle.lot_sizing.proofs.Sums.{sum_to-same, sum_to-bound, sum_to-zero, sum_to-front}
 use Rattle.lot_sizing.proofs.Least.{least_feasible}
 

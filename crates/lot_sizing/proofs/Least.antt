@@ -1,9 +1,8 @@
 -- The least stocks and backlogs.
-use Rattle.std.proofs.Common.{◌≡◌, ◌≤◌, ◌<◌, ◌+◌, ◌-◌, ◌*◌, ◌∙◌, ℕ, zero, suc, refl, sym, ap, arith, IsNone}
+use Rattle.std.proofs.Common.{◌≡◌, ◌≤◌, ◌+◌, ◌-◌, ◌*◌, ◌∙◌, ℕ, zero, suc, refl, sym, ap, arith}
 use Rattle.std.proofs.Math.Nat.{mul-le-mul_left}
-use Rattle.lot_sizing.specs.Sums.{sum_to}
-use Rattle.lot_sizing.specs.Problem.{Problem, item_at, item_count, resource_count, demand, per_unit, unit_time, setup_time, unit_cost, setup_cost, hold_cost, backlog_cost, capacity}
-use Rattle.lot_sizing.specs.Plan.{Plan, Table, Each, EachCell, IsBalanced, IsSetup, IsMadeWithSetup, IsWithinCapacity, IsEndStock, IsBacklogAllowed, IsFeasible, stock_after, backlog_after, used_up, time_used, cost_at, cost}
+use Rattle.lot_sizing.specs.Problem.{Problem, item_at, item_count, demand, per_unit, unit_time, setup_time, unit_cost, setup_cost, hold_cost, backlog_cost}
+use Rattle.lot_sizing.specs.Plan.{Plan, Table, EachCell, IsBalanced, IsFeasible, stock_after, backlog_after, used_up, time_used, cost}
 use Rattle.lot_sizing.specs.Least.{supply, outflow, least_stock, least_backlog, least_plan, SameCells, HasChoice}
 use Rattle.lot_sizing.proofs.Sums.{sum_to-same, sum_to-le}
 use Rattle.lot_sizing.proofs.Plans.{stock_after_some, backlog_after_some}

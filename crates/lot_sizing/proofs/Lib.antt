@@ -4,3 +4,4 @@ pub mod Least
 pub mod Bounds
 pub mod Same
 pub mod Totals
+pub mod Texts

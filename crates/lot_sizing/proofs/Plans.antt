@@ -1,6 +1,6 @@
 -- First consequences of what a plan is.
 use Rattle.std.proofs.Common.{◌≡◌, ◌≤◌, ℕ, zero, suc, refl, arith}
-use Rattle.lot_sizing.specs.Problem.{Problem, item_at}
+use Rattle.lot_sizing.specs.Problem.{Problem}
 use Rattle.lot_sizing.specs.Plan.{Plan, stock_after, backlog_after}
 
 pub stock_after_some : (m : Problem) (p : Plan) (i t : ℕ) → 1 ≤ t → stock_after m p i t ≡ p.stock i t

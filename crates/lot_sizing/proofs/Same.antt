@@ -1,8 +1,8 @@
 -- What is feasible and what it costs goes by the numbers of the items and periods that there are.
-use Rattle.std.proofs.Common.{◌≡◌, ◌≤◌, ◌<◌, ◌+◌, ◌-◌, ◌*◌, ◌∙◌, ℕ, zero, suc, refl, sym, ap, arith}
-use Rattle.lot_sizing.specs.Problem.{Problem, item_at, item_count, resource_count, demand, per_unit, unit_time, setup_time, unit_cost, setup_cost, hold_cost, backlog_cost, capacity}
-use Rattle.lot_sizing.specs.Plan.{Plan, Table, IsFeasible, stock_after, backlog_after, used_up, time_used, cost}
-use Rattle.lot_sizing.specs.Least.{SameCells, SamePlan}
+use Rattle.std.proofs.Common.{◌≡◌, ◌≤◌, ◌-◌, ◌*◌, ◌∙◌, ℕ, zero, suc, refl, sym, ap, arith}
+use Rattle.lot_sizing.specs.Problem.{Problem, item_count, unit_time, setup_time, unit_cost, setup_cost, hold_cost, backlog_cost}
+use Rattle.lot_sizing.specs.Plan.{Plan, IsFeasible, stock_after, backlog_after, time_used, cost}
+use Rattle.lot_sizing.specs.Least.{SamePlan}
 use Rattle.lot_sizing.proofs.Sums.{sum_to-same}
 use Rattle.lot_sizing.proofs.Least.{used_up_same}
 

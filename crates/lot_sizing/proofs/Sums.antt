@@ -1,5 +1,5 @@
 -- Laws of sums over numbers that are counted from 1.
-use Rattle.std.proofs.Common.{◌≡◌, ◌≤◌, ◌<◌, ◌+◌, ◌-◌, ◌*◌, ◌∙◌, ◌⊎◌, ⊎_elim, ℕ, zero, suc, sym, ap, refl, add-one, arith}
+use Rattle.std.proofs.Common.{◌≡◌, ◌≤◌, ◌+◌, ◌-◌, ◌*◌, ◌⊎◌, ⊎_elim, ℕ, zero, suc, sym, refl, add-one, arith}
 use Rattle.lot_sizing.specs.Sums.{sum_to}
 
 pub sum_to-next : (n : ℕ) (f : ℕ → ℕ) → sum_to (n + 1) f ≡ sum_to n f + f (n + 1)

@@ -1,9 +1,9 @@
 -- No feasible plan makes more than the largest total.
-use Rattle.std.proofs.Common.{◌≡◌, ◌≤◌, ◌<◌, ◌+◌, ◌-◌, ◌*◌, ◌∙◌, ◌⊎◌, ⊎_elim, ℕ, zero, suc, refl, sym, ap, arith}
+use Rattle.std.proofs.Common.{◌≡◌, ◌≤◌, ◌<◌, ◌*◌, ◌∙◌, ⊎_elim, ℕ, zero, suc, refl, ap, arith}
 use Rattle.std.proofs.Math.Nat.{mul-le-mul_left}
 use Rattle.std.proofs.lemmas.Bool.{cases_lt}
 use Rattle.lot_sizing.specs.Sums.{sum_to}
-use Rattle.lot_sizing.specs.Problem.{Problem, item_at, item_count, demand, per_unit}
+use Rattle.lot_sizing.specs.Problem.{Problem, item_count, demand, per_unit}
 use Rattle.lot_sizing.specs.Plan.{Plan, IsFeasible, used_up}
 use Rattle.lot_sizing.specs.Totals.{IsRanking, AreLargestTotals}
 use Rattle.lot_sizing.proofs.Sums.{sum_to-same, sum_to-le, sum_to-add, sum_to-times, sum_to-swap}

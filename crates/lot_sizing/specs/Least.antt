@@ -2,7 +2,7 @@
 use Rattle.std.specs.Prelude.{◌≡◌, ℕ, ◌+◌, ◌-◌, ◌≤◌, []}
 use Rattle.lot_sizing.specs.Sums.{sum_to}
 use Rattle.lot_sizing.specs.Problem.{Problem, item_at, item_count, demand}
-use Rattle.lot_sizing.specs.Plan.{Plan, Table, EachCell, used_up, IsFeasible, cost}
+use Rattle.lot_sizing.specs.Plan.{Plan, Table, EachCell, used_up}
 
 -- what there has been of an item up to a period
 abbrev pub supply : Problem → Table → ℕ → ℕ → ℕ

@@ -5,3 +5,4 @@ pub mod Best
 pub mod Totals
 pub mod Least
 pub mod Texts
+pub mod Laws

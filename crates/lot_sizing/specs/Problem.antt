@@ -1,5 +1,5 @@
 -- What is to be planned: the data of a lot-sizing problem (Pochet and Wolsey). Items, resources and periods are counted from 1.
-use Rattle.std.specs.Prelude.{◌≡◌, ◌≢◌, ℕ, ◌-◌, ◌<◌, ◌≤◌, ◌^◌, ◌*◌, ◌==◌, ◌&&◌, ◌||◌, List, [], length, Option, Some, None, slice_index_or, IfSome, if◌then◌else◌, Bool, IsTrue, nat_le}
+use Rattle.std.specs.Prelude.{◌≡◌, ℕ, ◌-◌, ◌≤◌, ◌^◌, ◌*◌, ◌==◌, ◌&&◌, ◌||◌, List, [], length, Option, Some, None, slice_index_or, IfSome, if◌then◌else◌, Bool, IsTrue, nat_le}
 use Rattle.std.specs.List.{sum_by, All, list_all}
 use Rattle.lot_sizing.specs.declared.Need.{Need}
 use Rattle.lot_sizing.specs.declared.Usage.{Usage}

@@ -1,4 +1,4 @@
-use Rattle.std.proofs.Common.{◌≡◌, ◌<◌, ◌≤◌, ◌+◌, ◌∙◌, IsTrue, ap, sym, arith, vec_len, length, take, drop, Some, ◌++◌, ℕ}
+use Rattle.std.proofs.Common.{◌≡◌, ◌<◌, ◌+◌, ◌∙◌, IsTrue, ap, sym, arith, vec_len, length, take, drop, Some, ◌++◌, ℕ}
 use Rattle.std.proofs.lemmas.List.{length-take, take_at}
 use Rattle.lot_io.proofs.Reading.{read_whole, read_more}
 use Rattle.lot_io.proofs.files.read_file.Goals as goal

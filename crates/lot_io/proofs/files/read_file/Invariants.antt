@@ -1,4 +1,4 @@
-use Rattle.std.proofs.Common.{◌≡◌, ◌≤◌, ◌+◌, ◌-◌, List, ℕ, length, take, IsTrue, Option, Some, vec_len}
+use Rattle.std.proofs.Common.{◌≡◌, ◌≤◌, ◌+◌, ◌-◌, List, ℕ, take, IsTrue, Some, vec_len}
 use Rattle.lot_io.specs.Outside.{RoseBy}
 use Rattle.lot_io.proofs.files.read_file.Given as goal
 

@@ -1,4 +1,4 @@
-use Rattle.std.proofs.Common.{◌≡◌, ◌≤◌, ◌++◌, ◌+◌, List, ℕ, min, length, IsTrue, Option, Some}
+use Rattle.std.proofs.Common.{◌≡◌, ◌≤◌, ◌++◌, ◌+◌, List, ℕ, min, length, IsTrue, Some}
 use Rattle.lot_io.specs.Outside.{SameElsewhere, GrewBy, last_count, pieces_of}
 use Rattle.lot_io.proofs.files.write_file.Given as goal
 

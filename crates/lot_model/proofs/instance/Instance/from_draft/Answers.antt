@@ -1,6 +1,6 @@
-use Rattle.std.proofs.Common.{◌≡◌, ◌∙◌, refl, sym, ap, subst, rules}
-use Rattle.lot_model.specs.Drafts.{HasOneItemOnePeriod, IsOneItem, one_item_problem}
-use Rattle.lot_model.proofs.OneItem.{first_item, draft_is}
+use Rattle.std.proofs.Common.{sym, subst, rules}
+use Rattle.lot_model.specs.Drafts.{HasOneItemOnePeriod, IsOneItem}
+use Rattle.lot_model.proofs.OneItem.{first_item}
 use Rattle.lot_model.proofs.instance.Instance.from_draft.Goals as goal
 
 pub instance-requires : goal.instance-requires

@@ -1,4 +1,4 @@
-use Rattle.std.proofs.Common.{◌≡◌, ◌≢◌, ◌∙◌, ℕ, ap, arith, get_or-set_other}
+use Rattle.std.proofs.Common.{◌≡◌, ◌≢◌, ◌∙◌, ap, arith, get_or-set_other}
 use Rattle.plan_rules.specs.Cells.{table_of, place}
 use Rattle.plan_rules.proofs.Places.{places_apart}
 use Rattle.plan_rules.proofs.grid.Grid.set.Goals as goal

@@ -1,0 +1,2 @@
+pub mod OnePeriod
+pub mod Explained

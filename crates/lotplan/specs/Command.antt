@@ -1,0 +1,24 @@
+-- What the words of a command line ask for.
+use Rattle.std.specs.Prelude.{ℕ, Bool, false, not, ◌&&◌, ◌==◌, List, [], ◌∷◌, Option, Some, None, if◌then◌else◌, codes}
+use Rattle.std.specs.Str.{bytes_eq}
+
+pub data Asked : Type 0 where
+  -- the program's name
+  version : Asked
+  -- to plan a model file, with the names of the model file, the plan file and the certificate file
+  planning : List ℕ → List ℕ → List ℕ → Asked
+
+-- a file's name isn't empty and doesn't begin with `-`
+abbrev pub is_file_name : List ℕ → Bool
+is_file_name [] = false
+is_file_name (b ∷ bs) = not (b == 45)
+
+-- three files' names, no two of them the same
+abbrev pub are_file_names : List ℕ → List ℕ → List ℕ → Bool
+are_file_names m p c = is_file_name m && (is_file_name p && (is_file_name c && (not (bytes_eq m p) && (not (bytes_eq m c) && not (bytes_eq p c)))))
+
+-- no words, or `plan` and three names
+abbrev pub command_of : List (List ℕ) → Option Asked
+command_of [] = Some version
+command_of (word ∷ m ∷ p ∷ c ∷ []) = if bytes_eq word (codes "plan") && are_file_names m p c then Some (planning m p c) else None
+command_of _ = None

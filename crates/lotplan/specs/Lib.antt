@@ -1,0 +1,5 @@
+pub mod Command
+pub mod Answer
+pub mod Run
+pub mod Held
+pub mod Stops

@@ -1,0 +1,94 @@
+// What a run answers.
+ghost use Rattle.std.specs.Prelude.{◌≡◌, ◌++◌, Some, IfOk, string_bytes, codes};
+ghost use Rattle.lotplan.specs.Answer.{line_of, model_line, status_of};
+
+use lot_model::{ModelCode, ModelFault};
+use std::alloc::{AllocError, Global};
+
+/// What a run answers, with the name of the file that it concerns. Want of memory is an error beside
+/// these.
+#[derive(Clone, Copy, Debug, PartialEq, Eq)]
+pub enum Answer<'a> {
+    /// The program's name and version.
+    Named,
+    /// A best plan was written, with this cost.
+    Optimal(u128),
+    /// The words are no command.
+    NoCommand,
+    /// The model is refused, or can't be planned yet.
+    Refused(ModelFault),
+    /// The file is absent.
+    Missing(&'a str),
+    /// The file could not be read.
+    Unread(&'a str),
+    /// The file could not be written.
+    Unwritten(&'a str),
+    /// The file is too long.
+    TooLong(&'a str),
+}
+
+/// What a run says at its end: a line to print, with its line feed, and the status of the process.
+#[derive(Debug, Drop)]
+pub struct Said {
+    pub line: String,
+    pub status: u8,
+}
+
+impl Answer<'_> {
+    ghost use Rattle.lotplan.specs.Held.{meant_by};
+    ghost use Rattle.lotplan.specs.Run.{Says};
+
+    /// The line and the status.
+    pub fn said(&self, alloc: Global) -> Result<Said, AllocError>
+        ensures { IfOk result (Says (meant_by self.now)) }
+    {
+        Ok(Said {
+            line: self.line(alloc)?,
+            status: self.status(),
+        })
+    }
+
+    /// The status of the process.
+    pub fn status(&self) -> u8
+        ensures { result ≡ status_of (meant_by self.now) }
+    {
+        match self {
+            Answer::Named | Answer::Optimal(_) => 0,
+            Answer::NoCommand => 4,
+            Answer::Refused(fault) => match fault.code {
+                ModelCode::NotBuilt => 12,
+                _ => 5,
+            },
+            Answer::Missing(_) => 6,
+            Answer::Unread(_) => 7,
+            Answer::Unwritten(_) => 8,
+            Answer::TooLong(_) => 11,
+        }
+    }
+
+    /// The line that is printed, with its line feed.
+    pub fn line(&self, alloc: Global) -> Result<String, AllocError>
+        ensures { IfOk result (λ line. string_bytes line ≡ line_of (meant_by self.now)) }
+    {
+        match self {
+            Answer::Named => String::from_str(alloc, "lotplan 1\n"),
+            Answer::Optimal(cost) => format!(in alloc; "optimal {cost}\n"),
+            Answer::NoCommand => String::from_str(alloc, "refused words\n"),
+            Answer::Refused(fault) => model_line(alloc, fault),
+            Answer::Missing(file) => format!(in alloc; "refused missing {file}\n"),
+            Answer::Unread(file) => format!(in alloc; "refused read {file}\n"),
+            Answer::Unwritten(file) => format!(in alloc; "refused write {file}\n"),
+            Answer::TooLong(file) => format!(in alloc; "refused long {file}\n"),
+        }
+    }
+}
+
+// The line of a refused model.
+fn model_line(alloc: Global, fault: &ModelFault) -> Result<String, AllocError>
+    ensures { IfOk result (λ line. string_bytes line ≡ model_line fault.now.code fault.now) }
+{
+    match fault.code {
+        ModelCode::NotBuilt => String::from_str(alloc, "refused notbuilt\n"),
+        _ => format!(in alloc; "refused model {fault}\n"),
+    }
+}

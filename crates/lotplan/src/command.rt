@@ -1,0 +1,70 @@
+// What the words of a command line ask for.
+ghost use Rattle.std.specs.Prelude.{◌≡◌, map, option_map, string_bytes};
+ghost use Rattle.lotplan.specs.Command.{are_file_names, command_of, is_file_name};
+ghost use Rattle.lotplan.specs.Held.{asked_of};
+
+/// What the words ask for.
+#[derive(Clone, Copy, Debug, PartialEq, Eq)]
+pub enum Command<'a> {
+    /// The program's name and version.
+    Name,
+    /// To plan a model file.
+    Plan(Names<'a>),
+}
+
+/// The names of the files of a plan, no two of them the same.
+#[derive(Clone, Copy, Debug, PartialEq, Eq)]
+pub struct Names<'a> {
+    /// The model file, which is read.
+    pub model: &'a str,
+    /// The plan file, which is written.
+    pub plan: &'a str,
+    /// The certificate file.
+    pub certificate: &'a str,
+}
+
+// Whether a text is the name of a file.
+fn is_file_name(text: &str) -> bool
+    ensures { result ≡ is_file_name text.now }
+{
+    match text.as_bytes().first() {
+        Some(byte) => *byte != b'-',
+        None => false,
+    }
+}
+
+// Whether three texts are names of files, no two of them the same.
+fn are_file_names(model: &str, plan: &str, certificate: &str) -> bool
+    ensures { result ≡ are_file_names model.now plan.now certificate.now }
+{
+    is_file_name(model)
+        && is_file_name(plan)
+        && is_file_name(certificate)
+        && model != plan
+        && model != certificate
+        && plan != certificate
+}
+
+/// What the words ask for, if they are a command.
+pub fn read_words<'a>(words: &'a [String]) -> Option<Command<'a>>
+    ensures { option_map asked_of result ≡ command_of (map string_bytes words.entry.now) }
+{
+    match words {
+        [] => Some(Command::Name),
+        [word, model, plan, certificate] => {
+            let names = Names {
+                model: model.as_str(),
+                plan: plan.as_str(),
+                certificate: certificate.as_str(),
+            };
+            if word.as_str() == "plan"
+                && are_file_names(names.model, names.plan, names.certificate)
+            {
+                Some(Command::Plan(names))
+            } else {
+                None
+            }
+        }
+        _ => None,
+    }
+}

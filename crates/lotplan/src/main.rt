@@ -1,0 +1,54 @@
+//! `lotplan`: plans lots in whole numbers, with proof that no plan costs less.
+//!
+//! `main` gives the command line, the machine's files and standard output to `run`, and ends with
+//! its status. `run` reads the words, plans, writes and prints; what each status means is its
+//! contract. So far a model of one item over one period is planned.
+#![tactic(auto)]
+
+mod answer;
+mod command;
+mod planner;
+mod planning;
+mod run;
+mod text;
+
+use lot_io::{DiskShelf, Sink, StdSink};
+pub use run::run;
+use std::io::ErrorKind;
+use std::process::ExitCode;
+use std::{env, io};
+
+// The status where a word is no text, and where memory ran out.
+const NO_COMMAND: u8 = 4;
+
+const NO_MEMORY: u8 = 10;
+
+fn main(rt: HostRuntime) -> ExitCode {
+    let alloc = rt.alloc();
+    let mut out = StdSink::new(io::writer(&rt));
+    let status = match env::args(&rt) {
+        Ok(args) => match args.skip(1).collect::<Vec<String>>(alloc) {
+            Ok(words) => {
+                let mut shelf = DiskShelf::new(&rt);
+                run(alloc, words.as_slice(), &mut shelf, &mut out)
+            }
+            Err(_) => NO_MEMORY,
+        },
+        Err(error) => refuse(error.kind(), &mut out),
+    };
+    ExitCode::from(status)
+}
+
+// The status where the words could not be had: one of them is no text in UTF-8, or memory ran out.
+fn refuse<K: Sink>(kind: ErrorKind, out: &mut K) -> u8 {
+    if kind != ErrorKind::InvalidData {
+        return NO_MEMORY;
+    }
+    match out.put(b"refused words\n") {
+        Ok(()) => NO_COMMAND,
+        Err(_) => 9,
+    }
+}
+
+#[cfg(test)]
+mod tests;
