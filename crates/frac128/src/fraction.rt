@@ -1,0 +1,190 @@
+// The fractions.
+ghost use Rattle.std.specs.Prelude.{◌≡◌, ◌≢◌, ◌<◌, ◌^◌, pos, ◌<ℤ◌, ◌+ℤ◌, ◌-ℤ◌};
+ghost use Rattle.std.specs.Option.{SomeIff};
+ghost use Rattle.rational.specs.Rational.{make, inv_ℚ, whole, ◌+ℚ◌, ◌-ℚ◌, ◌*ℚ◌, IsCeiling};
+ghost use Rattle.frac128.specs.Limits.{divided_ℚ, quotient_ℚ, signed, Fits, IsOrder, IsSmall, SumFits};
+
+use crate::divisor::{common, gcd};
+use crate::steps::{aligned, minus, plus, quotient, times};
+use crate::wide::compare_products;
+use std::cmp::Ordering;
+use std::marker::Model;
+
+// The greatest numerator or denominator, 2^127 - 1.
+const MOST: u128 = i128::MAX as u128;
+
+/// A fraction in lowest terms with a denominator above 0, both at most 2^127 - 1 in absolute value.
+#[derive(Clone, Copy)]
+pub struct Frac {
+    num: i128,
+    den: i128,
+}
+
+impl Model for Frac {
+    ghost use Rattle.rational.specs.Rational.{ℚ, make};
+    ghost use Rattle.frac128.specs.Limits.{IsSmall};
+    ghost use Rattle.algebra.specs.Fractions.{IsLowest};
+    ghost use Rattle.rational.proofs.Rationals.{lowest_back};
+
+    ghost Value = { ℚ };
+
+    ghost view = { λ f. make f.num f.den };
+
+    ghost invariant = { λ f. IsLowest f.num f.den × IsSmall f.num };
+
+    ghost inverse = { λ x. record { num = x.num; den = x.den } };
+
+    ghost inverse_ok = { λ f h. lowest_back (λ n d. record { num = n; den = d }) f.num f.den h.0 };
+}
+
+impl Frac {
+    /// The numerator, in lowest terms.
+    pub fn num(self) -> i128
+        ensures value { result ≡ self.num }
+        ensures small { IsSmall result }
+    {
+        self.num
+    }
+
+    /// The denominator, in lowest terms. It is above 0.
+    pub fn den(self) -> i128
+        ensures value { result ≡ self.den }
+        ensures positive { pos 0 <ℤ result }
+    {
+        self.den
+    }
+
+    /// The number num/den. None exactly where den is 0, or a part of it in lowest terms doesn't fit.
+    pub fn new(num: i128, den: i128) -> Option<Frac>
+        ensures { SomeIff result ((den ≢ pos 0) × Fits (quotient_ℚ num den)) (quotient_ℚ num den) }
+    {
+        if den == 0 {
+            return None;
+        }
+        Frac::of_parts(
+            (num < 0) != (den < 0),
+            num.unsigned_abs(),
+            den.unsigned_abs(),
+        )
+    }
+
+    // The number num/den with this sign, if it fits in lowest terms.
+    fn of_parts(negative: bool, num: u128, den: u128) -> Option<Frac>
+        requires { 0 < den }
+        ensures { SomeIff result (Fits (make (signed negative num) (pos den))) (make (signed negative num) (pos den)) }
+    {
+        let shared = gcd(num, den);
+        let top = num / shared;
+        let bottom = den / shared;
+        if top > MOST {
+            return None;
+        }
+        if bottom > MOST {
+            return None;
+        }
+        Some(Frac {
+            num: with_sign(negative, top),
+            den: bottom as i128,
+        })
+    }
+
+    // The number num/den in lowest terms.
+    fn reduced(num: i128, den: i128) -> Frac
+        requires positive { pos 0 <ℤ den }
+        requires small { IsSmall num }
+        ensures { result ≡ make num den }
+    {
+        let shared = common(num, den);
+        Frac {
+            num: quotient(num, shared),
+            den: quotient(den, shared),
+        }
+    }
+
+    /// The sum. With the factors that the denominators share taken out, None exactly where one of the
+    /// two numerators over the new denominator, their sum or that denominator doesn't fit.
+    pub fn add(self, other: Frac) -> Option<Frac>
+        ensures { SomeIff result (SumFits ◌+ℤ◌ self other) (self +ℚ other) }
+    {
+        let parts = aligned(self.num, self.den, other.num, other.den)?;
+        let total = plus(parts.left, parts.right)?;
+        Some(Frac::reduced(total, parts.den))
+    }
+
+    /// The difference. None by the same rule as for the sum.
+    pub fn sub(self, other: Frac) -> Option<Frac>
+        ensures { SomeIff result (SumFits ◌-ℤ◌ self other) (self -ℚ other) }
+    {
+        let parts = aligned(self.num, self.den, other.num, other.den)?;
+        let total = minus(parts.left, parts.right)?;
+        Some(Frac::reduced(total, parts.den))
+    }
+
+    /// The product. None exactly where it doesn't fit in lowest terms.
+    pub fn mul(self, other: Frac) -> Option<Frac>
+        ensures { SomeIff result (Fits (self *ℚ other)) (self *ℚ other) }
+    {
+        let across = common(self.num, other.den);
+        let back = common(other.num, self.den);
+        let num = times(quotient(self.num, across), quotient(other.num, back))?;
+        let den = times(quotient(self.den, back), quotient(other.den, across))?;
+        Some(Frac { num, den })
+    }
+
+    /// The quotient. None exactly where the other number is 0, or it doesn't fit in lowest terms.
+    pub fn div(self, other: Frac) -> Option<Frac>
+        ensures { SomeIff result ((other ≢ whole (pos 0)) × Fits (divided_ℚ self other)) (divided_ℚ self other) }
+    {
+        if other.num == 0 {
+            return None;
+        }
+        self.mul(other.inverse())
+    }
+
+    // One by the number, which is not 0.
+    fn inverse(self) -> Frac
+        requires { self ≢ whole (pos 0) }
+        ensures { result ≡ inv_ℚ self }
+    {
+        if self.num > 0 {
+            Frac {
+                num: self.den,
+                den: self.num,
+            }
+        } else {
+            Frac {
+                num: -self.den,
+                den: -self.num,
+            }
+        }
+    }
+
+    /// How the number stands to the other. It answers for all numbers.
+    pub fn compare(self, other: Frac) -> Ordering
+        ensures { IsOrder self other result }
+    {
+        if self.den == other.den {
+            return self.num.cmp(&other.num);
+        }
+        compare_products(self.num, other.den, other.num, self.den)
+    }
+
+    /// The least whole number not below it.
+    pub fn ceil(self) -> i128
+        ensures { IsCeiling self result }
+    {
+        -(-self.num).div_euclid(self.den)
+    }
+}
+
+// A number with this sign.
+fn with_sign(negative: bool, number: u128) -> i128
+    requires { number < 2 ^ 127 }
+    ensures { result ≡ signed negative number }
+{
+    if negative {
+        -(number as i128)
+    } else {
+        number as i128
+    }
+}

@@ -1,0 +1,19 @@
+//! Exact fractions of 128 bits: the arithmetic of the dual simplex.
+//!
+//! A `Frac` is in lowest terms with a denominator above 0, both at most 2^127 - 1 in absolute value,
+//! and contracts see it as the rational number that it is. Each operation gives the exact number, or
+//! None by a rule that its contract states; `compare` and `ceil` always answer. No call takes memory.
+//!
+//! `wide` has products of 256 bits, `divisor` the greatest common divisor, `steps` the checked steps
+//! on whole numbers, and `fraction` the type with its calls.
+#![tactic(auto)]
+
+mod divisor;
+mod fraction;
+mod steps;
+mod wide;
+
+pub use fraction::Frac;
+
+#[cfg(test)]
+mod tests;

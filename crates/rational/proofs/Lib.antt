@@ -1,0 +1,2 @@
+pub mod Rationals
+pub mod Facts
