@@ -6,3 +6,4 @@ pub mod Multiples
 pub mod Inverses
 pub mod Signs
 pub mod Orders
+pub mod Equality

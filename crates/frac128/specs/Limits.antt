@@ -45,9 +45,3 @@ pub record SumFits (step : ℤ → ℤ → ℤ) (x y : ℚ) : Type 0 where
 
 abbrev pub divided_ℚ : ℚ → ℚ → ℚ
 divided_ℚ x y = x *ℚ inv_ℚ y
-
--- how two numbers stand
-abbrev pub IsOrder : ℚ → ℚ → Ordering → Type 0
-IsOrder x y Less = (y ≤ℚ x → ⊥)
-IsOrder x y Equal = x ≡ y
-IsOrder x y Greater = (x ≤ℚ y → ⊥)

@@ -1,20 +1,21 @@
 // The fractions.
 ghost use Rattle.std.specs.Prelude.{◌≡◌, ◌≢◌, ◌<◌, ◌^◌, pos, ◌<ℤ◌, ◌+ℤ◌, ◌-ℤ◌};
 ghost use Rattle.std.specs.Option.{SomeIff};
-ghost use Rattle.rational.specs.Rational.{make, inv_ℚ, whole, ◌+ℚ◌, ◌-ℚ◌, ◌*ℚ◌, IsCeiling};
-ghost use Rattle.frac128.specs.Limits.{divided_ℚ, quotient_ℚ, signed, Fits, IsOrder, IsSmall, SumFits};
+ghost use Rattle.rational.specs.Rational.{make, inv_ℚ, whole, ◌+ℚ◌, ◌-ℚ◌, ◌*ℚ◌, IsCeiling, IsOrder, cmp_ℚ};
+ghost use Rattle.frac128.specs.Limits.{divided_ℚ, quotient_ℚ, signed, Fits, IsSmall, SumFits};
 
 use crate::divisor::{common, gcd};
 use crate::steps::{aligned, minus, plus, quotient, times};
 use crate::wide::compare_products;
 use std::cmp::Ordering;
+use std::fmt;
 use std::marker::Model;
 
 // The greatest numerator or denominator, 2^127 - 1.
 const MOST: u128 = i128::MAX as u128;
 
 /// A fraction in lowest terms with a denominator above 0, both at most 2^127 - 1 in absolute value.
-#[derive(Clone, Copy)]
+#[derive(Clone, Copy, Debug)]
 pub struct Frac {
     num: i128,
     den: i128,
@@ -161,7 +162,8 @@ impl Frac {
 
     /// How the number stands to the other. It answers for all numbers.
     pub fn compare(self, other: Frac) -> Ordering
-        ensures { IsOrder self other result }
+        ensures order { IsOrder self other result }
+        ensures value { result ≡ cmp_ℚ self other }
     {
         if self.den == other.den {
             return self.num.cmp(&other.num);
@@ -174,6 +176,72 @@ impl Frac {
         ensures { IsCeiling self result }
     {
         -(-self.num).div_euclid(self.den)
+    }
+}
+
+impl PartialEq for Frac {
+    ghost use Rattle.std.specs.Ordering.{eq_by_cmp};
+    ghost use Rattle.std.specs.Cmp.{partial_equiv_from_equiv};
+    ghost use Rattle.std.proofs.lemmas.Cmp.{eq_by_cmp_equiv};
+    ghost use Rattle.rational.specs.Rational.{cmp_ℚ};
+    ghost use Rattle.rational.proofs.Orders.{cmp_total};
+
+    ghost eq = { eq_by_cmp cmp_ℚ };
+
+    ghost laws = { partial_equiv_from_equiv (eq_by_cmp_equiv cmp_total) };
+
+    fn eq(&self, other: &Frac) -> bool {
+        self.num == other.num && self.den == other.den
+    }
+}
+
+impl Eq for Frac {
+    ghost use Rattle.std.proofs.lemmas.Cmp.{eq_by_cmp_equiv};
+    ghost use Rattle.rational.proofs.Orders.{cmp_total};
+
+    ghost laws = { eq_by_cmp_equiv cmp_total };
+}
+
+impl PartialOrd for Frac {
+    ghost use Rattle.std.specs.Ordering.{as_partial_cmp};
+    ghost use Rattle.std.specs.Cmp.{partial_order_from_total};
+    ghost use Rattle.rational.specs.Rational.{cmp_ℚ};
+    ghost use Rattle.rational.proofs.Orders.{cmp_total};
+
+    ghost partial_cmp = { as_partial_cmp cmp_ℚ };
+
+    ghost laws = { partial_order_from_total cmp_total };
+
+    fn partial_cmp(&self, other: &Frac) -> Option<Ordering> {
+        Some(self.cmp(other))
+    }
+}
+
+impl Ord for Frac {
+    ghost use Rattle.std.proofs.Common.{refl};
+    ghost use Rattle.rational.specs.Rational.{cmp_ℚ};
+    ghost use Rattle.rational.proofs.Orders.{cmp_total};
+
+    ghost cmp = { cmp_ℚ };
+
+    ghost total = { cmp_total };
+
+    ghost matches_partial_cmp = { λ x y. refl };
+
+    ghost matches_eq = { λ x y. refl };
+
+    fn cmp(&self, other: &Frac) -> Ordering {
+        self.compare(*other)
+    }
+}
+
+impl fmt::Display for Frac {
+    fn fmt<W: fmt::Write>(&self, f: &mut fmt::Formatter<W>) -> fmt::Result {
+        let (num, den) = (self.num, self.den);
+        if den == 1 {
+            return write!(f, "{num}");
+        }
+        write!(f, "{num}/{den}")
     }
 }
 

@@ -1,2 +1,3 @@
 pub mod Rationals
 pub mod Facts
+pub mod Orders

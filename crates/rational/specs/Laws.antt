@@ -1,6 +1,7 @@
 -- Laws of the rational numbers that stand by themselves.
 use Rattle.std.specs.Prelude.{◌≡◌, ◌≢◌, ◌⊎◌, pos}
-use Rattle.rational.specs.Rational.{ℚ, ◌+ℚ◌, ◌*ℚ◌, ◌≤ℚ◌, neg_ℚ, inv_ℚ, whole, floor_ℚ, ceil_ℚ, IsFloor, IsCeiling}
+use Rattle.std.specs.Cmp.{IsTotalOrder}
+use Rattle.rational.specs.Rational.{ℚ, ◌+ℚ◌, ◌*ℚ◌, ◌≤ℚ◌, neg_ℚ, inv_ℚ, whole, floor_ℚ, ceil_ℚ, cmp_ℚ, IsFloor, IsCeiling, IsOrder}
 
 -- the laws of an ordered field
 pub record AreOrderedField : Type 0 where
@@ -23,3 +24,8 @@ pub record AreOrderedField : Type 0 where
 pub record RoundToWhole : Type 0 where
   pub floor : (x : ℚ) → IsFloor x (floor_ℚ x)
   pub ceiling : (x : ℚ) → IsCeiling x (ceil_ℚ x)
+
+-- the comparison of cross products says how two numbers stand, and is a total order
+pub record IsComparison : Type 0 where
+  pub order : (x y : ℚ) → IsOrder x y (cmp_ℚ x y)
+  pub total : IsTotalOrder cmp_ℚ

@@ -1,6 +1,9 @@
 -- The rational numbers, each in lowest terms, so that equal numbers are one value.
-use Rattle.std.specs.Prelude.{ℤ, pos, negsuc, ◌+ℤ◌, ◌*ℤ◌, neg_ℤ, ◌≤ℤ◌, unsigned_abs, int_div}
+use Rattle.std.specs.Prelude.{◌≡◌, ℤ, pos, negsuc, ◌+ℤ◌, ◌*ℤ◌, neg_ℤ, ◌≤ℤ◌, unsigned_abs, int_div}
 use Rattle.std.specs.Int.{int_div_euclid}
+use Rattle.std.specs.Ordering.{int_cmp}
+use Rattle.std.specs.declared.cmp.Ordering.{Ordering}
+use Rattle.std.specs.declared.cmp.Ordering.TheVariants.{Less, Equal, Greater}
 use Prim.Native.Nat.{zero, suc}
 use Rattle.algebra.specs.Fractions.{IsLowest}
 use Rattle.algebra.proofs.Divisors.{euclid}
@@ -68,3 +71,12 @@ pub record IsFloor (x : ℚ) (z : ℤ) : Type 0 where
 pub record IsCeiling (x : ℚ) (z : ℤ) : Type 0 where
   pub above : x ≤ℚ whole z
   pub least : (w : ℤ) → x ≤ℚ whole w → z ≤ℤ w
+
+-- ---- how two numbers stand
+abbrev pub cmp_ℚ : ℚ → ℚ → Ordering
+cmp_ℚ x y = int_cmp (x.num *ℤ y.den) (y.num *ℤ x.den)
+
+abbrev pub IsOrder : ℚ → ℚ → Ordering → Type 0
+IsOrder x y Less = y ≤ℚ x → ⊥
+IsOrder x y Equal = x ≡ y
+IsOrder x y Greater = x ≤ℚ y → ⊥

@@ -8,7 +8,7 @@
 //! No program calls this crate: contracts speak of its numbers, and proofs import its lemmas.
 #![tactic(auto)]
 
-ghost use Rattle.rational.specs.Laws.{AreOrderedField, RoundToWhole};
+ghost use Rattle.rational.specs.Laws.{AreOrderedField, IsComparison, RoundToWhole};
 
 /// The rational numbers are an ordered field.
 pub fn ordered_field()
@@ -18,4 +18,9 @@ pub fn ordered_field()
 /// Floor and ceiling are the nearest whole numbers below and above.
 pub fn rounding()
     ensures { RoundToWhole }
+{}
+
+/// Numbers are compared by their cross products.
+pub fn comparison()
+    ensures { IsComparison }
 {}
