@@ -7,3 +7,4 @@ pub mod Inverses
 pub mod Signs
 pub mod Orders
 pub mod Equality
+mod Texts

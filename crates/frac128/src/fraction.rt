@@ -236,6 +236,11 @@ impl Ord for Frac {
 }
 
 impl fmt::Display for Frac {
+    ghost use Rattle.std.specs.Prelude.{Some};
+    ghost use Rattle.frac128.specs.Text.{fraction_text};
+
+    ghost output = { λ x. Some (fraction_text x) };
+
     fn fmt<W: fmt::Write>(&self, f: &mut fmt::Formatter<W>) -> fmt::Result {
         let (num, den) = (self.num, self.den);
         if den == 1 {
