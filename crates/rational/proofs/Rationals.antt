@@ -1,4 +1,4 @@
-use Rattle.std.proofs.Common.{⊎_elim, inl, inr, ◌≡◌, zero, suc, arith, ap, ◌∙◌, sym, refl, subst, [], ◌∷◌}
+use Rattle.std.proofs.Common.{⊎_elim, inl, inr, ◌≡◌, zero, suc, arith, ap, ◌∙◌, sym, refl, subst}
 use native.Mathlib.Nat.{∣_prop}
 use lib.IntN.{ℤ, pos, negsuc, ◌+ℤ◌, ◌*ℤ◌, neg_ℤ}
 use lib.Signed.{◌≤ℤ◌, ◌<ℤ◌, lt_z, ≤ℤ_refl}
