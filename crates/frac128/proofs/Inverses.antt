@@ -1,6 +1,5 @@
 -- One by a number.
-use Rattle.std.proofs.Common.{Option, Some, None, true, false, rules, ◌≡◌, ◌≢◌, ◌<◌, ◌^◌, ℤ, pos, negsuc, ◌-ℤ◌, neg_ℤ, ◌<ℤ◌, ◌∙◌, unsigned_abs, sym, ap, subst, refl, arith}
-use Rattle.std.specs.Int.{IsGcd}
+use Rattle.std.proofs.Common.{Option, Some, None, true, false, rules, ◌≡◌, ◌≢◌, ℤ, pos, negsuc, ◌-ℤ◌, neg_ℤ, ◌<ℤ◌, ◌∙◌, unsigned_abs, sym, subst, refl, arith}
 use Rattle.std.proofs.lemmas.Int.{ints, by_lt_z}
 use lib.Signed.{lt_z, ◌≤ℤ◌}
 use lib.Dec.{T}

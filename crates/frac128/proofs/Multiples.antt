@@ -1,11 +1,11 @@
 -- Products in lowest terms, and which numbers fit.
-use Rattle.std.proofs.Common.{◌≡◌, ◌≢◌, ◌<◌, ◌*◌, ◌^◌, ℕ, suc, zero, ℤ, pos, negsuc, ◌*ℤ◌, neg_ℤ, ◌<ℤ◌, ◌∙◌, unsigned_abs, sym, ap, subst, refl, arith}
+use Rattle.std.proofs.Common.{◌≡◌, ◌*◌, ℕ, ℤ, pos, ◌*ℤ◌, ◌<ℤ◌, ◌∙◌, unsigned_abs, sym, ap, subst, refl, arith}
 use Rattle.std.specs.Prelude.{int_div}
 use Rattle.std.specs.Int.{IsGcd}
 use Rattle.std.proofs.lemmas.Int.{ints, unsigned_abs-mul}
 use Rattle.std.proofs.lemmas.Nat.Gcd.{IsGcd-swap}
 use Prim.Native.Nat.{◌∣◌}
-use native.Mathlib.Nat.{dvd-mul_left, dvd-mul_right, dvd_trans, mul_comm, one-dvd, one-mul}
+use native.Mathlib.Nat.{dvd-mul_right, dvd_trans, one-dvd, one-mul}
 use Rattle.algebra.specs.Fractions.{IsLowest}
 use Rattle.algebra.proofs.Divisors.{IsGcd-times}
 use Rattle.algebra.proofs.Lowest.{divided, zero_lowest}

@@ -1,5 +1,5 @@
 -- How products of whole numbers stand, by their absolute values.
-use Rattle.std.proofs.Common.{◌≡◌, ◌*◌, ℕ, suc, ℤ, pos, negsuc, ◌*ℤ◌, neg_ℤ, ◌<ℤ◌, ◌≤ℤ◌, unsigned_abs, sym, refl, arith}
+use Rattle.std.proofs.Common.{◌≡◌, ◌*◌, ℕ, suc, ℤ, pos, negsuc, ◌*ℤ◌, neg_ℤ, ◌<ℤ◌, ◌≤ℤ◌, unsigned_abs, sym, arith}
 use Rattle.std.specs.Ordering.{int_cmp, nat_cmp}
 use Rattle.std.proofs.lemmas.Int.{ints}
 

@@ -1,5 +1,5 @@
 -- Fractions by their sign and the absolute values of their parts.
-use Rattle.std.proofs.Common.{◌≡◌, ◌≢◌, ◌<◌, ◌/◌, ◌^◌, ℕ, zero, suc, Bool, true, false, ℤ, pos, negsuc, neg_ℤ, ◌<ℤ◌, ◌∙◌, unsigned_abs, sym, ap, subst, refl, arith}
+use Rattle.std.proofs.Common.{◌≡◌, ◌<◌, ◌/◌, ◌^◌, ℕ, zero, suc, Bool, true, false, pos, ◌<ℤ◌, unsigned_abs, refl, arith}
 use Rattle.std.specs.Prelude.{int_div}
 use Rattle.std.specs.Int.{IsGcd}
 use Rattle.std.proofs.lemmas.Int.{ints}
@@ -7,7 +7,7 @@ use Rattle.algebra.specs.Fractions.{IsLowest}
 use Rattle.algebra.proofs.Lowest.{divided}
 use Rattle.rational.specs.Rational.{make}
 use Rattle.rational.proofs.Rationals.{make-same}
-use Rattle.frac128.specs.Limits.{quotient_ℚ, signed}
+use Rattle.frac128.specs.Limits.{signed}
 
 abs_signed : (negative : Bool) (n : ℕ) → unsigned_abs (signed negative n) ≡ n
 abs_signed true zero = refl

@@ -3,7 +3,7 @@ use Rattle.std.proofs.Common.{◌≡◌, ℤ, pos, ◌+ℤ◌, ◌-ℤ◌, ◌*�
 use Rattle.algebra.proofs.Integers as Z
 use Rattle.algebra.proofs.Order.{mul_pos}
 use Rattle.algebra.proofs.Rings.{int_ring, ring5, ◌⊕◌, ◌⊗◌, ◌⊜◌}
-use Rattle.rational.specs.Rational.{make, ◌+ℚ◌, ◌-ℚ◌, neg_ℚ}
+use Rattle.rational.specs.Rational.{make, ◌+ℚ◌, ◌-ℚ◌}
 use Rattle.rational.proofs.Rationals.{add-make, make-same, neg-make}
 
 -- b is p times g, and d is q times g

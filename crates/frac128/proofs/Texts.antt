@@ -1,5 +1,5 @@
 -- What is written of a fraction of two numbers.
-use Rattle.std.proofs.Common.{◌≡◌, ◌≢◌, ℤ, pos, negsuc, zero, suc, refl, ◌∙◌, sym, ap, List, ◌++◌, codes}
+use Rattle.std.proofs.Common.{◌≡◌, ◌≢◌, ℤ, pos, negsuc, zero, suc, refl, ◌∙◌, sym, ap, ◌++◌, codes}
 use Rattle.std.proofs.lemmas.List.{append-nil}
 use Rattle.std.specs.Fmt.{signed_decimal}
 use Rattle.algebra.specs.Fractions.{IsLowest}

@@ -1,9 +1,7 @@
 -- Which numbers fit, and when each operation on fractions gives one.
-use Rattle.std.specs.Prelude.{Bool, true, false, ◌≡◌, ◌≢◌, ℕ, suc, ◌<◌, ◌^◌, ◌/◌, ℤ, pos, negsuc, ◌+ℤ◌, ◌-ℤ◌, ◌*ℤ◌, neg_ℤ, unsigned_abs, int_div}
-use Rattle.std.specs.declared.cmp.Ordering.{Ordering}
-use Rattle.std.specs.declared.cmp.Ordering.TheVariants.{Less, Equal, Greater}
+use Rattle.std.specs.Prelude.{Bool, true, false, ℕ, suc, ◌<◌, ◌^◌, ℤ, pos, negsuc, ◌*ℤ◌, neg_ℤ, unsigned_abs, int_div}
 use Rattle.algebra.proofs.Divisors.{euclid}
-use Rattle.rational.specs.Rational.{ℚ, make, zero_ℚ, ◌*ℚ◌, inv_ℚ, whole, ◌≤ℚ◌}
+use Rattle.rational.specs.Rational.{ℚ, make, ◌*ℚ◌, inv_ℚ}
 
 -- at most 2^127 - 1 in absolute value
 abbrev pub IsSmall : ℤ → Type 0

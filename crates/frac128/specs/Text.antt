@@ -1,5 +1,5 @@
 -- What is written of a number.
-use Rattle.std.specs.Prelude.{List, ℕ, zero, suc, ℤ, pos, negsuc, ◌++◌, codes, decimal}
+use Rattle.std.specs.Prelude.{List, ℕ, zero, suc, ℤ, pos, ◌++◌, codes}
 use Rattle.std.specs.Fmt.{signed_decimal}
 use Rattle.rational.specs.Rational.{ℚ}
 

@@ -10,6 +10,7 @@ const QUARTER: i128 = 85_070_591_730_234_615_865_843_651_857_942_052_864;
 const HUNDRED: i128 = 1_267_650_600_228_229_401_496_703_205_376;
 // 2^64 and 2^63
 const WORD: i128 = 18_446_744_073_709_551_616;
+
 const SIGN: i128 = 9_223_372_036_854_775_808;
 // A third of 2^127 + 1.
 const THIRD: i128 = 56_713_727_820_156_410_577_229_101_238_628_035_243;
@@ -71,12 +72,18 @@ fn sums_and_differences(rt: HostRuntime) -> Result<(), Fail> {
         (QUARTER - 1, 1, 1, 2, Some((MOST, 2))),
         (1, 2, 1, QUARTER - 1, Some((QUARTER + 1, MOST - 1))),
         // The product of the denominators doesn't fit.
-        (1, 3 * HUNDRED, 1, 5 * HUNDRED, Some((1, 15 * (HUNDRED / 8)))),
+        (
+            1,
+            3 * HUNDRED,
+            1,
+            5 * HUNDRED,
+            Some((1, 15 * (HUNDRED / 8))),
+        ),
         (1, MOST, 1, MOST, Some((2, MOST))),
         (MOST - 2, MOST - 1, 1, MOST - 1, Some((1, 1))),
     ] {
         assert_eq!(rt; parts(frac(a, b)?.add(frac(c, d)?)), want);
-        assert_eq!(rt; parts(frac(a, b)?.sub(frac(-c, d)?)), want);
+        assert_eq!(rt; parts(frac(a, b)?.sub(frac(c.wrapping_neg(), d)?)), want);
     }
     assert_eq!(rt; parts(frac(1, 6)?.sub(frac(1, 10)?)), Some((1, 15)));
     assert_eq!(rt; parts(frac(1, 10)?.sub(frac(1, 6)?)), Some((-1, 15)));

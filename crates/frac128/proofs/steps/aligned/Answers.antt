@@ -1,6 +1,6 @@
-use Rattle.std.proofs.Common.{to_z, rules, ◌≡◌, ◌<◌, ◌^◌, pos, ◌*ℤ◌, ◌<ℤ◌, ◌∙◌, sym, ap, subst, refl, arith, FitsSigned, unsigned_abs}
+use Rattle.std.proofs.Common.{to_z, rules, ◌≡◌, pos, ◌*ℤ◌, ◌∙◌, sym, ap, subst, arith, FitsSigned}
 use Rattle.std.specs.Prelude.{int_div}
-use Rattle.std.specs.Int.{w128, IsGcd}
+use Rattle.std.specs.Int.{w128}
 use Rattle.std.proofs.lemmas.Int.{ints, to_z-of_z}
 use Rattle.algebra.proofs.Integers as Z
 use Rattle.frac128.specs.Limits.{AlignFits, IsSmall, own_part}

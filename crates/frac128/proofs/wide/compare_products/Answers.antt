@@ -1,6 +1,5 @@
-use Rattle.std.proofs.Common.{rules, ◌≡◌, pos, ◌≤ℤ◌, ◌<ℤ◌, arith, unsigned_abs, FitsSigned}
-use Rattle.std.specs.Int.{w128}
-use Rattle.std.proofs.lemmas.Int.{ints, to_z-of_z}
+use Rattle.std.proofs.Common.{rules, ◌≡◌, pos, ◌≤ℤ◌, ◌<ℤ◌, arith, unsigned_abs}
+use Rattle.std.proofs.lemmas.Int.{ints}
 use Rattle.frac128.proofs.Orders.{cmp_above, cmp_below}
 use Rattle.frac128.proofs.wide.compare_products.Goals as goal
 

@@ -1,4 +1,4 @@
-use Rattle.std.proofs.Common.{rules, ◌≡◌, pos, ◌-ℤ◌, neg_ℤ, ◌∙◌, sym, ap, subst, arith, FitsSigned}
+use Rattle.std.proofs.Common.{rules, ◌≡◌, pos, ◌-ℤ◌, neg_ℤ, sym, subst, arith, FitsSigned}
 use Rattle.std.specs.Int.{w128, int_div_euclid}
 use Rattle.std.proofs.lemmas.Int.{ints, to_z-of_z}
 use Rattle.algebra.proofs.Integers as Z

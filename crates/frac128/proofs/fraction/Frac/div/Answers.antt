@@ -1,6 +1,5 @@
-use Rattle.std.proofs.Common.{of_z, to_z, rules, ◌≡◌, ◌≢◌, pos, ◌∙◌, sym, ap, subst, arith, FitsSigned}
+use Rattle.std.proofs.Common.{of_z, rules, ◌≡◌, ◌≢◌, pos, ◌∙◌, sym, ap, FitsSigned}
 use Rattle.std.specs.Int.{w128}
-use Rattle.std.proofs.lemmas.Int.{ints, to_z-of_z}
 use Rattle.rational.specs.Rational.{make, whole}
 use Rattle.frac128.specs.Limits.{Fits, divided_ℚ}
 use Rattle.frac128.proofs.Multiples.{num_from_zero, zero_from_num}

@@ -1,7 +1,7 @@
-use Rattle.std.proofs.Common.{rules, ◌≡◌, ◌≢◌, pos, ◌-ℤ◌, ◌<ℤ◌, ◌∙◌, sym, ap, subst, arith, FitsSigned}
+use Rattle.std.proofs.Common.{rules, ◌≢◌, pos, ◌-ℤ◌, ◌<ℤ◌, ◌∙◌, sym, ap, arith, FitsSigned}
 use Rattle.std.specs.Int.{w128}
 use Rattle.std.proofs.lemmas.Int.{ints, to_z-of_z}
-use Rattle.rational.specs.Rational.{make, whole}
+use Rattle.rational.specs.Rational.{make}
 use Rattle.rational.proofs.Rationals.{parts_of}
 use Rattle.frac128.specs.Limits.{IsSmall}
 use Rattle.frac128.proofs.Inverses.{above_zero, below_zero, inv_negative, inv_positive, negated, small_negated, swapped}

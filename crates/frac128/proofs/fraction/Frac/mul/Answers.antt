@@ -1,6 +1,6 @@
-use Rattle.std.proofs.Common.{rules, ◌≡◌, ◌*ℤ◌, ◌∙◌, sym, ap, subst, refl, FitsSigned, unsigned_abs}
+use Rattle.std.proofs.Common.{rules, ◌≡◌, ◌*ℤ◌, ◌∙◌, refl, FitsSigned}
 use Rattle.std.specs.Prelude.{int_div}
-use Rattle.std.specs.Int.{w128, IsGcd}
+use Rattle.std.specs.Int.{w128}
 use Rattle.std.proofs.lemmas.Int.{to_z-of_z}
 use Rattle.rational.specs.Rational.{make, ◌*ℚ◌}
 use Rattle.frac128.specs.Limits.{Fits, IsSmall}

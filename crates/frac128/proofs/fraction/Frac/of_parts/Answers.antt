@@ -1,9 +1,9 @@
-use Rattle.std.proofs.Common.{rules, ◌≡◌, ◌<◌, ◌^◌, ◌/◌, pos, arith, FitsSigned}
+use Rattle.std.proofs.Common.{rules, ◌<◌, ◌^◌, ◌/◌, pos, arith, FitsSigned}
 use Rattle.std.specs.Int.{w128}
 use Rattle.std.proofs.lemmas.Int.{to_z_pos, to_z-of_z}
 use native.Mathlib.Nat.{pos_of_dvd_of_pos}
 use Rattle.rational.specs.Rational.{make}
-use Rattle.frac128.specs.Limits.{Fits, signed}
+use Rattle.frac128.specs.Limits.{signed}
 use Rattle.frac128.proofs.Multiples.{fits_parts, parts_fit}
 use Rattle.frac128.proofs.Signs.{parts_divided, signed_small, small_signed}
 use Rattle.frac128.proofs.fraction.Frac.of_parts.Goals as goal

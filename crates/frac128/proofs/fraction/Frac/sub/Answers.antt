@@ -1,10 +1,10 @@
-use Rattle.std.proofs.Common.{rules, ◌≡◌, pos, ◌*ℤ◌, ◌+ℤ◌, ◌-ℤ◌, ◌<ℤ◌, ◌∙◌, sym, ap, subst, refl, FitsSigned, unsigned_abs, arith}
-use Rattle.std.specs.Int.{w128, IsGcd}
-use Rattle.std.proofs.lemmas.Int.{ints, to_z-of_z}
+use Rattle.std.proofs.Common.{rules, ◌≡◌, ◌-ℤ◌, ◌∙◌, refl, FitsSigned}
+use Rattle.std.specs.Int.{w128}
+use Rattle.std.proofs.lemmas.Int.{to_z-of_z}
 use Rattle.algebra.proofs.Order.{mul_pos}
-use Rattle.rational.specs.Rational.{ℚ, make}
+use Rattle.rational.specs.Rational.{make}
 use Rattle.rational.proofs.Rationals.{parts_of}
-use Rattle.frac128.specs.Limits.{AlignFits, IsSmall, SumFits, gcd_of, own_part}
+use Rattle.frac128.specs.Limits.{AlignFits, IsSmall, SumFits, own_part}
 use Rattle.frac128.proofs.Shared.{own_pair}
 use Rattle.frac128.proofs.Sums.{difference_is}
 use Rattle.frac128.proofs.fraction.Frac.sub.Goals as goal

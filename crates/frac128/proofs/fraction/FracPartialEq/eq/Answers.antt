@@ -1,4 +1,4 @@
-use Rattle.std.proofs.Common.{to_z, of_z, rules, ◌≡◌, ◌≢◌, ◌∙◌, sym, ap, true, false, FitsSigned, eq-eqb}
+use Rattle.std.proofs.Common.{to_z, of_z, rules, ◌≡◌, ◌≢◌, ◌∙◌, sym, ap, FitsSigned, eq-eqb}
 use Rattle.std.specs.Prelude.{nat_eq}
 use Rattle.std.specs.Int.{w128}
 use Rattle.std.proofs.lemmas.Bool.{eqb-true, false_from_ne_true}
@@ -24,4 +24,4 @@ returns-else-self-other c =
     let f3 : FitsSigned w128 c.other.inside.num = search rules in
     let apart : c.self.inside.num ≢ c.other.inside.num = λ h. c.if-self-other.false (ap (of_z w128) h) in
     false_from_ne_true (nat_eq (of_z w128 c.self.inside.num) (of_z w128 c.other.inside.num)) (λ t. c.if-self-other.false (eqb-true (of_z w128 c.self.inside.num) (of_z w128 c.other.inside.num) t))
-      ∙ sym (other_num c.args.self.now c.args.other.now c.self.inside.num c.self.inside.den c.other.inside.num c.other.inside.den c.self.view_is c.other.view_is c.self.invariant.0 c.other.invariant.0 apart)
+    ∙ sym (other_num c.args.self.now c.args.other.now c.self.inside.num c.self.inside.den c.other.inside.num c.other.inside.den c.self.view_is c.other.view_is c.self.invariant.0 c.other.invariant.0 apart)
