@@ -2,8 +2,8 @@
 ghost use Rattle.std.specs.Prelude.{pos, ◌≤ℤ◌, ◌<ℤ◌, ◌≤◌, ◌<◌, unsigned_abs};
 ghost use Rattle.std.specs.Int.{IsGcd};
 
-// The greatest common divisor of numbers of 64 bits.
-fn gcd_small(a: u64, b: u64) -> u64
+// The greatest common divisor of numbers of 32 bits.
+fn gcd_short(a: u32, b: u32) -> u32
     ensures { IsGcd a b result }
 {
     let mut x = a;
@@ -16,7 +16,27 @@ fn gcd_small(a: u64, b: u64) -> u64
     x
 }
 
-/// The greatest common divisor. It runs on 64 bits as soon as the numbers fit.
+// The greatest common divisor of numbers of 64 bits.
+fn gcd_small(a: u64, b: u64) -> u64
+    ensures { IsGcd a b result }
+{
+    if a <= u32::MAX as u64 && b <= u32::MAX as u64 {
+        return gcd_short(a as u32, b as u32) as u64;
+    }
+    let mut x = a;
+    let mut y = b;
+    while y > u32::MAX as u64 {
+        let rest = x % y;
+        x = y;
+        y = rest;
+    }
+    if y == 0 {
+        return x;
+    }
+    gcd_short(y as u32, (x % y) as u32) as u64
+}
+
+/// The greatest common divisor. It runs on 64 bits and on 32 as soon as the numbers fit.
 pub fn gcd(a: u128, b: u128) -> u128
     ensures { IsGcd a b result }
 {

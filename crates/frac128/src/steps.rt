@@ -17,10 +17,21 @@ fn small(number: i128) -> Option<i128>
     }
 }
 
+// The product of numbers of 64 bits, without the test of a wide one.
+fn times_short(a: i64, b: i64) -> i128
+    ensures value { result ≡ a *ℤ b }
+    ensures small { IsSmall result }
+{
+    a as i128 * b as i128
+}
+
 /// The product, if it is small.
 pub fn times(a: i128, b: i128) -> Option<i128>
     ensures { SomeIff result (IsSmall (a *ℤ b)) (a *ℤ b) }
 {
+    if let (Ok(a), Ok(b)) = (i64::try_from(a), i64::try_from(b)) {
+        return Some(times_short(a, b));
+    }
     match a.checked_mul(b) {
         Some(product) => small(product),
         None => None,
@@ -52,7 +63,13 @@ pub fn quotient(num: i128, den: i128) -> i128
     requires { pos 0 <ℤ den }
     ensures { result ≡ int_div num den }
 {
-    if den == 1 { num } else { num / den }
+    if den == 1 {
+        return num;
+    }
+    if let (Ok(num), Ok(den)) = (i64::try_from(num), i64::try_from(den)) {
+        return (num / den) as i128;
+    }
+    num / den
 }
 
 /// Two numerators over the denominator that two fractions have in common.

@@ -2,6 +2,7 @@
 ghost use Rattle.std.specs.Prelude.{◌≡◌, ◌+◌, ◌*◌, ◌^◌, pos, ◌*ℤ◌, ◌<ℤ◌};
 ghost use Rattle.std.specs.Ordering.{int_cmp, nat_cmp};
 
+use crate::steps::times;
 use std::cmp::Ordering;
 
 // 2^64
@@ -48,7 +49,7 @@ pub fn compare_products(a: i128, b: i128, c: i128, d: i128) -> Ordering
     requires d_positive { pos 0 <ℤ d }
     ensures { result ≡ int_cmp (a *ℤ b) (c *ℤ d) }
 {
-    if let (Some(left), Some(right)) = (a.checked_mul(b), c.checked_mul(d)) {
+    if let (Some(left), Some(right)) = (times(a, b), times(c, d)) {
         return left.cmp(&right);
     }
     let (left, right) = (a.unsigned_abs(), c.unsigned_abs());
