@@ -5,6 +5,9 @@
 //! contract. So far a model of one item over one period is planned.
 #![tactic(auto)]
 
+ghost use Rattle.lotplan.specs.Answer.{no_command};
+ghost use Rattle.lotplan.specs.Run.{printed, Prints};
+
 mod answer;
 mod command;
 mod planner;
@@ -34,16 +37,18 @@ fn main(rt: HostRuntime) -> ExitCode {
             }
             Err(_) => NO_MEMORY,
         },
-        Err(error) => refuse(error.kind(), &mut out),
+        Err(error) if error.kind() == ErrorKind::InvalidData => refuse_words(&mut out),
+        Err(_) => NO_MEMORY,
     };
     ExitCode::from(status)
 }
 
-// The status where the words could not be had: one of them is no text in UTF-8, or memory ran out.
-fn refuse<K: Sink>(kind: ErrorKind, out: &mut K) -> u8 {
-    if kind != ErrorKind::InvalidData {
-        return NO_MEMORY;
-    }
+// Prints the refusal of words that are no text in UTF-8, and gives its status.
+fn refuse_words<K: Sink>(out: &mut K) -> u8
+    ensures { Prints no_command result
+        (printed (K.told out.old) (K.bytes out.old) (K.faults out.old))
+        (printed (K.told out.new) (K.bytes out.new) (K.faults out.new)) }
+{
     match out.put(b"refused words\n") {
         Ok(()) => NO_COMMAND,
         Err(_) => 9,
