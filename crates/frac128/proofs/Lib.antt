@@ -8,3 +8,4 @@ pub mod Signs
 pub mod Orders
 pub mod Equality
 mod Texts
+mod Reductions

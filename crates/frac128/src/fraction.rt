@@ -3,6 +3,7 @@ ghost use Rattle.std.specs.Prelude.{◌≡◌, ◌≢◌, ◌<◌, ◌^◌, pos,
 ghost use Rattle.std.specs.Option.{SomeIff};
 ghost use Rattle.rational.specs.Rational.{make, inv_ℚ, whole, ◌+ℚ◌, ◌-ℚ◌, ◌*ℚ◌, IsCeiling, IsOrder, cmp_ℚ};
 ghost use Rattle.frac128.specs.Limits.{divided_ℚ, quotient_ℚ, signed, Fits, IsSmall, SumFits};
+ghost use Rattle.frac128.specs.Parts.{Shares};
 
 use crate::divisor::{common, gcd};
 use crate::steps::{aligned, minus, plus, quotient, times};
@@ -89,16 +90,18 @@ impl Frac {
         })
     }
 
-    // The number num/den in lowest terms.
-    fn reduced(num: i128, den: i128) -> Frac
+    // The number num/den in lowest terms, where `shared` has all that num and den share: the smaller
+    // it is, the less there is to divide.
+    fn reduced(num: i128, den: i128, shared: i128) -> Frac
         requires positive { pos 0 <ℤ den }
         requires small { IsSmall num }
+        requires shares { Shares num den shared }
         ensures { result ≡ make num den }
     {
-        let shared = common(num, den);
+        let divisor = common(num, shared);
         Frac {
-            num: quotient(num, shared),
-            den: quotient(den, shared),
+            num: quotient(num, divisor),
+            den: quotient(den, divisor),
         }
     }
 
@@ -109,7 +112,7 @@ impl Frac {
     {
         let parts = aligned(self.num, self.den, other.num, other.den)?;
         let total = plus(parts.left, parts.right)?;
-        Some(Frac::reduced(total, parts.den))
+        Some(Frac::reduced(total, parts.den, parts.shared))
     }
 
     /// The difference. None by the same rule as for the sum.
@@ -118,7 +121,7 @@ impl Frac {
     {
         let parts = aligned(self.num, self.den, other.num, other.den)?;
         let total = minus(parts.left, parts.right)?;
-        Some(Frac::reduced(total, parts.den))
+        Some(Frac::reduced(total, parts.den, parts.shared))
     }
 
     /// The product. None exactly where it doesn't fit in lowest terms.

@@ -72,12 +72,14 @@ pub fn quotient(num: i128, den: i128) -> i128
     num / den
 }
 
-/// Two numerators over the denominator that two fractions have in common.
+/// Two numerators over the denominator that two fractions have in common, and the greatest common
+/// divisor of their own denominators.
 #[derive(Clone, Copy, Debug, PartialEq, Eq)]
 pub struct Alignment {
     pub left: i128,
     pub right: i128,
     pub den: i128,
+    pub shared: i128,
 }
 
 /// The fractions a/b and c/d over their common denominator, where all three numbers are small.
@@ -93,6 +95,7 @@ pub fn aligned(a: i128, b: i128, c: i128, d: i128) -> Option<Alignment>
             left: a,
             right: c,
             den: b,
+            shared: b,
         });
     }
     let shared = common(b, d);
@@ -100,5 +103,10 @@ pub fn aligned(a: i128, b: i128, c: i128, d: i128) -> Option<Alignment>
     let left = times(a, factor)?;
     let right = times(c, quotient(b, shared))?;
     let den = times(b, factor)?;
-    Some(Alignment { left, right, den })
+    Some(Alignment {
+        left,
+        right,
+        den,
+        shared,
+    })
 }

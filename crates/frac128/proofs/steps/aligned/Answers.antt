@@ -1,10 +1,11 @@
-use Rattle.std.proofs.Common.{to_z, rules, ◌≡◌, pos, ◌*ℤ◌, ◌∙◌, sym, ap, subst, arith, FitsSigned}
+use Rattle.std.proofs.Common.{to_z, rules, ◌≡◌, pos, ◌*ℤ◌, ◌∙◌, unsigned_abs, sym, ap, subst, arith, FitsSigned}
 use Rattle.std.specs.Prelude.{int_div}
-use Rattle.std.specs.Int.{w128}
+use Rattle.std.specs.Int.{IsGcd, w128}
 use Rattle.std.proofs.lemmas.Int.{ints, to_z-of_z}
 use Rattle.algebra.proofs.Integers as Z
-use Rattle.frac128.specs.Limits.{AlignFits, IsSmall, own_part}
-use Rattle.frac128.proofs.Shared.{factor_of, own_same, part_of}
+use Rattle.algebra.proofs.Lowest.{abs_pos}
+use Rattle.frac128.specs.Limits.{AlignFits, IsSmall, gcd_of, own_part}
+use Rattle.frac128.proofs.Shared.{factor_of, gcd_is, own_same, part_of, same_gcd}
 use Rattle.frac128.proofs.steps.aligned.Goals as goal
 
 pub returns-then-b-d : goal.returns-then-b-d
@@ -20,9 +21,10 @@ returns-then-b-d c =
     let left : c.args.a *ℤ own_part c.args.d c.args.b ≡ c.args.a = ap (λ q. c.args.a *ℤ q) one ∙ Z.mul_one c.args.a in
     let right : c.args.c *ℤ own_part c.args.b c.args.d ≡ c.args.c = ap (λ q. c.args.c *ℤ q) two ∙ Z.mul_one c.args.c in
     let den : c.args.b *ℤ own_part c.args.d c.args.b ≡ c.args.b = ap (λ q. c.args.b *ℤ q) one ∙ Z.mul_one c.args.b in
+    let shared : c.args.b ≡ pos (gcd_of (unsigned_abs c.args.b) (unsigned_abs c.args.d)) = sym (abs_pos c.args.b pb) ∙ ap pos (sym (gcd_is (unsigned_abs c.args.b) (unsigned_abs c.args.d) (unsigned_abs c.args.b) (subst (λ z. IsGcd (unsigned_abs c.args.b) (unsigned_abs z) (unsigned_abs c.args.b)) e (same_gcd c.args.b)))) in
     let small : IsSmall c.args.b = omega (arith, ints) in (
       record { left = subst IsSmall (sym left) c.requires.a_small; right = subst IsSmall (sym right) c.requires.c_small; den = subst IsSmall (sym den) small },
-      simp to_z-of_z (record { left = sym left; right = sym right; den = sym den }),
+      simp to_z-of_z (record { left = sym left; right = sym right; den = sym den; shared = shared }),
     )
 
 pub returns-in_err-left : goal.returns-in_err-left
@@ -92,5 +94,6 @@ returns c =
         left = left.1 ∙ ap (λ z. c.args.a *ℤ z) q_is;
         right = right.1 ∙ ap (λ z. c.args.c *ℤ z) p_is;
         den = den.1 ∙ ap (λ z. c.args.b *ℤ z) q_is;
+        shared = sym (abs_pos c.common-shared.result c.common-shared.ensures.positive) ∙ ap pos (sym (gcd_is (unsigned_abs c.args.b) (unsigned_abs c.args.d) (unsigned_abs c.common-shared.result) h));
       }),
     )

@@ -1,10 +1,11 @@
-use Rattle.std.proofs.Common.{rules, ◌≡◌, ◌-ℤ◌, ◌∙◌, refl, FitsSigned}
+use Rattle.std.proofs.Common.{rules, ◌≡◌, ◌-ℤ◌, ◌∙◌, sym, refl, FitsSigned}
 use Rattle.std.specs.Int.{w128}
 use Rattle.std.proofs.lemmas.Int.{to_z-of_z}
 use Rattle.algebra.proofs.Order.{mul_pos}
 use Rattle.rational.specs.Rational.{make}
 use Rattle.rational.proofs.Rationals.{parts_of}
 use Rattle.frac128.specs.Limits.{AlignFits, IsSmall, SumFits, own_part}
+use Rattle.frac128.proofs.Reductions.{difference_shares}
 use Rattle.frac128.proofs.Shared.{own_pair}
 use Rattle.frac128.proofs.Sums.{difference_is}
 use Rattle.frac128.proofs.fraction.Frac.sub.Goals as goal
@@ -46,6 +47,26 @@ reduced-requires-clause-positive c =
     let aligns = (simp to_z-of_z at c.in_ok-parts.ensures).1 in
     let pair = own_pair b d c.self.invariant.0.0 c.other.invariant.0.0 in
     simp to_z-of_z (rw aligns.den (mul_pos b (own_part d b) c.self.invariant.0.0 pair.factor))
+
+pub reduced-requires-clause-shares : goal.reduced-requires-clause-shares
+reduced-requires-clause-shares c =
+    let f1 : FitsSigned w128 c.self.inside.num = search rules in
+    let f2 : FitsSigned w128 c.self.inside.den = search rules in
+    let f3 : FitsSigned w128 c.other.inside.num = search rules in
+    let f4 : FitsSigned w128 c.other.inside.den = search rules in
+    let fl : FitsSigned w128 c.in_ok-parts.parts.left = search rules in
+    let fr : FitsSigned w128 c.in_ok-parts.parts.right = search rules in
+    let fe : FitsSigned w128 c.in_ok-parts.parts.den = search rules in
+    let fs : FitsSigned w128 c.in_ok-parts.parts.shared = search rules in
+    let ft : FitsSigned w128 c.in_ok-total.total = search rules in
+    let b = c.self.inside.den in
+    let d = c.other.inside.den in
+    let aligns = (simp to_z-of_z at c.in_ok-parts.ensures).1 in
+    let total : IsSmall (c.in_ok-parts.parts.left -ℤ c.in_ok-parts.parts.right) × (c.in_ok-total.total ≡ c.in_ok-parts.parts.left -ℤ c.in_ok-parts.parts.right) = simp to_z-of_z at c.in_ok-total.ensures in
+    let pair = own_pair b d c.self.invariant.0.0 c.other.invariant.0.0 in
+    let shares = difference_shares c.self.inside.num b c.other.inside.num d pair.shared (own_part b d) (own_part d b) c.self.invariant.0 c.other.invariant.0 pair.positive pair.left pair.right pair.apart in
+    let is : c.in_ok-parts.parts.shared ≡ pair.shared = aligns.shared ∙ sym pair.is in
+    simp to_z-of_z (rw (total.1, aligns.left, aligns.right, aligns.den, is) shares)
 
 pub returns : goal.returns
 returns c =
