@@ -5,3 +5,6 @@ pub mod Bounds
 pub mod Same
 pub mod Totals
 pub mod Texts
+pub mod Prices
+pub mod Positions
+pub mod Potentials

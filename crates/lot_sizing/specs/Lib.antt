@@ -3,6 +3,7 @@ pub mod Problem
 pub mod Plan
 pub mod Best
 pub mod Totals
+pub mod Single
 pub mod Least
 pub mod Texts
 pub mod Laws

@@ -34,3 +34,14 @@ pub struct Usage {
     /// Time of a setup, in time units of the resource.
     pub setup: u64,
 }
+
+/// Positions, which are the periods with a net demand in order, that one period serves.
+#[derive(Clone, Copy, Debug, PartialEq, Eq)]
+pub struct Block {
+    /// The first position served.
+    pub first: u32,
+    /// The last position served.
+    pub last: u32,
+    /// The period in which the quantity is made.
+    pub server: u32,
+}
