@@ -8,3 +8,4 @@ pub mod Texts
 pub mod Prices
 pub mod Positions
 pub mod Potentials
+pub mod Blocks
