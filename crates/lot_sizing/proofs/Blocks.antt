@@ -1,13 +1,14 @@
 -- Some net plan costs no more than blocks that cover all positions.
 use Rattle.std.proofs.Common.{◌≡◌, ◌≢◌, ◌≤◌, ◌<◌, ◌+◌, ◌-◌, ◌*◌, ◌∙◌, ◌⊎◌, ⊎_elim, inl, inr, ℕ, zero, suc, refl, sym, ap, subst, arith, List, [], ◌∷◌, length, min}
-use Rattle.std.specs.Prelude.{IsNone, if◌then◌else◌, ◌==◌, nat_le}
+use Rattle.std.specs.Prelude.{IsNone, if◌then◌else◌, ◌==◌, ◌||◌, nat_le, Bool, true, false}
+use Rattle.std.specs.List.{list_any}
 use Rattle.std.proofs.lemmas.Nat.{mul-le}
 use Rattle.std.proofs.lemmas.Bool.{cases_lt, cases_eq}
 use Rattle.std.proofs.lemmas.List.Sums.{sum_by-cons}
 use Rattle.lot_sizing.specs.Sums.{sum_to, sum_from}
 use Rattle.lot_sizing.specs.Problem.{entry, backlog_price}
 use Rattle.lot_sizing.specs.declared.Block.{Block}
-use Rattle.lot_sizing.specs.Single.{Single, NetPlan, IsNetPlan, IsServer, IsBlock, CoverFrom, Cover, period_count, net_demand, net_cost, position_count, period_of, unit_price, serving_cost, block_cost, blocks_cost}
+use Rattle.lot_sizing.specs.Single.{Single, NetPlan, IsNetPlan, IsServer, IsBlock, CoverFrom, Cover, period_count, net_demand, net_cost, position_count, period_of, unit_price, serving_cost, block_cost, blocks_cost, block_lot, lot_in, setup_in, blocks_plan}
 use Rattle.lot_sizing.proofs.Sums.{sum_to-same}
 use Rattle.lot_sizing.proofs.Positions.{count, count_le, count_next, place, period_of_count, later}
 
@@ -174,7 +175,7 @@ demand_next s k h =
 record IsPlanTo (s : Single) (k c : ℕ) (p : NetPlan) : Type 0 where
   setup : (t : ℕ) → p.setup t ≤ 1
   made : (t : ℕ) → 0 < p.make t → p.setup t ≡ 1
-  total : sum_to (period_count s) (demand_to s k) ≤ sum_to (period_count s) p.make
+  total : sum_to (period_count s) p.make ≡ sum_to (period_count s) (demand_to s k)
   in_time : IsNone s.back → (t : ℕ) → t ≤ period_count s → sum_to t (demand_to s k) ≤ sum_to t p.make
   costs : cost_with s (demand_to s k) p (period_count s) ≤ c
 
@@ -256,9 +257,30 @@ periods_rise s p q low order high =
     (λ no. let e : p ≡ q = omega (arith, no, order) in omega (arith, ap (period_of s) e))
     (cases_lt p q)
 
+lot_is : (x : ℕ → ℕ) (u a k : ℕ) → with_lot x u a k ≡ x k + (if u == k then a else 0)
+unfolding with_lot
+lot_is x u a k = ⊎_elim (λ same. grind (arith, same)) (λ apart. grind (arith, apart)) (cases_eq u k)
+
+if_more : (u k a b : ℕ) → (if u == k then a else 0) + (if u == k then b else 0) ≡ (if u == k then a + b else 0)
+if_more u k a b = ⊎_elim (λ same. grind (arith, same)) (λ apart. grind (arith, apart)) (cases_eq u k)
+
+-- what n positions after k ask for
+abbrev asked_by : Single → ℕ → ℕ → ℕ
+asked_by s k n = sum_from (suc k) n (λ j. net_demand s (period_of s j))
+
+-- a plan that serves n positions more from u
+record IsPlanMore (s : Single) (k c u n : ℕ) (p q : NetPlan) : Type 0 where
+  to : IsPlanTo s (k + n) (c + sum_from (suc k) n (serving_cost s u)) q
+  make : (j : ℕ) → q.make j ≡ p.make j + (if u == j then asked_by s k n else 0)
+  setup : (j : ℕ) → q.setup j ≡ p.setup j
+
 -- a server that is set up makes what n positions more ask for
-some_more : (s : Single) (k c u : ℕ) (p : NetPlan) (n : ℕ) → k + n ≤ position_count s → (0 < n → IsServer s u (period_of s (suc k))) → p.setup u ≡ 1 → IsPlanTo s k c p → (q : NetPlan) × (q.setup u ≡ 1) × IsPlanTo s (k + n) (c + sum_from (suc k) n (serving_cost s u)) q
-some_more s k c u p zero high server set to = (p, set, subst (λ j. IsPlanTo s j (c + 0) p) (omega arith) (subst (λ j. IsPlanTo s k j p) (omega arith) to))
+some_more : (s : Single) (k c u : ℕ) (p : NetPlan) (n : ℕ) → k + n ≤ position_count s → (0 < n → IsServer s u (period_of s (suc k))) → p.setup u ≡ 1 → IsPlanTo s k c p → (q : NetPlan) × IsPlanMore s k c u n p q
+some_more s k c u p zero high server set to = (p, record {
+  to = subst (λ j. IsPlanTo s j (c + 0) p) (omega arith) (subst (λ j. IsPlanTo s k j p) (omega arith) to);
+  make = λ j. grind arith;
+  setup = λ j. refl;
+})
 some_more s k c u p (suc n) high server set to =
     let before = some_more s k c u p n (omega (arith, high)) (λ some. server (omega arith)) set to in
     let q = before.0 in
@@ -266,13 +288,29 @@ some_more s k c u p (suc n) high server set to =
     let e : suc k + n ≡ suc (k + n) = omega arith in
     let i : suc (k + n) ≡ k + suc n = omega arith in
     let rise = periods_rise s (suc k) (suc (k + n)) (omega arith) (omega arith) (omega (arith, high)) in
-    let more = one_more s (k + n) (c + sum_from (suc k) n (serving_cost s u)) u q (omega (arith, high)) (record { low = first.low; high = first.high; in_time = λ none. omega (arith, first.in_time none, rise) }) before.1 before.2 in
+    let a = net_demand s (period_of s (suc (k + n))) in
+    let more = one_more s (k + n) (c + sum_from (suc k) n (serving_cost s u)) u q (omega (arith, high)) (record { low = first.low; high = first.high; in_time = λ none. omega (arith, first.in_time none, rise) }) (before.1.setup u ∙ set) before.1.to in
     let sum : c + sum_from (suc k) n (serving_cost s u) + serving_cost s u (suc (k + n)) ≡ c + sum_from (suc k) (suc n) (serving_cost s u) = omega (arith, ap (serving_cost s u) e) in
-    let r : NetPlan = record { make = with_lot q.make u (net_demand s (period_of s (suc (k + n)))); setup = q.setup } in
-    (r, before.1, subst (λ j. IsPlanTo s j (c + sum_from (suc k) (suc n) (serving_cost s u)) r) i (subst (λ j. IsPlanTo s (suc (k + n)) j r) sum more))
+    let r : NetPlan = record { make = with_lot q.make u a; setup = q.setup } in
+    let asked : asked_by s k n + a ≡ asked_by s k (suc n) = ap (λ j. asked_by s k n + net_demand s (period_of s j)) (sym e) in
+    (r, record {
+      to = subst (λ j. IsPlanTo s j (c + sum_from (suc k) (suc n) (serving_cost s u)) r) i (subst (λ j. IsPlanTo s (suc (k + n)) j r) sum more);
+      make = λ j. omega (arith, lot_is q.make u a j, before.1.make j, if_more u j (asked_by s k n) a, ap (λ x. if u == j then x else 0) asked);
+      setup = before.1.setup;
+    })
+
+-- a plan that serves the positions of blocks more
+record IsPlanWith (s : Single) (k c : ℕ) (blocks : List Block) (p q : NetPlan) : Type 0 where
+  to : IsPlanTo s k c q
+  make : (j : ℕ) → q.make j ≡ p.make j + lot_in s blocks j
+  setup : (j : ℕ) → q.setup j ≡ (if list_any (λ b. b.server == j) blocks then 1 else p.setup j)
+
+set_is : (y : ℕ → ℕ) (u k : ℕ) → with_setup y u k ≡ (if u == k then 1 else y k)
+unfolding with_setup
+set_is y u k = ⊎_elim (λ same. grind (arith, same)) (λ apart. grind (arith, apart)) (cases_eq u k)
 
 -- one block more
-block_more : (s : Single) (k c : ℕ) (b : Block) (p : NetPlan) → b.first ≡ k + 1 → IsBlock s b → IsPlanTo s k c p → (q : NetPlan) × IsPlanTo s b.last (c + block_cost s b) q
+block_more : (s : Single) (k c : ℕ) (b : Block) (p : NetPlan) → b.first ≡ k + 1 → IsBlock s b → IsPlanTo s k c p → (q : NetPlan) × IsPlanTo s b.last (c + block_cost s b) q × ((j : ℕ) → q.make j ≡ p.make j + (if b.server == j then block_lot s b else 0)) × ((j : ℕ) → q.setup j ≡ (if b.server == j then 1 else p.setup j))
 block_more s k c b p first is_block to =
     let u = b.server in
     let n = suc b.last - b.first in
@@ -281,15 +319,34 @@ block_more s k c b p first is_block to =
     let set = set_up s k c u p is_block.server.high to in
     let found = some_more s k (c + entry s.setup u) u (record { make = p.make; setup = with_setup p.setup u }) n (omega (arith, i, is_block.high)) (λ some. subst (λ j. IsServer s u (period_of s j)) e is_block.server) (set_here p.setup u) set in
     let sum : c + entry s.setup u + sum_from (suc k) n (serving_cost s u) ≡ c + block_cost s b = omega (arith, ap (λ j. sum_from j n (serving_cost s u)) e) in
-    (found.0, subst (λ j. IsPlanTo s j (c + block_cost s b) found.0) i (subst (λ j. IsPlanTo s (k + n) j found.0) sum found.2))
+    (
+      found.0,
+      subst (λ j. IsPlanTo s j (c + block_cost s b) found.0) i (subst (λ j. IsPlanTo s (k + n) j found.0) sum found.1.to),
+      λ j. found.1.make j ∙ ap (λ f. p.make j + (if u == j then sum_from f n (λ x. net_demand s (period_of s x)) else 0)) (sym e),
+      λ j. found.1.setup j ∙ set_is p.setup u j,
+    )
 
-all_blocks : (s : Single) (k c : ℕ) (blocks : List Block) (p : NetPlan) → CoverFrom s k blocks → IsPlanTo s k c p → (q : NetPlan) × IsPlanTo s (position_count s) (c + blocks_cost s blocks) q
-all_blocks s k c [] p cover to = (p, subst (λ j. IsPlanTo s j (c + 0) p) cover (subst (λ j. IsPlanTo s k j p) (omega arith) to))
+any_setup : (t : Bool) (rest : Bool) (y : ℕ) → (if rest then 1 else if t then 1 else y) ≡ (if t || rest then 1 else y)
+any_setup true true y = refl
+any_setup true false y = refl
+any_setup false true y = refl
+any_setup false false y = refl
+
+all_blocks : (s : Single) (k c : ℕ) (blocks : List Block) (p : NetPlan) → CoverFrom s k blocks → IsPlanTo s k c p → (q : NetPlan) × IsPlanWith s (position_count s) (c + blocks_cost s blocks) blocks p q
+all_blocks s k c [] p cover to = (p, record {
+  to = subst (λ j. IsPlanTo s j (c + 0) p) cover (subst (λ j. IsPlanTo s k j p) (omega arith) to);
+  make = λ j. omega arith;
+  setup = λ j. refl;
+})
 all_blocks s k c (b ∷ rest) p cover to =
     let more = block_more s k c b p cover.0 cover.1 to in
     let all = all_blocks s b.last (c + block_cost s b) rest more.0 cover.2 more.1 in
     let sum : c + block_cost s b + blocks_cost s rest ≡ c + blocks_cost s (b ∷ rest) = omega (arith, sum_by-cons (block_cost s) b rest) in
-    (all.0, subst (λ j. IsPlanTo s (position_count s) j all.0) sum all.1)
+    (all.0, record {
+      to = subst (λ j. IsPlanTo s (position_count s) j all.0) sum all.1.to;
+      make = λ j. omega (arith, all.1.make j, more.2 j, sum_by-cons (λ x. if x.server == j then block_lot s x else 0) b rest);
+      setup = λ j. all.1.setup j ∙ ap (λ y. if list_any (λ x. x.server == j) rest then 1 else y) (more.3 j) ∙ any_setup (b.server == j) (list_any (λ x. x.server == j) rest) (p.setup j);
+    })
 
 -- the first periods without a position ask for nothing
 nothing_asked : (s : Single) (t : ℕ) → sum_to t (demand_to s 0) ≡ 0
@@ -319,12 +376,20 @@ no_cost s (suc t) =
     let short : sum_to (suc t) (demand_to s 0) - sum_to (suc t) no_lots.make ≡ 0 = omega (arith, nothing_asked s (suc t)) in
     omega (arith, no_cost s t, ap (λ k. entry s.hold (suc t) * k) left, ap (λ k. backlog_price s.back (suc t) * k) short)
 
+no_lot_more : (s : Single) (blocks : List Block) (j : ℕ) → no_lots.make j + lot_in s blocks j ≡ lot_in s blocks j
+unfolding no_lots
+no_lot_more s blocks j = omega arith
+
+no_setup_more : (blocks : List Block) (j : ℕ) → (if list_any (λ b. b.server == j) blocks then 1 else no_lots.setup j) ≡ setup_in blocks j
+unfolding no_lots
+no_setup_more blocks j = refl
+
 nothing_served : (s : Single) → IsPlanTo s 0 0 no_lots
 unfolding no_lots
 nothing_served s = record {
   setup = λ t. omega arith;
   made = λ t some. absurd (omega (arith, some));
-  total = omega (arith, nothing_asked s (period_count s));
+  total = omega (arith, none_made (period_count s), nothing_asked s (period_count s));
   in_time = λ none t h. omega (arith, nothing_asked s t);
   costs = omega (arith, no_cost s (period_count s));
 }
@@ -332,30 +397,41 @@ nothing_served s = record {
 all_asked : (s : Single) (t : ℕ) → t ≤ period_count s → sum_to t (demand_to s (position_count s)) ≡ sum_to t (net_demand s)
 all_asked s t h = sum_to-same t _ _ (λ k low high. demand_in s (position_count s) k (count_le s k (period_count s) (omega (arith, high, h))))
 
-all_served : (s : Single) (c : ℕ) (p : NetPlan) → IsPlanTo s (position_count s) c p → IsNetPlan s p × (net_cost s p ≤ c)
+-- a plan that serves all that is asked for, and no more
+pub record ServesAll (s : Single) (c : ℕ) (p : NetPlan) : Type 0 where
+  pub plan : IsNetPlan s p
+  pub even : sum_to (period_count s) p.make ≡ sum_to (period_count s) (net_demand s)
+  pub costs : net_cost s p ≤ c
+
+all_served : (s : Single) (c : ℕ) (p : NetPlan) → IsPlanTo s (position_count s) c p → ServesAll s c p
 all_served s c p to =
     let T = period_count s in
     let m = position_count s in
-    (
-      record {
+    record {
+      plan = record {
         setup = λ t low high. to.setup t;
         made = λ t low high. to.made t;
         served = omega (arith, to.total, all_asked s T (omega arith));
         in_time = λ none t low high. omega (arith, to.in_time none t high, all_asked s t high);
-      },
-      omega (
+      };
+      even = omega (arith, to.total, all_asked s T (omega arith));
+      costs = omega (
         arith,
         to.costs,
         sum_to-same T
         (λ k. entry s.setup k * p.setup k + entry s.unit k * p.make k + entry s.hold k * (sum_to k p.make - sum_to k (demand_to s m)) + backlog_price s.back k * (sum_to k (demand_to s m) - sum_to k p.make))
         (λ k. entry s.setup k * p.setup k + entry s.unit k * p.make k + entry s.hold k * (sum_to k p.make - sum_to k (net_demand s)) + backlog_price s.back k * (sum_to k (net_demand s) - sum_to k p.make))
         (λ k low high. ap (λ n. entry s.setup k * p.setup k + entry s.unit k * p.make k + entry s.hold k * (sum_to k p.make - n) + backlog_price s.back k * (n - sum_to k p.make)) (all_asked s k high)),
-      ),
-    )
+      );
+    }
 
--- some net plan costs no more than the blocks
-pub blocks_are_served : (s : Single) (blocks : List Block) → Cover s blocks → (p : NetPlan) × IsNetPlan s p × (net_cost s p ≤ blocks_cost s blocks)
-blocks_are_served s blocks cover =
+same_plan : (p q : NetPlan) → ((j : ℕ) → p.make j ≡ q.make j) → ((j : ℕ) → p.setup j ≡ q.setup j) → p ≡ q
+same_plan p q make setup = λ i. record { make = λ j. make j i; setup = λ j. setup j i }
+
+-- the plan of the blocks costs no more than the blocks
+pub blocks_serve : (s : Single) (blocks : List Block) → Cover s blocks → ServesAll s (blocks_cost s blocks) (blocks_plan s blocks)
+blocks_serve s blocks cover =
     let found = all_blocks s 0 0 blocks no_lots cover (nothing_served s) in
-    let done = all_served s (0 + blocks_cost s blocks) found.0 found.1 in
-    (found.0, done.0, omega (arith, done.1))
+    let same = same_plan found.0 (blocks_plan s blocks) (λ j. found.1.make j ∙ no_lot_more s blocks j) (λ j. found.1.setup j ∙ no_setup_more blocks j) in
+    let done = subst (ServesAll s (0 + blocks_cost s blocks)) same (all_served s (0 + blocks_cost s blocks) found.0 found.1.to) in
+    record { plan = done.plan; even = done.even; costs = omega (arith, done.costs) }

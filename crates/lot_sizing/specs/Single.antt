@@ -1,6 +1,6 @@
 -- One item by itself: its net demands and its costs, the plans that serve them, and what shows that none costs less.
 use Rattle.std.specs.Prelude.{◌≡◌, ℕ, zero, suc, ◌+◌, ◌-◌, ◌*◌, ◌^◌, ◌≤◌, ◌<◌, List, [], ◌∷◌, ◌++◌, length, Option, IsNone, IfSome, slice_index_or, if◌then◌else◌, ◌==◌}
-use Rattle.std.specs.List.{sum_by}
+use Rattle.std.specs.List.{sum_by, list_any}
 use Rattle.lot_sizing.specs.Sums.{sum_to, sum_from}
 use Rattle.lot_sizing.specs.Problem.{IsSeries, entry, backlog_price}
 use Rattle.lot_sizing.specs.declared.Block.{Block}
@@ -116,6 +116,22 @@ Cover s blocks = CoverFrom s 0 blocks
 
 abbrev pub blocks_cost : Single → List Block → ℕ
 blocks_cost s blocks = sum_by (block_cost s) blocks
+
+-- what a block makes
+abbrev pub block_lot : Single → Block → ℕ
+block_lot s b = sum_from b.first (suc b.last - b.first) (λ p. net_demand s (period_of s p))
+
+-- what the blocks make in a period
+abbrev pub lot_in : Single → List Block → ℕ → ℕ
+lot_in s blocks u = sum_by (λ b. if b.server == u then block_lot s b else 0) blocks
+
+-- whether the blocks set a period up
+abbrev pub setup_in : List Block → ℕ → ℕ
+setup_in blocks u = if list_any (λ b. b.server == u) blocks then 1 else 0
+
+-- the net plan of the blocks
+abbrev pub blocks_plan : Single → List Block → NetPlan
+blocks_plan s blocks = record { make = lot_in s blocks; setup = setup_in blocks }
 
 -- the potential of a position, and 0 before the first one
 abbrev pub potential : List ℕ → ℕ → ℕ
