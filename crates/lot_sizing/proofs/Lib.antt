@@ -9,3 +9,4 @@ pub mod Prices
 pub mod Positions
 pub mod Potentials
 pub mod Blocks
+pub mod Reduction

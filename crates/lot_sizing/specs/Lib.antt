@@ -4,6 +4,7 @@ pub mod Plan
 pub mod Best
 pub mod Totals
 pub mod Single
+pub mod Net
 pub mod Least
 pub mod Texts
 pub mod Laws
