@@ -1,5 +1,5 @@
 -- Some net plan costs no more than blocks that cover all positions.
-use Rattle.std.proofs.Common.{◌≡◌, ◌≢◌, ◌≤◌, ◌<◌, ◌+◌, ◌-◌, ◌*◌, ◌∙◌, ◌⊎◌, ⊎_elim, inl, inr, ℕ, zero, suc, refl, sym, ap, subst, arith, List, [], ◌∷◌, length, min}
+use Rattle.std.proofs.Common.{◌≡◌, ◌≢◌, ◌≤◌, ◌<◌, ◌+◌, ◌-◌, ◌*◌, ◌∙◌, ◌⊎◌, ⊎_elim, inl, inr, ℕ, zero, suc, refl, sym, ap, subst, arith, List, [], ◌∷◌, min}
 use Rattle.std.specs.Prelude.{IsNone, if◌then◌else◌, ◌==◌, ◌||◌, nat_le, Bool, true, false}
 use Rattle.std.specs.List.{list_any}
 use Rattle.std.proofs.lemmas.Nat.{mul-le}
@@ -276,11 +276,14 @@ record IsPlanMore (s : Single) (k c u n : ℕ) (p q : NetPlan) : Type 0 where
 
 -- a server that is set up makes what n positions more ask for
 some_more : (s : Single) (k c u : ℕ) (p : NetPlan) (n : ℕ) → k + n ≤ position_count s → (0 < n → IsServer s u (period_of s (suc k))) → p.setup u ≡ 1 → IsPlanTo s k c p → (q : NetPlan) × IsPlanMore s k c u n p q
-some_more s k c u p zero high server set to = (p, record {
-  to = subst (λ j. IsPlanTo s j (c + 0) p) (omega arith) (subst (λ j. IsPlanTo s k j p) (omega arith) to);
-  make = λ j. grind arith;
-  setup = λ j. refl;
-})
+some_more s k c u p zero high server set to = (
+  p,
+  record {
+    to = subst (λ j. IsPlanTo s j (c + 0) p) (omega arith) (subst (λ j. IsPlanTo s k j p) (omega arith) to);
+    make = λ j. grind arith;
+    setup = λ j. refl;
+  },
+)
 some_more s k c u p (suc n) high server set to =
     let before = some_more s k c u p n (omega (arith, high)) (λ some. server (omega arith)) set to in
     let q = before.0 in
@@ -292,12 +295,14 @@ some_more s k c u p (suc n) high server set to =
     let more = one_more s (k + n) (c + sum_from (suc k) n (serving_cost s u)) u q (omega (arith, high)) (record { low = first.low; high = first.high; in_time = λ none. omega (arith, first.in_time none, rise) }) (before.1.setup u ∙ set) before.1.to in
     let sum : c + sum_from (suc k) n (serving_cost s u) + serving_cost s u (suc (k + n)) ≡ c + sum_from (suc k) (suc n) (serving_cost s u) = omega (arith, ap (serving_cost s u) e) in
     let r : NetPlan = record { make = with_lot q.make u a; setup = q.setup } in
-    let asked : asked_by s k n + a ≡ asked_by s k (suc n) = ap (λ j. asked_by s k n + net_demand s (period_of s j)) (sym e) in
-    (r, record {
-      to = subst (λ j. IsPlanTo s j (c + sum_from (suc k) (suc n) (serving_cost s u)) r) i (subst (λ j. IsPlanTo s (suc (k + n)) j r) sum more);
-      make = λ j. omega (arith, lot_is q.make u a j, before.1.make j, if_more u j (asked_by s k n) a, ap (λ x. if u == j then x else 0) asked);
-      setup = before.1.setup;
-    })
+    let asked : asked_by s k n + a ≡ asked_by s k (suc n) = ap (λ j. asked_by s k n + net_demand s (period_of s j)) (sym e) in (
+      r,
+      record {
+        to = subst (λ j. IsPlanTo s j (c + sum_from (suc k) (suc n) (serving_cost s u)) r) i (subst (λ j. IsPlanTo s (suc (k + n)) j r) sum more);
+        make = λ j. omega (arith, lot_is q.make u a j, before.1.make j, if_more u j (asked_by s k n) a, ap (λ x. if u == j then x else 0) asked);
+        setup = before.1.setup;
+      },
+    )
 
 -- a plan that serves the positions of blocks more
 record IsPlanWith (s : Single) (k c : ℕ) (blocks : List Block) (p q : NetPlan) : Type 0 where
@@ -318,8 +323,7 @@ block_more s k c b p first is_block to =
     let i : k + n ≡ b.last = omega (arith, first, is_block.order) in
     let set = set_up s k c u p is_block.server.high to in
     let found = some_more s k (c + entry s.setup u) u (record { make = p.make; setup = with_setup p.setup u }) n (omega (arith, i, is_block.high)) (λ some. subst (λ j. IsServer s u (period_of s j)) e is_block.server) (set_here p.setup u) set in
-    let sum : c + entry s.setup u + sum_from (suc k) n (serving_cost s u) ≡ c + block_cost s b = omega (arith, ap (λ j. sum_from j n (serving_cost s u)) e) in
-    (
+    let sum : c + entry s.setup u + sum_from (suc k) n (serving_cost s u) ≡ c + block_cost s b = omega (arith, ap (λ j. sum_from j n (serving_cost s u)) e) in (
       found.0,
       subst (λ j. IsPlanTo s j (c + block_cost s b) found.0) i (subst (λ j. IsPlanTo s (k + n) j found.0) sum found.1.to),
       λ j. found.1.make j ∙ ap (λ f. p.make j + (if u == j then sum_from f n (λ x. net_demand s (period_of s x)) else 0)) (sym e),
@@ -333,20 +337,25 @@ any_setup false true y = refl
 any_setup false false y = refl
 
 all_blocks : (s : Single) (k c : ℕ) (blocks : List Block) (p : NetPlan) → CoverFrom s k blocks → IsPlanTo s k c p → (q : NetPlan) × IsPlanWith s (position_count s) (c + blocks_cost s blocks) blocks p q
-all_blocks s k c [] p cover to = (p, record {
-  to = subst (λ j. IsPlanTo s j (c + 0) p) cover (subst (λ j. IsPlanTo s k j p) (omega arith) to);
-  make = λ j. omega arith;
-  setup = λ j. refl;
-})
+all_blocks s k c [] p cover to = (
+  p,
+  record {
+    to = subst (λ j. IsPlanTo s j (c + 0) p) cover (subst (λ j. IsPlanTo s k j p) (omega arith) to);
+    make = λ j. omega arith;
+    setup = λ j. refl;
+  },
+)
 all_blocks s k c (b ∷ rest) p cover to =
     let more = block_more s k c b p cover.0 cover.1 to in
     let all = all_blocks s b.last (c + block_cost s b) rest more.0 cover.2 more.1 in
-    let sum : c + block_cost s b + blocks_cost s rest ≡ c + blocks_cost s (b ∷ rest) = omega (arith, sum_by-cons (block_cost s) b rest) in
-    (all.0, record {
-      to = subst (λ j. IsPlanTo s (position_count s) j all.0) sum all.1.to;
-      make = λ j. omega (arith, all.1.make j, more.2 j, sum_by-cons (λ x. if x.server == j then block_lot s x else 0) b rest);
-      setup = λ j. all.1.setup j ∙ ap (λ y. if list_any (λ x. x.server == j) rest then 1 else y) (more.3 j) ∙ any_setup (b.server == j) (list_any (λ x. x.server == j) rest) (p.setup j);
-    })
+    let sum : c + block_cost s b + blocks_cost s rest ≡ c + blocks_cost s (b ∷ rest) = omega (arith, sum_by-cons (block_cost s) b rest) in (
+      all.0,
+      record {
+        to = subst (λ j. IsPlanTo s (position_count s) j all.0) sum all.1.to;
+        make = λ j. omega (arith, all.1.make j, more.2 j, sum_by-cons (λ x. if x.server == j then block_lot s x else 0) b rest);
+        setup = λ j. all.1.setup j ∙ ap (λ y. if list_any (λ x. x.server == j) rest then 1 else y) (more.3 j) ∙ any_setup (b.server == j) (list_any (λ x. x.server == j) rest) (p.setup j);
+      },
+    )
 
 -- the first periods without a position ask for nothing
 nothing_asked : (s : Single) (t : ℕ) → sum_to t (demand_to s 0) ≡ 0
@@ -419,9 +428,9 @@ all_served s c p to =
         arith,
         to.costs,
         sum_to-same T
-        (λ k. entry s.setup k * p.setup k + entry s.unit k * p.make k + entry s.hold k * (sum_to k p.make - sum_to k (demand_to s m)) + backlog_price s.back k * (sum_to k (demand_to s m) - sum_to k p.make))
-        (λ k. entry s.setup k * p.setup k + entry s.unit k * p.make k + entry s.hold k * (sum_to k p.make - sum_to k (net_demand s)) + backlog_price s.back k * (sum_to k (net_demand s) - sum_to k p.make))
-        (λ k low high. ap (λ n. entry s.setup k * p.setup k + entry s.unit k * p.make k + entry s.hold k * (sum_to k p.make - n) + backlog_price s.back k * (n - sum_to k p.make)) (all_asked s k high)),
+            (λ k. entry s.setup k * p.setup k + entry s.unit k * p.make k + entry s.hold k * (sum_to k p.make - sum_to k (demand_to s m)) + backlog_price s.back k * (sum_to k (demand_to s m) - sum_to k p.make))
+            (λ k. entry s.setup k * p.setup k + entry s.unit k * p.make k + entry s.hold k * (sum_to k p.make - sum_to k (net_demand s)) + backlog_price s.back k * (sum_to k (net_demand s) - sum_to k p.make))
+            (λ k low high. ap (λ n. entry s.setup k * p.setup k + entry s.unit k * p.make k + entry s.hold k * (sum_to k p.make - n) + backlog_price s.back k * (n - sum_to k p.make)) (all_asked s k high)),
       );
     }
 

@@ -1,10 +1,14 @@
 -- How large the numbers of a feasible plan can be where no item goes into another.
-use Rattle.std.proofs.Common.{◌≡◌, ◌≤◌, ◌<◌, ◌+◌, ◌-◌, ◌*◌, ◌^◌, ◌∙◌, ℕ, refl, arith}
-use Rattle.lot_sizing.specs.Problem.{Problem, item_count, demand, per_unit, IsWithinLimits}
+use Rattle.std.proofs.Common.{◌≡◌, ◌≤◌, ◌<◌, ◌+◌, ◌-◌, ◌*◌, ◌^◌, ◌∙◌, ℕ, refl, arith, []}
+use Rattle.lot_sizing.specs.Problem.{Problem, item_at, item_count, demand, per_unit, IsWithinLimits}
 use Rattle.lot_sizing.specs.Plan.{Plan, Table, IsFeasible, used_up}
-use Rattle.lot_sizing.specs.Least.{outflow, least_stock, least_backlog, HasChoice, HasNoNeeds}
+use Rattle.lot_sizing.specs.Least.{outflow, least_stock, least_backlog, HasChoice}
 use Rattle.lot_sizing.proofs.Sums.{sum_to-same, sum_to-bound, sum_to-zero, sum_to-front}
 use Rattle.lot_sizing.proofs.Least.{least_feasible}
+
+-- no item goes into another
+abbrev pub HasNoNeeds : Problem → Type 0
+HasNoNeeds m = (i : ℕ) → 1 ≤ i → i ≤ item_count m → (item_at m i).needs ≡ []
 
 pub demand_small : (m : Problem) → IsWithinLimits m → (i t : ℕ) → 1 ≤ i → i ≤ item_count m → 1 ≤ t → t ≤ m.periods → demand m i t ≤ 10 ^ 9
 demand_small m within i t low high t_low t_high =

@@ -1,10 +1,10 @@
 -- Positions are the periods with a net demand, in order.
-use Rattle.std.proofs.Common.{◌≡◌, ◌≤◌, ◌<◌, ◌+◌, ◌-◌, ◌∙◌, ◌⊎◌, ⊎_elim, ℕ, zero, suc, refl, sym, ap, subst, arith, List, [], ◌∷◌, ◌++◌, length}
+use Rattle.std.proofs.Common.{◌≡◌, ◌≤◌, ◌<◌, ◌+◌, ◌-◌, ◌∙◌, ⊎_elim, ℕ, zero, suc, sym, ap, arith, [], ◌∷◌, ◌++◌, length}
 use Rattle.std.specs.Prelude.{if◌then◌else◌, ◌==◌}
 use Rattle.std.proofs.lemmas.List.{append-nil, length_push, get_or_push, get_or_append_left}
 use Rattle.std.proofs.lemmas.Bool.{cases_lt}
 use Rattle.lot_sizing.specs.Problem.{entry}
-use Rattle.lot_sizing.specs.Single.{Single, period_count, net_demand, positions_to, positions, position_count, period_of}
+use Rattle.lot_sizing.specs.Single.{Single, period_count, net_demand, positions_to, position_count, period_of}
 
 -- how many of the first t periods have a net demand
 abbrev pub count : Single → ℕ → ℕ

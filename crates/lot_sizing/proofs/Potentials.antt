@@ -1,13 +1,13 @@
 -- No net plan costs less than the last potential.
-use Rattle.std.proofs.Common.{◌≡◌, ◌≢◌, ◌≤◌, ◌<◌, ◌+◌, ◌-◌, ◌*◌, ◌∙◌, ◌⊎◌, ⊎_elim, inl, inr, ℕ, zero, suc, refl, sym, ap, subst, arith, List, length, Option}
-use Rattle.std.specs.Prelude.{IsNone, is_some, true, false}
+use Rattle.std.proofs.Common.{◌≡◌, ◌≤◌, ◌<◌, ◌+◌, ◌-◌, ◌*◌, ◌∙◌, ◌⊎◌, ⊎_elim, inl, inr, ℕ, zero, suc, refl, sym, ap, subst, arith, List, Option}
+use Rattle.std.specs.Prelude.{IsNone, is_some}
 use Rattle.std.proofs.lemmas.Nat.{mul-le}
 use Rattle.std.proofs.lemmas.Bool.{cases_lt, cases_eq, cases_Bool}
 use Rattle.lot_sizing.specs.Sums.{sum_to, sum_from}
 use Rattle.lot_sizing.specs.Problem.{entry, backlog_price}
 use Rattle.lot_sizing.specs.declared.Block.{Block}
-use Rattle.lot_sizing.specs.Single.{Single, NetPlan, IsNetPlan, IsServer, IsBlock, ArePotentials, period_count, net_demand, excess, shortage, net_cost, net_cost_at, position_count, period_of, unit_price, serving_cost, block_cost, potential}
-use Rattle.lot_sizing.proofs.Sums.{sum_to-same, sum_to-add, sum_to-front, sum_to_at}
+use Rattle.lot_sizing.specs.Single.{Single, NetPlan, IsNetPlan, IsServer, IsBlock, ArePotentials, period_count, net_demand, excess, shortage, net_cost, net_cost_at, position_count, period_of, unit_price, serving_cost, potential}
+use Rattle.lot_sizing.proofs.Sums.{sum_to-front, sum_to_at}
 use Rattle.lot_sizing.proofs.Prices.{kept, owed, own}
 use Rattle.lot_sizing.proofs.Positions.{count, count_idle, count_next, count_up, count_le, period_of_count, later}
 
@@ -105,19 +105,31 @@ cheapest_to s p t zero h = inl (λ v low is_open. omega (arith, low, is_open.ser
 cheapest_to s p t (suc n) h =
     ⊎_elim
     (λ here. ⊎_elim
-    (λ none. inr (suc n, here, λ v low is_open. ⊎_elim
-    (λ before. absurd (none v (omega (arith, before)) is_open))
-    (λ last. let e : v ≡ suc n = omega (arith, last, low) in omega (arith, ap (λ k. unit_price s k t) e))
-    (cases_lt v (suc n))))
+    (λ none. inr (
+      suc n,
+      here,
+      λ v low is_open. ⊎_elim
+          (λ before. absurd (none v (omega (arith, before)) is_open))
+          (λ last. let e : v ≡ suc n = omega (arith, last, low) in omega (arith, ap (λ k. unit_price s k t) e))
+          (cases_lt v (suc n)),
+    ))
     (λ found. ⊎_elim
-    (λ cheaper. inr (suc n, here, λ v low is_open. ⊎_elim
-    (λ before. omega (arith, cheaper, found.2 v (omega (arith, before)) is_open))
-    (λ last. let e : v ≡ suc n = omega (arith, last, low) in omega (arith, ap (λ k. unit_price s k t) e))
-    (cases_lt v (suc n))))
-    (λ dearer. inr (found.0, found.1, λ v low is_open. ⊎_elim
-    (λ before. found.2 v (omega (arith, before)) is_open)
-    (λ last. let e : v ≡ suc n = omega (arith, last, low) in omega (arith, dearer, ap (λ k. unit_price s k t) e))
-    (cases_lt v (suc n))))
+    (λ cheaper. inr (
+      suc n,
+      here,
+      λ v low is_open. ⊎_elim
+          (λ before. omega (arith, cheaper, found.2 v (omega (arith, before)) is_open))
+          (λ last. let e : v ≡ suc n = omega (arith, last, low) in omega (arith, ap (λ k. unit_price s k t) e))
+          (cases_lt v (suc n)),
+    ))
+    (λ dearer. inr (
+      found.0,
+      found.1,
+      λ v low is_open. ⊎_elim
+          (λ before. found.2 v (omega (arith, before)) is_open)
+          (λ last. let e : v ≡ suc n = omega (arith, last, low) in omega (arith, dearer, ap (λ k. unit_price s k t) e))
+          (cases_lt v (suc n)),
+    ))
     (cases_lt (unit_price s (suc n) t) (unit_price s found.0 t)))
     (cheapest_to s p t n (omega arith)))
     (λ not_here. ⊎_elim
@@ -125,10 +137,14 @@ cheapest_to s p t (suc n) h =
     (λ before. none v (omega (arith, before)) is_open)
     (λ last. let e : v ≡ suc n = omega (arith, last, low) in not_here (subst (λ k. IsOpen s p k t) e is_open))
     (cases_lt v (suc n))))
-    (λ found. inr (found.0, found.1, λ v low is_open. ⊎_elim
-    (λ before. found.2 v (omega (arith, before)) is_open)
-    (λ last. let e : v ≡ suc n = omega (arith, last, low) in absurd (not_here (subst (λ k. IsOpen s p k t) e is_open)))
-    (cases_lt v (suc n))))
+    (λ found. inr (
+      found.0,
+      found.1,
+      λ v low is_open. ⊎_elim
+          (λ before. found.2 v (omega (arith, before)) is_open)
+          (λ last. let e : v ≡ suc n = omega (arith, last, low) in absurd (not_here (subst (λ k. IsOpen s p k t) e is_open)))
+          (cases_lt v (suc n)),
+    ))
     (cheapest_to s p t n (omega arith)))
     (open_or_not s p (suc n) t (omega arith) h)
 
@@ -257,20 +273,28 @@ from_run s p g pots plan t u a high runs =
     let e : a + (w - a) ≡ w = omega (arith, runs.before) in
     let block = by_block s g pots u a (w - a) (omega (arith, e, high)) runs.server in
     let z : w - w ≡ 0 = omega arith in
-    inr (v, w, record {
-      server = record { low = v_open.server.low; high = v_open.server.high; in_time = v_open.server.in_time };
-      cheapest = found.1;
-      before = omega arith;
-      paid = omega (arith, carried, block, ap (λ k. potential g (count s k)) e, ap (serving s v w) z, more_setups s p u v u_before_v v_open.setup);
-    }))
+    inr (
+      v,
+      w,
+      record {
+        server = record { low = v_open.server.low; high = v_open.server.high; in_time = v_open.server.in_time };
+        cheapest = found.1;
+        before = omega arith;
+        paid = omega (arith, carried, block, ap (λ k. potential g (count s k)) e, ap (serving s v w) z, more_setups s p u v u_before_v v_open.setup);
+      },
+    ))
     (λ same.
     let carried = carry_price (unit_price s u w) (unit_price s u (suc w)) (entry s.hold w) (backlog_price s.back w) (sum_to w p.make) (sum_to w (net_demand s)) (potential g (count s a) + entry s.setup u + serving s u a (w - a)) (spent s p t + entry s.unit w * p.make w + setups s p u) served (price_rise s u w) (inl (price_fall s u w)) in
-    inr (u, a, record {
-      server = runs.server;
-      cheapest = record { is_open = u_open; least = λ k is_open. omega (arith, same, found.1.least k is_open) };
-      before = omega (arith, runs.before);
-      paid = omega (arith, carried);
-    }))
+    inr (
+      u,
+      a,
+      record {
+        server = runs.server;
+        cheapest = record { is_open = u_open; least = λ k is_open. omega (arith, same, found.1.least k is_open) };
+        before = omega (arith, runs.before);
+        paid = omega (arith, carried);
+      },
+    ))
     (cases_lt (unit_price s v (suc w)) (unit_price s u (suc w))))
     (cheapest s p (suc w))
 
@@ -289,12 +313,16 @@ begins s p g t net make =
     let u_open = found.1.is_open in
     let z : t - t ≡ 0 = omega arith in
     let f = λ (k : ℕ). entry s.setup k * p.setup k in
-    inr (u, t, record {
-      server = u_open.server;
-      cheapest = found.1;
-      before = omega arith;
-      paid = omega (arith, ap (potential g) (zero_count s t net), ap (serving s u t) z, sum_to_at u f u_open.server.low, ap (λ k. entry s.setup u * k) u_open.setup, ap (λ k. unit_price s u (suc t) * k) make, ap (λ k. unit_price s u (suc t) * k) net);
-    }))
+    inr (
+      u,
+      t,
+      record {
+        server = u_open.server;
+        cheapest = found.1;
+        before = omega arith;
+        paid = omega (arith, ap (potential g) (zero_count s t net), ap (serving s u t) z, sum_to_at u f u_open.server.low, ap (λ k. entry s.setup u * k) u_open.setup, ap (λ k. unit_price s u (suc t) * k) make, ap (λ k. unit_price s u (suc t) * k) net);
+      },
+    ))
     (cheapest s p (suc t))
 
 none_made : (s : Single) (p : NetPlan) → IsNetPlan s p → (t : ℕ) → (IsNone s.back → ⊥) → ((v : ℕ) → IsOpen s p v t → ⊥) → (n : ℕ) → n ≤ period_count s → sum_to n p.make ≡ 0

@@ -1,8 +1,8 @@
 -- What a unit costs that is kept or owed one period more.
-use Rattle.std.proofs.Common.{◌≡◌, ◌≤◌, ◌<◌, ◌+◌, ◌-◌, ◌*◌, ℕ, zero, suc, ap, arith}
+use Rattle.std.proofs.Common.{◌≡◌, ◌≤◌, ◌<◌, ◌+◌, ◌-◌, ℕ, zero, suc, ap, arith}
 use Rattle.lot_sizing.specs.Sums.{sum_from}
 use Rattle.lot_sizing.specs.Problem.{entry, backlog_price}
-use Rattle.lot_sizing.specs.Single.{Single, transport_price, unit_price}
+use Rattle.lot_sizing.specs.Single.{Single, unit_price}
 
 pub sum_from-front : (u n : ℕ) (f : ℕ → ℕ) → sum_from u (suc n) f ≡ f u + sum_from (suc u) n f
 sum_from-front u zero f = let e : u + 0 ≡ u = omega arith in omega (arith, ap f e)

@@ -1,18 +1,18 @@
 -- Plans of items by themselves, and net plans.
-use Rattle.std.proofs.Common.{◌≡◌, ◌≢◌, ◌≤◌, ◌<◌, ◌+◌, ◌-◌, ◌*◌, ◌∙◌, ◌⊎◌, ⊎_elim, inl, inr, ℕ, zero, suc, refl, sym, ap, subst, arith, List, []}
+use Rattle.std.proofs.Common.{◌≡◌, ◌≢◌, ◌≤◌, ◌+◌, ◌-◌, ◌*◌, ◌∙◌, ⊎_elim, ℕ, zero, suc, refl, sym, ap, subst, arith}
 use Rattle.std.specs.Prelude.{IsNone, if◌then◌else◌, ◌==◌}
 use Rattle.std.specs.List.{sum_by}
-use Rattle.std.proofs.lemmas.Nat.{mul-le}
-use Rattle.std.proofs.lemmas.Bool.{cases_lt, cases_eq}
+use Rattle.std.proofs.lemmas.Bool.{cases_eq}
 use Rattle.std.proofs.Math.Nat.{mul-le-mul_left}
 use Rattle.lot_sizing.specs.Sums.{sum_to}
-use Rattle.lot_sizing.specs.Problem.{Problem, IsUncoupled, item_at, item_count, demand, per_unit, unit_time, setup_time, unit_cost, setup_cost, hold_cost, backlog_cost, backlog_price, entry}
-use Rattle.lot_sizing.specs.Plan.{Plan, Table, IsFeasible, IsBalanced, EachCell, used_up, time_used, cost_at, cost}
+use Rattle.lot_sizing.specs.Problem.{Problem, IsUncoupled, item_at, item_count, demand, unit_time, setup_time, hold_cost, backlog_cost, backlog_price, entry}
+use Rattle.lot_sizing.specs.Plan.{Plan, Table, IsFeasible, used_up, time_used, cost_at, cost}
 use Rattle.lot_sizing.specs.Best.{IsFloor}
-use Rattle.lot_sizing.specs.Least.{supply, outflow, least_stock, least_backlog, least_plan}
-use Rattle.lot_sizing.specs.Single.{Single, NetPlan, IsNetPlan, period_count, net_demand, net_cost, net_cost_at, excess, shortage}
+use Rattle.lot_sizing.specs.Least.{outflow, least_stock, least_backlog, least_plan}
+use Rattle.lot_sizing.specs.Single.{Single, NetPlan, IsNetPlan, net_demand, net_cost, net_cost_at}
 use Rattle.lot_sizing.specs.Net.{Asked, asked_to, needed_to, net_in, left_after, asked_of, IsSingleOf, held_left, item_cost, HasRoom, ServesItem, IsBestChoice, EachItem, choice}
-use Rattle.lot_sizing.proofs.Sums.{sum_to-same, sum_to-le, sum_to-add, sum_to-zero, sum_to-front}
+use Rattle.lot_sizing.proofs.Sums.{sum_to-same, sum_to-le, sum_to-add, sum_to-zero}
+use Rattle.lot_sizing.proofs.Bounds.{none_used_up}
 use Rattle.lot_sizing.proofs.Plans.{stock_after_some, backlog_after_some}
 use Rattle.lot_sizing.proofs.Least.{balance_so_far, least_balanced}
 
@@ -41,10 +41,7 @@ net_of_single m i s single some t h = sum_to-same t (net_demand s) (net_in (aske
 
 -- no item goes into another
 none_used : (m : Problem) → IsUncoupled m → (i : ℕ) (make : ℕ → ℕ → ℕ) (t : ℕ) → used_up m make i t ≡ 0
-none_used m free i make t =
-    sum_to-same (item_count m) (λ j. per_unit m i j * make j t) (λ _. 0) (λ j low high.
-    let none : per_unit m i j ≡ 0 = ap (λ needs. sum_by (λ need. if need.item == i then need.quantity else 0) needs) ((free j low high).1) in
-    omega (arith, ap (λ k. k * make j t) none)) ∙ sum_to-zero (item_count m)
+none_used m free i make t = none_used_up m make (λ j low high. (free j low high).1) i t
 
 plain_outflow : (m : Problem) → IsUncoupled m → (i : ℕ) (make : ℕ → ℕ → ℕ) (t : ℕ) → outflow m make i t ≡ sum_to t (demand m i)
 plain_outflow m free i make t = sum_to-same t _ _ (λ u low high. omega (arith, none_used m free i make u))
@@ -221,8 +218,7 @@ items_feasible m make setup single free some ends serves rooms =
       backlog = λ i t low high t_low t_high.
           let here = left i t low high t_low t_high in
           let sv = serves i low high in
-          let a = asked_of m i in
-          (
+          let a = asked_of m i in (
             λ none. omega (arith, here.backlog, sv.plan.in_time (subst IsNone (sym sv.single.back) none) t t_low (omega (arith, t_high, sv.single.periods)), net_of_single m i (single i) sv.single some t t_high),
             λ last. omega (arith, here.backlog, even_of m i (single i) (choice make setup i) some sv, ap (λ n. sum_to n (make i)) last, ap (needed_to a) last),
           );

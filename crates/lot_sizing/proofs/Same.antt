@@ -2,9 +2,16 @@
 use Rattle.std.proofs.Common.{◌≡◌, ◌≤◌, ◌-◌, ◌*◌, ◌∙◌, ℕ, zero, suc, refl, sym, ap, arith}
 use Rattle.lot_sizing.specs.Problem.{Problem, item_count, unit_time, setup_time, unit_cost, setup_cost, hold_cost, backlog_cost}
 use Rattle.lot_sizing.specs.Plan.{Plan, IsFeasible, stock_after, backlog_after, time_used, cost}
-use Rattle.lot_sizing.specs.Least.{SamePlan}
+use Rattle.lot_sizing.specs.Least.{SameCells}
 use Rattle.lot_sizing.proofs.Sums.{sum_to-same}
 use Rattle.lot_sizing.proofs.Least.{used_up_same}
+
+-- the same numbers throughout
+pub record SamePlan (m : Problem) (p q : Plan) : Type 0 where
+  pub make : SameCells m p.make q.make
+  pub setup : SameCells m p.setup q.setup
+  pub stock : SameCells m p.stock q.stock
+  pub backlog : SameCells m p.backlog q.backlog
 
 stock_after_same : (m : Problem) (p q : Plan) (i : ℕ) → SamePlan m p q → 1 ≤ i → i ≤ item_count m → (t : ℕ) → t ≤ m.periods → stock_after m p i t ≡ stock_after m q i t
 stock_after_same m p q i same low high zero h = refl

@@ -1,7 +1,11 @@
 -- Laws that hold of every problem.
-use Rattle.std.specs.Prelude.{ℕ, ◌≤◌}
+use Rattle.std.specs.Prelude.{◌≡◌, ℕ, ◌+◌, ◌≤◌, List}
 use Rattle.lot_sizing.specs.Sums.{sum_to}
-use Rattle.lot_sizing.specs.Problem.{Problem, item_count}
+use Rattle.lot_sizing.specs.Problem.{Problem, IsUncoupled, item_at, item_count}
+use Rattle.lot_sizing.specs.Best.{IsFloor}
+use Rattle.lot_sizing.specs.declared.Block.{Block}
+use Rattle.lot_sizing.specs.Single.{Single, NetPlan, IsNetPlan, ArePotentials, Cover, period_count, net_demand, net_cost, position_count, potential, blocks_plan, blocks_cost, lot_in}
+use Rattle.lot_sizing.specs.Net.{EachItem, HasRoom, ServesItem, IsBestChoice, choice, item_cost, held_left}
 use Rattle.lot_sizing.specs.Plan.{Plan, Table, EachCell, IsFeasible, cost}
 use Rattle.lot_sizing.specs.Least.{HasChoice, least_backlog, least_plan, least_stock}
 use Rattle.lot_sizing.specs.Totals.{AreLargestTotals, IsRanking}
@@ -18,3 +22,38 @@ KeepsLeast =
     (m : Problem) (make setup : Table) → 1 ≤ m.periods → (p : Plan) → IsFeasible m p → HasChoice m make setup p
     → IsFeasible m (least_plan m make setup) × (cost m (least_plan m make setup) ≤ cost m p)
     × EachCell m (λ i t. (least_stock m make i t ≤ p.stock i t) × (least_backlog m make i t ≤ p.backlog i t))
+
+-- no net plan costs less than the last potential
+abbrev pub LastPotentialIsFloor : Type 0
+LastPotentialIsFloor = (s : Single) (g : List ℕ) → ArePotentials s g → (p : NetPlan) → IsNetPlan s p → potential g (position_count s) ≤ net_cost s p
+
+-- blocks that cover all positions give a net plan that serves what is asked for, no more, and costs no more than the blocks
+abbrev pub BlocksServe : Type 0
+BlocksServe =
+    (s : Single) (blocks : List Block) → Cover s blocks
+    → IsNetPlan s (blocks_plan s blocks) × (net_cost s (blocks_plan s blocks) ≤ blocks_cost s blocks)
+    × (sum_to (period_count s) (lot_in s blocks) ≡ sum_to (period_count s) (net_demand s))
+
+-- where no item uses a resource or needs another: with net plans of least cost for each item by itself, the least stocks and backlogs cost no more than any feasible plan
+abbrev pub ItemsAreBestApart : Type 0
+ItemsAreBestApart =
+    (m : Problem) (make setup : Table) (single : ℕ → Single) → IsUncoupled m → 1 ≤ m.periods
+    → EachItem m (λ i. IsBestChoice m i (single i) (choice make setup i)) → IsFloor m (cost m (least_plan m make setup))
+
+-- there, a feasible plan leaves room for the largest end stock of each item
+abbrev pub PlansHaveRoom : Type 0
+PlansHaveRoom = (m : Problem) (p : Plan) → IsUncoupled m → 1 ≤ m.periods → IsFeasible m p → EachItem m (HasRoom m)
+
+-- and with that room net plans for each item by itself make a feasible plan
+abbrev pub RoomIsEnough : Type 0
+RoomIsEnough =
+    (m : Problem) (make setup : Table) (single : ℕ → Single) → IsUncoupled m → 1 ≤ m.periods
+    → EachItem m (λ i. (item_at m i).end_min ≤ (item_at m i).end_max) → EachItem m (λ i. ServesItem m i (single i) (choice make setup i))
+    → EachItem m (HasRoom m) → IsFeasible m (least_plan m make setup)
+
+-- there, the least plan of net plans costs what they and what is left of the opening stock cost
+abbrev pub CostsApart : Type 0
+CostsApart =
+    (m : Problem) (make setup : Table) (single : ℕ → Single) → IsUncoupled m → 1 ≤ m.periods
+    → EachItem m (λ i. ServesItem m i (single i) (choice make setup i))
+    → EachItem m (λ i. item_cost m (least_plan m make setup) i ≡ net_cost (single i) (choice make setup i) + held_left m i)

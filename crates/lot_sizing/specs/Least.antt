@@ -1,7 +1,7 @@
 -- The least stocks and backlogs that go with given quantities.
-use Rattle.std.specs.Prelude.{◌≡◌, ℕ, ◌+◌, ◌-◌, ◌≤◌, []}
+use Rattle.std.specs.Prelude.{◌≡◌, ℕ, ◌+◌, ◌-◌}
 use Rattle.lot_sizing.specs.Sums.{sum_to}
-use Rattle.lot_sizing.specs.Problem.{Problem, item_at, item_count, demand}
+use Rattle.lot_sizing.specs.Problem.{Problem, item_at, demand}
 use Rattle.lot_sizing.specs.Plan.{Plan, Table, EachCell, used_up}
 
 -- what there has been of an item up to a period
@@ -30,14 +30,3 @@ SameCells m a b = EachCell m (λ i t. a i t ≡ b i t)
 pub record HasChoice (m : Problem) (quantities setups : Table) (p : Plan) : Type 0 where
   pub make : SameCells m p.make quantities
   pub setup : SameCells m p.setup setups
-
--- no item goes into another
-abbrev pub HasNoNeeds : Problem → Type 0
-HasNoNeeds m = (i : ℕ) → 1 ≤ i → i ≤ item_count m → (item_at m i).needs ≡ []
-
--- the same numbers throughout
-pub record SamePlan (m : Problem) (p q : Plan) : Type 0 where
-  pub make : SameCells m p.make q.make
-  pub setup : SameCells m p.setup q.setup
-  pub stock : SameCells m p.stock q.stock
-  pub backlog : SameCells m p.backlog q.backlog

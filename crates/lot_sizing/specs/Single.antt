@@ -1,5 +1,5 @@
 -- One item by itself: its net demands and its costs, the plans that serve them, and what shows that none costs less.
-use Rattle.std.specs.Prelude.{◌≡◌, ℕ, zero, suc, ◌+◌, ◌-◌, ◌*◌, ◌^◌, ◌≤◌, ◌<◌, List, [], ◌∷◌, ◌++◌, length, Option, IsNone, IfSome, slice_index_or, if◌then◌else◌, ◌==◌}
+use Rattle.std.specs.Prelude.{◌≡◌, ℕ, zero, suc, ◌+◌, ◌-◌, ◌*◌, ◌^◌, ◌≤◌, ◌<◌, List, [], ◌∷◌, ◌++◌, length, Option, IsNone, IfSome, if◌then◌else◌, ◌==◌}
 use Rattle.std.specs.List.{sum_by, list_any}
 use Rattle.lot_sizing.specs.Sums.{sum_to, sum_from}
 use Rattle.lot_sizing.specs.Problem.{IsSeries, entry, backlog_price}

@@ -4,16 +4,20 @@
 //! backlogging in big time buckets, as Pochet and Wolsey model it in "Production Planning by Mixed
 //! Integer Programming". `specs/` has what a problem is (`Problem`), what a plan is, when it is
 //! feasible and what it costs (`Plan`), what holds of all feasible plans (`Best`), how much of an
-//! item any of them makes (`Totals`), the stocks and backlogs that go with quantities (`Least`), and
-//! the texts that the program writes (`Texts`). `proofs/` has laws about these; those that stand by themselves are contracts of functions
-//! in `laws`, which do nothing.
+//! item any of them makes (`Totals`), the stocks and backlogs that go with quantities (`Least`), an
+//! item by itself with its net plans, blocks and potentials (`Single`), how it comes from a problem
+//! (`Net`), and the texts that the program writes (`Texts`). `proofs/` has laws about these; those
+//! that stand by themselves are contracts of functions in `laws`, which do nothing.
 //!
 //! Items, resources and periods are counted from 1. All numbers are whole and of any size.
 #![tactic(auto)]
 
 mod laws;
 
-pub use laws::{least_stocks_are_best, totals_are_bounded};
+pub use laws::{
+    blocks_serve, costs_apart, items_are_best_apart, last_potential_is_floor,
+    least_stocks_are_best, room_decides, totals_are_bounded,
+};
 
 /// A component, and how many units of it go into one unit of the item.
 #[derive(Clone, Copy, Debug, PartialEq, Eq)]

@@ -5,7 +5,7 @@ use Rattle.std.proofs.lemmas.Bool.{cases_lt}
 use Rattle.lot_sizing.specs.Problem.{Problem, item_at, item_count, resource_count, demand, unit_cost, setup_cost, hold_cost, backlog_cost}
 use Rattle.lot_sizing.specs.Plan.{Plan, IsFeasible, IsBalanced, cost, cost_at}
 use Rattle.lot_sizing.specs.Best.{IsBest}
-use Rattle.lot_sizing.specs.Least.{HasNoNeeds}
+use Rattle.lot_sizing.proofs.Bounds.{HasNoNeeds}
 use Rattle.lot_sizing.proofs.Bounds.{none_used_up}
 use Rattle.lot_model.specs.Views.{IsBuilt, IsOneItemOnePeriod}
 
