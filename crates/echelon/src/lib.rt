@@ -1,0 +1,13 @@
+//! Items by themselves.
+//!
+//! A `SingleItem` is what remains to be made of one item in each period once its opening stock is
+//! used up, with its costs. A recursion answers `Blocks`: a least cost, which period serves which
+//! positions, and the potentials that show that no plan costs less. The definitions of `lot_sizing`
+//! say what a net plan is, what it costs and when potentials prove a floor; `single_of_item` reads a
+//! `SingleItem` in their words.
+#![tactic(auto)]
+
+mod single;
+
+pub use lot_sizing::Block;
+pub use single::{Blocks, SingleItem};
