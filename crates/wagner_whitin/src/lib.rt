@@ -1,13 +1,6 @@
-// A library with one function.
+//! The least cost of an item by itself, by the recursion of Wagner and Whitin (1958) over servers.
 #![tactic(auto)]
 
-ghost use Rattle.std.specs.Prelude.{◌≡◌};
-ghost use Rattle.wagner_whitin.specs.Echo.{echo_of};
+mod prices;
+mod runs;
 
-// The `ensures` clause is the contract: what `echo` returns is `echo_of` of its argument, a definition
-// in `specs/Echo.antt`, which a caller's clause can cite too.
-pub fn echo(x: usize) -> usize
-    ensures { result ≡ echo_of x }
-{
-    x
-}

@@ -1,0 +1,72 @@
+-- What the tables of the recursion hold.
+use Rattle.std.specs.Prelude.{◌≡◌, ℕ, zero, suc, ◌+◌, ◌-◌, ◌*◌, ◌^◌, ◌≤◌, ◌⊎◌, List, length, IfSome, slice_index_or}
+use Rattle.lot_sizing.specs.Sums.{sum_to}
+use Rattle.lot_sizing.specs.Problem.{entry}
+use Rattle.lot_sizing.specs.declared.Block.{Block}
+use Rattle.lot_sizing.specs.Single.{Single, IsServer, IsBlock, period_count, period_of, block_cost, potential}
+use Rattle.wagner_whitin.specs.declared.prices.Prices.{Prices}
+use Rattle.wagner_whitin.specs.declared.runs.Run.{Run}
+
+-- the sums of the first numbers, that of none first
+pub record AreSums (n : ℕ) (f : ℕ → ℕ) (sums : List ℕ) : Type 0 where
+  pub size : length sums ≡ n + 1
+  pub each : (k : ℕ) → k ≤ n → slice_index_or sums k 0 ≡ sum_to k f
+
+pub record ArePrices (s : Single) (prices : Prices) : Type 0 where
+  pub held : AreSums (period_count s) (entry s.hold) prices.held.items
+  pub owed : IfSome s.back (λ costs. AreSums (period_count s) (entry costs) prices.owed.items)
+
+-- more than a setup and all units at the highest price cost
+abbrev pub most_for_one : ℕ
+most_for_one = 2 * 10 ^ 23
+
+abbrev pub block_to : Run → ℕ → ℕ → Block
+block_to run u p = record { first = run.first; last = p; server = u }
+
+-- the cheapest last block of a server that ends with position p, and what all up to it costs
+pub record IsRun (s : Single) (g : List ℕ) (u p : ℕ) (run : Run) : Type 0 where
+  pub low : 1 ≤ run.first
+  pub high : run.first ≤ p
+  pub server : IsServer s u (period_of s run.first)
+  pub cost : run.cost ≡ potential g (run.first - 1) + block_cost s (block_to run u p)
+  pub least : (a : ℕ) → 1 ≤ a → a ≤ p → IsServer s u (period_of s a) → run.cost ≤ potential g (a - 1) + block_cost s (record { first = a; last = p; server = u })
+  pub small : run.cost ≤ p * most_for_one
+
+-- no position up to p may be served
+pub record HasNoRun (s : Single) (u p : ℕ) (run : Run) : Type 0 where
+  pub none : run.first ≡ 0
+  pub closed : (a : ℕ) → 1 ≤ a → a ≤ p → IsServer s u (period_of s a) → ⊥
+
+abbrev pub IsRunOrNone : Single → List ℕ → ℕ → ℕ → Run → Type 0
+IsRunOrNone s g u p run = HasNoRun s u p run ⊎ IsRun s g u p run
+
+abbrev pub no_run : Run
+no_run = record { cost = 0; first = 0 }
+
+abbrev pub run_of : List Run → ℕ → Run
+run_of runs u = slice_index_or runs (u - 1) no_run
+
+-- each server has its run
+pub record AreRuns (s : Single) (g : List ℕ) (p : ℕ) (runs : List Run) : Type 0 where
+  pub size : length runs ≡ period_count s
+  pub each : (u : ℕ) → 1 ≤ u → u ≤ period_count s → IsRunOrNone s g u p (run_of runs u)
+
+abbrev pub no_block : Block
+no_block = record { first = 0; last = 0; server = 0 }
+
+abbrev pub last_block : List Block → ℕ → Block
+last_block lasts p = slice_index_or lasts (p - 1) no_block
+
+-- the block ends with position p, and no other one makes its potential smaller
+pub record IsLastBlock (s : Single) (g : List ℕ) (p : ℕ) (b : Block) : Type 0 where
+  pub block : IsBlock s b
+  pub ends : b.last ≡ p
+  pub cost : potential g p ≡ potential g (b.first - 1) + block_cost s b
+
+-- the least costs of the first p positions, and their last blocks
+pub record IsTable (s : Single) (p : ℕ) (g : List ℕ) (lasts : List Block) : Type 0 where
+  pub size : length g ≡ p
+  pub blocks : length lasts ≡ p
+  pub floor : (b : Block) → IsBlock s b → b.last ≤ p → potential g b.last ≤ potential g (b.first - 1) + block_cost s b
+  pub last : (k : ℕ) → 1 ≤ k → k ≤ p → IsLastBlock s g k (last_block lasts k)
+  pub small : (k : ℕ) → k ≤ p → potential g k ≤ k * most_for_one
