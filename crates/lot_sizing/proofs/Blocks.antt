@@ -248,7 +248,7 @@ set_up s k c u p high to =
     }
 
 -- later positions stand later
-periods_rise : (s : Single) (p q : ℕ) → 1 ≤ p → p ≤ q → q ≤ position_count s → period_of s p ≤ period_of s q
+pub periods_rise : (s : Single) (p q : ℕ) → 1 ≤ p → p ≤ q → q ≤ position_count s → period_of s p ≤ period_of s q
 periods_rise s p q low order high =
     ⊎_elim
     (λ less.

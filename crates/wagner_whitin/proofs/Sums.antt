@@ -96,7 +96,7 @@ owed_unit s prices u t within table server low order high =
 abbrev pub IsRead : List ℕ → ℕ → ℕ → Type 0
 IsRead xs i x = x ≡ slice_index_or xs i x
 
-read_is : (xs : List ℕ) (i x : ℕ) → i < length xs → IsRead xs i x → x ≡ slice_index_or xs i 0
+pub read_is : (xs : List ℕ) (i x : ℕ) → i < length xs → IsRead xs i x → x ≡ slice_index_or xs i 0
 read_is xs i x h read = read ∙ get_or_default_zero xs i x h
 
 -- a price of a unit, from what was read

@@ -3,4 +3,4 @@
 
 mod prices;
 mod runs;
-
+mod table;

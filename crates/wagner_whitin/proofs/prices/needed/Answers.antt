@@ -15,6 +15,6 @@ loop-period-preserved c =
     let here = c.index.ensures ∙ get_or_default_zero s.net (t - 1) c.index.result.now (omega arith) in
     let same : net_demand s (suc (t - 1)) ≡ c.index.result.now = ap (net_demand s) e ∙ sym here in
     elim c.if-index-ne0.branch [
-      then-index-ne0+in_ok-push w ↦ ap (λ v. v.items) w.periods-is ∙ w.in_ok-push.ensures.items ∙ ap (λ xs. xs ++ t ∷ []) c.loop-period.invariant ∙ ap (λ k. positions_to s (t - 1) ++ k ∷ []) (sym e) ∙ sym (next_positions s (t - 1) (omega (arith, same, w.if-index-ne0.true))) ∙ ap (positions_to s) i
-    | else-index-ne0 w ↦ ap (λ v. v.items) w.periods-is ∙ c.loop-period.invariant ∙ sym (idle_positions s (t - 1) (omega (arith, same, w.if-index-ne0.false))) ∙ ap (positions_to s) i
+      | then-index-ne0+in_ok-push w ↦ ap (λ v. v.items) w.periods-is ∙ w.in_ok-push.ensures.items ∙ ap (λ xs. xs ++ t ∷ []) c.loop-period.invariant ∙ ap (λ k. positions_to s (t - 1) ++ k ∷ []) (sym e) ∙ sym (next_positions s (t - 1) (omega (arith, same, w.if-index-ne0.true))) ∙ ap (positions_to s) i
+      | else-index-ne0 w ↦ ap (λ v. v.items) w.periods-is ∙ c.loop-period.invariant ∙ sym (idle_positions s (t - 1) (omega (arith, same, w.if-index-ne0.false))) ∙ ap (positions_to s) i
     ]

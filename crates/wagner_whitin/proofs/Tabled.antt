@@ -1,0 +1,126 @@
+-- The table of least costs takes a position more.
+use Rattle.std.proofs.Common.{◌≡◌, ◌≤◌, ◌<◌, ◌+◌, ◌-◌, ◌*◌, ◌^◌, ◌∙◌, ◌⊎◌, ⊎_elim, inl, inr, ℕ, zero, suc, refl, sym, ap, subst, arith, List, [], ◌∷◌, ◌++◌, length, slice_index_or}
+use Rattle.std.specs.Prelude.{◌↔◌}
+use Rattle.std.proofs.lemmas.List.{length_push, get_or_push, get_or_append_left}
+use Rattle.std.proofs.lemmas.Bool.{cases_lt}
+use Rattle.lot_sizing.specs.declared.Block.{Block}
+use Rattle.lot_sizing.specs.Single.{Single, IsWithinBounds, IsServer, IsBlock, ArePotentials, period_count, position_count, positions, period_of, block_cost, potential}
+use Rattle.lot_sizing.proofs.Blocks.{periods_rise}
+use Rattle.wagner_whitin.specs.declared.runs.Run.{Run}
+use Rattle.wagner_whitin.specs.Tables.{IsRun, HasNoRun, IsRunOrNone, AreRuns, no_run, IsTable, IsLastBlock, most_for_one, block_to, last_block, no_block, run_of}
+use Rattle.wagner_whitin.proofs.Sums.{IsRead, read_is}
+use Rattle.wagner_whitin.proofs.Steps.{period_in}
+
+-- the potentials that were there stay
+potential_kept : (g : List ℕ) (x k : ℕ) → k ≤ length g → potential (g ++ x ∷ []) k ≡ potential g k
+potential_kept g x zero h = refl
+potential_kept g x (suc k) h = get_or_append_left g (x ∷ []) 0 (suc k - 1) (omega (arith, h))
+
+potential_new : (g : List ℕ) (x : ℕ) → potential (g ++ x ∷ []) (suc (length g)) ≡ x
+potential_new g x = get_or_push g x 0 (suc (length g) - 1) (omega arith)
+
+run_kept : (s : Single) (g : List ℕ) (x u p : ℕ) (run : Run) → p ≤ suc (length g) → IsRun s g u p run → IsRun s (g ++ x ∷ []) u p run
+run_kept s g x u p run h ran = record {
+  low = ran.low;
+  high = ran.high;
+  server = ran.server;
+  cost = omega (arith, ran.cost, potential_kept g x (run.first - 1) (omega (arith, ran.high, h)));
+  least = λ a low high may. omega (arith, ran.least a low high may, potential_kept g x (a - 1) (omega (arith, high, h)));
+  small = ran.small;
+}
+
+pub runs_kept : (s : Single) (g : List ℕ) (x p : ℕ) (runs : List Run) → p ≤ suc (length g) → AreRuns s g p runs → AreRuns s (g ++ x ∷ []) p runs
+runs_kept s g x p runs h are = record {
+  size = are.size;
+  each = λ u low high. ⊎_elim (λ none. inl none) (λ ran. inr (run_kept s g x u p (run_of runs u) h ran)) (are.each u low high);
+}
+
+-- the run of a server that may serve the position
+ran_at : (s : Single) (g : List ℕ) (p u : ℕ) (runs : List Run) → AreRuns s g p runs → 1 ≤ p → IsServer s u (period_of s p) → IsRun s g u p (run_of runs u)
+ran_at s g p u runs are low may = ⊎_elim (λ none. absurd (none.closed p low (omega arith) may)) (λ ran. ran) (are.each u may.low may.high)
+
+-- the cheapest run makes the next potential
+pub table_more : (s : Single) (p : ℕ) (g : List ℕ) (lasts : List Block) (runs : List Run) (t limit u : ℕ) → IsTable s p g lasts → p < position_count s → t ≡ period_of s (p + 1) → ((v : ℕ) → 1 ≤ v → (IsServer s v t ↔ (v ≤ limit))) → AreRuns s g (p + 1) runs → 1 ≤ u → u ≤ limit → ((v : ℕ) → 1 ≤ v → v ≤ limit → (run_of runs u).cost ≤ (run_of runs v).cost) → IsTable s (p + 1) (g ++ (run_of runs u).cost ∷ []) (lasts ++ record { first = (run_of runs u).first; last = p + 1; server = u } ∷ [])
+table_more s p g lasts runs t limit u table some same servers are low high least =
+    let run = run_of runs u in
+    let x = run.cost in
+    let b : Block = record { first = run.first; last = p + 1; server = u } in
+    let at = λ (v : ℕ) (v_low : 1 ≤ v) (v_high : v ≤ limit). subst (IsServer s v) same ((servers v v_low).1 v_high) in
+    let ran = ran_at s g (p + 1) u runs are (omega arith) (at u low high) in
+    let e : suc (length g) ≡ p + 1 = omega (arith, table.size) in
+    let new : potential (g ++ x ∷ []) (p + 1) ≡ x = ap (potential (g ++ x ∷ [])) (sym e) ∙ potential_new g x in
+    record {
+      size = omega (arith, length_push g x, table.size);
+      blocks = omega (arith, length_push lasts b, table.blocks);
+      floor = λ c is_block c_last. ⊎_elim
+          (λ before. omega (arith, table.floor c is_block (omega (arith, before)), potential_kept g x c.last (omega (arith, before, table.size)), potential_kept g x (c.first - 1) (omega (arith, is_block.order, before, table.size))))
+          (λ no.
+          let last : c.last ≡ p + 1 = omega (arith, no, c_last) in
+          let v = c.server in
+          let rise = periods_rise s c.first (p + 1) is_block.low (omega (arith, is_block.order, last)) (omega (arith, some)) in
+          let may : IsServer s v (period_of s (p + 1)) = record { low = is_block.server.low; high = is_block.server.high; in_time = λ none. omega (arith, is_block.server.in_time none, rise) } in
+          let v_high = (servers v is_block.server.low).0 (subst (IsServer s v) (sym same) may) in
+          let ran_v = ran_at s g (p + 1) v runs are (omega arith) may in
+          omega (
+            arith,
+            ap (potential (g ++ x ∷ [])) last,
+            new,
+            least v is_block.server.low v_high,
+            ran_v.least c.first is_block.low (omega (arith, is_block.order, last)) is_block.server,
+            potential_kept g x (c.first - 1) (omega (arith, is_block.order, last, table.size)),
+            ap (λ k. block_cost s (record { first = c.first; last = k; server = v })) last,
+          ))
+          (cases_lt c.last (p + 1));
+      last = λ k k_low k_high. ⊎_elim
+          (λ before.
+          let old = table.last k k_low (omega (arith, before)) in
+          let here : last_block (lasts ++ b ∷ []) k ≡ last_block lasts k = get_or_append_left lasts (b ∷ []) no_block (k - 1) (omega (arith, before, k_low, table.blocks)) in
+          subst (IsLastBlock s (g ++ x ∷ []) k) (sym here) (record { block = old.block; ends = old.ends; cost = omega (arith, old.cost, potential_kept g x k (omega (arith, before, table.size)), potential_kept g x ((last_block lasts k).first - 1) (omega (arith, old.block.order, old.ends, before, table.size))) }))
+          (λ no.
+          let i : k ≡ p + 1 = omega (arith, no, k_high) in
+          let here : last_block (lasts ++ b ∷ []) k ≡ b = get_or_push lasts b no_block (k - 1) (omega (arith, i, table.blocks)) in
+          subst (IsLastBlock s (g ++ x ∷ []) k) (sym here) (record {
+            block = record { low = ran.low; order = ran.high; high = omega (arith, some); server = ran.server };
+            ends = sym i;
+            cost = omega (arith, ap (potential (g ++ x ∷ [])) i, new, ran.cost, potential_kept g x (run.first - 1) (omega (arith, ran.high, table.size)));
+          }))
+          (cases_lt k (p + 1));
+      small = λ k k_high. ⊎_elim
+          (λ before. omega (arith, potential_kept g x k (omega (arith, before, table.size)), table.small k (omega (arith, before))))
+          (λ no. let i : k ≡ p + 1 = omega (arith, no, k_high) in omega (arith, ap (potential (g ++ x ∷ [])) i, new, ran.small, ap (λ j. j * most_for_one) i))
+          (cases_lt k (p + 1));
+    }
+
+-- a position's period, as it is read
+pub record IsPeriodOf (s : Single) (p t : ℕ) : Type 0 where
+  pub same : t ≡ period_of s (p + 1)
+  pub low : 1 ≤ t
+  pub high : t ≤ period_count s
+
+pub period_read : (s : Single) (periods : List ℕ) (p t : ℕ) → IsWithinBounds s → periods ≡ positions s → p < position_count s → IsRead periods p t → IsPeriodOf s p t
+period_read s periods p t within same high read =
+    let is = read_is periods p t (omega (arith, ap length same, high)) read in
+    let d : p + 1 - 1 ≡ p = omega arith in
+    let here : t ≡ period_of s (p + 1) = is ∙ ap (λ xs. slice_index_or xs p 0) same ∙ ap (λ k. slice_index_or (positions s) k 0) (sym d) in
+    let in_range = period_in s (p + 1) within (omega arith) (omega (arith, high)) in
+    record { same = here; low = omega (arith, here, in_range.low); high = omega (arith, here, in_range.high) }
+
+-- at first no server has a run, and the table is empty
+pub none_at_first : (s : Single) (runs : List Run) → length runs ≡ period_count s → ((i : ℕ) → i < length runs → (slice_index_or runs i no_run).first ≡ 0) → AreRuns s [] 0 runs
+none_at_first s runs size none = record {
+  size = size;
+  each = λ u low high. inl (record { none = none (u - 1) (omega (arith, low, high, size)); closed = λ a a_low a_high may. omega (arith, a_low, a_high) });
+}
+
+pub empty_table : (s : Single) → IsTable s 0 [] []
+empty_table s = record {
+  size = refl;
+  blocks = refl;
+  floor = λ b is_block last. absurd (omega (arith, is_block.low, is_block.order, last));
+  last = λ k low high. absurd (omega (arith, low, high));
+  small = λ k high. let e : k ≡ 0 = omega (arith, high) in omega (arith, ap (potential []) e);
+}
+
+-- the whole table proves its last potential a floor
+pub are_potentials : (s : Single) (g : List ℕ) (lasts : List Block) → IsTable s (position_count s) g lasts → ArePotentials s g
+are_potentials s g lasts table = record { size = table.size; blocks = λ b is_block. table.floor b is_block is_block.high }

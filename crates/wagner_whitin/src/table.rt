@@ -1,0 +1,65 @@
+// The least cost up to each position, and the last block of a cheapest way to serve them.
+ghost use Rattle.std.specs.Prelude.{◌≡◌, ℕ, length, IfOk};
+ghost use Rattle.lot_sizing.specs.Single.{IsWithinBounds, position_count, positions, potential, CoverFrom, blocks_cost};
+ghost use Rattle.echelon.specs.Views.{single_of_item};
+ghost use Rattle.wagner_whitin.specs.Tables.{ArePrices, AreRuns, IsTable, no_run};
+
+use crate::prices::{self, Prices};
+use crate::runs::{self, Run};
+use echelon::{Block, SingleItem};
+use std::alloc::{AllocError, Global};
+
+/// The least cost up to each position, and the last block of each.
+#[derive(Drop)]
+pub struct LeastCosts {
+    pub potentials: Vec<u128>,
+    pub lasts: Vec<Block>,
+}
+
+/// The table of all positions.
+pub fn least_costs(alloc: Global, single: &SingleItem) -> Result<LeastCosts, AllocError>
+    requires within { IsWithinBounds (single_of_item single.now) }
+    ensures { IfOk result (λ table. IsTable (single_of_item single.now) (position_count (single_of_item single.now)) table.potentials.items table.lasts.items) }
+{
+    let needed = prices::needed(alloc, single)?;
+    let prices = Prices::of(alloc, single)?;
+    let mut runs = vec![in alloc; Run { cost: 0, first: 0 }; single.net.len()]?;
+    let mut potentials = Vec::with_capacity(alloc, needed.len())?;
+    let mut lasts = Vec::with_capacity(alloc, needed.len())?;
+    for place in 0..needed.len() {
+        let period = needed[place];
+        let limit = runs::last_server(single, period);
+        runs::serve(single, &prices, &potentials, period, limit, &mut runs);
+        let server = runs::cheapest(&runs, limit);
+        let run = runs[(server - 1) as usize];
+        lasts.push(Block {
+            first: run.first,
+            last: place as u32 + 1,
+            server,
+        })?;
+        potentials.push(run.cost)?;
+    }
+    Ok(LeastCosts { potentials, lasts })
+}
+
+/// The blocks of a cheapest way to serve all positions, found from the last one back.
+pub fn trace(
+    alloc: Global,
+    single: &SingleItem,
+    table: &LeastCosts,
+) -> Result<Vec<Block>, AllocError>
+    requires within { IsWithinBounds (single_of_item single.now) }
+    requires table { IsTable (single_of_item single.now) (position_count (single_of_item single.now)) table.now.potentials.items table.now.lasts.items }
+    ensures cover { IfOk result (λ blocks. CoverFrom (single_of_item single.now) 0 blocks.items) }
+    ensures cost { IfOk result (λ blocks. blocks_cost (single_of_item single.now) blocks.items ≡ potential table.now.potentials.items (position_count (single_of_item single.now))) }
+{
+    let mut blocks = Vec::new(alloc);
+    let mut place = table.lasts.len();
+    while place > 0 {
+        let block = table.lasts[place - 1];
+        blocks.push(block)?;
+        place = (block.first - 1) as usize;
+    }
+    blocks.reverse();
+    Ok(blocks)
+}
