@@ -10,4 +10,7 @@
 mod single;
 
 pub use lot_sizing::Block;
-pub use single::{Blocks, SingleItem};
+pub use single::{Blocks, SingleItem, is_within_bounds};
+
+#[cfg(test)]
+mod tests;

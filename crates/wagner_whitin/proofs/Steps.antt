@@ -1,18 +1,18 @@
 -- Runs of servers, and the table of least costs.
-use Rattle.std.proofs.Common.{◌≡◌, ◌≤◌, ◌<◌, ◌+◌, ◌-◌, ◌*◌, ◌^◌, ◌∙◌, ◌⊎◌, ⊎_elim, inl, inr, ℕ, zero, suc, refl, sym, ap, subst, arith, List, [], ◌∷◌, ◌++◌, length, slice_index_or}
-use Rattle.std.specs.Prelude.{IsNone, ◌↔◌, slice_set}
-use Rattle.std.proofs.lemmas.List.{length_push, get_or_push, get_or_append_left, get_or-set_same, get_or-set_other, length-set}
+use Rattle.std.proofs.Common.{◌≡◌, ◌≤◌, ◌<◌, ◌+◌, ◌-◌, ◌*◌, ◌^◌, ◌∙◌, ◌⊎◌, ⊎_elim, inl, inr, ℕ, zero, suc, sym, ap, subst, arith, List, length}
+use Rattle.std.specs.Prelude.{◌↔◌, slice_set}
+use Rattle.std.proofs.lemmas.List.{get_or-set_same, get_or-set_other, length-set}
 use Rattle.std.proofs.lemmas.Nat.{mul-le}
-use Rattle.std.proofs.lemmas.Bool.{cases_lt, cases_eq}
-use Rattle.lot_sizing.specs.Sums.{sum_to, sum_from}
+use Rattle.std.proofs.lemmas.Bool.{cases_lt}
+use Rattle.lot_sizing.specs.Sums.{sum_from}
 use Rattle.lot_sizing.specs.Problem.{entry}
 use Rattle.lot_sizing.specs.declared.Block.{Block}
-use Rattle.lot_sizing.specs.Single.{Single, IsWithinBounds, IsServer, IsBlock, period_count, position_count, net_demand, period_of, positions_to, serving_cost, block_cost, unit_price, potential}
+use Rattle.lot_sizing.specs.Single.{Single, IsWithinBounds, IsServer, period_count, position_count, net_demand, period_of, serving_cost, block_cost, unit_price, potential}
 use Rattle.lot_sizing.proofs.Sums.{sum_to_at, sum_to-front}
 use Rattle.lot_sizing.proofs.Positions.{count, count_idle, count_next, place}
 use Rattle.lot_sizing.proofs.Blocks.{periods_rise}
 use Rattle.wagner_whitin.specs.declared.runs.Run.{Run}
-use Rattle.wagner_whitin.specs.Tables.{IsRun, HasNoRun, IsRunOrNone, AreRuns, no_run, IsTable, IsLastBlock, most_for_one, block_to, last_block, no_block, run_of}
+use Rattle.wagner_whitin.specs.Tables.{IsRun, HasNoRun, IsRunOrNone, AreRuns, no_run, most_for_one, run_of}
 use Rattle.wagner_whitin.proofs.Sums.{IsRead, read_is, entry_small}
 
 abbrev block : ℕ → ℕ → ℕ → Block

@@ -1,12 +1,11 @@
 -- Sums that are kept in tables.
-use Rattle.std.proofs.Common.{◌≡◌, ◌≤◌, ◌<◌, ◌+◌, ◌-◌, ◌*◌, ◌^◌, ◌∙◌, ◌⊎◌, ⊎_elim, ℕ, zero, suc, refl, sym, ap, subst, arith, List, [], ◌∷◌, ◌++◌, length, slice_index_or, Option, Some, None, IfSome, IsNone}
+use Rattle.std.proofs.Common.{◌≡◌, ◌≤◌, ◌<◌, ◌+◌, ◌-◌, ◌*◌, ◌^◌, ◌∙◌, ⊎_elim, ℕ, zero, suc, refl, sym, ap, arith, List, [], ◌∷◌, ◌++◌, length, slice_index_or, Option, Some, None, IfSome, IsNone}
 use Rattle.std.proofs.lemmas.List.{length_push, get_or_push, get_or_append_left}
 use Rattle.std.proofs.lemmas.Bool.{cases_lt}
 use Rattle.std.proofs.lemmas.Grind.{get_or_default_zero}
 use Rattle.lot_sizing.specs.Sums.{sum_to, sum_from}
 use Rattle.lot_sizing.specs.Problem.{entry, backlog_price, IsSeries}
-use Rattle.lot_sizing.specs.Single.{Single, IsWithinBounds, IsServer, period_count, transport_price, unit_price}
-use Rattle.lot_sizing.proofs.Sums.{sum_to_at}
+use Rattle.lot_sizing.specs.Single.{Single, IsWithinBounds, IsServer, period_count, unit_price}
 use Rattle.wagner_whitin.specs.declared.prices.Prices.{Prices}
 use Rattle.wagner_whitin.specs.Tables.{AreSums, ArePrices}
 

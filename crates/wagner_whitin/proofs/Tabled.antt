@@ -1,13 +1,14 @@
 -- The table of least costs takes a position more.
-use Rattle.std.proofs.Common.{◌≡◌, ◌≤◌, ◌<◌, ◌+◌, ◌-◌, ◌*◌, ◌^◌, ◌∙◌, ◌⊎◌, ⊎_elim, inl, inr, ℕ, zero, suc, refl, sym, ap, subst, arith, List, [], ◌∷◌, ◌++◌, length, slice_index_or}
+use Rattle.std.proofs.Common.{◌≡◌, ◌≤◌, ◌<◌, ◌+◌, ◌-◌, ◌*◌, ◌∙◌, ⊎_elim, inl, inr, ℕ, zero, suc, refl, sym, ap, subst, arith, List, [], ◌∷◌, ◌++◌, length, slice_index_or}
 use Rattle.std.specs.Prelude.{◌↔◌}
 use Rattle.std.proofs.lemmas.List.{length_push, get_or_push, get_or_append_left}
 use Rattle.std.proofs.lemmas.Bool.{cases_lt}
 use Rattle.lot_sizing.specs.declared.Block.{Block}
-use Rattle.lot_sizing.specs.Single.{Single, IsWithinBounds, IsServer, IsBlock, ArePotentials, period_count, position_count, positions, period_of, block_cost, potential}
+use Rattle.lot_sizing.specs.Laws.{BlocksServe, LastPotentialIsFloor}
+use Rattle.lot_sizing.specs.Single.{Single, IsWithinBounds, IsServer, ArePotentials, Cover, IsLeastNetCost, blocks_plan, blocks_cost, period_count, position_count, positions, period_of, block_cost, potential}
 use Rattle.lot_sizing.proofs.Blocks.{periods_rise}
 use Rattle.wagner_whitin.specs.declared.runs.Run.{Run}
-use Rattle.wagner_whitin.specs.Tables.{IsRun, HasNoRun, IsRunOrNone, AreRuns, no_run, IsTable, IsLastBlock, most_for_one, block_to, last_block, no_block, run_of}
+use Rattle.wagner_whitin.specs.Tables.{IsRun, AreRuns, no_run, IsTable, IsLastBlock, most_for_one, last_block, no_block, run_of}
 use Rattle.wagner_whitin.proofs.Sums.{IsRead, read_is}
 use Rattle.wagner_whitin.proofs.Steps.{period_in}
 
@@ -124,3 +125,18 @@ empty_table s = record {
 -- the whole table proves its last potential a floor
 pub are_potentials : (s : Single) (g : List ℕ) (lasts : List Block) → IsTable s (position_count s) g lasts → ArePotentials s g
 are_potentials s g lasts table = record { size = table.size; blocks = λ b is_block. table.floor b is_block is_block.high }
+
+-- the cost is the last potential
+pub last_is : (s : Single) (g : List ℕ) (lasts : List Block) (read : List ℕ) (cost : ℕ) → IsTable s (position_count s) g lasts → read ≡ g → cost ≡ potential read (length read) → potential g (position_count s) ≡ cost
+last_is s g lasts read cost table same is =
+    let e : length read ≡ position_count s = ap length same ∙ table.size in
+    sym (is ∙ ap (λ xs. potential xs (length xs)) same ∙ ap (potential g) table.size)
+
+-- potentials and blocks of one cost make it the least
+pub least_is : (s : Single) (g : List ℕ) (blocks : List Block) (cost : ℕ) → ArePotentials s g → Cover s blocks → blocks_cost s blocks ≡ cost → potential g (position_count s) ≡ cost → LastPotentialIsFloor → BlocksServe → IsLeastNetCost s cost
+least_is s g blocks cost pots cover costs last floor serve =
+    let served = serve s blocks cover in
+    record {
+      some = (blocks_plan s blocks, served.0, omega (arith, served.1, costs, last, floor s g pots (blocks_plan s blocks) served.0));
+      least = λ p plan. omega (arith, last, floor s g pots p plan);
+    }

@@ -15,8 +15,8 @@ pub struct Run {
     pub first: u32,
 }
 
-// The potential of the last position, and 0 where there is none.
-fn last_potential(potentials: &[u128]) -> u128
+/// The potential of the last position, and 0 where there is none.
+pub fn last_potential(potentials: &[u128]) -> u128
     ensures { result ≡ potential potentials.now (length potentials.now) }
 {
     match potentials.last() {

@@ -1,4 +1,4 @@
-use Rattle.std.proofs.Common.{◌≡◌, ◌≤◌, ◌*◌, ◌^◌, length, ℕ, ◌+◌, ◌-◌, ◌<◌}
+use Rattle.std.proofs.Common.{◌≡◌, ◌-◌}
 use Rattle.lot_sizing.specs.Single.{positions_to}
 use Rattle.echelon.specs.Views.{single_of_item}
 use Rattle.wagner_whitin.proofs.prices.needed.Given as goal

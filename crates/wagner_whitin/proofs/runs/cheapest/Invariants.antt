@@ -1,4 +1,4 @@
-use Rattle.std.proofs.Common.{◌≡◌, ◌≤◌, ℕ, length, ◌+◌, ◌-◌, ◌<◌}
+use Rattle.std.proofs.Common.{◌≤◌, ℕ, ◌<◌}
 use Rattle.wagner_whitin.specs.Tables.{run_of}
 use Rattle.wagner_whitin.proofs.runs.cheapest.Given as goal
 

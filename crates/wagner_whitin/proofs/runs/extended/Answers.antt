@@ -1,7 +1,5 @@
-use Rattle.std.proofs.Common.{◌≡◌, ◌≤◌, ◌<◌, ◌+◌, ◌-◌, ◌⊎◌, ⊎_elim, inl, inr, suc, ap, subst, sym, arith, length}
-use Rattle.lot_sizing.specs.Single.{IsServer, period_of}
+use Rattle.std.proofs.Common.{⊎_elim, inl, inr}
 use Rattle.echelon.specs.Views.{single_of_item}
-use Rattle.wagner_whitin.specs.Tables.{IsRun}
 use Rattle.wagner_whitin.proofs.Steps.{fresh_run, kept_run}
 use Rattle.wagner_whitin.proofs.runs.extended.Goals as goal
 

@@ -1,6 +1,5 @@
-use Rattle.std.proofs.Common.{◌≡◌, ◌≤◌, ◌<◌, ◌+◌, ◌-◌, ◌⊎◌, ⊎_elim, suc, ap, subst, sym, arith, length, slice_set}
+use Rattle.std.proofs.Common.{◌≡◌, ◌+◌, ◌-◌, ⊎_elim, subst, sym, arith, length, slice_set}
 use Rattle.std.proofs.lemmas.Bool.{cases_lt}
-use Rattle.lot_sizing.specs.Single.{IsServer, period_count, period_of}
 use Rattle.echelon.specs.Views.{single_of_item}
 use Rattle.wagner_whitin.specs.Tables.{IsRun, IsRunOrNone, run_of}
 use Rattle.wagner_whitin.proofs.Steps.{closed_runs, run_here, run_other, set_length}

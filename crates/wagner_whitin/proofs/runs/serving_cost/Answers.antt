@@ -1,5 +1,4 @@
-use Rattle.std.proofs.Common.{◌≡◌, ◌≤◌, ◌*◌, ◌-◌, arith}
-use Rattle.std.proofs.lemmas.Grind.{get_or_default_zero}
+use Rattle.std.proofs.Common.{arith}
 use Rattle.echelon.specs.Views.{single_of_item}
 use Rattle.wagner_whitin.proofs.Steps.{net_small, serving_small}
 use Rattle.wagner_whitin.proofs.runs.serving_cost.Goals as goal

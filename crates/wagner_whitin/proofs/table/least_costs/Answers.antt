@@ -1,7 +1,6 @@
-use Rattle.std.proofs.Common.{◌≡◌, ◌≤◌, ◌<◌, ◌+◌, ◌-◌, ◌∙◌, ◌∷◌, ◌++◌, [], suc, ap, subst, sym, arith, ℕ, length, drop, slice_index_or}
+use Rattle.std.proofs.Common.{◌≡◌, ◌≤◌, ◌<◌, ◌+◌, ◌-◌, ◌∙◌, ◌∷◌, ◌++◌, [], ap, subst, sym, arith, ℕ, length, drop, slice_index_or}
 use Rattle.std.proofs.lemmas.List.{take_at, get_or_default}
-use Rattle.lot_sizing.specs.declared.Block.{Block}
-use Rattle.lot_sizing.specs.Single.{IsServer, period_count, position_count}
+use Rattle.lot_sizing.specs.Single.{position_count}
 use Rattle.echelon.specs.Views.{single_of_item}
 use Rattle.wagner_whitin.specs.Tables.{AreRuns, IsTable, no_run, run_of}
 use Rattle.wagner_whitin.proofs.Steps.{positions_small}

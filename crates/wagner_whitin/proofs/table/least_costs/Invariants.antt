@@ -1,4 +1,4 @@
-use Rattle.std.proofs.Common.{◌≡◌, ◌≤◌, ℕ, length, ◌+◌, ◌-◌, ◌<◌}
+use Rattle.std.proofs.Common.{◌≤◌}
 use Rattle.lot_sizing.specs.Single.{position_count}
 use Rattle.echelon.specs.Views.{single_of_item}
 use Rattle.wagner_whitin.specs.Tables.{AreRuns, IsTable}

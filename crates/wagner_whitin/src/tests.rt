@@ -1,0 +1,227 @@
+use crate::{Block, Blocks, SingleItem, solve, solve_over_servers};
+use echelon::is_within_bounds;
+use std::alloc::{AllocError, Global};
+use std::test::Fail;
+
+fn item(
+    alloc: Global,
+    net: &[u128],
+    setup: &[u64],
+    unit: &[u64],
+    hold: &[u64],
+    back: Option<&[u64]>,
+) -> Result<SingleItem, AllocError> {
+    Ok(SingleItem {
+        net: net.to_vec(alloc)?,
+        setup: setup.to_vec(alloc)?,
+        unit: unit.to_vec(alloc)?,
+        hold: hold.to_vec(alloc)?,
+        back: match back {
+            Some(costs) => Some(costs.to_vec(alloc)?),
+            None => None,
+        },
+    })
+}
+
+// What the recursion finds for an item within bounds.
+fn blocks_of(alloc: Global, single: &SingleItem) -> Result<Blocks, Fail> {
+    if !is_within_bounds(single) {
+        return Err("not within bounds".into());
+    }
+    match &single.back {
+        Some(_) => Ok(solve_over_servers(alloc, single)?),
+        None => Ok(solve(alloc, single)?),
+    }
+}
+
+fn at(list: &[u64], period: usize) -> u64 {
+    list.get(period).copied().unwrap_or(0)
+}
+
+// What a unit costs that period `made` makes for period `needed`.
+fn price(single: &SingleItem, made: usize, needed: usize) -> u64 {
+    let mut price = at(&single.unit, made);
+    for period in made..needed {
+        price = price.wrapping_add(at(&single.hold, period));
+    }
+    if let Some(back) = &single.back {
+        for period in needed..made {
+            price = price.wrapping_add(at(back, period));
+        }
+    }
+    price
+}
+
+// The least cost with the setups of a mask, where each net demand is served by its cheapest setup.
+fn cost_of_setups(single: &SingleItem, mask: u64) -> Option<u128> {
+    let mut cost = 0u128;
+    for period in 0..single.net.len() {
+        if (mask >> (period % 64) as u32) & 1 == 1 {
+            cost = cost.wrapping_add(at(&single.setup, period) as u128);
+        }
+    }
+    for needed in 0..single.net.len() {
+        let net = single.net.get(needed).copied().unwrap_or(0);
+        if net > 0 {
+            let mut best: Option<u64> = None;
+            for made in 0..single.net.len() {
+                let may = single.back.is_some() || made <= needed;
+                if may && (mask >> (made % 64) as u32) & 1 == 1 {
+                    let now = price(single, made, needed);
+                    best = Some(match best {
+                        Some(least) => least.min(now),
+                        None => now,
+                    });
+                }
+            }
+            cost = cost.wrapping_add(net.wrapping_mul(best? as u128));
+        }
+    }
+    Some(cost)
+}
+
+// The least cost over all ways to place setups.
+fn least_of_all_setups(single: &SingleItem) -> Option<u128> {
+    let mut best: Option<u128> = None;
+    for mask in 0..1u64 << (single.net.len() % 16) as u32 {
+        if let Some(cost) = cost_of_setups(single, mask) {
+            best = Some(match best {
+                Some(least) => least.min(cost),
+                None => cost,
+            });
+        }
+    }
+    best
+}
+
+#[test]
+fn twelve_periods(rt: HostRuntime) -> Result<(), Fail> {
+    let alloc = rt.alloc();
+    let net = [69u128, 29, 36, 61, 61, 26, 34, 67, 45, 67, 79, 56];
+    let setup = [85u64, 102, 102, 101, 98, 114, 105, 86, 119, 110, 98, 114];
+    let single = item(alloc, &net, &setup, &[0u64; 12], &[1u64; 12], None)?;
+    let found = blocks_of(alloc, &single)?;
+    assert_eq!(rt; found.cost, 864);
+    assert_eq!(rt; found.potentials.last().copied(), Some(864));
+    let blocks = [
+        (1u32, 2u32, 1u32),
+        (3, 4, 3),
+        (5, 7, 5),
+        (8, 9, 8),
+        (10, 10, 10),
+        (11, 12, 11),
+    ];
+    assert_eq!(rt; found.blocks.len(), blocks.len());
+    for (block, (first, last, server)) in found.blocks.iter().zip(blocks.iter()) {
+        assert_eq!(rt;
+            *block,
+            Block {
+                first: *first,
+                last: *last,
+                server: *server
+            }
+        );
+    }
+    Ok(())
+}
+
+#[test]
+fn known_items(rt: HostRuntime) -> Result<(), Fail> {
+    let alloc = rt.alloc();
+    let none = item(alloc, &[0u128], &[5u64], &[0u64], &[0u64], None)?;
+    let found = blocks_of(alloc, &none)?;
+    assert_eq!(rt;
+        (found.cost, found.blocks.len(), found.potentials.len()),
+        (0, 0, 0)
+    );
+    let one = item(alloc, &[10u128], &[5u64], &[2u64], &[0u64], None)?;
+    assert_eq!(rt; blocks_of(alloc, &one)?.cost, 25);
+    let two = item(
+        alloc,
+        &[4u128, 6],
+        &[100u64, 20],
+        &[0u64, 0],
+        &[1u64, 1],
+        None,
+    )?;
+    assert_eq!(rt; blocks_of(alloc, &two)?.cost, 106);
+    let late = item(
+        alloc,
+        &[4u128, 6],
+        &[100u64, 20],
+        &[0u64, 0],
+        &[1u64, 1],
+        Some(&[2u64, 2]),
+    )?;
+    let found = blocks_of(alloc, &late)?;
+    assert_eq!(rt; found.cost, 28);
+    assert_eq!(rt;
+        found.blocks.first().copied(),
+        Some(Block {
+            first: 1,
+            last: 2,
+            server: 2
+        })
+    );
+    Ok(())
+}
+
+#[test]
+fn numbers_at_their_limits(rt: HostRuntime) -> Result<(), Fail> {
+    let alloc = rt.alloc();
+    let single = SingleItem {
+        net: vec![in alloc; 8_333_333_333u128; 120]?,
+        setup: vec![in alloc; 1_000_000_000u64; 120]?,
+        unit: vec![in alloc; 1_000_000_000u64; 120]?,
+        hold: vec![in alloc; 1_000_000_000u64; 120]?,
+        back: Some(vec![in alloc; 1_000_000_000u64; 120]?),
+    };
+    // each net demand is made in its own period
+    let found = blocks_of(alloc, &single)?;
+    assert_eq!(rt;
+        found.cost,
+        120 * (1_000_000_000 + 8_333_333_333 * 1_000_000_000)
+    );
+    Ok(())
+}
+
+#[test]
+fn all_ways_to_place_setups(rt: HostRuntime) -> Result<(), Fail> {
+    let alloc = rt.alloc();
+    let nets = [
+        [0u128, 0, 0, 0, 0],
+        [3, 0, 4, 0, 2],
+        [0, 0, 5, 1, 0],
+        [1, 1, 1, 1, 1],
+        [7, 2, 0, 9, 4],
+        [0, 6, 6, 6, 30],
+        [0, 0, 0, 0, 1_000_000_000],
+    ];
+    let setups = [
+        [0u64, 0, 0, 0, 0],
+        [5, 5, 5, 5, 5],
+        [20, 3, 14, 8, 1],
+        [100, 20, 1, 50, 7],
+        [1_000_000_000, 1, 1_000_000_000, 1, 1_000_000_000],
+    ];
+    let units = [[0u64, 0, 0, 0, 0], [3, 1, 4, 1, 5], [9, 7, 5, 3, 1]];
+    let holds = [[1u64, 1, 1, 1, 1], [0, 0, 0, 0, 0], [2, 0, 5, 1, 3]];
+    let backs = [[2u64, 2, 2, 2, 2], [0, 0, 0, 0, 0], [1, 4, 1, 5, 9]];
+    for net in &nets {
+        for setup in &setups {
+            for unit in &units {
+                for hold in &holds {
+                    let single = item(alloc, net, setup, unit, hold, None)?;
+                    let found = blocks_of(alloc, &single)?;
+                    assert_eq!(rt; Some(found.cost), least_of_all_setups(&single));
+                    for back in &backs {
+                        let late = item(alloc, net, setup, unit, hold, Some(back))?;
+                        let found = blocks_of(alloc, &late)?;
+                        assert_eq!(rt; Some(found.cost), least_of_all_setups(&late));
+                    }
+                }
+            }
+        }
+    }
+    Ok(())
+}
