@@ -10,3 +10,4 @@ pub mod Positions
 pub mod Potentials
 pub mod Blocks
 pub mod Reduction
+pub mod Echelon

@@ -16,7 +16,7 @@ use Rattle.lot_sizing.proofs.Bounds.{none_used_up}
 use Rattle.lot_sizing.proofs.Plans.{stock_after_some, backlog_after_some}
 use Rattle.lot_sizing.proofs.Least.{balance_so_far, least_balanced}
 
-end_here : (a : Asked) (t : ℕ) → t ≡ a.periods → (if t == a.periods then a.end_min else 0) ≡ a.end_min
+pub end_here : (a : Asked) (t : ℕ) → t ≡ a.periods → (if t == a.periods then a.end_min else 0) ≡ a.end_min
 end_here a t h = grind (arith, h)
 
 end_later : (a : Asked) (t : ℕ) → t ≢ a.periods → (if t == a.periods then a.end_min else 0) ≡ 0

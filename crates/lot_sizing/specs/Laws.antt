@@ -5,7 +5,9 @@ use Rattle.lot_sizing.specs.Problem.{Problem, IsUncoupled, item_at, item_count}
 use Rattle.lot_sizing.specs.Best.{IsFloor}
 use Rattle.lot_sizing.specs.declared.Block.{Block}
 use Rattle.lot_sizing.specs.Single.{Single, NetPlan, IsNetPlan, ArePotentials, Cover, period_count, net_demand, net_cost, position_count, potential, blocks_plan, blocks_cost, lot_in}
-use Rattle.lot_sizing.specs.Net.{EachItem, HasRoom, ServesItem, IsBestChoice, choice, item_cost, held_left}
+use Rattle.lot_sizing.specs.Bill.{AreWeights, bill_of}
+use Rattle.lot_sizing.specs.Echelon.{IsEchelonBalanced, asked_in_echelon}
+use Rattle.lot_sizing.specs.Net.{EachItem, needed_to, HasRoom, ServesItem, IsBestChoice, choice, item_cost, held_left}
 use Rattle.lot_sizing.specs.Plan.{Plan, Table, EachCell, IsFeasible, cost}
 use Rattle.lot_sizing.specs.Least.{HasChoice, least_backlog, least_plan, least_stock}
 use Rattle.lot_sizing.specs.Totals.{AreLargestTotals, IsRanking}
@@ -57,3 +59,15 @@ CostsApart =
     (m : Problem) (make setup : Table) (single : ℕ → Single) → IsUncoupled m → 1 ≤ m.periods
     → EachItem m (λ i. ServesItem m i (single i) (choice make setup i))
     → EachItem m (λ i. item_cost m (least_plan m make setup) i ≡ net_cost (single i) (choice make setup i) + held_left m i)
+
+-- in every feasible plan each echelon balances, where no item is its own component
+abbrev pub EchelonsBalance : Type 0
+EchelonsBalance =
+    (m : Problem) (weight : ℕ → ℕ → ℕ) (rank : ℕ → ℕ) → AreWeights (bill_of m) weight → IsRanking m rank → (p : Plan) → IsFeasible m p
+    → EachCell m (IsEchelonBalanced m weight p)
+
+-- what must be made of an item for its echelon is at most its largest total
+abbrev pub NetIsWithinTotals : Type 0
+NetIsWithinTotals =
+    (m : Problem) (weight : ℕ → ℕ → ℕ) (rank total : ℕ → ℕ) → AreWeights (bill_of m) weight → IsRanking m rank → AreLargestTotals m total
+    → EachItem m (λ i. (item_at m i).end_min ≤ (item_at m i).end_max) → EachItem m (λ i. needed_to (asked_in_echelon m weight i) m.periods ≤ total i)

@@ -1,10 +1,12 @@
 pub mod Sums
 pub mod Problem
+pub mod Bill
 pub mod Plan
 pub mod Best
 pub mod Totals
 pub mod Single
 pub mod Net
+pub mod Echelon
 pub mod Least
 pub mod Texts
 pub mod Laws

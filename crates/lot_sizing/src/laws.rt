@@ -1,6 +1,6 @@
 // Laws about the definitions, each the contract of a function that does nothing.
 ghost use Rattle.std.specs.Prelude.{◌≤◌};
-ghost use Rattle.lot_sizing.specs.Laws.{BlocksServe, BoundsTotals, CostsApart, ItemsAreBestApart, KeepsLeast, LastPotentialIsFloor, PlansHaveRoom, RoomIsEnough};
+ghost use Rattle.lot_sizing.specs.Laws.{BlocksServe, BoundsTotals, CostsApart, EchelonsBalance, ItemsAreBestApart, KeepsLeast, LastPotentialIsFloor, NetIsWithinTotals, PlansHaveRoom, RoomIsEnough};
 
 /// Every feasible plan makes at most the largest total of each item, in a problem whose items have a
 /// ranking: no item is its own component, over any number of bill lines.
@@ -44,4 +44,16 @@ pub fn room_decides()
 /// costs and the holding of what is left of its opening stock.
 pub fn costs_apart()
     ensures { CostsApart }
+{}
+
+/// In every feasible plan of a problem without an item that is its own component, the echelon of each
+/// item balances: what the item and all items that it goes into have of it.
+pub fn echelons_balance()
+    ensures { EchelonsBalance }
+{}
+
+/// What must be made of an item for its echelon, once the opening stocks are used up, is at most the
+/// item's largest total.
+pub fn net_is_within_totals()
+    ensures { NetIsWithinTotals }
 {}

@@ -6,7 +6,7 @@
 //! feasible and what it costs (`Plan`), what holds of all feasible plans (`Best`), how much of an
 //! item any of them makes (`Totals`), the stocks and backlogs that go with quantities (`Least`), an
 //! item by itself with its net plans, blocks and potentials (`Single`), how it comes from a problem
-//! (`Net`), and the texts that the program writes (`Texts`). `proofs/` has laws about these; those
+//! (`Net`), the bill of materials (`Bill`), echelon stocks (`Echelon`), and the texts that the program writes (`Texts`). `proofs/` has laws about these; those
 //! that stand by themselves are contracts of functions in `laws`, which do nothing.
 //!
 //! Items, resources and periods are counted from 1. All numbers are whole and of any size.
