@@ -1,0 +1,25 @@
+-- Sets of items as lists of truth values.
+use Rattle.std.specs.Prelude.{◌≡◌, ◌↔◌, ℕ, zero, suc, ◌+◌, ◌-◌, ◌≤◌, Bool, true, false, IsTrue, List, length, slice_index_or, if◌then◌else◌}
+use Rattle.lot_sizing.specs.Sums.{sum_to}
+use Rattle.lot_sizing.specs.Bill.{Bill, GoesInto}
+
+-- the item is in the set
+abbrev pub has : List Bool → ℕ → Bool
+has set i = slice_index_or set (i - 1) false
+
+-- how many items aren't in the set
+abbrev pub missing : List Bool → ℕ
+missing set = sum_to (length set) (λ i. if has set i then 0 else 1)
+
+-- each item of the set goes into item j
+abbrev pub AllGoInto : Bill → ℕ → List Bool → Type 0
+AllGoInto b j set = (i : ℕ) → 1 ≤ i → i ≤ b.items → has set i ≡ true → GoesInto b i j
+
+-- the set has the items that go into item k over one line
+abbrev pub HasLinesOf : Bill → ℕ → List Bool → Type 0
+HasLinesOf b k set = (i : ℕ) → 1 ≤ i → i ≤ b.items → 1 ≤ b.units i k → has set i ≡ true
+
+-- the set has the items that go into item j, over any number of lines
+pub record AreComponents (b : Bill) (j : ℕ) (set : List Bool) : Type 0 where
+  pub size : length set ≡ b.items
+  pub each : (i : ℕ) → 1 ≤ i → i ≤ b.items → (has set i ≡ true) ↔ GoesInto b i j

@@ -1,0 +1,6 @@
+//! Bills of materials: which items are components of which, over any number of lines.
+#![tactic(auto)]
+
+mod reach;
+
+pub use lot_sizing::Need;
