@@ -48,20 +48,40 @@ fn add_lines(needs: &[Need], set: &mut [bool]) -> bool
     grown
 }
 
+// Where a set has an item, puts its components into the set, and answers whether one of them is new.
+fn spread_from(lines: &[Vec<Need>], item: u32, set: &mut [bool]) -> bool
+    requires lines { AreLines (map (λ v. v.items) lines.now) }
+    requires size { length set.now ≡ length lines.now }
+    requires low { 1 ≤ item }
+    requires high { item ≤ length lines.now }
+    ensures size { length set.new ≡ length set.old }
+    ensures keeps { (i : ℕ) → has set.old i ≡ true → has set.new i ≡ true }
+    ensures sound { (j : ℕ) → AllGoInto (bill_of_lines (map (λ v. v.items) lines.now)) j set.old → AllGoInto (bill_of_lines (map (λ v. v.items) lines.now)) j set.new }
+    ensures closed { result ≡ false → has set.new item ≡ true → HasLinesOf (bill_of_lines (map (λ v. v.items) lines.now)) item set.new }
+    ensures same { result ≡ false → set.new ≡ set.old }
+    ensures grown { result ≡ true → missing set.new < missing set.old }
+    ensures fewer { missing set.new ≤ missing set.old }
+{
+    if !set[(item - 1) as usize] {
+        return false;
+    }
+    let needs: &[Need] = &lines[(item - 1) as usize];
+    add_lines(needs, set)
+}
+
 // Puts the components of each item of a set into it, and answers whether one of them is new.
 fn spread(lines: &[Vec<Need>], set: &mut [bool]) -> bool
     requires lines { AreLines (map (λ v. v.items) lines.now) }
     requires size { length set.now ≡ length lines.now }
     ensures size { length set.new ≡ length set.old }
     ensures keeps { (i : ℕ) → has set.old i ≡ true → has set.new i ≡ true }
-    ensures sound { (j : ℕ) → 1 ≤ j → j ≤ length lines.now → AllGoInto (bill_of_lines (map (λ v. v.items) lines.now)) j set.old → AllGoInto (bill_of_lines (map (λ v. v.items) lines.now)) j set.new }
+    ensures sound { (j : ℕ) → AllGoInto (bill_of_lines (map (λ v. v.items) lines.now)) j set.old → AllGoInto (bill_of_lines (map (λ v. v.items) lines.now)) j set.new }
     ensures closed { result ≡ false → (k : ℕ) → 1 ≤ k → k ≤ length lines.now → has set.new k ≡ true → HasLinesOf (bill_of_lines (map (λ v. v.items) lines.now)) k set.new }
     ensures grown { result ≡ true → missing set.new < missing set.old }
 {
     let mut grown = false;
-    for place in 0..lines.len() {
-        let needs: &[Need] = &lines[place];
-        if set[place] && add_lines(needs, set) {
+    for item in 1..lines.len() as u32 + 1 {
+        if spread_from(lines, item, set) {
             grown = true;
         }
     }

@@ -1,0 +1,82 @@
+-- Lines and paths of a bill.
+use Rattle.std.proofs.Common.{◌≡◌, ◌≢◌, ◌≤◌, ◌<◌, ◌+◌, ◌-◌, ◌*◌, ◌∙◌, ◌⊎◌, ⊎_elim, inl, inr, ℕ, zero, suc, refl, sym, ap, subst, arith, List, [], ◌∷◌, length, map, Bool, true, false, slice_index_or}
+use Rattle.std.specs.Prelude.{if◌then◌else◌, ◌==◌, ◌↔◌}
+use Rattle.std.specs.List.{All, sum_by}
+use Rattle.std.proofs.lemmas.List.Sums.{sum_by-cons}
+use Rattle.std.proofs.Common.{Vec, Global}
+use Rattle.std.proofs.Math.ListN.{get_or-map}
+use Rattle.std.proofs.lemmas.List.{get_or_default, length-map}
+use Rattle.std.proofs.lemmas.Bool.{cases_lt, cases_eq}
+use Rattle.lot_sizing.specs.declared.Need.{Need}
+use Rattle.lot_sizing.specs.Bill.{Bill, GoesIntoOver, GoesInto}
+use Rattle.bill.specs.Lines.{AreLines, IsLine, Names, bill_of_lines, line_at, lines_of, no_need, units_in}
+use Rattle.bill.specs.Sets.{AllGoInto, AreComponents, HasLinesOf, has}
+
+same_taken : (need : Need) (i : ℕ) → need.item ≡ i → (if need.item == i then need.quantity else 0) ≡ need.quantity
+same_taken need i h = grind (arith, h)
+
+other_taken : (need : Need) (i : ℕ) → need.item ≢ i → (if need.item == i then need.quantity else 0) ≡ 0
+other_taken need i h = grind (arith, h)
+
+-- where units are taken, a line names the item
+pub names_it : (needs : List Need) (i : ℕ) → 1 ≤ units_in needs i → Names needs i
+names_it [] i h = absurd (omega (arith, h))
+names_it (need ∷ rest) i h =
+    ⊎_elim
+    (λ same. (0, omega arith, same))
+    (λ apart.
+    let later = names_it rest i (omega (arith, h, sum_by-cons (λ n. if n.item == i then n.quantity else 0) need rest, other_taken need i apart)) in
+    (suc later.0, omega (arith, later.1), later.2))
+    (cases_eq need.item i)
+
+later_named : (need : Need) (rest : List Need) (i : ℕ) → need.item ≢ i → Names (need ∷ rest) i → Names rest i
+later_named need rest i apart (zero, high, is) = absurd (apart is)
+later_named need rest i apart (suc n, high, is) = (n, omega (arith, high), is)
+
+-- and a line that names it takes units
+pub takes_units : (items : ℕ) (needs : List Need) (i : ℕ) → All (IsLine items) needs → Names needs i → 1 ≤ units_in needs i
+takes_units items [] i lines named = absurd (omega (arith, named.1))
+takes_units items (need ∷ rest) i lines named =
+    ⊎_elim
+    (λ same. omega (arith, sum_by-cons (λ n. if n.item == i then n.quantity else 0) need rest, same_taken need i same, (lines 0 no_need (omega arith)).some))
+    (λ apart. omega (arith, sum_by-cons (λ n. if n.item == i then n.quantity else 0) need rest, takes_units items rest i (λ k d h. lines (suc k) d (omega (arith, h))) (later_named need rest i apart named)))
+    (cases_eq need.item i)
+
+-- what lines put into a set goes where their item goes
+pub sound_from : (lines : List (List Need)) (k : ℕ) (old new : List Bool) → AreLines lines → 1 ≤ k → k ≤ length lines → has old k ≡ true → ((i : ℕ) → 1 ≤ i → has new i ≡ true → (has old i ≡ true) ⊎ Names (lines_of lines k) i) → (j : ℕ) → AllGoInto (bill_of_lines lines) j old → AllGoInto (bill_of_lines lines) j new
+sound_from lines k old new are low high here only j all i i_low i_high some =
+    ⊎_elim
+    (λ before. all i i_low i_high before)
+    (λ named.
+    let path = all k low high here in
+    (suc path.0, (k, low, high, takes_units (length lines) (lines_of lines k) i (are.each k low high) named, path.1)))
+    (only i i_low some)
+
+-- lines put all that they take into a set
+pub closed_from : (lines : List (List Need)) (k : ℕ) (new : List Bool) → ((n : ℕ) → n < length (lines_of lines k) → has new (line_at (lines_of lines k) n).item ≡ true) → HasLinesOf (bill_of_lines lines) k new
+closed_from lines k new named i low high some =
+    let found = names_it (lines_of lines k) i some in
+    sym (ap (has new) found.2) ∙ named found.0 found.1
+
+-- what the lines of an item put into the empty set goes into it
+pub first_from : (lines : List (List Need)) (j : ℕ) (old new : List Bool) → AreLines lines → 1 ≤ j → j ≤ length lines → ((i : ℕ) → has old i ≡ false) → ((i : ℕ) → 1 ≤ i → has new i ≡ true → (has old i ≡ true) ⊎ Names (lines_of lines j) i) → AllGoInto (bill_of_lines lines) j new
+first_from lines j old new are low high none only i i_low i_high some =
+    ⊎_elim
+    (λ before. cc (before, none i))
+    (λ named. (zero, takes_units (length lines) (lines_of lines j) i (are.each j low high) named))
+    (only i i_low some)
+
+-- a closed set has every item that goes into one
+reached : (b : Bill) (j : ℕ) (set : List Bool) → HasLinesOf b j set → ((k : ℕ) → 1 ≤ k → k ≤ b.items → has set k ≡ true → HasLinesOf b k set) → (n i : ℕ) → 1 ≤ i → i ≤ b.items → GoesIntoOver b n i j → has set i ≡ true
+reached b j set first closed zero i low high goes = first i low high goes
+reached b j set first closed (suc n) i low high (k, k_low, k_high, some, rest) = closed k k_low k_high (reached b j set first closed n k k_low k_high rest) i low high some
+
+pub are_components : (b : Bill) (j : ℕ) (set : List Bool) → length set ≡ b.items → AllGoInto b j set → HasLinesOf b j set → ((k : ℕ) → 1 ≤ k → k ≤ b.items → has set k ≡ true → HasLinesOf b k set) → AreComponents b j set
+are_components b j set size sound first closed = record {
+  size = size;
+  each = λ i low high. (λ some. sound i low high some, λ goes. reached b j set first closed goes.0 i low high goes.1);
+}
+
+-- the lines of an item, as they are read
+pub lines_read : (vs : List (Vec Need Global)) (i : ℕ) (v : Vec Need Global) (read : List Need) → 1 ≤ i → i ≤ length vs → v ≡ slice_index_or vs (i - 1) v → read ≡ v.items → read ≡ lines_of (map (λ w. w.items) vs) i
+lines_read vs i v read low high is same = same ∙ ap (λ w. w.items) is ∙ sym (get_or-map (λ w. w.items) vs (i - 1) v) ∙ get_or_default (map (λ w. w.items) vs) (i - 1) v.items [] (omega (arith, length-map vs (λ w. w.items), low, high))
