@@ -1,5 +1,5 @@
 -- Sets of items as lists of truth values.
-use Rattle.std.specs.Prelude.{◌≡◌, ◌↔◌, ℕ, zero, suc, ◌+◌, ◌-◌, ◌≤◌, Bool, true, false, IsTrue, List, length, slice_index_or, if◌then◌else◌}
+use Rattle.std.specs.Prelude.{◌≡◌, ◌↔◌, ℕ, zero, suc, ◌+◌, ◌-◌, ◌≤◌, ◌<◌, Bool, true, false, IsTrue, List, length, slice_index_or, [], if◌then◌else◌}
 use Rattle.lot_sizing.specs.Sums.{sum_to}
 use Rattle.lot_sizing.specs.Bill.{Bill, GoesInto}
 
@@ -23,3 +23,23 @@ HasLinesOf b k set = (i : ℕ) → 1 ≤ i → i ≤ b.items → 1 ≤ b.units i
 pub record AreComponents (b : Bill) (j : ℕ) (set : List Bool) : Type 0 where
   pub size : length set ≡ b.items
   pub each : (i : ℕ) → 1 ≤ i → i ≤ b.items → (has set i ≡ true) ↔ GoesInto b i j
+
+-- the set of an item, counted from 1
+abbrev pub set_of : List (List Bool) → ℕ → List Bool
+set_of sets j = slice_index_or sets (j - 1) []
+
+-- for each item the set of the items that go into it
+pub record IsReachOf (b : Bill) (sets : List (List Bool)) : Type 0 where
+  pub size : length sets ≡ b.items
+  pub each : (j : ℕ) → 1 ≤ j → j ≤ b.items → AreComponents b j (set_of sets j)
+
+-- no item is its own component
+abbrev pub HasNoCycle : Bill → Type 0
+HasNoCycle b = (i : ℕ) → 1 ≤ i → i ≤ b.items → GoesInto b i i → ⊥
+
+-- an item is its own component, and no earlier one is
+pub record IsFirstOnCycle (b : Bill) (i : ℕ) : Type 0 where
+  pub low : 1 ≤ i
+  pub high : i ≤ b.items
+  pub cycle : GoesInto b i i
+  pub first : (j : ℕ) → 1 ≤ j → j < i → GoesInto b j j → ⊥

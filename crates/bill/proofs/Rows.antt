@@ -1,0 +1,20 @@
+-- Lists of lists, as their items' lists.
+use Rattle.std.proofs.Common.{◌≡◌, ◌≤◌, ◌<◌, ◌+◌, ◌-◌, ◌∙◌, ℕ, zero, suc, refl, sym, ap, arith, List, [], ◌∷◌, ◌++◌, length, map, slice_index_or, Vec, Global}
+use Rattle.std.proofs.lemmas.List.{get_or_append_left, get_or_push, get_or_default, length-map, map-append}
+use Rattle.std.proofs.Math.ListN.{get_or-map}
+
+abbrev pub rows_of : {X : Type 0} → List (Vec X Global) → List (List X)
+rows_of vs = map (λ v. v.items) vs
+
+pub row_count : {X : Type 0} → (vs : List (Vec X Global)) → length (rows_of vs) ≡ length vs
+row_count vs = length-map vs (λ v. v.items)
+
+pub row_kept : {X : Type 0} → (vs : List (Vec X Global)) (v : Vec X Global) (j : ℕ) → 1 ≤ j → j ≤ length vs → slice_index_or (rows_of (vs ++ v ∷ [])) (j - 1) [] ≡ slice_index_or (rows_of vs) (j - 1) []
+row_kept vs v j low high = ap (λ xs. slice_index_or xs (j - 1) []) (map-append (λ w. w.items) vs (v ∷ [])) ∙ get_or_append_left (rows_of vs) (v.items ∷ []) [] (j - 1) (omega (arith, row_count vs, low, high))
+
+pub row_new : {X : Type 0} → (vs : List (Vec X Global)) (v : Vec X Global) (j : ℕ) → j ≡ length vs + 1 → slice_index_or (rows_of (vs ++ v ∷ [])) (j - 1) [] ≡ v.items
+row_new vs v j at = ap (λ xs. slice_index_or xs (j - 1) []) (map-append (λ w. w.items) vs (v ∷ [])) ∙ get_or_push (rows_of vs) v.items [] (j - 1) (omega (arith, row_count vs, at))
+
+-- a row as it is read
+pub row_read : {X : Type 0} → (vs : List (Vec X Global)) (j : ℕ) (v : Vec X Global) (read : List X) → 1 ≤ j → j ≤ length vs → v ≡ slice_index_or vs (j - 1) v → read ≡ v.items → read ≡ slice_index_or (rows_of vs) (j - 1) []
+row_read vs j v read low high is same = same ∙ ap (λ w. w.items) is ∙ sym (get_or-map (λ w. w.items) vs (j - 1) v) ∙ get_or_default (rows_of vs) (j - 1) v.items [] (omega (arith, row_count vs, low, high))
