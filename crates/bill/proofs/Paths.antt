@@ -6,11 +6,13 @@ use Rattle.std.proofs.lemmas.List.Sums.{sum_by-cons}
 use Rattle.std.proofs.Common.{Vec, Global}
 use Rattle.std.proofs.Math.ListN.{get_or-map}
 use Rattle.std.proofs.lemmas.List.{get_or_default, length-map}
-use Rattle.std.proofs.lemmas.Bool.{cases_lt, cases_eq}
+use Rattle.std.proofs.lemmas.Bool.{cases_lt, cases_eq, cases_Bool}
+use Rattle.lot_sizing.specs.Sums.{sum_to}
+use Rattle.lot_sizing.proofs.Sums.{sum_to-le}
 use Rattle.lot_sizing.specs.declared.Need.{Need}
 use Rattle.lot_sizing.specs.Bill.{Bill, GoesIntoOver, GoesInto}
 use Rattle.bill.specs.Lines.{AreLines, IsLine, Names, bill_of_lines, line_at, lines_of, no_need, units_in}
-use Rattle.bill.specs.Sets.{AllGoInto, AreComponents, HasLinesOf, has}
+use Rattle.bill.specs.Sets.{AllGoInto, AreComponents, HasLinesOf, has, missing}
 
 same_taken : (need : Need) (i : ℕ) → need.item ≡ i → (if need.item == i then need.quantity else 0) ≡ need.quantity
 same_taken need i h = grind (arith, h)
@@ -80,3 +82,42 @@ are_components b j set size sound first closed = record {
 -- the lines of an item, as they are read
 pub lines_read : (vs : List (Vec Need Global)) (i : ℕ) (v : Vec Need Global) (read : List Need) → 1 ≤ i → i ≤ length vs → v ≡ slice_index_or vs (i - 1) v → read ≡ v.items → read ≡ lines_of (map (λ w. w.items) vs) i
 lines_read vs i v read low high is same = same ∙ ap (λ w. w.items) is ∙ sym (get_or-map (λ w. w.items) vs (i - 1) v) ∙ get_or_default (map (λ w. w.items) vs) (i - 1) v.items [] (omega (arith, length-map vs (λ w. w.items), low, high))
+
+-- a path and one line more
+more_over : (b : Bill) (n x i j : ℕ) → 1 ≤ i → i ≤ b.items → 0 < b.units i j → GoesIntoOver b n x i → GoesIntoOver b (suc n) x j
+more_over b zero x i j low high some goes = (i, low, high, goes, some)
+more_over b (suc n) x i j low high some (k, k_low, k_high, first, rest) = (k, k_low, k_high, first, more_over b n k i j low high some rest)
+
+sum_less : (n : ℕ) (f g : ℕ → ℕ) (at : ℕ) → 1 ≤ at → at ≤ n → f at < g at → ((k : ℕ) → 1 ≤ k → k ≤ n → f k ≤ g k) → sum_to n f < sum_to n g
+sum_less zero f g at low high here others = absurd (omega (arith, low, high))
+sum_less (suc n) f g at low high here others =
+    ⊎_elim
+    (λ same. omega (arith, ap f same, ap g same, here, sum_to-le n f g (λ k k_low k_high. others k k_low (omega (arith, k_high)))))
+    (λ apart. omega (arith, sum_less n f g at low (omega (arith, high, apart)) here (λ k k_low k_high. others k k_low (omega (arith, k_high))), others (suc n) (omega arith) (omega arith)))
+    (cases_eq at (suc n))
+
+flag : Bool → ℕ
+flag x = if x then 0 else 1
+
+flag_small : (x : Bool) → flag x ≤ 1
+unfolding flag
+flag_small true = omega arith
+flag_small false = omega arith
+
+-- an item has fewer others than each of its components
+pub fewer_others : (b : Bill) (i j : ℕ) (ours theirs : List Bool) → AreComponents b j ours → AreComponents b i theirs → (GoesInto b i i → ⊥) → 1 ≤ i → i ≤ b.items → 0 < b.units i j → missing ours < missing theirs
+unfolding flag
+fewer_others b i j ours theirs are_ours are_theirs no_cycle low high some =
+    let f = λ (k : ℕ). flag (has ours k) in
+    let g = λ (k : ℕ). flag (has theirs k) in
+    let here : has ours i ≡ true = (are_ours.each i low high).1 (zero, some) in
+    let not_here : has theirs i ≡ false = ⊎_elim (λ yes. absurd (no_cycle ((are_theirs.each i low high).0 yes))) (λ no. no) (cases_Bool (has theirs i)) in
+    let strict : f i < g i = omega (arith, ap flag here, ap flag not_here) in
+    let each = λ (k : ℕ) (k_low : 1 ≤ k) (k_high : k ≤ b.items). ⊎_elim
+    (λ yes.
+    let path = (are_theirs.each k k_low k_high).0 yes in
+    let more : has ours k ≡ true = (are_ours.each k k_low k_high).1 (suc path.0, more_over b path.0 k i j low high some path.1) in
+    omega (arith, ap flag more))
+    (λ no. omega (arith, ap flag no, flag_small (has ours k)))
+    (cases_Bool (has theirs k)) in
+    omega (arith, sum_less b.items f g i low high strict each, ap (λ n. sum_to n f) are_ours.size, ap (λ n. sum_to n g) are_theirs.size)

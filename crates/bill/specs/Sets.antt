@@ -43,3 +43,8 @@ pub record IsFirstOnCycle (b : Bill) (i : ℕ) : Type 0 where
   pub high : i ≤ b.items
   pub cycle : GoesInto b i i
   pub first : (j : ℕ) → 1 ≤ j → j < i → GoesInto b j j → ⊥
+
+-- as many sets as each has places, at most 40
+pub record IsSquare (sets : List (List Bool)) : Type 0 where
+  pub small : length sets ≤ 40
+  pub each : (j : ℕ) → 1 ≤ j → j ≤ length sets → length (set_of sets j) ≡ length sets

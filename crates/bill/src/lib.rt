@@ -1,6 +1,7 @@
 //! Bills of materials: which items are components of which, over any number of lines.
 #![tactic(auto)]
 
+mod explosion;
 mod ranking;
 mod reach;
 

@@ -1,9 +1,9 @@
 // Cycles of a bill, and the order of its items.
-ghost use Rattle.std.specs.Prelude.{◌≡◌, ◌≤◌, ◌<◌, ◌-◌, ℕ, length, map, true, IfOk, IfSome, None};
-ghost use Rattle.lot_sizing.specs.Bill.{Bill, HasRanks};
+ghost use Rattle.std.specs.Prelude.{◌≡◌, ◌≤◌, ◌↔◌, ℕ, length, map, IfOk, IsTrue, MatchOption};
+ghost use Rattle.lot_sizing.specs.Bill.{Bill, GoesInto, HasRanks};
 ghost use Rattle.lot_sizing.specs.Problem.{entry};
 ghost use Rattle.bill.specs.Lines.{AreLines, bill_of_lines};
-ghost use Rattle.bill.specs.Sets.{HasNoCycle, IsFirstOnCycle, IsReachOf, missing, set_of};
+ghost use Rattle.bill.specs.Sets.{HasNoCycle, IsFirstOnCycle, IsReachOf, IsSquare, has, missing, set_of};
 
 use crate::reach::components;
 use lot_sizing::Need;
@@ -22,6 +22,10 @@ impl Model for Reach {
     ghost Value = { List (List Bool) };
 
     ghost view = { λ a. map (λ v. v.items) a.sets.items };
+
+    ghost use Rattle.bill.specs.Sets.{IsSquare};
+
+    ghost invariant = { λ a. IsSquare (map (λ v. v.items) a.sets.items) };
 }
 
 impl Reach {
@@ -36,5 +40,68 @@ impl Reach {
             sets.push(components(alloc, lines, item)?)?;
         }
         Ok(Reach { sets })
+    }
+
+    /// The number of items.
+    pub fn items(&self) -> u32
+        ensures value { result ≡ length self.now }
+        ensures square { IsSquare self.now }
+    {
+        self.sets.len() as u32
+    }
+
+    /// Whether an item goes into another, over one or more lines.
+    pub fn goes_into(&self, item: u32, other: u32) -> bool
+        requires low { 1 ≤ item }
+        requires high { item ≤ length self.now }
+        requires other_low { 1 ≤ other }
+        requires other_high { other ≤ length self.now }
+        ensures set { result ≡ has (set_of self.now other) item }
+        ensures path { (b : Bill) → IsReachOf b self.now → (IsTrue result ↔ GoesInto b item other) }
+    {
+        let set: &[bool] = &self.sets[(other - 1) as usize];
+        set[(item - 1) as usize]
+    }
+
+    /// The first item that is its own component, over one or more lines.
+    pub fn first_on_cycle(&self) -> Option<u32>
+        ensures { (b : Bill) → IsReachOf b self.now → MatchOption result (HasNoCycle b) (IsFirstOnCycle b) }
+    {
+        for item in 1..self.items() + 1 {
+            if self.goes_into(item, item) {
+                return Some(item);
+            }
+        }
+        None
+    }
+
+    // How many items don't go into an item.
+    fn others(&self, item: u32) -> u32
+        requires low { 1 ≤ item }
+        requires high { item ≤ length self.now }
+        ensures count { result ≡ missing (set_of self.now item) }
+        ensures small { result ≤ length self.now }
+    {
+        let mut count = 0;
+        for one in 1..self.items() + 1 {
+            if !self.goes_into(one, item) {
+                count += 1;
+            }
+        }
+        count
+    }
+
+    /// A rank for each item, above that of each item that it goes into, where no item is its own
+    /// component: how many items aren't its components. The error is want of memory.
+    pub fn ranks(&self, alloc: Global) -> Result<Vec<u32>, AllocError>
+        ensures size { IfOk result (λ ranks. length ranks.items ≡ length self.now) }
+        ensures small { IfOk result (λ ranks. (i : ℕ) → entry ranks.items i ≤ length self.now) }
+        ensures ranks { IfOk result (λ ranks. (b : Bill) → IsReachOf b self.now → HasNoCycle b → HasRanks b (entry ranks.items)) }
+    {
+        let mut ranks = Vec::with_capacity(alloc, self.sets.len())?;
+        for item in 1..self.items() + 1 {
+            ranks.push(self.others(item))?;
+        }
+        Ok(ranks)
     }
 }

@@ -1,0 +1,91 @@
+// The totals and weights of a bill.
+ghost use Rattle.std.specs.Prelude.{◌≡◌, ◌≤◌, ◌<◌, ◌+◌, ◌-◌, ◌*◌, ◌^◌, ℕ, length, map, true, false, IfOk, IfSome, Some, None, slice_index_or, []};
+ghost use Rattle.std.specs.List.{All};
+ghost use Rattle.lot_sizing.specs.Problem.{entry};
+ghost use Rattle.bill.specs.Lines.{AreLines, IsLine, bill_of_lines, units_in};
+ghost use Rattle.bill.specs.Over.{most_in_all, row_entry, total_by, weight_by};
+ghost use Rattle.bill.specs.Sets.{has};
+
+use lot_sizing::Need;
+use std::alloc::{AllocError, Global};
+
+// The greatest total, and the greatest weight.
+const MOST: u128 = 1_000_000_000_000;
+
+// How many units of an item some lines take.
+fn units(needs: &[Need], item: u32) -> u64
+    requires count { length needs.now ≤ 400 }
+    requires small { All (λ need. need.quantity ≤ 1000000) needs.now }
+    ensures value { result ≡ units_in needs.now item }
+    ensures small { result ≤ 400 * 1000000 }
+{
+    let mut sum = 0u64;
+    for line in 0..needs.len() {
+        let need = needs[line];
+        if need.item == item {
+            sum += need.quantity;
+        }
+    }
+    sum
+}
+
+// How many units of an item go into one unit of another over one line.
+fn units_of(lines: &[Vec<Need>], item: u32, other: u32) -> u64
+    requires lines { AreLines (map (λ v. v.items) lines.now) }
+    requires low { 1 ≤ other }
+    requires high { other ≤ length lines.now }
+    ensures value { result ≡ (bill_of_lines (map (λ v. v.items) lines.now)).units item other }
+    ensures small { result ≤ 400 * 1000000 }
+{
+    let needs: &[Need] = &lines[(other - 1) as usize];
+    units(needs, item)
+}
+
+// Whether all items that an item goes into over one line are done.
+fn users_done(lines: &[Vec<Need>], done: &[bool], item: u32) -> bool
+    requires lines { AreLines (map (λ v. v.items) lines.now) }
+    requires size { length done.now ≡ length lines.now }
+    ensures all { result ≡ true → (k : ℕ) → 1 ≤ k → k ≤ length lines.now → 0 < (bill_of_lines (map (λ v. v.items) lines.now)).units item k → has done.now k ≡ true }
+    ensures some { result ≡ false → (k : ℕ) × (1 ≤ k) × (k ≤ length lines.now) × (0 < (bill_of_lines (map (λ v. v.items) lines.now)).units item k) × (has done.now k ≡ false) }
+{
+    for other in 1..lines.len() as u32 + 1 {
+        if units_of(lines, item, other) > 0 && !done[(other - 1) as usize] {
+            return false;
+        }
+    }
+    true
+}
+
+// The total of an item, from those of the items that it goes into.
+fn total_of(lines: &[Vec<Need>], totals: &[u64], asked: u64, there: u64, item: u32) -> u128
+    requires lines { AreLines (map (λ v. v.items) lines.now) }
+    requires size { length totals.now ≡ length lines.now }
+    requires small { (i : ℕ) → entry totals.now i ≤ most_in_all }
+    ensures { result ≡ total_by (bill_of_lines (map (λ v. v.items) lines.now)) asked there totals.now item }
+{
+    let mut sum = asked as u128;
+    for other in 1..lines.len() as u32 + 1 {
+        let total = totals[(other - 1) as usize];
+        sum += units_of(lines, item, other) as u128 * total as u128;
+    }
+    sum.saturating_sub(there as u128)
+}
+
+// A weight of an item, from those of the items that it goes into.
+fn weight_of(lines: &[Vec<Need>], weights: &[Vec<u64>], item: u32, whole: u32) -> u128
+    requires lines { AreLines (map (λ v. v.items) lines.now) }
+    requires size { length weights.now ≡ length lines.now }
+    requires rows { (i : ℕ) → 1 ≤ i → i ≤ length lines.now → length (slice_index_or (map (λ v. v.items) weights.now) (i - 1) []) ≡ length lines.now }
+    requires small { (i k : ℕ) → row_entry (map (λ v. v.items) weights.now) i k ≤ most_in_all }
+    requires low { 1 ≤ whole }
+    requires high { whole ≤ length lines.now }
+    ensures { result ≡ weight_by (bill_of_lines (map (λ v. v.items) lines.now)) (map (λ v. v.items) weights.now) item whole }
+{
+    let mut sum = if item == whole { 1u128 } else { 0 };
+    for other in 1..lines.len() as u32 + 1 {
+        let row: &[u64] = &weights[(other - 1) as usize];
+        let weight = row[(whole - 1) as usize];
+        sum += units_of(lines, item, other) as u128 * weight as u128;
+    }
+    sum
+}
