@@ -71,3 +71,17 @@ pub record IsProgress (b : Bill) (total : ℕ → ℕ) (weight : ℕ → ℕ →
   pub over_high : over ≤ b.items
   pub over_past : 1 ≤ over → IsWithin b total weight over → ⊥
   pub over_clear : 1 ≤ over → IsClear b total weight over
+
+-- of all totals and weights of the bill
+abbrev pub OfAll : Bill → (ℕ → ℕ) → (ℕ → ℕ) → ((ℕ → ℕ) → (ℕ → ℕ → ℕ) → Type 0) → Type 0
+OfAll b asked there P = (total : ℕ → ℕ) (weight : ℕ → ℕ → ℕ) → AreTotals b asked there total → AreWeights b weight → P total weight
+
+-- the weights of an item, from those of the items that it goes into, none past the bound
+pub record IsRowOf (b : Bill) (weights : List (List ℕ)) (i : ℕ) (row : List ℕ) : Type 0 where
+  pub size : length row ≡ b.items
+  pub each : (k : ℕ) → 1 ≤ k → k ≤ b.items → entry row k ≡ weight_by b weights i k
+  pub small : (k : ℕ) → entry row k ≤ most_in_all
+
+-- a weight of the item is past the bound
+abbrev pub HasLargeWeight : Bill → List (List ℕ) → ℕ → Type 0
+HasLargeWeight b weights i = (k : ℕ) × (1 ≤ k) × (k ≤ b.items) × (most_in_all < weight_by b weights i k)

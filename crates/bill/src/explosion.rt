@@ -1,9 +1,9 @@
 // The totals and weights of a bill.
-ghost use Rattle.std.specs.Prelude.{◌≡◌, ◌≤◌, ◌<◌, ◌+◌, ◌-◌, ◌*◌, ◌^◌, ℕ, length, map, true, false, IfOk, IfSome, Some, None, slice_index_or, []};
+ghost use Rattle.std.specs.Prelude.{◌≡◌, ◌≤◌, ◌<◌, ◌⊎◌, ◌+◌, ◌-◌, ◌*◌, ◌^◌, ℕ, length, map, true, false, IfOk, IfSome, Some, None, slice_index_or, []};
 ghost use Rattle.std.specs.List.{All};
 ghost use Rattle.lot_sizing.specs.Problem.{entry};
 ghost use Rattle.bill.specs.Lines.{AreLines, IsLine, bill_of_lines, units_in};
-ghost use Rattle.bill.specs.Over.{most_in_all, row_entry, total_by, weight_by};
+ghost use Rattle.bill.specs.Over.{AreTables, HasLargeWeight, IsProgress, IsRowOf, IsSettled, OfAll, most_in_all, row_entry, total_by, weight_by};
 ghost use Rattle.bill.specs.Sets.{has};
 
 use lot_sizing::Need;
@@ -88,4 +88,72 @@ fn weight_of(lines: &[Vec<Need>], weights: &[Vec<u64>], item: u32, whole: u32) -
         sum += units_of(lines, item, other) as u128 * weight as u128;
     }
     sum
+}
+
+// The weights of an item, or none where one of them is past the bound.
+fn row_of(
+    alloc: Global,
+    lines: &[Vec<Need>],
+    weights: &[Vec<u64>],
+    item: u32,
+) -> Result<Option<Vec<u64>>, AllocError>
+    requires lines { AreLines (map (λ v. v.items) lines.now) }
+    requires size { length weights.now ≡ length lines.now }
+    requires rows { (i : ℕ) → 1 ≤ i → i ≤ length lines.now → length (slice_index_or (map (λ v. v.items) weights.now) (i - 1) []) ≡ length lines.now }
+    requires small { (i k : ℕ) → row_entry (map (λ v. v.items) weights.now) i k ≤ most_in_all }
+    ensures row { IfOk result (λ found. IfSome found (λ row. IsRowOf (bill_of_lines (map (λ v. v.items) lines.now)) (map (λ v. v.items) weights.now) item row.items)) }
+    ensures none { IfOk result (λ found. found ≡ None → HasLargeWeight (bill_of_lines (map (λ v. v.items) lines.now)) (map (λ v. v.items) weights.now) item) }
+{
+    let mut row = Vec::with_capacity(alloc, lines.len())?;
+    for whole in 1..lines.len() as u32 + 1 {
+        let weight = weight_of(lines, weights, item, whole);
+        if weight > MOST {
+            return Ok(None);
+        }
+        row.push(weight as u64)?;
+    }
+    Ok(Some(row))
+}
+
+// What is known of the items so far. What isn't known is 0.
+#[derive(Drop)]
+pub struct Known {
+    done: Vec<bool>,
+    totals: Vec<u64>,
+    weights: Vec<Vec<u64>>,
+}
+
+// The total and the weights of an item.
+#[derive(Drop)]
+struct Numbers {
+    total: u64,
+    row: Vec<u64>,
+}
+
+// The total and the weights of an item, or none where one of them is past the bound.
+fn numbers_of(
+    alloc: Global,
+    lines: &[Vec<Need>],
+    known: &Known,
+    asked: u64,
+    there: u64,
+    item: u32,
+) -> Result<Option<Numbers>, AllocError>
+    requires lines { AreLines (map (λ v. v.items) lines.now) }
+    requires tables { AreTables (length lines.now) known.now.done.items known.now.totals.items (map (λ v. v.items) known.now.weights.items) }
+    ensures total { IfOk result (λ found. IfSome found (λ numbers. (numbers.total ≡ total_by (bill_of_lines (map (λ v. v.items) lines.now)) asked there known.now.totals.items item) × (numbers.total ≤ most_in_all))) }
+    ensures row { IfOk result (λ found. IfSome found (λ numbers. IsRowOf (bill_of_lines (map (λ v. v.items) lines.now)) (map (λ v. v.items) known.now.weights.items) item numbers.row.items)) }
+    ensures none { IfOk result (λ found. found ≡ None → (most_in_all < total_by (bill_of_lines (map (λ v. v.items) lines.now)) asked there known.now.totals.items item) ⊎ HasLargeWeight (bill_of_lines (map (λ v. v.items) lines.now)) (map (λ v. v.items) known.now.weights.items) item) }
+{
+    let total = total_of(lines, &known.totals, asked, there, item);
+    if total > MOST {
+        return Ok(None);
+    }
+    match row_of(alloc, lines, &known.weights, item)? {
+        Some(row) => Ok(Some(Numbers {
+            total: total as u64,
+            row,
+        })),
+        None => Ok(None),
+    }
 }
