@@ -1,3 +1,4 @@
 pub mod Members
 pub mod Rows
 pub mod Paths
+pub mod Kept

@@ -1,6 +1,6 @@
 -- Lists of lists, as their items' lists.
-use Rattle.std.proofs.Common.{◌≡◌, ◌≤◌, ◌<◌, ◌+◌, ◌-◌, ◌∙◌, ℕ, zero, suc, refl, sym, ap, arith, List, [], ◌∷◌, ◌++◌, length, map, slice_index_or, Vec, Global}
-use Rattle.std.proofs.lemmas.List.{get_or_append_left, get_or_push, get_or_default, length-map, map-append}
+use Rattle.std.proofs.Common.{◌≡◌, ◌≤◌, ◌<◌, ◌+◌, ◌-◌, ◌∙◌, ℕ, zero, suc, refl, sym, ap, arith, List, [], ◌∷◌, ◌++◌, length, map, slice_index_or, slice_set, Vec, Global}
+use Rattle.std.proofs.lemmas.List.{get_or_append_left, get_or_push, get_or_default, length-map, map-append, map-set, get_or-set_same, get_or-set_other, length-set}
 use Rattle.std.proofs.Math.ListN.{get_or-map}
 
 abbrev pub rows_of : {X : Type 0} → List (Vec X Global) → List (List X)
@@ -18,3 +18,9 @@ row_new vs v j at = ap (λ xs. slice_index_or xs (j - 1) []) (map-append (λ w. 
 -- a row as it is read
 pub row_read : {X : Type 0} → (vs : List (Vec X Global)) (j : ℕ) (v : Vec X Global) (read : List X) → 1 ≤ j → j ≤ length vs → v ≡ slice_index_or vs (j - 1) v → read ≡ v.items → read ≡ slice_index_or (rows_of vs) (j - 1) []
 row_read vs j v read low high is same = same ∙ ap (λ w. w.items) is ∙ sym (get_or-map (λ w. w.items) vs (j - 1) v) ∙ get_or_default (rows_of vs) (j - 1) v.items [] (omega (arith, row_count vs, low, high))
+
+pub row_set_here : {X : Type 0} → (vs : List (Vec X Global)) (j : ℕ) (v : Vec X Global) → 1 ≤ j → j ≤ length vs → slice_index_or (rows_of (slice_set vs (j - 1) v)) (j - 1) [] ≡ v.items
+row_set_here vs j v low high = ap (λ xs. slice_index_or xs (j - 1) []) (map-set (λ w. w.items) vs (j - 1) v) ∙ get_or-set_same (rows_of vs) (j - 1) v.items [] (omega (arith, row_count vs, low, high))
+
+pub row_set_other : {X : Type 0} → (vs : List (Vec X Global)) (j k : ℕ) (v : Vec X Global) → 1 ≤ j → 1 ≤ k → (k ≡ j → ⊥) → slice_index_or (rows_of (slice_set vs (j - 1) v)) (k - 1) [] ≡ slice_index_or (rows_of vs) (k - 1) []
+row_set_other vs j k v low k_low apart = ap (λ xs. slice_index_or xs (k - 1) []) (map-set (λ w. w.items) vs (j - 1) v) ∙ get_or-set_other (rows_of vs) (j - 1) (k - 1) v.items [] (λ same. apart (omega (arith, same, low, k_low)))

@@ -1,5 +1,5 @@
 // The totals and weights of a bill.
-ghost use Rattle.std.specs.Prelude.{◌≡◌, ◌≤◌, ◌<◌, ◌⊎◌, ◌+◌, ◌-◌, ◌*◌, ◌^◌, ℕ, length, map, true, false, IfOk, IfSome, Some, None, slice_index_or, []};
+ghost use Rattle.std.specs.Prelude.{◌≡◌, ◌≤◌, ◌<◌, ◌≢◌, ◌⊎◌, ◌+◌, ◌-◌, ◌*◌, ◌^◌, ℕ, length, map, true, false, IfOk, IfSome, Some, None, slice_index_or, []};
 ghost use Rattle.std.specs.List.{All};
 ghost use Rattle.lot_sizing.specs.Problem.{entry};
 ghost use Rattle.bill.specs.Lines.{AreLines, IsLine, bill_of_lines, units_in};
@@ -156,4 +156,24 @@ fn numbers_of(
         })),
         None => Ok(None),
     }
+}
+
+// Keeps the total and the weights of an item.
+fn keep(known: &mut Known, item: u32, numbers: Numbers)
+    requires low { 1 ≤ item }
+    requires high { item ≤ length known.now.done.items }
+    requires tables { AreTables (length known.now.done.items) known.now.done.items known.now.totals.items (map (λ v. v.items) known.now.weights.items) }
+    requires total { numbers.total ≤ most_in_all }
+    requires size { length numbers.row.items ≡ length known.now.done.items }
+    requires small { (k : ℕ) → entry numbers.row.items k ≤ most_in_all }
+    ensures tables { AreTables (length known.old.done.items) known.new.done.items known.new.totals.items (map (λ v. v.items) known.new.weights.items) }
+    ensures done { has known.new.done.items item ≡ true }
+    ensures total { entry known.new.totals.items item ≡ numbers.total }
+    ensures row { slice_index_or (map (λ v. v.items) known.new.weights.items) (item - 1) [] ≡ numbers.row.items }
+    ensures others { (j : ℕ) → 1 ≤ j → j ≢ item → (has known.new.done.items j ≡ has known.old.done.items j) × (entry known.new.totals.items j ≡ entry known.old.totals.items j) × (slice_index_or (map (λ v. v.items) known.new.weights.items) (j - 1) [] ≡ slice_index_or (map (λ v. v.items) known.old.weights.items) (j - 1) []) }
+{
+    let place = (item - 1) as usize;
+    known.done[place] = true;
+    known.totals[place] = numbers.total;
+    known.weights[place] = numbers.row;
 }
