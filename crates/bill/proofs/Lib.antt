@@ -2,3 +2,4 @@ pub mod Members
 pub mod Rows
 pub mod Paths
 pub mod Kept
+pub mod Settling

@@ -177,3 +177,47 @@ fn keep(known: &mut Known, item: u32, numbers: Numbers)
     known.totals[place] = numbers.total;
     known.weights[place] = numbers.row;
 }
+
+// Takes an item whose users have been taken: keeps its numbers, or where one of them is past the bound
+// answers the first such item so far. Else it answers the one from before.
+fn settle(
+    alloc: Global,
+    lines: &[Vec<Need>],
+    asked: &[u64],
+    there: &[u64],
+    known: &mut Known,
+    over: u32,
+    item: u32,
+) -> Result<u32, AllocError>
+    requires lines { AreLines (map (λ v. v.items) lines.now) }
+    requires asked { length asked.now ≡ length lines.now }
+    requires there { length there.now ≡ length lines.now }
+    requires low { 1 ≤ item }
+    requires high { item ≤ length lines.now }
+    requires tables { AreTables (length lines.now) known.now.done.items known.now.totals.items (map (λ v. v.items) known.now.weights.items) }
+    requires progress { OfAll (bill_of_lines (map (λ v. v.items) lines.now)) (entry asked.now) (entry there.now) (λ total weight. IsProgress (bill_of_lines (map (λ v. v.items) lines.now)) total weight known.now.done.items known.now.totals.items (map (λ v. v.items) known.now.weights.items) over) }
+    requires users { OfAll (bill_of_lines (map (λ v. v.items) lines.now)) (entry asked.now) (entry there.now) (λ total weight. (k : ℕ) → 1 ≤ k → k ≤ length lines.now → 0 < (bill_of_lines (map (λ v. v.items) lines.now)).units item k → IsSettled (bill_of_lines (map (λ v. v.items) lines.now)) total weight known.now.done.items over k) }
+    ensures tables { IfOk result (λ _. AreTables (length lines.now) known.new.done.items known.new.totals.items (map (λ v. v.items) known.new.weights.items)) }
+    ensures keeps { IfOk result (λ _. (j : ℕ) → 1 ≤ j → has known.old.done.items j ≡ true → has known.new.done.items j ≡ true) }
+    ensures over { IfOk result (λ now. 1 ≤ over → (1 ≤ now) × (now ≤ over)) }
+    ensures progress { IfOk result (λ now. OfAll (bill_of_lines (map (λ v. v.items) lines.now)) (entry asked.now) (entry there.now) (λ total weight. IsProgress (bill_of_lines (map (λ v. v.items) lines.now)) total weight known.new.done.items known.new.totals.items (map (λ v. v.items) known.new.weights.items) now)) }
+    ensures settled { IfOk result (λ now. OfAll (bill_of_lines (map (λ v. v.items) lines.now)) (entry asked.now) (entry there.now) (λ total weight. IsSettled (bill_of_lines (map (λ v. v.items) lines.now)) total weight known.new.done.items now item)) }
+{
+    if !users_done(lines, &known.done, item) {
+        return Ok(over);
+    }
+    let place = (item - 1) as usize;
+    match numbers_of(alloc, lines, known, asked[place], there[place], item)? {
+        Some(numbers) => {
+            keep(known, item, numbers);
+            Ok(over)
+        }
+        None => {
+            if over == 0 || item < over {
+                Ok(item)
+            } else {
+                Ok(over)
+            }
+        }
+    }
+}

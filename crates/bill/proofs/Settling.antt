@@ -1,0 +1,104 @@
+-- An item whose users have been taken is taken.
+use Rattle.std.proofs.Common.{◌≡◌, ◌≢◌, ◌≤◌, ◌<◌, ◌+◌, ◌-◌, ◌*◌, ◌∙◌, ◌⊎◌, ⊎_elim, inl, inr, ℕ, zero, suc, refl, sym, ap, subst, arith, List, [], length, Bool, true, false, slice_index_or}
+use Rattle.std.proofs.lemmas.Bool.{cases_lt, cases_eq, cases_Bool}
+use Rattle.lot_sizing.specs.Sums.{sum_to}
+use Rattle.lot_sizing.proofs.Sums.{sum_to-same}
+use Rattle.lot_sizing.specs.Problem.{entry}
+use Rattle.lot_sizing.specs.Bill.{Bill, AreTotals, AreWeights, GoesInto, GoesIntoOver, one_if_same}
+use Rattle.bill.specs.Sets.{has}
+use Rattle.bill.specs.Over.{IsWithin, IsClear, IsBelow, IsKnown, IsProgress, IsSettled, IsRowOf, HasLargeWeight, most_in_all, row_entry, total_by, weight_by}
+
+-- the users of an item are done
+abbrev pub AreDone : Bill → List Bool → ℕ → Type 0
+AreDone b done i = (k : ℕ) → 1 ≤ k → k ≤ b.items → 0 < b.units i k → has done k ≡ true
+
+pub total_is : (b : Bill) (asked there total : ℕ → ℕ) (totals : List ℕ) (i : ℕ) → AreTotals b asked there total → 1 ≤ i → i ≤ b.items → ((k : ℕ) → 1 ≤ k → k ≤ b.items → 0 < b.units i k → entry totals k ≡ total k) → total_by b (asked i) (there i) totals i ≡ total i
+total_is b asked there total totals i are low high same =
+    let sums = sum_to-same b.items (λ j. b.units i j * entry totals j) (λ j. b.units i j * total j) (λ j j_low j_high. ⊎_elim
+    (λ some. ap (λ x. b.units i j * x) (same j j_low j_high some))
+    (λ none. let e : b.units i j ≡ 0 = omega (arith, none) in omega (arith, ap (λ x. x * entry totals j) e, ap (λ x. x * total j) e))
+    (cases_lt 0 (b.units i j))) in
+    omega (arith, are i low high, sums)
+
+pub weight_is : (b : Bill) (weight : ℕ → ℕ → ℕ) (weights : List (List ℕ)) (i k : ℕ) → AreWeights b weight → 1 ≤ i → i ≤ b.items → 1 ≤ k → k ≤ b.items → ((j : ℕ) → 1 ≤ j → j ≤ b.items → 0 < b.units i j → row_entry weights j k ≡ weight j k) → weight_by b weights i k ≡ weight i k
+weight_is b weight weights i k are low high k_low k_high same =
+    let sums = sum_to-same b.items (λ j. b.units i j * row_entry weights j k) (λ j. b.units i j * weight j k) (λ j j_low j_high. ⊎_elim
+    (λ some. ap (λ x. b.units i j * x) (same j j_low j_high some))
+    (λ none. let e : b.units i j ≡ 0 = omega (arith, none) in omega (arith, ap (λ x. x * row_entry weights j k) e, ap (λ x. x * weight j k) e))
+    (cases_lt 0 (b.units i j))) in
+    omega (arith, are i k low high k_low k_high, sums)
+
+pub clear_is : (b : Bill) (total : ℕ → ℕ) (weight : ℕ → ℕ → ℕ) (done : List Bool) (totals : List ℕ) (weights : List (List ℕ)) (over i : ℕ) → IsProgress b total weight done totals weights over → AreDone b done i → IsClear b total weight i
+clear_is b total weight done totals weights over i progress users k low high (zero, goes) = (progress.known k low high (users k low high goes)).0
+clear_is b total weight done totals weights over i progress users k low high (suc n, (j, j_low, j_high, some, rest)) = (progress.known j j_low j_high (users j j_low j_high some)).2 k low high (n, rest)
+
+-- the numbers of an item whose users are done
+pub record IsRight (b : Bill) (asked there total : ℕ → ℕ) (weight : ℕ → ℕ → ℕ) (totals : List ℕ) (weights : List (List ℕ)) (i : ℕ) : Type 0 where
+  pub in_all : total_by b (asked i) (there i) totals i ≡ total i
+  pub each : (k : ℕ) → 1 ≤ k → k ≤ b.items → weight_by b weights i k ≡ weight i k
+
+pub right : (b : Bill) (asked there total : ℕ → ℕ) (weight : ℕ → ℕ → ℕ) (done : List Bool) (totals : List ℕ) (weights : List (List ℕ)) (over i : ℕ) → AreTotals b asked there total → AreWeights b weight → IsProgress b total weight done totals weights over → AreDone b done i → 1 ≤ i → i ≤ b.items → IsRight b asked there total weight totals weights i
+right b asked there total weight done totals weights over i are_totals are_weights progress users low high = record {
+  in_all = total_is b asked there total totals i are_totals low high (λ k k_low k_high some. (progress.known k k_low k_high (users k k_low k_high some)).1.in_all);
+  each = λ k k_low k_high. weight_is b weight weights i k are_weights low high k_low k_high (λ j j_low j_high some. (progress.known j j_low j_high (users j j_low j_high some)).1.each k k_low k_high);
+}
+
+-- an item with a user that isn't done goes into one past the bound
+pub below_undone : (b : Bill) (total : ℕ → ℕ) (weight : ℕ → ℕ → ℕ) (done : List Bool) (over i k : ℕ) → 1 ≤ k → k ≤ b.items → 0 < b.units i k → has done k ≡ false → IsSettled b total weight done over k → IsBelow b total weight i
+below_undone b total weight done over i k low high some undone settled =
+    ⊎_elim
+    (λ is_done. cc (is_done, undone))
+    (λ rest. ⊎_elim
+    (λ below. (below.0, below.1, below.2, (suc below.3.0, (k, low, high, some, below.3.1)), below.4))
+    (λ past. (k, low, high, (zero, some), past.0))
+    rest)
+    settled
+
+-- an item past the bound
+pub past_bound : (b : Bill) (asked there total : ℕ → ℕ) (weight : ℕ → ℕ → ℕ) (totals : List ℕ) (weights : List (List ℕ)) (i : ℕ) → IsRight b asked there total weight totals weights i → (most_in_all < total_by b (asked i) (there i) totals i) ⊎ HasLargeWeight b weights i → IsWithin b total weight i → ⊥
+past_bound b asked there total weight totals weights i is_right large within =
+    ⊎_elim
+    (λ in_all. omega (arith, in_all, is_right.in_all, within.in_all))
+    (λ each. omega (arith, each.3, is_right.each each.0 each.1 each.2, within.each each.0 each.1 each.2))
+    large
+
+-- where the first one past the bound is another one
+pub past_progress : (b : Bill) (total : ℕ → ℕ) (weight : ℕ → ℕ → ℕ) (done : List Bool) (totals : List ℕ) (weights : List (List ℕ)) (over i : ℕ) → IsProgress b total weight done totals weights over → i ≤ b.items → (IsWithin b total weight i → ⊥) → IsClear b total weight i → IsProgress b total weight done totals weights i
+past_progress b total weight done totals weights over i progress high past clear = record {
+  known = progress.known;
+  over_high = high;
+  over_past = λ _. past;
+  over_clear = λ _. clear;
+}
+
+-- where an item's numbers are kept
+pub kept_progress : (b : Bill) (asked there total : ℕ → ℕ) (weight : ℕ → ℕ → ℕ) (done new_done : List Bool) (totals new_totals : List ℕ) (weights new_weights : List (List ℕ)) (row : List ℕ) (over i x : ℕ) → 1 ≤ i → i ≤ b.items → IsProgress b total weight done totals weights over → IsRight b asked there total weight totals weights i → IsClear b total weight i → x ≡ total_by b (asked i) (there i) totals i → x ≤ most_in_all → IsRowOf b weights i row → entry new_totals i ≡ x → slice_index_or new_weights (i - 1) [] ≡ row → ((j : ℕ) → 1 ≤ j → (j ≡ i → ⊥) → (has new_done j ≡ has done j) × (entry new_totals j ≡ entry totals j) × (slice_index_or new_weights (j - 1) [] ≡ slice_index_or weights (j - 1) [])) → IsProgress b total weight new_done new_totals new_weights over
+kept_progress b asked there total weight done new_done totals new_totals weights new_weights row over i x low high progress is_right clear is small is_row total_here row_here others = record {
+  known = λ j j_low j_high some. ⊎_elim
+      (λ same. subst (λ k. IsWithin b total weight k × IsKnown b total weight new_totals new_weights k × IsClear b total weight k) (sym same) (
+        record {
+          in_all = omega (arith, is_right.in_all, is, small);
+          each = λ k k_low k_high. omega (arith, is_right.each k k_low k_high, is_row.each k k_low k_high, is_row.small k);
+        },
+        record {
+          in_all = total_here ∙ is ∙ is_right.in_all;
+          each = λ k k_low k_high. ap (λ xs. entry xs k) row_here ∙ is_row.each k k_low k_high ∙ is_right.each k k_low k_high;
+        },
+        clear,
+      ))
+      (λ apart.
+      let same = others j j_low apart in
+      let before = progress.known j j_low j_high (sym same.0 ∙ some) in
+      (
+        before.0,
+        record {
+          in_all = same.1 ∙ before.1.in_all;
+          each = λ k k_low k_high. ap (λ xs. entry xs k) same.2 ∙ before.1.each k k_low k_high;
+        },
+        before.2,
+      ))
+      (cases_eq j i);
+  over_high = progress.over_high;
+  over_past = progress.over_past;
+  over_clear = progress.over_clear;
+}
