@@ -102,3 +102,14 @@ kept_progress b asked there total weight done new_done totals new_totals weights
   over_past = progress.over_past;
   over_clear = progress.over_clear;
 }
+
+-- what is settled stays settled
+pub settled_kept : (b : Bill) (total : ℕ → ℕ) (weight : ℕ → ℕ → ℕ) (done new_done : List Bool) (over now j : ℕ) → (has done j ≡ true → has new_done j ≡ true) → (1 ≤ over → (1 ≤ now) × (now ≤ over)) → IsSettled b total weight done over j → IsSettled b total weight new_done now j
+settled_kept b total weight done new_done over now j keeps less settled =
+    ⊎_elim
+    (λ is_done. inl (keeps is_done))
+    (λ rest. ⊎_elim
+    (λ below. inr (inl below))
+    (λ past. let l = less past.1 in inr (inr (past.0, l.0, omega (arith, l.1, past.2))))
+    rest)
+    settled

@@ -1,8 +1,10 @@
 -- Totals and weights of a bill, and which item's are too large.
-use Rattle.std.specs.Prelude.{◌≡◌, ◌⊎◌, ℕ, ◌+◌, ◌-◌, ◌*◌, ◌^◌, ◌≤◌, ◌<◌, Bool, true, List, [], length, slice_index_or}
+use Rattle.std.specs.Prelude.{◌≡◌, ◌⊎◌, ℕ, ◌+◌, ◌-◌, ◌*◌, ◌^◌, ◌≤◌, ◌<◌, Bool, true, List, [], length, slice_index_or, ⊤}
 use Rattle.lot_sizing.specs.Sums.{sum_to}
 use Rattle.lot_sizing.specs.Problem.{entry}
 use Rattle.lot_sizing.specs.Bill.{Bill, AreTotals, AreWeights, GoesInto, one_if_same}
+use Rattle.bill.specs.declared.explosion.BoundFault.{BoundFault}
+use Rattle.bill.specs.declared.explosion.BoundFault.TheVariants.{Over, Memory}
 use Rattle.bill.specs.Sets.{has}
 
 -- the largest total, and the largest weight
@@ -85,3 +87,17 @@ pub record IsRowOf (b : Bill) (weights : List (List ℕ)) (i : ℕ) (row : List 
 -- a weight of the item is past the bound
 abbrev pub HasLargeWeight : Bill → List (List ℕ) → ℕ → Type 0
 HasLargeWeight b weights i = (k : ℕ) × (1 ≤ k) × (k ≤ b.items) × (most_in_all < weight_by b weights i k)
+
+-- the items of a lower rank are settled
+abbrev pub AreSettled : Bill → (ℕ → ℕ) → (ℕ → ℕ → ℕ) → List Bool → ℕ → (ℕ → ℕ) → ℕ → Type 0
+AreSettled b total weight done over rank n = (j : ℕ) → 1 ≤ j → j ≤ b.items → rank j < n → IsSettled b total weight done over j
+
+-- the totals and weights of all items
+pub record Exploded : Type 0 where
+  pub totals : List ℕ
+  pub weights : List (List ℕ)
+
+-- the fault names the first item past the bound, unless memory is the cause
+abbrev pub IsBoundFault : Bill → (ℕ → ℕ) → (ℕ → ℕ) → BoundFault → Type 0
+IsBoundFault b asked there (Over i) = OfAll b asked there (λ total weight. IsFirstOver b total weight i)
+IsBoundFault b asked there Memory = ⊤

@@ -1,13 +1,16 @@
 // The totals and weights of a bill.
-ghost use Rattle.std.specs.Prelude.{◌≡◌, ◌≤◌, ◌<◌, ◌≢◌, ◌⊎◌, ◌+◌, ◌-◌, ◌*◌, ◌^◌, ℕ, length, map, true, false, IfOk, IfSome, Some, None, slice_index_or, []};
+ghost use Rattle.std.specs.Prelude.{◌≡◌, ◌≤◌, ◌<◌, ◌≢◌, ◌⊎◌, ◌+◌, ◌-◌, ◌*◌, ◌^◌, ℕ, length, map, true, false, IfErr, IfOk, IfSome, Some, None, slice_index_or, []};
 ghost use Rattle.std.specs.List.{All};
+ghost use Rattle.lot_sizing.specs.Bill.{HasRanks};
 ghost use Rattle.lot_sizing.specs.Problem.{entry};
 ghost use Rattle.bill.specs.Lines.{AreLines, IsLine, bill_of_lines, units_in};
-ghost use Rattle.bill.specs.Over.{AreTables, HasLargeWeight, IsProgress, IsRowOf, IsSettled, OfAll, most_in_all, row_entry, total_by, weight_by};
+ghost use Rattle.bill.specs.Over.{AreSettled, AreTables, HasAll, HasLargeWeight, IsBoundFault, IsProgress, IsRowOf, IsSettled, OfAll, most_in_all, row_entry, total_by, weight_by};
 ghost use Rattle.bill.specs.Sets.{has};
 
+use crate::reach::no_items;
 use lot_sizing::Need;
 use std::alloc::{AllocError, Global};
+use std::marker::Model;
 
 // The greatest total, and the greatest weight.
 const MOST: u128 = 1_000_000_000_000;
@@ -219,5 +222,175 @@ fn settle(
                 Ok(over)
             }
         }
+    }
+}
+
+// Takes an item if it is of a rank, once all items of lower ranks have been taken.
+fn settle_of_rank(
+    alloc: Global,
+    lines: &[Vec<Need>],
+    asked: &[u64],
+    there: &[u64],
+    ranks: &[u32],
+    rank: u32,
+    known: &mut Known,
+    over: u32,
+    item: u32,
+) -> Result<u32, AllocError>
+    requires lines { AreLines (map (λ v. v.items) lines.now) }
+    requires asked { length asked.now ≡ length lines.now }
+    requires there { length there.now ≡ length lines.now }
+    requires count { length ranks.now ≡ length lines.now }
+    requires ranks { HasRanks (bill_of_lines (map (λ v. v.items) lines.now)) (entry ranks.now) }
+    requires low { 1 ≤ item }
+    requires high { item ≤ length lines.now }
+    requires tables { AreTables (length lines.now) known.now.done.items known.now.totals.items (map (λ v. v.items) known.now.weights.items) }
+    requires progress { OfAll (bill_of_lines (map (λ v. v.items) lines.now)) (entry asked.now) (entry there.now) (λ total weight. IsProgress (bill_of_lines (map (λ v. v.items) lines.now)) total weight known.now.done.items known.now.totals.items (map (λ v. v.items) known.now.weights.items) over) }
+    requires before { OfAll (bill_of_lines (map (λ v. v.items) lines.now)) (entry asked.now) (entry there.now) (λ total weight. AreSettled (bill_of_lines (map (λ v. v.items) lines.now)) total weight known.now.done.items over (entry ranks.now) rank) }
+    ensures tables { IfOk result (λ _. AreTables (length lines.now) known.new.done.items known.new.totals.items (map (λ v. v.items) known.new.weights.items)) }
+    ensures keeps { IfOk result (λ _. (j : ℕ) → 1 ≤ j → has known.old.done.items j ≡ true → has known.new.done.items j ≡ true) }
+    ensures over { IfOk result (λ now. 1 ≤ over → (1 ≤ now) × (now ≤ over)) }
+    ensures progress { IfOk result (λ now. OfAll (bill_of_lines (map (λ v. v.items) lines.now)) (entry asked.now) (entry there.now) (λ total weight. IsProgress (bill_of_lines (map (λ v. v.items) lines.now)) total weight known.new.done.items known.new.totals.items (map (λ v. v.items) known.new.weights.items) now)) }
+    ensures settled { IfOk result (λ now. entry ranks.now item ≡ rank → OfAll (bill_of_lines (map (λ v. v.items) lines.now)) (entry asked.now) (entry there.now) (λ total weight. IsSettled (bill_of_lines (map (λ v. v.items) lines.now)) total weight known.new.done.items now item)) }
+{
+    if ranks[(item - 1) as usize] != rank {
+        return Ok(over);
+    }
+    settle(alloc, lines, asked, there, known, over, item)
+}
+
+// Takes all items of a rank, once those of lower ranks have been taken.
+fn settle_rank(
+    alloc: Global,
+    lines: &[Vec<Need>],
+    asked: &[u64],
+    there: &[u64],
+    ranks: &[u32],
+    rank: u32,
+    known: &mut Known,
+    over: u32,
+) -> Result<u32, AllocError>
+    requires lines { AreLines (map (λ v. v.items) lines.now) }
+    requires asked { length asked.now ≡ length lines.now }
+    requires there { length there.now ≡ length lines.now }
+    requires count { length ranks.now ≡ length lines.now }
+    requires ranks { HasRanks (bill_of_lines (map (λ v. v.items) lines.now)) (entry ranks.now) }
+    requires tables { AreTables (length lines.now) known.now.done.items known.now.totals.items (map (λ v. v.items) known.now.weights.items) }
+    requires progress { OfAll (bill_of_lines (map (λ v. v.items) lines.now)) (entry asked.now) (entry there.now) (λ total weight. IsProgress (bill_of_lines (map (λ v. v.items) lines.now)) total weight known.now.done.items known.now.totals.items (map (λ v. v.items) known.now.weights.items) over) }
+    requires before { OfAll (bill_of_lines (map (λ v. v.items) lines.now)) (entry asked.now) (entry there.now) (λ total weight. AreSettled (bill_of_lines (map (λ v. v.items) lines.now)) total weight known.now.done.items over (entry ranks.now) rank) }
+    ensures tables { IfOk result (λ _. AreTables (length lines.now) known.new.done.items known.new.totals.items (map (λ v. v.items) known.new.weights.items)) }
+    ensures progress { IfOk result (λ now. OfAll (bill_of_lines (map (λ v. v.items) lines.now)) (entry asked.now) (entry there.now) (λ total weight. IsProgress (bill_of_lines (map (λ v. v.items) lines.now)) total weight known.new.done.items known.new.totals.items (map (λ v. v.items) known.new.weights.items) now)) }
+    ensures after { IfOk result (λ now. OfAll (bill_of_lines (map (λ v. v.items) lines.now)) (entry asked.now) (entry there.now) (λ total weight. AreSettled (bill_of_lines (map (λ v. v.items) lines.now)) total weight known.new.done.items now (entry ranks.now) (rank + 1))) }
+{
+    let mut first = over;
+    for item in 1..lines.len() as u32 + 1 {
+        first = settle_of_rank(alloc, lines, asked, there, ranks, rank, known, first, item)?;
+    }
+    Ok(first)
+}
+
+// The tables of which nothing is known yet.
+fn nothing_known(alloc: Global, items: usize) -> Result<Known, AllocError>
+    requires few { items ≤ 40 }
+    ensures tables { IfOk result (λ known. AreTables items known.done.items known.totals.items (map (λ v. v.items) known.weights.items)) }
+    ensures none { IfOk result (λ known. (i : ℕ) → has known.done.items i ≡ false) }
+{
+    let done = no_items(alloc, items)?;
+    let totals = zeros(alloc, items)?;
+    let mut weights = Vec::with_capacity(alloc, items)?;
+    for _ in 0..items {
+        weights.push(zeros(alloc, items)?)?;
+    }
+    Ok(Known {
+        done,
+        totals,
+        weights,
+    })
+}
+
+// So many zeros.
+fn zeros(alloc: Global, count: usize) -> Result<Vec<u64>, AllocError>
+    requires few { count ≤ 40 }
+    ensures size { IfOk result (λ list. length list.items ≡ count) }
+    ensures zero { IfOk result (λ list. (i : ℕ) → entry list.items i ≡ 0) }
+{
+    let mut list = Vec::with_capacity(alloc, count)?;
+    for _ in 0..count {
+        list.push(0u64)?;
+    }
+    Ok(list)
+}
+
+/// Why a bill has no totals and weights.
+#[derive(Clone, Copy, Debug, PartialEq, Eq)]
+pub enum BoundFault {
+    /// The total or a weight of an item is above 10^12, those of all items that it goes into aren't,
+    /// and no earlier item is like that.
+    Over(u32),
+    /// Memory ran out.
+    Memory,
+}
+
+impl From<AllocError> for BoundFault {
+    ghost use Rattle.std.specs.Prelude.{◌≡◌};
+    ghost use Rattle.bill.specs.declared.explosion.BoundFault.TheVariants.{Memory};
+
+    ghost from_gives = { λ _ e. e ≡ Memory };
+
+    fn from(_: AllocError) -> BoundFault {
+        BoundFault::Memory
+    }
+}
+
+/// The totals and the weights of a bill's items, none above 10^12.
+#[derive(Drop)]
+pub struct Explosion {
+    totals: Vec<u64>,
+    weights: Vec<Vec<u64>>,
+}
+
+impl Model for Explosion {
+    ghost use Rattle.std.specs.Prelude.{map};
+    ghost use Rattle.bill.specs.Over.{Exploded};
+
+    ghost Value = { Exploded };
+
+    ghost view = { λ a. record { totals = a.totals.items; weights = map (λ v. v.items) a.weights.items } };
+}
+
+impl Explosion {
+    /// The totals and weights of a bill whose items have ranks: of each item its total, which is what is
+    /// asked of it and what the totals of other items take of it, less what is there; and its weights,
+    /// the units of it in one unit of each item over all paths.
+    ///
+    /// It takes time in the square of the number of items times that of the lines.
+    pub fn of(
+        alloc: Global,
+        lines: &[Vec<Need>],
+        asked: &[u64],
+        there: &[u64],
+        ranks: &[u32],
+    ) -> Result<Explosion, BoundFault>
+        requires lines { AreLines (map (λ v. v.items) lines.now) }
+        requires asked { length asked.now ≡ length lines.now }
+        requires there { length there.now ≡ length lines.now }
+        requires count { length ranks.now ≡ length lines.now }
+        requires ranks { HasRanks (bill_of_lines (map (λ v. v.items) lines.now)) (entry ranks.now) }
+        requires small { (i : ℕ) → entry ranks.now i ≤ length lines.now }
+        ensures ok { IfOk result (λ found. OfAll (bill_of_lines (map (λ v. v.items) lines.now)) (entry asked.now) (entry there.now) (λ total weight. HasAll (bill_of_lines (map (λ v. v.items) lines.now)) total weight found.totals found.weights)) }
+        ensures refused { IfErr result (IsBoundFault (bill_of_lines (map (λ v. v.items) lines.now)) (entry asked.now) (entry there.now)) }
+    {
+        let mut known = nothing_known(alloc, lines.len())?;
+        let mut over = 0u32;
+        for rank in 0..lines.len() as u32 + 1 {
+            over = settle_rank(alloc, lines, asked, there, ranks, rank, &mut known, over)?;
+        }
+        if over > 0 {
+            return Err(BoundFault::Over(over));
+        }
+        Ok(Explosion {
+            totals: known.totals,
+            weights: known.weights,
+        })
     }
 }

@@ -106,8 +106,8 @@ pub fn components(
     Ok(set)
 }
 
-// The set of no item.
-fn no_items(alloc: Global, items: usize) -> Result<Vec<bool>, AllocError>
+/// The set of no item.
+pub fn no_items(alloc: Global, items: usize) -> Result<Vec<bool>, AllocError>
     requires few { items ≤ 40 }
     ensures size { IfOk result (λ set. length set.items ≡ items) }
     ensures none { IfOk result (λ set. (i : ℕ) → has set.items i ≡ false) }
