@@ -4,9 +4,9 @@ use Rattle.std.proofs.lemmas.Bool.{cases_lt, cases_eq, cases_Bool}
 use Rattle.lot_sizing.specs.Sums.{sum_to}
 use Rattle.lot_sizing.proofs.Sums.{sum_to-same}
 use Rattle.lot_sizing.specs.Problem.{entry}
-use Rattle.lot_sizing.specs.Bill.{Bill, AreTotals, AreWeights, GoesInto, GoesIntoOver, one_if_same}
+use Rattle.lot_sizing.specs.Bill.{Bill, AreTotals, AreWeights, GoesInto, GoesIntoOver, HasRanks, one_if_same}
 use Rattle.bill.specs.Sets.{has}
-use Rattle.bill.specs.Over.{IsWithin, IsClear, IsBelow, IsKnown, IsProgress, IsSettled, IsRowOf, HasLargeWeight, most_in_all, row_entry, total_by, weight_by}
+use Rattle.bill.specs.Over.{HasAll, IsFirstOver, IsWithin, IsClear, IsBelow, IsKnown, IsProgress, IsSettled, IsRowOf, HasLargeWeight, most_in_all, row_entry, total_by, weight_by}
 
 -- the users of an item are done
 abbrev pub AreDone : Bill → List Bool → ℕ → Type 0
@@ -113,3 +113,39 @@ settled_kept b total weight done new_done over now j keeps less settled =
     (λ past. let l = less past.1 in inr (inr (past.0, l.0, omega (arith, l.1, past.2))))
     rest)
     settled
+
+-- where no item is past the bound, all are done
+all_done : (b : Bill) (total : ℕ → ℕ) (weight : ℕ → ℕ → ℕ) (done : List Bool) (totals : List ℕ) (weights : List (List ℕ)) (over : ℕ) (rank : ℕ → ℕ) → HasRanks b rank → IsProgress b total weight done totals weights over → over ≡ 0 → ((j : ℕ) → 1 ≤ j → j ≤ b.items → IsSettled b total weight done over j) → (n j : ℕ) → 1 ≤ j → j ≤ b.items → rank j < n → has done j ≡ true
+all_done b total weight done totals weights over rank ranks progress none settled zero j low high few = absurd (omega (arith, few))
+all_done b total weight done totals weights over rank ranks progress none settled (suc n) j low high few =
+    let users : AreDone b done j = λ k k_low k_high some. all_done b total weight done totals weights over rank ranks progress none settled n k k_low k_high (omega (arith, few, ranks j k low high k_low k_high some)) in
+    ⊎_elim
+    (λ is_done. is_done)
+    (λ rest. ⊎_elim
+    (λ below. absurd (below.4 (clear_is b total weight done totals weights over j progress users below.0 below.1 below.2 below.3)))
+    (λ past. absurd (omega (arith, past.1, none)))
+    rest)
+    (settled j low high)
+
+pub has_all : (b : Bill) (total : ℕ → ℕ) (weight : ℕ → ℕ → ℕ) (done : List Bool) (totals : List ℕ) (weights : List (List ℕ)) (over : ℕ) (rank : ℕ → ℕ) → HasRanks b rank → IsProgress b total weight done totals weights over → over ≡ 0 → ((j : ℕ) → 1 ≤ j → j ≤ b.items → IsSettled b total weight done over j) → HasAll b total weight totals weights
+has_all b total weight done totals weights over rank ranks progress none settled =
+    let done_at = λ (i : ℕ) (low : 1 ≤ i) (high : i ≤ b.items). all_done b total weight done totals weights over rank ranks progress none settled (suc (rank i)) i low high (omega arith) in
+    record {
+      within = λ i low high. (progress.known i low high (done_at i low high)).0;
+      known = λ i low high. (progress.known i low high (done_at i low high)).1;
+    }
+
+pub first_over : (b : Bill) (total : ℕ → ℕ) (weight : ℕ → ℕ → ℕ) (done : List Bool) (totals : List ℕ) (weights : List (List ℕ)) (over : ℕ) → IsProgress b total weight done totals weights over → 1 ≤ over → ((j : ℕ) → 1 ≤ j → j ≤ b.items → IsSettled b total weight done over j) → IsFirstOver b total weight over
+first_over b total weight done totals weights over progress some settled = record {
+  low = some;
+  high = progress.over_high;
+  over = progress.over_past some;
+  above = progress.over_clear some;
+  first = λ j low before. ⊎_elim
+      (λ is_done. inl (progress.known j low (omega (arith, before, progress.over_high)) is_done).0)
+      (λ rest. ⊎_elim
+      (λ below. inr below)
+      (λ past. absurd (omega (arith, past.2, before)))
+      rest)
+      (settled j low (omega (arith, before, progress.over_high)));
+}
