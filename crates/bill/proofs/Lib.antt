@@ -3,3 +3,4 @@ pub mod Rows
 pub mod Paths
 pub mod Kept
 pub mod Settling
+pub mod Existing

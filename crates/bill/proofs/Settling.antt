@@ -88,8 +88,7 @@ kept_progress b asked there total weight done new_done totals new_totals weights
       ))
       (λ apart.
       let same = others j j_low apart in
-      let before = progress.known j j_low j_high (sym same.0 ∙ some) in
-      (
+      let before = progress.known j j_low j_high (sym same.0 ∙ some) in (
         before.0,
         record {
           in_all = same.1 ∙ before.1.in_all;

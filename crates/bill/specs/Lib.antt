@@ -1,3 +1,4 @@
 pub mod Lines
 pub mod Sets
 pub mod Over
+pub mod Laws

@@ -377,6 +377,10 @@ impl Explosion {
         requires count { length ranks.now ≡ length lines.now }
         requires ranks { HasRanks (bill_of_lines (map (λ v. v.items) lines.now)) (entry ranks.now) }
         requires small { (i : ℕ) → entry ranks.now i ≤ length lines.now }
+        ensures totals_size { IfOk result (λ found. length found.totals ≡ length lines.now) }
+        ensures weights_size { IfOk result (λ found. length found.weights ≡ length lines.now) }
+        ensures row_sizes { IfOk result (λ found. (i : ℕ) → 1 ≤ i → i ≤ length lines.now → length (slice_index_or found.weights (i - 1) []) ≡ length lines.now) }
+        ensures small { IfOk result (λ found. (i : ℕ) → entry found.totals i ≤ most_in_all) }
         ensures ok { IfOk result (λ found. OfAll (bill_of_lines (map (λ v. v.items) lines.now)) (entry asked.now) (entry there.now) (λ total weight. HasAll (bill_of_lines (map (λ v. v.items) lines.now)) total weight found.totals found.weights)) }
         ensures refused { IfErr result (IsBoundFault (bill_of_lines (map (λ v. v.items) lines.now)) (entry asked.now) (entry there.now)) }
     {
@@ -392,5 +396,27 @@ impl Explosion {
             totals: known.totals,
             weights: known.weights,
         })
+    }
+
+    /// The total of an item. It takes no memory.
+    pub fn total(&self, item: u32) -> u64
+        requires low { 1 ≤ item }
+        requires high { item ≤ length self.now.totals }
+        ensures { result ≡ entry self.now.totals item }
+    {
+        self.totals[(item - 1) as usize]
+    }
+
+    /// The weight of an item in another: how many units of it one unit of the other takes over all
+    /// paths. It takes no memory.
+    pub fn weight(&self, item: u32, other: u32) -> u64
+        requires low { 1 ≤ item }
+        requires high { item ≤ length self.now.weights }
+        requires other_low { 1 ≤ other }
+        requires other_high { other ≤ length (slice_index_or self.now.weights (item - 1) []) }
+        ensures { result ≡ row_entry self.now.weights item other }
+    {
+        let row: &[u64] = &self.weights[(item - 1) as usize];
+        row[(other - 1) as usize]
     }
 }

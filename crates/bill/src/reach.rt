@@ -89,11 +89,7 @@ fn spread(lines: &[Vec<Need>], set: &mut [bool]) -> bool
 }
 
 /// The items that go into an item, over any number of lines: for each item whether it is one.
-pub fn components(
-    alloc: Global,
-    lines: &[Vec<Need>],
-    item: u32,
-) -> Result<Vec<bool>, AllocError>
+pub fn components(alloc: Global, lines: &[Vec<Need>], item: u32) -> Result<Vec<bool>, AllocError>
     requires lines { AreLines (map (λ v. v.items) lines.now) }
     requires low { 1 ≤ item }
     requires high { item ≤ length lines.now }

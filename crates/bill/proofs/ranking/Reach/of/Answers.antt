@@ -16,7 +16,7 @@ loop-item-preserved c =
     record {
       size = omega (arith, ap length pushed, length_push vs v, inv.size);
       each = λ j low high. subst (λ xs. AreComponents b j (set_of (rows_of xs) j)) (sym pushed) (⊎_elim
-      (λ before. subst (AreComponents b j) (sym (row_kept vs v j low (omega (arith, before, inv.size)))) (inv.each j low before))
-      (λ no. let e : j ≡ c.loop-item.item = omega (arith, no, high) in subst (AreComponents b j) (sym (row_new vs v j (omega (arith, e, inv.size)))) (subst (λ k. AreComponents b k v.items) (sym e) c.in_ok-components.ensures))
-      (cases_lt j c.loop-item.item));
+          (λ before. subst (AreComponents b j) (sym (row_kept vs v j low (omega (arith, before, inv.size)))) (inv.each j low before))
+          (λ no. let e : j ≡ c.loop-item.item = omega (arith, no, high) in subst (AreComponents b j) (sym (row_new vs v j (omega (arith, e, inv.size)))) (subst (λ k. AreComponents b k v.items) (sym e) c.in_ok-components.ensures))
+          (cases_lt j c.loop-item.item));
     }
