@@ -1,10 +1,9 @@
 -- Tables of totals and weights with one item set.
-use Rattle.std.proofs.Common.{◌≡◌, ◌≢◌, ◌≤◌, ◌<◌, ◌+◌, ◌-◌, ◌∙◌, ⊎_elim, ℕ, refl, sym, ap, subst, arith, List, [], length, map, Bool, true, slice_index_or, slice_set, Vec, Global}
+use Rattle.std.proofs.Common.{◌≡◌, ◌≤◌, ◌-◌, ◌∙◌, ⊎_elim, ℕ, sym, ap, arith, List, [], length, Bool, true, slice_index_or, slice_set, Vec, Global}
 use Rattle.std.proofs.lemmas.List.{get_or-set_same, get_or-set_other, length-set}
 use Rattle.std.proofs.lemmas.Bool.{cases_eq}
 use Rattle.lot_sizing.specs.Problem.{entry}
-use Rattle.bill.specs.Over.{AreTables, most_in_all, row_entry}
-use Rattle.bill.specs.Sets.{has}
+use Rattle.bill.specs.Over.{AreTables, most_in_all}
 use Rattle.bill.proofs.Rows.{rows_of, row_count, row_set_here, row_set_other}
 
 entry_here : (xs : List ℕ) (i x : ℕ) → 1 ≤ i → i ≤ length xs → entry (slice_set xs (i - 1) x) i ≡ x

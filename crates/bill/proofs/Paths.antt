@@ -1,12 +1,12 @@
 -- Lines and paths of a bill.
-use Rattle.std.proofs.Common.{◌≡◌, ◌≢◌, ◌≤◌, ◌<◌, ◌+◌, ◌-◌, ◌*◌, ◌∙◌, ◌⊎◌, ⊎_elim, inl, inr, ℕ, zero, suc, refl, sym, ap, subst, arith, List, [], ◌∷◌, length, map, Bool, true, false, slice_index_or}
-use Rattle.std.specs.Prelude.{if◌then◌else◌, ◌==◌, ◌↔◌}
-use Rattle.std.specs.List.{All, sum_by}
+use Rattle.std.proofs.Common.{◌≡◌, ◌≢◌, ◌≤◌, ◌<◌, ◌-◌, ◌∙◌, ◌⊎◌, ⊎_elim, ℕ, zero, suc, sym, ap, arith, List, [], ◌∷◌, length, map, Bool, true, false, slice_index_or}
+use Rattle.std.specs.Prelude.{if◌then◌else◌, ◌==◌}
+use Rattle.std.specs.List.{All}
 use Rattle.std.proofs.lemmas.List.Sums.{sum_by-cons}
 use Rattle.std.proofs.Common.{Vec, Global}
 use Rattle.std.proofs.Math.ListN.{get_or-map}
 use Rattle.std.proofs.lemmas.List.{get_or_default, length-map}
-use Rattle.std.proofs.lemmas.Bool.{cases_lt, cases_eq, cases_Bool}
+use Rattle.std.proofs.lemmas.Bool.{cases_eq, cases_Bool}
 use Rattle.lot_sizing.specs.Sums.{sum_to}
 use Rattle.lot_sizing.proofs.Sums.{sum_to-le}
 use Rattle.lot_sizing.specs.declared.Need.{Need}

@@ -1,6 +1,6 @@
 -- Lists of lists, as their items' lists.
-use Rattle.std.proofs.Common.{◌≡◌, ◌≤◌, ◌<◌, ◌+◌, ◌-◌, ◌∙◌, ℕ, zero, suc, refl, sym, ap, arith, List, [], ◌∷◌, ◌++◌, length, map, slice_index_or, slice_set, Vec, Global}
-use Rattle.std.proofs.lemmas.List.{get_or_append_left, get_or_push, get_or_default, length-map, map-append, map-set, get_or-set_same, get_or-set_other, length-set}
+use Rattle.std.proofs.Common.{◌≡◌, ◌≤◌, ◌+◌, ◌-◌, ◌∙◌, ℕ, sym, ap, arith, List, [], ◌∷◌, ◌++◌, length, map, slice_index_or, slice_set, Vec, Global}
+use Rattle.std.proofs.lemmas.List.{get_or_append_left, get_or_push, get_or_default, length-map, map-append, map-set, get_or-set_same, get_or-set_other}
 use Rattle.std.proofs.Math.ListN.{get_or-map}
 
 abbrev pub rows_of : {X : Type 0} → List (Vec X Global) → List (List X)

@@ -1,10 +1,9 @@
 -- An item whose users have been taken is taken.
-use Rattle.std.proofs.Common.{◌≡◌, ◌≢◌, ◌≤◌, ◌<◌, ◌+◌, ◌-◌, ◌*◌, ◌∙◌, ◌⊎◌, ⊎_elim, inl, inr, ℕ, zero, suc, refl, sym, ap, subst, arith, List, [], length, Bool, true, false, slice_index_or}
-use Rattle.std.proofs.lemmas.Bool.{cases_lt, cases_eq, cases_Bool}
-use Rattle.lot_sizing.specs.Sums.{sum_to}
+use Rattle.std.proofs.Common.{◌≡◌, ◌≤◌, ◌<◌, ◌-◌, ◌*◌, ◌∙◌, ◌⊎◌, ⊎_elim, inl, inr, ℕ, zero, suc, sym, ap, subst, arith, List, [], Bool, true, false, slice_index_or}
+use Rattle.std.proofs.lemmas.Bool.{cases_lt, cases_eq}
 use Rattle.lot_sizing.proofs.Sums.{sum_to-same}
 use Rattle.lot_sizing.specs.Problem.{entry}
-use Rattle.lot_sizing.specs.Bill.{Bill, AreTotals, AreWeights, GoesInto, GoesIntoOver, HasRanks, one_if_same}
+use Rattle.lot_sizing.specs.Bill.{Bill, AreTotals, AreWeights, HasRanks}
 use Rattle.bill.specs.Sets.{has}
 use Rattle.bill.specs.Over.{HasAll, IsFirstOver, IsWithin, IsClear, IsBelow, IsKnown, IsProgress, IsSettled, IsRowOf, HasLargeWeight, most_in_all, row_entry, total_by, weight_by}
 

@@ -1,7 +1,9 @@
 -- Sets of items as lists of truth values.
-use Rattle.std.specs.Prelude.{◌≡◌, ◌↔◌, ℕ, zero, suc, ◌+◌, ◌-◌, ◌≤◌, ◌<◌, Bool, true, false, IsTrue, List, length, slice_index_or, [], if◌then◌else◌}
+use Rattle.std.specs.Prelude.{◌≡◌, ◌↔◌, ℕ, ◌-◌, ◌≤◌, ◌<◌, Bool, true, false, List, length, slice_index_or, [], ⊤, if◌then◌else◌}
 use Rattle.lot_sizing.specs.Sums.{sum_to}
 use Rattle.lot_sizing.specs.Bill.{Bill, GoesInto}
+use Rattle.bill.specs.declared.ranking.CycleFault.{CycleFault}
+use Rattle.bill.specs.declared.ranking.CycleFault.TheVariants.{Cycle, Memory}
 
 -- the item is in the set
 abbrev pub has : List Bool → ℕ → Bool
@@ -48,3 +50,8 @@ pub record IsFirstOnCycle (b : Bill) (i : ℕ) : Type 0 where
 pub record IsSquare (sets : List (List Bool)) : Type 0 where
   pub small : length sets ≤ 40
   pub each : (j : ℕ) → 1 ≤ j → j ≤ length sets → length (set_of sets j) ≡ length sets
+
+-- the fault names the first item on a cycle, unless memory is the cause
+abbrev pub IsCycleFault : Bill → CycleFault → Type 0
+IsCycleFault b (Cycle i) = IsFirstOnCycle b i
+IsCycleFault b Memory = ⊤

@@ -1,9 +1,9 @@
 // Cycles of a bill, and the order of its items.
-ghost use Rattle.std.specs.Prelude.{◌≡◌, ◌≤◌, ◌↔◌, ℕ, length, map, IfOk, IsTrue, MatchOption};
+ghost use Rattle.std.specs.Prelude.{◌≡◌, ◌≤◌, ◌↔◌, ℕ, length, map, IfErr, IfOk, IsTrue, MatchOption};
 ghost use Rattle.lot_sizing.specs.Bill.{Bill, GoesInto, HasRanks};
 ghost use Rattle.lot_sizing.specs.Problem.{entry};
 ghost use Rattle.bill.specs.Lines.{AreLines, bill_of_lines};
-ghost use Rattle.bill.specs.Sets.{HasNoCycle, IsFirstOnCycle, IsReachOf, IsSquare, has, missing, set_of};
+ghost use Rattle.bill.specs.Sets.{HasNoCycle, IsCycleFault, IsFirstOnCycle, IsReachOf, IsSquare, has, missing, set_of};
 
 use crate::reach::components;
 use lot_sizing::Need;
@@ -103,5 +103,43 @@ impl Reach {
             ranks.push(self.others(item))?;
         }
         Ok(ranks)
+    }
+}
+
+/// Why the items of a bill have no ranks.
+#[derive(Clone, Copy, Debug, PartialEq, Eq)]
+pub enum CycleFault {
+    /// The item is its own component, over one or more lines, and no earlier item is.
+    Cycle(u32),
+    /// Memory ran out.
+    Memory,
+}
+
+impl From<AllocError> for CycleFault {
+    ghost use Rattle.std.specs.Prelude.{◌≡◌};
+    ghost use Rattle.bill.specs.declared.ranking.CycleFault.TheVariants.{Memory};
+
+    ghost from_gives = { λ _ e. e ≡ Memory };
+
+    fn from(_: AllocError) -> CycleFault {
+        CycleFault::Memory
+    }
+}
+
+/// A rank for each item, above that of each item that it goes into, or the first item that is its own
+/// component.
+///
+/// It takes time in the number of items times that of the lines, for each line that a path can have.
+pub fn ranks_of(alloc: Global, lines: &[Vec<Need>]) -> Result<Vec<u32>, CycleFault>
+    requires lines { AreLines (map (λ v. v.items) lines.now) }
+    ensures size { IfOk result (λ ranks. length ranks.items ≡ length lines.now) }
+    ensures small { IfOk result (λ ranks. (i : ℕ) → entry ranks.items i ≤ length lines.now) }
+    ensures ranks { IfOk result (λ ranks. HasRanks (bill_of_lines (map (λ v. v.items) lines.now)) (entry ranks.items)) }
+    ensures refused { IfErr result (IsCycleFault (bill_of_lines (map (λ v. v.items) lines.now))) }
+{
+    let reach = Reach::of(alloc, lines)?;
+    match reach.first_on_cycle() {
+        Some(item) => Err(CycleFault::Cycle(item)),
+        None => Ok(reach.ranks(alloc)?),
     }
 }

@@ -1,4 +1,4 @@
-use crate::{BoundFault, Explosion, Need, Reach, is_bill};
+use crate::{BoundFault, CycleFault, Explosion, Need, is_bill, ranks_of};
 use std::alloc::{AllocError, Global};
 use std::test::Fail;
 
@@ -17,8 +17,30 @@ fn bill(alloc: Global, lines: &[&[(u32, u64)]]) -> Result<Vec<Vec<Need>>, AllocE
     Ok(all)
 }
 
-// What a bill says of itself: its first item on a cycle, or else its first item past the bound, or else
-// some total.
+// The first item on a cycle, or else the first item past the bound, or else the first item's total.
+fn judged(
+    alloc: Global,
+    lines: &[Vec<Need>],
+    asked: &[u64],
+    there: &[u64],
+) -> Result<(Option<u32>, Option<u32>, u64), Fail> {
+    if lines.is_empty() || !is_bill(lines) {
+        return Err("no bill".into());
+    }
+    if asked.len() != lines.len() || there.len() != lines.len() {
+        return Err("other numbers of items".into());
+    }
+    match ranks_of(alloc, lines) {
+        Ok(ranks) => match Explosion::of(alloc, lines, asked, there, &ranks) {
+            Ok(explosion) => Ok((None, None, explosion.total(1))),
+            Err(BoundFault::Over(item)) => Ok((None, Some(item), 0)),
+            Err(BoundFault::Memory) => Err("memory".into()),
+        },
+        Err(CycleFault::Cycle(item)) => Ok((Some(item), None, 0)),
+        Err(CycleFault::Memory) => Err("memory".into()),
+    }
+}
+
 fn verdict(
     alloc: Global,
     lines: &[&[(u32, u64)]],
@@ -26,19 +48,7 @@ fn verdict(
     there: &[u64],
 ) -> Result<(Option<u32>, Option<u32>, u64), Fail> {
     let lines = bill(alloc, lines)?;
-    if !is_bill(&lines) || asked.len() != lines.len() || there.len() != lines.len() {
-        return Err("no bill".into());
-    }
-    let reach = Reach::of(alloc, &lines)?;
-    if let Some(item) = reach.first_on_cycle() {
-        return Ok((Some(item), None, 0));
-    }
-    let ranks = reach.ranks(alloc)?;
-    match Explosion::of(alloc, &lines, asked, there, &ranks) {
-        Ok(explosion) => Ok((None, None, explosion.total(1))),
-        Err(BoundFault::Over(item)) => Ok((None, Some(item), 0)),
-        Err(BoundFault::Memory) => Err("memory".into()),
-    }
+    judged(alloc, &lines, asked, there)
 }
 
 #[test]

@@ -1,4 +1,4 @@
-use Rattle.std.proofs.Common.{◌≡◌, ◌≤◌, ◌-◌, ◌∙◌, sym, arith, length, map, true, false}
+use Rattle.std.proofs.Common.{◌-◌, arith, length, true, false}
 use Rattle.std.proofs.lemmas.List.{get_or-set_other}
 use Rattle.bill.proofs.Rows.{row_count, row_set_here, row_set_other}
 use Rattle.bill.proofs.Kept.{entry_other, tables_kept}

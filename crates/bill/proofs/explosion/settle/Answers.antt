@@ -1,7 +1,7 @@
-use Rattle.std.proofs.Common.{◌≡◌, ◌≤◌, ◌<◌, ◌-◌, ◌∙◌, ◌⊎◌, ⊎_elim, inl, inr, ℕ, ap, subst, sym, arith, length, map, true, false, IfSome}
+use Rattle.std.proofs.Common.{◌≡◌, ◌≤◌, ◌∙◌, inl, inr, ap, subst, sym, arith, IfSome}
 use Rattle.lot_sizing.specs.Problem.{entry}
 use Rattle.bill.specs.Lines.{bill_of_lines}
-use Rattle.bill.specs.Over.{HasLargeWeight, IsRowOf, most_in_all, total_by}
+use Rattle.bill.specs.Over.{IsRowOf, most_in_all, total_by}
 use Rattle.bill.specs.Sets.{has}
 use Rattle.bill.proofs.Rows.{rows_of, row_count}
 use Rattle.bill.proofs.Settling.{AreDone, below_undone, clear_is, kept_progress, past_bound, past_progress, right}

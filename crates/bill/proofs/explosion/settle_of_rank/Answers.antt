@@ -1,4 +1,4 @@
-use Rattle.std.proofs.Common.{◌≡◌, ◌≤◌, ◌<◌, ap, sym, arith}
+use Rattle.std.proofs.Common.{arith}
 use Rattle.bill.proofs.Rows.{row_count}
 use Rattle.bill.proofs.explosion.settle_of_rank.Goals as goal
 

@@ -1,4 +1,4 @@
-use Rattle.std.proofs.Common.{◌≡◌, ◌≤◌, ◌<◌, ℕ, length, map}
+use Rattle.std.proofs.Common.{◌≤◌, ℕ, length, map}
 use Rattle.std.specs.List.{All}
 use Rattle.bill.specs.Lines.{IsLine, lines_of}
 use Rattle.bill.proofs.lines.is_bill.Given as goal

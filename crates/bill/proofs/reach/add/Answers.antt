@@ -1,4 +1,4 @@
-use Rattle.std.proofs.Common.{◌≡◌, ◌<◌, ◌-◌, arith, slice_index_or, false, refl, sym}
+use Rattle.std.proofs.Common.{arith, false, refl, sym}
 use Rattle.bill.proofs.Members.{missing_item}
 use Rattle.bill.proofs.reach.add.Goals as goal
 

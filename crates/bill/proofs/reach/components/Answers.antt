@@ -1,4 +1,4 @@
-use Rattle.std.proofs.Common.{◌≡◌, ◌≤◌, ◌<◌, ◌-◌, ◌∙◌, ◌⊎◌, ℕ, map, length, drop, ap, subst, sym, true, arith}
+use Rattle.std.proofs.Common.{◌≡◌, ◌<◌, ◌∙◌, ◌⊎◌, ℕ, map, length, drop, ap, subst, sym, true, arith}
 use Rattle.std.proofs.lemmas.List.{length-map, take_at}
 use Rattle.bill.specs.Lines.{Names, bill_of_lines, line_at}
 use Rattle.bill.specs.Sets.{AllGoInto, AreComponents, HasLinesOf, has}

@@ -1,6 +1,6 @@
-use Rattle.std.proofs.Common.{◌≡◌, ◌≤◌, ℕ, length, map, true}
+use Rattle.std.proofs.Common.{◌≡◌, length, map}
 use Rattle.bill.specs.Lines.{bill_of_lines}
-use Rattle.bill.specs.Sets.{AllGoInto, HasLinesOf, has, missing}
+use Rattle.bill.specs.Sets.{AllGoInto, HasLinesOf, missing}
 use Rattle.bill.proofs.reach.components.Given as goal
 
 abbrev pub invariant-loop : goal.invariant-loop

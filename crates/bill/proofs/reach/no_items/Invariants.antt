@@ -1,4 +1,4 @@
-use Rattle.std.proofs.Common.{◌≡◌, ◌≤◌, ℕ, length, false}
+use Rattle.std.proofs.Common.{◌≡◌, ℕ, length, false}
 use Rattle.bill.specs.Sets.{has}
 use Rattle.bill.proofs.reach.no_items.Given as goal
 

@@ -1,4 +1,4 @@
-use Rattle.std.proofs.Common.{◌≡◌, ◌≤◌, ◌<◌, ◌⊎◌, ℕ, length, map, true, false}
+use Rattle.std.proofs.Common.{◌≡◌, ◌≤◌, ◌<◌, ℕ, length, map, true, false}
 use Rattle.bill.specs.Lines.{bill_of_lines}
 use Rattle.bill.specs.Sets.{AllGoInto, HasLinesOf, has, missing}
 use Rattle.bill.proofs.reach.spread.Given as goal

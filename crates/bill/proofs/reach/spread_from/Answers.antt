@@ -1,4 +1,4 @@
-use Rattle.std.proofs.Common.{◌≡◌, ◌≤◌, ◌<◌, ◌-◌, ℕ, map, length, ◌⊎◌, subst, sym, true, arith}
+use Rattle.std.proofs.Common.{◌≡◌, ◌<◌, ℕ, map, length, ◌⊎◌, subst, true, arith}
 use Rattle.std.proofs.lemmas.List.{length-map}
 use Rattle.bill.specs.Lines.{Names, line_at}
 use Rattle.bill.specs.Sets.{has}

@@ -1,4 +1,4 @@
-use Rattle.std.proofs.Common.{◌≡◌, ◌≤◌, ◌<◌, ◌+◌, ℕ, length, map, arith}
+use Rattle.std.proofs.Common.{◌≤◌, ℕ, length, arith}
 use Rattle.lot_sizing.specs.Problem.{entry}
 use Rattle.bill.specs.Lines.{bill_of_lines}
 use Rattle.bill.proofs.Rows.{rows_of}

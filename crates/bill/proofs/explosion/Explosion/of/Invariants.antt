@@ -1,4 +1,4 @@
-use Rattle.std.proofs.Common.{◌≡◌, ◌≤◌, ◌<◌, ℕ, length, map}
+use Rattle.std.proofs.Common.{length, map}
 use Rattle.lot_sizing.specs.Problem.{entry}
 use Rattle.bill.specs.Lines.{bill_of_lines}
 use Rattle.bill.specs.Over.{AreSettled, AreTables, IsProgress, OfAll}

@@ -1,4 +1,4 @@
-use Rattle.std.proofs.Common.{◌≡◌, ◌≤◌, ◌<◌, ◌∙◌, sym, arith}
+use Rattle.std.proofs.Common.{arith}
 use Rattle.bill.proofs.ranking.Reach.first_on_cycle.Goals as goal
 
 pub returns-then-goes_into : goal.returns-then-goes_into

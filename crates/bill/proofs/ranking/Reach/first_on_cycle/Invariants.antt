@@ -1,4 +1,4 @@
-use Rattle.std.proofs.Common.{◌≡◌, ◌≤◌, ◌<◌, ℕ, length, false}
+use Rattle.std.proofs.Common.{◌≡◌, ◌≤◌, ◌<◌, ℕ, false}
 use Rattle.bill.specs.Sets.{has, set_of}
 use Rattle.bill.proofs.ranking.Reach.first_on_cycle.Given as goal
 

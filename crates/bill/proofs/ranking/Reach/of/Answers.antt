@@ -1,4 +1,4 @@
-use Rattle.std.proofs.Common.{◌≡◌, ◌≤◌, ◌<◌, ◌+◌, ◌∙◌, ⊎_elim, length, map, ap, subst, sym, arith}
+use Rattle.std.proofs.Common.{◌≡◌, ⊎_elim, length, map, ap, subst, sym, arith}
 use Rattle.std.proofs.lemmas.List.{length_push}
 use Rattle.std.proofs.lemmas.Bool.{cases_lt}
 use Rattle.bill.specs.Lines.{bill_of_lines}

@@ -1,4 +1,4 @@
-use Rattle.std.proofs.Common.{◌≡◌, ◌≤◌, ◌<◌, ◌∙◌, sym, arith}
+use Rattle.std.proofs.Common.{arith}
 use Rattle.bill.specs.Sets.{set_of}
 use Rattle.bill.proofs.Paths.{fewer_others}
 use Rattle.bill.proofs.ranking.Reach.ranks.Goals as goal
