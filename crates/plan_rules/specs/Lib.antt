@@ -1,2 +1,5 @@
 pub mod Cells
 pub mod Held
+pub mod Order
+pub mod Broken
+pub mod Rows

@@ -1,13 +1,22 @@
-//! Plans as the program holds them: a grid each of quantities, setups, stocks and backlogs.
+//! Plans as the program holds them, and their rules.
 //!
-//! A `Grid` has one number for each item and period. A `Plan` has four of them. Contracts see a
-//! grid as its numbers by item and period, and a plan as the plan of the definitions.
+//! A `Grid` has one number for each item and period. A `Plan` has four of them: quantities, setups,
+//! stocks and backlogs. `judge` answers what a feasible plan costs, or the first rule that a plan breaks
+//! and where. `complete` gives the stocks and backlogs that go best with quantities and setups. Contracts
+//! see a grid as its numbers by item and period, and a plan as the plan of the definitions.
 #![tactic(auto)]
 
+mod broken;
+mod completing;
 mod grid;
+mod judging;
 mod plan;
+mod sums;
 
+pub use broken::Broken;
+pub use completing::complete;
 pub use grid::Grid;
+pub use judging::judge;
 pub use plan::Plan;
 
 #[cfg(test)]
