@@ -1,8 +1,8 @@
 -- Plans with given quantities and setups.
-use Rattle.std.proofs.Common.{◌≡◌, ◌≤◌, ◌<◌, ⊎_elim, refl, sym, arith}
+use Rattle.std.proofs.Common.{⊎_elim, refl, sym, arith}
 use Rattle.lot_sizing.specs.Problem.{Problem, IsWithinLimits}
 use Rattle.lot_sizing.specs.Plan.{Plan, Table, EachCell, IsFeasible}
-use Rattle.lot_sizing.specs.Least.{HasChoice, least_plan}
+use Rattle.lot_sizing.specs.Least.{least_plan}
 use Rattle.lot_sizing.proofs.Least.{least_of, least_costs, least_feasible}
 use Rattle.lot_sizing.proofs.Bounds.{HasNoNeeds, least_small}
 use Rattle.lot_sizing.proofs.Same.{SamePlan, feasible_same, cost_same}

@@ -3,3 +3,4 @@ pub mod Held
 pub mod Order
 pub mod Broken
 pub mod Rows
+pub mod Texts

@@ -66,7 +66,10 @@ fn fill(instance: &Instance, make: &Grid, stock: &mut Grid, backlog: &mut Grid) 
     true
 }
 
-/// The feasible plan with these quantities and setups and the least stocks and backlogs, if there is a feasible one.
+/// The feasible plan with these quantities and setups and the least stocks and backlogs. No feasible plan
+/// with them has less stock or backlog, or costs less. None exactly where no feasible plan has them.
+///
+/// On None, and where memory runs out, the two grids are dropped. It takes time as `judge` does.
 pub fn complete(
     alloc: Global,
     instance: &Instance,

@@ -131,7 +131,11 @@ fn judge_backlog(instance: &Instance, plan: &Plan) -> Result<(), (u32, u32)>
     Ok(())
 }
 
-/// The cost of a feasible plan, or the first rule that is broken.
+/// The cost of a feasible plan, or the first rule that is broken: of several, the one that `Broken` names
+/// first, and there the first by item or resource, then by period.
+///
+/// It answers for every number in the grids, and takes no memory. It takes time in the number of periods
+/// times that of items times that of the bill's lines.
 pub fn judge(instance: &Instance, plan: &Plan) -> Result<u128, Broken>
     ensures feasible { OnOk result (AllFit instance.now plan.now × IsFeasible instance.now (plan_of plan.now)) }
     ensures cost { IfOk result (λ amount. amount ≡ cost instance.now (plan_of plan.now)) }

@@ -1,8 +1,6 @@
-use Rattle.std.proofs.Common.{◌≡◌, ◌≢◌, ◌≤◌, ◌<◌, ◌+◌, ◌-◌, ◌*◌, ◌^◌, ◌∙◌, ℕ, ⊎_elim, inl, inr, ap, sym, subst, arith}
+use Rattle.std.proofs.Common.{◌≡◌, ◌+◌, ◌-◌, ◌∙◌, ⊎_elim, inl, inr, ap, sym, subst, arith}
 use Rattle.std.proofs.lemmas.Bool.{cases_eq}
-use Rattle.lot_sizing.specs.Problem.{demand}
-use Rattle.lot_sizing.specs.Plan.{used_up}
-use Rattle.lot_sizing.specs.Least.{supply, outflow, least_stock, least_backlog}
+use Rattle.lot_sizing.specs.Least.{supply, outflow}
 use Rattle.lot_sizing.proofs.Least.{supply_more, outflow_more}
 use Rattle.plan_rules.specs.Cells.{table_of}
 use Rattle.plan_rules.specs.Rows.{HasLeast}
