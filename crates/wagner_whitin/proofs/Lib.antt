@@ -1,3 +1,4 @@
 pub mod Sums
 pub mod Steps
 pub mod Tabled
+pub mod Summing

@@ -7,8 +7,9 @@ use Rattle.lot_sizing.specs.declared.Block.{Block}
 use Rattle.lot_sizing.specs.Laws.{BlocksServe, LastPotentialIsFloor}
 use Rattle.lot_sizing.specs.Single.{Single, IsWithinBounds, IsServer, ArePotentials, Cover, IsLeastNetCost, blocks_plan, blocks_cost, period_count, position_count, positions, period_of, block_cost, potential}
 use Rattle.lot_sizing.proofs.Blocks.{periods_rise}
+use Rattle.wagner_whitin.specs.declared.plain.Candidate.{Candidate}
 use Rattle.wagner_whitin.specs.declared.runs.Run.{Run}
-use Rattle.wagner_whitin.specs.Tables.{IsRun, AreRuns, no_run, IsTable, IsLastBlock, most_for_one, last_block, no_block, run_of}
+use Rattle.wagner_whitin.specs.Tables.{IsCheapestLast, IsRun, AreRuns, no_run, IsTable, IsLastBlock, most_for_one, last_block, no_block, run_of}
 use Rattle.wagner_whitin.proofs.Sums.{IsRead, read_is}
 use Rattle.wagner_whitin.proofs.Steps.{period_in}
 
@@ -139,4 +140,39 @@ least_is s g blocks cost pots cover costs last floor serve =
     record {
       some = (blocks_plan s blocks, served.0, omega (arith, served.1, costs, last, floor s g pots (blocks_plan s blocks) served.0));
       least = λ p plan. omega (arith, last, floor s g pots p plan);
+    }
+
+-- a cheapest last block makes the next potential
+pub table_by_last : (s : Single) (p : ℕ) (g : List ℕ) (lasts : List Block) (c : Candidate) → IsTable s p g lasts → IsCheapestLast s g (p + 1) c → IsTable s (p + 1) (g ++ c.cost ∷ []) (lasts ++ c.block ∷ [])
+table_by_last s p g lasts c table best =
+    let x = c.cost in
+    let e : suc (length g) ≡ p + 1 = omega (arith, table.size) in
+    let new : potential (g ++ x ∷ []) (p + 1) ≡ x = ap (potential (g ++ x ∷ [])) (sym e) ∙ potential_new g x in
+    record {
+      size = omega (arith, length_push g x, table.size);
+      blocks = omega (arith, length_push lasts c.block, table.blocks);
+      floor = λ b is_block b_last. ⊎_elim
+          (λ before. omega (arith, table.floor b is_block (omega (arith, before)), potential_kept g x b.last (omega (arith, before, table.size)), potential_kept g x (b.first - 1) (omega (arith, is_block.order, before, table.size))))
+          (λ no.
+          let last : b.last ≡ p + 1 = omega (arith, no, b_last) in
+          omega (arith, ap (potential (g ++ x ∷ [])) last, new, best.least b is_block last, potential_kept g x (b.first - 1) (omega (arith, is_block.order, last, table.size))))
+          (cases_lt b.last (p + 1));
+      last = λ k k_low k_high. ⊎_elim
+          (λ before.
+          let old = table.last k k_low (omega (arith, before)) in
+          let here : last_block (lasts ++ c.block ∷ []) k ≡ last_block lasts k = get_or_append_left lasts (c.block ∷ []) no_block (k - 1) (omega (arith, before, k_low, table.blocks)) in
+          subst (IsLastBlock s (g ++ x ∷ []) k) (sym here) (record { block = old.block; ends = old.ends; cost = omega (arith, old.cost, potential_kept g x k (omega (arith, before, table.size)), potential_kept g x ((last_block lasts k).first - 1) (omega (arith, old.block.order, old.ends, before, table.size))) }))
+          (λ no.
+          let i : k ≡ p + 1 = omega (arith, no, k_high) in
+          let here : last_block (lasts ++ c.block ∷ []) k ≡ c.block = get_or_push lasts c.block no_block (k - 1) (omega (arith, i, table.blocks)) in
+          subst (IsLastBlock s (g ++ x ∷ []) k) (sym here) (record {
+            block = best.block;
+            ends = best.ends ∙ sym i;
+            cost = omega (arith, ap (potential (g ++ x ∷ [])) i, new, best.cost, potential_kept g x (c.block.first - 1) (omega (arith, best.block.order, best.ends, table.size)));
+          }))
+          (cases_lt k (p + 1));
+      small = λ k k_high. ⊎_elim
+          (λ before. omega (arith, potential_kept g x k (omega (arith, before, table.size)), table.small k (omega (arith, before))))
+          (λ no. let i : k ≡ p + 1 = omega (arith, no, k_high) in omega (arith, ap (potential (g ++ x ∷ [])) i, new, best.small, ap (λ j. j * most_for_one) i))
+          (cases_lt k (p + 1));
     }

@@ -5,6 +5,7 @@ use Rattle.lot_sizing.specs.Problem.{entry}
 use Rattle.lot_sizing.specs.declared.Block.{Block}
 use Rattle.lot_sizing.specs.Single.{Single, IsServer, IsBlock, period_count, period_of, block_cost, potential}
 use Rattle.wagner_whitin.specs.declared.prices.Prices.{Prices}
+use Rattle.wagner_whitin.specs.declared.plain.Candidate.{Candidate}
 use Rattle.wagner_whitin.specs.declared.runs.Run.{Run}
 
 -- the sums of the first numbers, that of none first
@@ -70,3 +71,20 @@ pub record IsTable (s : Single) (p : ℕ) (g : List ℕ) (lasts : List Block) : 
   pub floor : (b : Block) → IsBlock s b → b.last ≤ p → potential g b.last ≤ potential g (b.first - 1) + block_cost s b
   pub last : (k : ℕ) → 1 ≤ k → k ≤ p → IsLastBlock s g k (last_block lasts k)
   pub small : (k : ℕ) → k ≤ p → potential g k ≤ k * most_for_one
+
+-- a cheapest block of these positions, and what it costs after what was spent before
+pub record IsCandidate (s : Single) (before first last : ℕ) (c : Candidate) : Type 0 where
+  pub block : IsBlock s c.block
+  pub begins : c.block.first ≡ first
+  pub ends : c.block.last ≡ last
+  pub cost : c.cost ≡ before + block_cost s c.block
+  pub least : (u : ℕ) → IsServer s u (period_of s first) → c.cost ≤ before + block_cost s (record { first = first; last = last; server = u })
+  pub small : c.cost ≤ before + (last + 1 - first) * most_for_one
+
+-- a cheapest block that ends with position p, and what all up to it costs
+pub record IsCheapestLast (s : Single) (g : List ℕ) (p : ℕ) (c : Candidate) : Type 0 where
+  pub block : IsBlock s c.block
+  pub ends : c.block.last ≡ p
+  pub cost : c.cost ≡ potential g (c.block.first - 1) + block_cost s c.block
+  pub least : (b : Block) → IsBlock s b → b.last ≡ p → c.cost ≤ potential g (b.first - 1) + block_cost s b
+  pub small : c.cost ≤ p * most_for_one

@@ -25,8 +25,8 @@ pub fn last_potential(potentials: &[u128]) -> u128
     }
 }
 
-// What it costs that a server serves a period, its setup aside.
-fn serving_cost(single: &SingleItem, prices: &Prices, server: u32, period: u32) -> u128
+/// What it costs that a server serves a period, its setup aside.
+pub fn serving_cost(single: &SingleItem, prices: &Prices, server: u32, period: u32) -> u128
     requires within { IsWithinBounds (single_of_item single.now) }
     requires prices { ArePrices (single_of_item single.now) prices.now }
     requires low { 1 ≤ period }

@@ -1,4 +1,4 @@
-use crate::{Block, Blocks, SingleItem, solve, solve_over_servers};
+use crate::{Block, Blocks, SingleItem, plain_least_cost, solve, solve_over_servers};
 use echelon::is_within_bounds;
 use std::alloc::{AllocError, Global};
 use std::test::Fail;
@@ -32,6 +32,14 @@ fn blocks_of(alloc: Global, single: &SingleItem) -> Result<Blocks, Fail> {
         Some(_) => Ok(solve_over_servers(alloc, single)?),
         None => Ok(solve(alloc, single)?),
     }
+}
+
+// What the plain form finds for an item within bounds.
+fn plain_of(alloc: Global, single: &SingleItem) -> Result<u128, Fail> {
+    if !is_within_bounds(single) {
+        return Err("not within bounds".into());
+    }
+    Ok(plain_least_cost(alloc, single)?)
 }
 
 fn at(list: &[u64], period: usize) -> u64 {
@@ -214,10 +222,12 @@ fn all_ways_to_place_setups(rt: HostRuntime) -> Result<(), Fail> {
                     let single = item(alloc, net, setup, unit, hold, None)?;
                     let found = blocks_of(alloc, &single)?;
                     assert_eq!(rt; Some(found.cost), least_of_all_setups(&single));
+                    assert_eq!(rt; plain_of(alloc, &single)?, found.cost);
                     for back in &backs {
                         let late = item(alloc, net, setup, unit, hold, Some(back))?;
                         let found = blocks_of(alloc, &late)?;
                         assert_eq!(rt; Some(found.cost), least_of_all_setups(&late));
+                        assert_eq!(rt; plain_of(alloc, &late)?, found.cost);
                     }
                 }
             }
