@@ -1,5 +1,7 @@
-//! Items by themselves.
+//! Items by themselves, and with what they go into.
 //!
+//! An `EchelonItem` is what is asked of an item and of all items that it goes into; `net_of` gives what
+//! remains to be made for it in each period once its opening stock is used up, and what is left of that.
 //! A `SingleItem` is what remains to be made of one item in each period once its opening stock is
 //! used up, with its costs. A recursion answers `Blocks`: a least cost, which period serves which
 //! positions, and the potentials that show that no plan costs less. The definitions of `lot_sizing`
@@ -7,9 +9,11 @@
 //! `SingleItem` in their words.
 #![tactic(auto)]
 
+mod net;
 mod single;
 
 pub use lot_sizing::Block;
+pub use net::{EchelonItem, Net, is_within_limits, net_of};
 pub use single::{Blocks, SingleItem, is_within_bounds};
 
 #[cfg(test)]

@@ -1,0 +1,106 @@
+// An echelon, and what remains to be made for it.
+ghost use Rattle.std.specs.Prelude.{◌≡◌, ◌≤◌, ◌+◌, ◌^◌, ◌↔◌, length, IfOk, IsTrue};
+ghost use Rattle.lot_sizing.specs.Sums.{sum_to};
+ghost use Rattle.lot_sizing.specs.Problem.{entry};
+ghost use Rattle.lot_sizing.specs.Net.{left_after, net_in};
+ghost use Rattle.echelon.specs.Views.{HasEach, IsWithinLimits, asked_of_echelon, end_in};
+
+use std::alloc::{AllocError, Global};
+
+/// What is asked of an item and of all items that it goes into, in units of the item.
+#[derive(Debug, Drop)]
+pub struct EchelonItem {
+    /// The item's number.
+    pub item: u32,
+    /// Demand, an entry for each period.
+    pub demand: Vec<u128>,
+    /// Stock before the first period.
+    pub opening: u128,
+    /// The stock that is required at the end of the last period.
+    pub end_min: u128,
+    /// For each item the units of this one in one unit of it, over all paths of the bill.
+    pub weights: Vec<u64>,
+    /// For each item whether it has a backlog cost.
+    pub backs: Vec<bool>,
+    /// Whether an item that this one goes into, or this one, has a backlog cost.
+    pub backlogged: bool,
+}
+
+/// What remains to be made for an echelon once its opening stock is used up.
+#[derive(Debug, Drop)]
+pub struct Net {
+    /// The net demand of each period: the opening stock serves first, and the required end stock is asked
+    /// for in the last period.
+    pub net: Vec<u128>,
+    /// What is left of the opening stock at the end of each period, with the required end stock in the last
+    /// one.
+    pub left: Vec<u128>,
+}
+
+// The most that may be asked of an echelon and stand in it at first.
+const MOST: u128 = 10_000_000_000_000_000_000_000_000;
+
+// Whether all demands, the opening stock and the required end stock add to at most the most.
+fn is_small_in_all(echelon: &EchelonItem) -> bool
+    ensures { IsTrue result ↔ (sum_to (length echelon.now.demand.items) (entry echelon.now.demand.items) + echelon.now.opening + echelon.now.end_min ≤ 10 ^ 25) }
+{
+    if echelon.opening > MOST || echelon.end_min > MOST - echelon.opening {
+        return false;
+    }
+    let mut sum = echelon.opening + echelon.end_min;
+    for period in 0..echelon.demand.len() {
+        let demand = echelon.demand[period];
+        if demand > MOST - sum {
+            return false;
+        }
+        sum += demand;
+    }
+    true
+}
+
+/// Whether an echelon is within the limits that `net_of` asks for: at most 120 periods, weights of at most
+/// 10^12, a weight and a backlog mark for each item, and demands, opening stock and required end stock that
+/// add to at most 10^25.
+pub fn is_within_limits(echelon: &EchelonItem) -> bool
+    ensures { IsTrue result ↔ IsWithinLimits echelon.now }
+{
+    let weights: &[u64] = &echelon.weights;
+    echelon.demand.len() <= 120
+        && echelon.backs.len() == weights.len()
+        && weights.iter().all(|weight| *weight <= 1_000_000_000_000)
+        && is_small_in_all(echelon)
+}
+
+// The required end stock in the last period, and 0 before.
+fn end_at(echelon: &EchelonItem, period: usize) -> u128
+    ensures { result ≡ end_in (asked_of_echelon echelon.now) period }
+{
+    if period == echelon.demand.len() {
+        echelon.end_min
+    } else {
+        0
+    }
+}
+
+/// The net demands of an echelon, and what is left of its opening stock. The error is want of memory.
+pub fn net_of(alloc: Global, echelon: &EchelonItem) -> Result<Net, AllocError>
+    requires within { IsWithinLimits echelon.now }
+    ensures net { IfOk result (λ found. HasEach (length echelon.now.demand.items) (net_in (asked_of_echelon echelon.now)) found.net.items) }
+    ensures left { IfOk result (λ found. HasEach (length echelon.now.demand.items) (left_after (asked_of_echelon echelon.now)) found.left.items) }
+{
+    let periods = echelon.demand.len();
+    let mut net = Vec::with_capacity(alloc, periods)?;
+    let mut left = Vec::with_capacity(alloc, periods)?;
+    let mut demand = 0u128;
+    let mut made = 0u128;
+    for period in 1..periods + 1 {
+        demand += echelon.demand[period - 1];
+        let end = end_at(echelon, period);
+        let asked = demand + end;
+        let needed = asked.saturating_sub(echelon.opening);
+        net.push(needed - made)?;
+        left.push(echelon.opening.saturating_sub(asked) + end)?;
+        made = needed;
+    }
+    Ok(Net { net, left })
+}
