@@ -60,29 +60,36 @@ fn price(single: &SingleItem, made: usize, needed: usize) -> u64 {
     price
 }
 
+// Whether a mask sets a period up.
+fn is_set(mask: u64, period: usize) -> bool {
+    (mask >> (period % 64) as u32) & 1 == 1
+}
+
+// The price of a unit for a period from its cheapest setup, if it has one.
+fn cheapest_price(single: &SingleItem, mask: u64, needed: usize) -> Option<u64> {
+    let mut best: Option<u64> = None;
+    for made in 0..single.net.len() {
+        if is_set(mask, made) && (single.back.is_some() || made <= needed) {
+            let now = price(single, made, needed);
+            best = Some(best.unwrap_or(now).min(now));
+        }
+    }
+    best
+}
+
 // The least cost with the setups of a mask, where each net demand is served by its cheapest setup.
 fn cost_of_setups(single: &SingleItem, mask: u64) -> Option<u128> {
     let mut cost = 0u128;
     for period in 0..single.net.len() {
-        if (mask >> (period % 64) as u32) & 1 == 1 {
+        if is_set(mask, period) {
             cost = cost.wrapping_add(at(&single.setup, period) as u128);
         }
     }
     for needed in 0..single.net.len() {
         let net = single.net.get(needed).copied().unwrap_or(0);
         if net > 0 {
-            let mut best: Option<u64> = None;
-            for made in 0..single.net.len() {
-                let may = single.back.is_some() || made <= needed;
-                if may && (mask >> (made % 64) as u32) & 1 == 1 {
-                    let now = price(single, made, needed);
-                    best = Some(match best {
-                        Some(least) => least.min(now),
-                        None => now,
-                    });
-                }
-            }
-            cost = cost.wrapping_add(net.wrapping_mul(best? as u128));
+            let price = cheapest_price(single, mask, needed)?;
+            cost = cost.wrapping_add(net.wrapping_mul(price as u128));
         }
     }
     Some(cost)
@@ -93,10 +100,7 @@ fn least_of_all_setups(single: &SingleItem) -> Option<u128> {
     let mut best: Option<u128> = None;
     for mask in 0..1u64 << (single.net.len() % 16) as u32 {
         if let Some(cost) = cost_of_setups(single, mask) {
-            best = Some(match best {
-                Some(least) => least.min(cost),
-                None => cost,
-            });
+            best = Some(best.unwrap_or(cost).min(cost));
         }
     }
     best
@@ -193,6 +197,51 @@ fn numbers_at_their_limits(rt: HostRuntime) -> Result<(), Fail> {
     Ok(())
 }
 
+// Compares the recursion with its plain form and with all ways to place setups, for one item.
+fn compare(alloc: Global, single: &SingleItem) -> Result<(), Fail> {
+    let cost = blocks_of(alloc, single)?.cost;
+    if Some(cost) != least_of_all_setups(single) {
+        return Err("another cost than that of all ways to place setups".into());
+    }
+    if plain_of(alloc, single)? != cost {
+        return Err("another cost than that of the plain form".into());
+    }
+    Ok(())
+}
+
+// Compares for each choice of unit and holding costs, without backlog and with each choice of its costs.
+fn compare_costs(
+    alloc: Global,
+    net: &[u128],
+    setup: &[u64],
+    units: &[[u64; 5]],
+    holds: &[[u64; 5]],
+    backs: &[[u64; 5]],
+) -> Result<(), Fail> {
+    for unit in units {
+        for hold in holds {
+            compare(alloc, &item(alloc, net, setup, unit, hold, None)?)?;
+            compare_backs(alloc, net, setup, unit, hold, backs)?;
+        }
+    }
+    Ok(())
+}
+
+// Compares with each choice of backlog costs.
+fn compare_backs(
+    alloc: Global,
+    net: &[u128],
+    setup: &[u64],
+    unit: &[u64],
+    hold: &[u64],
+    backs: &[[u64; 5]],
+) -> Result<(), Fail> {
+    for back in backs {
+        compare(alloc, &item(alloc, net, setup, unit, hold, Some(back))?)?;
+    }
+    Ok(())
+}
+
 #[test]
 fn all_ways_to_place_setups(rt: HostRuntime) -> Result<(), Fail> {
     let alloc = rt.alloc();
@@ -217,20 +266,7 @@ fn all_ways_to_place_setups(rt: HostRuntime) -> Result<(), Fail> {
     let backs = [[2u64, 2, 2, 2, 2], [0, 0, 0, 0, 0], [1, 4, 1, 5, 9]];
     for net in &nets {
         for setup in &setups {
-            for unit in &units {
-                for hold in &holds {
-                    let single = item(alloc, net, setup, unit, hold, None)?;
-                    let found = blocks_of(alloc, &single)?;
-                    assert_eq!(rt; Some(found.cost), least_of_all_setups(&single));
-                    assert_eq!(rt; plain_of(alloc, &single)?, found.cost);
-                    for back in &backs {
-                        let late = item(alloc, net, setup, unit, hold, Some(back))?;
-                        let found = blocks_of(alloc, &late)?;
-                        assert_eq!(rt; Some(found.cost), least_of_all_setups(&late));
-                        assert_eq!(rt; plain_of(alloc, &late)?, found.cost);
-                    }
-                }
-            }
+            compare_costs(alloc, net, setup, &units, &holds, &backs)?;
         }
     }
     Ok(())
