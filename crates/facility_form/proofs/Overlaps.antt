@@ -1,7 +1,7 @@
 -- The overlaps add to what is asked for, and to no more than what is made.
 use Rattle.std.proofs.Common.{◌≡◌, ◌≤◌, ◌+◌, ◌-◌, ℕ, zero, suc, ap, arith, min, max}
 use Rattle.lot_sizing.specs.Sums.{sum_to}
-use Rattle.lot_sizing.proofs.Sums.{sum_to-front}
+use Rattle.lot_sizing.proofs.Sums.{sum_to-front, sum_to_at}
 use Rattle.facility_form.specs.Overlap.{Serves, overlap}
 
 -- the overlap of two stretches, by where both end and where both begin
@@ -24,12 +24,8 @@ made_by make net u (suc n) =
     let before : sum_to (u - 1) make ≤ sum_to u make = sum_to-front (u - 1) u make (omega arith) in
     omega (arith, made_by make net u n, cross (sum_to (u - 1) make) (sum_to u make) (sum_to n net) (sum_to (suc n) net) before (omega arith), ap (λ k. sum_to k net) e)
 
-at : (n : ℕ) (f : ℕ → ℕ) → 1 ≤ n → sum_to n f ≡ sum_to (n - 1) f + f n
-at zero f h = absurd (omega (arith, h))
-at (suc n) f h = let e : suc n - 1 ≡ n = omega arith in omega (arith, ap (λ k. sum_to k f) e)
-
 pub serves : (periods : ℕ) (make net : ℕ → ℕ) → sum_to periods net ≤ sum_to periods make → Serves periods make net
 serves periods make net enough = record {
-  asked = λ s low high. omega (arith, made_for make net s periods, sum_to-front s periods net high, sum_to-front (s - 1) periods net (omega (arith, high)), enough, at s net low);
-  made = λ u low high. omega (arith, made_by make net u periods, at u make low);
+  asked = λ s low high. omega (arith, made_for make net s periods, sum_to-front s periods net high, sum_to-front (s - 1) periods net (omega (arith, high)), enough, sum_to_at s net low);
+  made = λ u low high. omega (arith, made_by make net u periods, sum_to_at u make low);
 }
