@@ -1,8 +1,8 @@
 -- Lists with a number for each period.
-use Rattle.std.proofs.Common.{◌≡◌, ◌≤◌, ◌+◌, ◌-◌, ◌∙◌, ⊎_elim, ℕ, suc, sym, ap, arith, List, [], ◌∷◌, ◌++◌, length, slice_index_or}
+use Rattle.std.proofs.Common.{◌≡◌, ◌≤◌, ◌+◌, ◌-◌, ◌∙◌, ⊎_elim, ℕ, suc, sym, ap, arith, List, [], ◌∷◌, ◌++◌, length, slice_index_or, take}
 use Rattle.std.proofs.lemmas.Bool.{cases_lt}
 use Rattle.std.proofs.lemmas.Grind.{get_or_default_zero}
-use Rattle.std.proofs.lemmas.List.{length_push, get_or_push, get_or_append_left}
+use Rattle.std.proofs.lemmas.List.{length_push, get_or_push, get_or_append_left, take_more}
 use Rattle.lot_sizing.specs.Sums.{sum_to}
 use Rattle.lot_sizing.specs.Problem.{entry}
 use Rattle.lot_sizing.specs.Net.{Asked, asked_to, needed_to}
@@ -32,3 +32,9 @@ asked_now a demands t demand read end asked needed same low high so_far is_read 
 
 pub end_small : (a : Asked) (t : ℕ) → end_in a t ≤ a.end_min
 end_small a t = grind arith
+
+-- the first entries of a list, one after the other
+pub take_next : (all xs : List ℕ) (t x : ℕ) → 1 ≤ t → t ≤ length all → xs ≡ take (t - 1) all → x ≡ entry all t → xs ++ x ∷ [] ≡ take (t + 1 - 1) all
+take_next all xs t x low high so_far is =
+    let next : t + 1 - 1 ≡ t - 1 + 1 = omega arith in
+    ap (λ ys. ys ++ x ∷ []) so_far ∙ ap (λ y. take (t - 1) all ++ y ∷ []) is ∙ sym (take_more all (t - 1) 0 (omega (arith, low, high))) ∙ ap (λ k. take k all) (sym next)

@@ -6,12 +6,14 @@
 //! used up, with its costs. A recursion answers `Blocks`: a least cost, which period serves which
 //! positions, and the potentials that show that no plan costs less. The definitions of `lot_sizing`
 //! say what a net plan is, what it costs and when potentials prove a floor; `single_of_item` reads a
-//! `SingleItem` in their words.
+//! `SingleItem` in their words. `single_of` makes one of an item of an instance.
 #![tactic(auto)]
 
+mod alone;
 mod net;
 mod single;
 
+pub use alone::single_of;
 pub use lot_sizing::Block;
 pub use net::{EchelonItem, Net, is_within_limits, net_of};
 pub use single::{Blocks, SingleItem, is_within_bounds};

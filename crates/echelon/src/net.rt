@@ -1,9 +1,9 @@
 // An echelon, and what remains to be made for it.
-ghost use Rattle.std.specs.Prelude.{◌≡◌, ◌≤◌, ◌+◌, ◌^◌, ◌↔◌, length, IfOk, IsTrue};
+ghost use Rattle.std.specs.Prelude.{◌≡◌, ◌≤◌, ◌+◌, ◌^◌, ◌↔◌, ◌==◌, if◌then◌else◌, length, IfOk, IsTrue};
 ghost use Rattle.lot_sizing.specs.Sums.{sum_to};
 ghost use Rattle.lot_sizing.specs.Problem.{entry};
 ghost use Rattle.lot_sizing.specs.Net.{left_after, net_in};
-ghost use Rattle.echelon.specs.Views.{HasEach, IsWithinLimits, asked_of_echelon, end_in};
+ghost use Rattle.echelon.specs.Views.{HasEach, IsWithinLimits, asked_in, asked_of_echelon};
 
 use std::alloc::{AllocError, Global};
 
@@ -72,14 +72,39 @@ pub fn is_within_limits(echelon: &EchelonItem) -> bool
 }
 
 // The required end stock in the last period, and 0 before.
-fn end_at(echelon: &EchelonItem, period: usize) -> u128
-    ensures { result ≡ end_in (asked_of_echelon echelon.now) period }
+fn end_at(periods: usize, end_min: u128, period: usize) -> u128
+    ensures { result ≡ (if period == periods then end_min else 0) }
 {
-    if period == echelon.demand.len() {
-        echelon.end_min
-    } else {
-        0
+    if period == periods { end_min } else { 0 }
+}
+
+// The net demands for demands by period, an opening stock and a required end stock, and what is left of
+// the opening stock.
+pub(crate) fn net_of_demand(
+    alloc: Global,
+    demands: &[u128],
+    opening: u128,
+    end_min: u128,
+) -> Result<Net, AllocError>
+    requires { sum_to (length demands.now) (entry demands.now) + opening + end_min ≤ 10 ^ 25 }
+    ensures net { IfOk result (λ found. HasEach (length demands.now) (net_in (asked_in demands.now opening end_min)) found.net.items) }
+    ensures left { IfOk result (λ found. HasEach (length demands.now) (left_after (asked_in demands.now opening end_min)) found.left.items) }
+{
+    let periods = demands.len();
+    let mut net = Vec::with_capacity(alloc, periods)?;
+    let mut left = Vec::with_capacity(alloc, periods)?;
+    let mut demand = 0u128;
+    let mut made = 0u128;
+    for period in 1..periods + 1 {
+        demand += demands[period - 1];
+        let end = end_at(periods, end_min, period);
+        let asked = demand + end;
+        let needed = asked.saturating_sub(opening);
+        net.push(needed - made)?;
+        left.push(opening.saturating_sub(asked) + end)?;
+        made = needed;
     }
+    Ok(Net { net, left })
 }
 
 /// The net demands of an echelon, and what is left of its opening stock. The error is want of memory.
@@ -88,19 +113,5 @@ pub fn net_of(alloc: Global, echelon: &EchelonItem) -> Result<Net, AllocError>
     ensures net { IfOk result (λ found. HasEach (length echelon.now.demand.items) (net_in (asked_of_echelon echelon.now)) found.net.items) }
     ensures left { IfOk result (λ found. HasEach (length echelon.now.demand.items) (left_after (asked_of_echelon echelon.now)) found.left.items) }
 {
-    let periods = echelon.demand.len();
-    let mut net = Vec::with_capacity(alloc, periods)?;
-    let mut left = Vec::with_capacity(alloc, periods)?;
-    let mut demand = 0u128;
-    let mut made = 0u128;
-    for period in 1..periods + 1 {
-        demand += echelon.demand[period - 1];
-        let end = end_at(echelon, period);
-        let asked = demand + end;
-        let needed = asked.saturating_sub(echelon.opening);
-        net.push(needed - made)?;
-        left.push(echelon.opening.saturating_sub(asked) + end)?;
-        made = needed;
-    }
-    Ok(Net { net, left })
+    net_of_demand(alloc, &echelon.demand, echelon.opening, echelon.end_min)
 }

@@ -1,4 +1,5 @@
-use crate::{EchelonItem, SingleItem, is_within_bounds, is_within_limits, net_of};
+use crate::{EchelonItem, SingleItem, is_within_bounds, is_within_limits, net_of, single_of};
+use lot_model::{Draft, DraftItem, Instance};
 use std::alloc::{AllocError, Global};
 use std::test::Fail;
 
@@ -87,5 +88,42 @@ fn limits_of_echelons(rt: HostRuntime) -> Result<(), Fail> {
             "{demand} {opening} {end_min}"
         );
     }
+    Ok(())
+}
+
+// Demand 10 and 11, an opening stock of 3 and a required end stock of 4.
+fn draft_item(alloc: Global) -> Result<DraftItem, AllocError> {
+    Ok(DraftItem {
+        name: String::from_str(alloc, "A")?,
+        demand: vec![in alloc; 10i64, 11i64]?,
+        unit_cost: vec![in alloc; 1i64, 2i64]?,
+        setup_cost: vec![in alloc; 5i64, 6i64]?,
+        hold_cost: vec![in alloc; 7i64, 8i64]?,
+        backlog_cost: Some(vec![in alloc; 9i64, 9i64]?),
+        opening: 3,
+        end_min: 4,
+        end_max: None,
+        needs: Vec::new(alloc),
+        uses: Vec::new(alloc),
+    })
+}
+
+#[test]
+fn an_item_of_an_instance_is_taken_by_itself(rt: HostRuntime) -> Result<(), Fail> {
+    let alloc = rt.alloc();
+    let draft = Draft {
+        periods: 2,
+        resources: Vec::new(alloc),
+        items: vec![in alloc; draft_item(alloc)?]?,
+    };
+    let instance = Instance::from_draft(alloc, draft).ok().ok_or("refused")?;
+    assert_eq!(rt; instance.items(), 1);
+    let single = single_of(alloc, &instance, 1)?;
+    assert!(rt; single.net.as_slice() == [7u128, 15].as_slice());
+    assert!(rt; single.setup.as_slice() == [5u64, 6].as_slice());
+    assert!(rt; single.unit.as_slice() == [1u64, 2].as_slice());
+    assert!(rt; single.hold.as_slice() == [7u64, 8].as_slice());
+    let back = single.back.ok_or("no backlog costs")?;
+    assert!(rt; back.as_slice() == [9u64, 9].as_slice());
     Ok(())
 }

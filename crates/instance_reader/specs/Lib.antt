@@ -1,3 +1,4 @@
 pub mod Document
+pub mod Reading
+pub mod Tables
 pub mod Model
-pub mod Held

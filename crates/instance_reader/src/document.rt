@@ -1,12 +1,12 @@
 // The table of a document, and what stands under its keys.
-ghost use Rattle.std.specs.Prelude.{◌≡◌, map, Some, None, IfOk, IfErr, option_map, option_and_then, option_copied};
-ghost use Rattle.toml.specs.Data.{as_array, as_integer, as_str, as_table, get_member};
-ghost use Rattle.toml.specs.View.{array_view, table_view, view};
-ghost use Rattle.instance_reader.specs.Document.{document_of, has_only, is_among, only_element, whole_or_zero};
+ghost use Rattle.std.specs.Prelude.{◌≡◌, map, Some, None, IfOk, IfErr, option_map};
+ghost use Rattle.toml.specs.View.{table_view, view};
+ghost use Rattle.lot_draft.specs.Refusals.{is_among};
+ghost use Rattle.instance_reader.specs.Document.{document_of, has_only, value_at};
 ghost use Rattle.instance_reader.specs.Model.{not_toml, IsTableRefusal};
 
 use crate::ReadModelFault;
-use lot_model::{ModelCode, ModelFault, Place};
+use lot_model::{Key, ModelCode, ModelFault, Place};
 use std::alloc::Global;
 use toml::{Table, Value};
 
@@ -56,4 +56,11 @@ pub fn has_only(table: &Table, keys: &[&str]) -> bool
         }
     }
     true
+}
+
+/// The value under a key, if the key is there.
+pub fn value_at<'a>(table: &'a Table, key: Key) -> Option<&'a Value>
+    ensures { option_map (λ value. view value.now) result ≡ value_at key (table_view table.entry.now) }
+{
+    table.get(key.name())
 }

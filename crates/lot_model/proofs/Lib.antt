@@ -1,2 +1,1 @@
-pub mod OneItem
-pub mod Uncoupled
+pub mod Bills

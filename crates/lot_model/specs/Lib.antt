@@ -1,3 +1,3 @@
-pub mod Faults
+pub mod Meaning
 pub mod Views
-pub mod Drafts
+pub mod Held

@@ -1,24 +1,28 @@
--- The problem that the fields of an instance stand for, and the form that it has so far.
-use Rattle.std.specs.Prelude.{◌≡◌, [], None}
-use Rattle.lot_sizing.specs.Problem.{Problem, item_at, item_count, IsWithinLimits}
+-- The problem that the fields of an instance stand for, and what holds of it.
+use Rattle.std.specs.Prelude.{◌≡◌, ℕ, ◌≤◌, ◌^◌, length}
+use Rattle.std.specs.List.{sum_by}
+use Rattle.lot_sizing.specs.Problem.{Problem, entry, item_count, IsWithinLimits}
+use Rattle.lot_sizing.specs.Bill.{bill_of}
+use Rattle.lot_sizing.specs.Totals.{AreLargestTotals, IsRanking}
+use Rattle.bill.specs.Over.{IsWithin, OfAll}
+use Rattle.lot_model.specs.Meaning.{asked_of, there_of}
 use Rattle.lot_model.specs.declared.instance.Instance.TheInside.{Inside}
 
 -- the problem
-abbrev pub problem_of : Inside → Problem
-problem_of a = record { periods = a.periods; resources = a.resources.items; items = a.items.items }
+abbrev pub problem_in : Inside → Problem
+problem_in a = record { periods = a.periods; resources = a.resources.items; items = a.items.items }
 
--- one item over one period, with no resource, no stock before or after, no backlog and no components
-pub record IsOneItemOnePeriod (m : Problem) : Type 0 where
-  pub one_period : m.periods ≡ 1
-  pub one_item : item_count m ≡ 1
-  pub no_resource : m.resources ≡ []
-  pub no_opening : (item_at m 1).opening ≡ 0
-  pub no_end_stock : (item_at m 1).end_max ≡ 0
-  pub no_backlog : (item_at m 1).backlog_cost ≡ None
-  pub no_needs : (item_at m 1).needs ≡ []
-  pub no_uses : (item_at m 1).uses ≡ []
-
--- what holds of each instance
-pub record IsBuilt (m : Problem) : Type 0 where
+-- what holds of each instance: it is within the limits, no item goes into itself over any number of lines, and its totals and weights are within the bound
+pub record IsInstance (m : Problem) : Type 0 where
   pub limits : IsWithinLimits m
-  pub form : IsOneItemOnePeriod m
+  pub lines : sum_by (λ i. length i.needs) m.items ≤ 400
+  pub ranked : (rank : ℕ → ℕ) × IsRanking m rank
+  pub totals : (total : ℕ → ℕ) × AreLargestTotals m total × ((i : ℕ) → total i ≤ 10 ^ 12)
+  pub within : OfAll (bill_of m) (asked_of m) (there_of m) (λ total weight. (i : ℕ) → 1 ≤ i → i ≤ item_count m → IsWithin (bill_of m) total weight i)
+
+-- and its largest totals are kept
+pub record IsKept (a : Inside) : Type 0 where
+  pub instance : IsInstance (problem_in a)
+  pub size : length a.explosion.totals ≡ item_count (problem_in a)
+  pub totals : AreLargestTotals (problem_in a) (entry a.explosion.totals)
+  pub small : (i : ℕ) → entry a.explosion.totals i ≤ 10 ^ 12

@@ -1,28 +1,124 @@
-// An instance of a draft of the form that is built so far.
-ghost use Rattle.std.specs.Prelude.{◌≡◌, ◌≤ℤ◌, pos, map, IfOk};
-ghost use Rattle.std.specs.List.{All};
-ghost use Rattle.lot_model.specs.Drafts.{IsOneItem, item_of, natural, one_item_problem};
+// The problem that a draft stands for.
+ghost use Rattle.std.specs.Prelude.{◌≡◌, ◌≤◌, length, map, option_map, IfOk, unwrap_or, ◌+◌};
+ghost use Rattle.lot_draft.specs.Raw.{raw_item, raw_model, raw_need, raw_resource, raw_use};
+ghost use Rattle.lot_draft.specs.Refusals.{item_names, resource_names};
+ghost use Rattle.lot_draft.specs.Meaning.{item_of, natural, naturals, need_of, problem_of, resource_of, use_of};
+ghost use Rattle.lot_model.specs.Held.{problem_of_parts};
 
-use crate::data::ItemData;
-use crate::{DraftItem, Instance};
+use crate::data::{ItemData, ResourceData};
+use crate::{Draft, DraftItem, DraftNeed, DraftResource, DraftUse, Need, Usage};
+use lot_draft::{item_place, resource_place};
 use std::alloc::{AllocError, Global};
 
-// The numbers of a list, none of which is negative.
+/// What an instance is made of.
+#[derive(Drop)]
+pub struct Parts {
+    pub periods: u32,
+    pub resources: Vec<ResourceData>,
+    pub items: Vec<ItemData>,
+}
+
+// A number, and 0 where it is negative.
+fn natural(number: i64) -> u64
+    ensures { result ≡ natural number }
+{
+    if number < 0 { 0 } else { number as u64 }
+}
+
+// The numbers of a list.
 fn naturals(alloc: Global, numbers: &[i64]) -> Result<Vec<u64>, AllocError>
-    requires { All (λ number. pos 0 ≤ℤ number) numbers.now }
-    ensures { IfOk result (λ list. list.items ≡ map natural numbers.now) }
+    ensures { IfOk result (λ list. list.items ≡ naturals numbers.now) }
 {
     let mut list = Vec::with_capacity(alloc, numbers.len())?;
     for number in numbers {
-        list.push(*number as u64)?;
+        list.push(natural(*number))?;
     }
     Ok(list)
 }
 
-// The item of a draft.
-fn item_data(alloc: Global, item: &DraftItem) -> Result<ItemData, AllocError>
-    requires { IsOneItem item.now }
-    ensures { IfOk result (λ made. made ≡ item_of item.now) }
+// The numbers of a list that may be absent.
+fn optional_naturals(
+    alloc: Global,
+    numbers: &Option<Vec<i64>>,
+) -> Result<Option<Vec<u64>>, AllocError>
+    ensures { IfOk result (λ list. option_map (λ v. v.items) list ≡ option_map naturals (option_map (λ v. v.items) numbers.now)) }
+{
+    match numbers {
+        Some(numbers) => Ok(Some(naturals(alloc, numbers)?)),
+        None => Ok(None),
+    }
+}
+
+// A line of components.
+fn need_of(items: &[DraftItem], need: &DraftNeed) -> Need
+    requires few { length items.now ≤ 40 }
+    ensures { result ≡ need_of (item_names (map raw_item items.now)) (raw_need need.now) }
+{
+    Need {
+        item: item_place(items, &need.item),
+        quantity: natural(need.quantity),
+    }
+}
+
+// A line of resources.
+fn use_of(resources: &[DraftResource], usage: &DraftUse) -> Usage
+    requires few { length resources.now ≤ 20 }
+    ensures { result ≡ use_of (resource_names (map raw_resource resources.now)) (raw_use usage.now) }
+{
+    Usage {
+        resource: resource_place(resources, &usage.resource),
+        unit: natural(usage.unit),
+        setup: natural(usage.setup),
+    }
+}
+
+/// The components of an item.
+pub fn needs_of(
+    alloc: Global,
+    items: &[DraftItem],
+    needs: &[DraftNeed],
+) -> Result<Vec<Need>, AllocError>
+    requires few { length items.now ≤ 40 }
+    ensures { IfOk result (λ list. list.items ≡ map (need_of (item_names (map raw_item items.now))) (map raw_need needs.now)) }
+{
+    let mut list = Vec::with_capacity(alloc, needs.len())?;
+    for need in needs {
+        list.push(need_of(items, need))?;
+    }
+    Ok(list)
+}
+
+// The resources that an item takes time on.
+fn uses_of(
+    alloc: Global,
+    resources: &[DraftResource],
+    uses: &[DraftUse],
+) -> Result<Vec<Usage>, AllocError>
+    requires few { length resources.now ≤ 20 }
+    ensures { IfOk result (λ list. list.items ≡ map (use_of (resource_names (map raw_resource resources.now))) (map raw_use uses.now)) }
+{
+    let mut list = Vec::with_capacity(alloc, uses.len())?;
+    for usage in uses {
+        list.push(use_of(resources, usage))?;
+    }
+    Ok(list)
+}
+
+// The largest end stock, and where it is left out, the least one and the opening stock together.
+fn end_max(item: &DraftItem) -> u64
+    ensures { result ≡ unwrap_or (option_map natural item.now.end_max) (natural item.now.end_min + natural item.now.opening) }
+{
+    match item.end_max {
+        Some(most) => natural(most),
+        None => natural(item.end_min) + natural(item.opening),
+    }
+}
+
+// An item.
+fn item_data(alloc: Global, draft: &Draft, item: &DraftItem) -> Result<ItemData, AllocError>
+    requires items { length draft.now.items.items ≤ 40 }
+    requires resources { length draft.now.resources.items ≤ 20 }
+    ensures { IfOk result (λ made. made ≡ item_of (resource_names (map raw_resource draft.now.resources.items)) (item_names (map raw_item draft.now.items.items)) (raw_item item.now)) }
 {
     Ok(ItemData {
         name: item.name.clone()?,
@@ -30,24 +126,62 @@ fn item_data(alloc: Global, item: &DraftItem) -> Result<ItemData, AllocError>
         unit_cost: naturals(alloc, &item.unit_cost)?,
         setup_cost: naturals(alloc, &item.setup_cost)?,
         hold_cost: naturals(alloc, &item.hold_cost)?,
-        backlog_cost: None,
-        opening: 0,
-        end_min: 0,
-        end_max: 0,
-        needs: Vec::new(alloc),
-        uses: Vec::new(alloc),
+        backlog_cost: optional_naturals(alloc, &item.backlog_cost)?,
+        opening: natural(item.opening),
+        end_min: natural(item.end_min),
+        end_max: end_max(item),
+        needs: needs_of(alloc, &draft.items, &item.needs)?,
+        uses: uses_of(alloc, &draft.resources, &item.uses)?,
     })
 }
 
-/// The instance of an item over one period.
-pub fn instance(alloc: Global, item: &DraftItem) -> Result<Instance, AllocError>
-    requires { IsOneItem item.now }
-    ensures { IfOk result (λ instance. instance ≡ one_item_problem item.now) }
+// A resource.
+fn resource_data(alloc: Global, resource: &DraftResource) -> Result<ResourceData, AllocError>
+    ensures { IfOk result (λ made. made ≡ resource_of (raw_resource resource.now)) }
 {
-    let data = item_data(alloc, item)?;
-    Ok(Instance {
-        periods: 1,
-        resources: Vec::new(alloc),
-        items: vec![in alloc; data]?,
+    Ok(ResourceData {
+        name: resource.name.clone()?,
+        capacity: naturals(alloc, &resource.capacity)?,
+    })
+}
+
+// The items.
+fn items_data(alloc: Global, draft: &Draft) -> Result<Vec<ItemData>, AllocError>
+    requires items { length draft.now.items.items ≤ 40 }
+    requires resources { length draft.now.resources.items ≤ 20 }
+    ensures { IfOk result (λ list. list.items ≡ map (item_of (resource_names (map raw_resource draft.now.resources.items)) (item_names (map raw_item draft.now.items.items))) (map raw_item draft.now.items.items)) }
+{
+    let mut list = Vec::with_capacity(alloc, draft.items.len())?;
+    for item in &draft.items {
+        list.push(item_data(alloc, draft, item)?)?;
+    }
+    Ok(list)
+}
+
+// The resources.
+fn resources_data(
+    alloc: Global,
+    resources: &[DraftResource],
+) -> Result<Vec<ResourceData>, AllocError>
+    ensures { IfOk result (λ list. list.items ≡ map resource_of (map raw_resource resources.now)) }
+{
+    let mut list = Vec::with_capacity(alloc, resources.len())?;
+    for resource in resources {
+        list.push(resource_data(alloc, resource)?)?;
+    }
+    Ok(list)
+}
+
+/// The periods, resources and items of a draft.
+pub fn parts_of(alloc: Global, draft: &Draft) -> Result<Parts, AllocError>
+    requires periods { natural draft.now.periods ≤ 60 }
+    requires items { length draft.now.items.items ≤ 40 }
+    requires resources { length draft.now.resources.items ≤ 20 }
+    ensures { IfOk result (λ parts. problem_of_parts parts ≡ problem_of (raw_model draft.now)) }
+{
+    Ok(Parts {
+        periods: natural(draft.periods) as u32,
+        resources: resources_data(alloc, &draft.resources)?,
+        items: items_data(alloc, draft)?,
     })
 }

@@ -1,14 +1,16 @@
 // A problem within its limits.
-ghost use Rattle.std.specs.Prelude.{◌≡◌, ◌≤◌, ◌*◌, ◌^◌, ◌↔◌, ℕ, length, Some, None, MatchOption, IfOk, IfErr, IsNone, IsTrue, unwrap_or};
+ghost use Rattle.std.specs.Prelude.{◌≡◌, ◌≤◌, ◌*◌, ◌^◌, ◌↔◌, ℕ, length, Ok, Some, None, MatchOption, IfOk, IfErr, IsNone, IsTrue, unwrap_or};
 ghost use Rattle.std.specs.List.{All};
 ghost use Rattle.lot_sizing.specs.Problem.{item_at, item_count, resource_at, resource_count, capacity, demand, unit_cost, setup_cost, hold_cost, backlog_cost, entry, IsName, IsUncoupled};
 ghost use Rattle.lot_sizing.specs.Totals.{AreLargestTotals};
-ghost use Rattle.lot_model.specs.Drafts.{HasOneItemOnePeriod, IsRefused, problem_of_draft};
-ghost use Rattle.lot_model.specs.Views.{IsBuilt};
+ghost use Rattle.lot_draft.specs.Raw.{raw_model};
+ghost use Rattle.lot_model.specs.Meaning.{IsRefused, Means};
+ghost use Rattle.lot_model.specs.Views.{IsInstance};
 
 use crate::data::{ItemData, ResourceData};
-use crate::{Draft, DraftRefusal, ModelFault, building, form};
-use lot_sizing::{Need, Usage};
+use crate::making::{Unmade, instance};
+use crate::{Draft, DraftRefusal, Need, Usage};
+use bill::Explosion;
 use std::alloc::Global;
 use std::marker::Model;
 
@@ -20,6 +22,7 @@ pub struct Instance {
     pub(crate) periods: u32,
     pub(crate) resources: Vec<ResourceData>,
     pub(crate) items: Vec<ItemData>,
+    pub(crate) explosion: Explosion,
 }
 
 impl Model for Instance {
@@ -27,36 +30,33 @@ impl Model for Instance {
 
     ghost Value = { Problem };
 
-    ghost use Rattle.lot_model.specs.Views.{problem_of, IsBuilt};
+    ghost use Rattle.lot_model.specs.Views.{problem_in, IsKept};
 
-    ghost view = { problem_of };
+    ghost view = { problem_in };
 
-    ghost invariant = { λ a. IsBuilt (problem_of a) };
+    ghost invariant = { IsKept };
 }
 
 impl Instance {
-    /// The instance with the draft's values, or why there is none. The draft then comes back.
+    /// The instance with the draft's values, or the first rule that it breaks. The draft then comes
+    /// back as it was.
+    ///
+    /// It takes time in the square of the number of items times that of the lines of components.
     pub fn from_draft(alloc: Global, draft: Draft) -> Result<Instance, DraftRefusal>
-        ensures form { IfOk result (λ _. HasOneItemOnePeriod draft) }
-        ensures values { IfOk result (λ instance. instance ≡ problem_of_draft draft) }
+        ensures values { IfOk result (λ made. Means (raw_model draft) (Ok made)) }
         ensures refused { IfErr result (IsRefused draft) }
     {
-        if !form::has_one_item_one_period(&draft) {
-            return Err(DraftRefusal::Refused {
-                fault: ModelFault::not_built(),
-                draft,
-            });
-        }
-        match building::instance(alloc, &draft.items[0]) {
-            Ok(instance) => Ok(instance),
-            Err(_) => Err(DraftRefusal::Memory(draft)),
+        match instance(alloc, &draft) {
+            Ok(made) => Ok(made),
+            Err(Unmade::Refused(fault)) => Err(DraftRefusal::Refused { fault, draft }),
+            Err(Unmade::Memory) => Err(DraftRefusal::Memory(draft)),
         }
     }
 
     /// The number of periods.
     pub fn periods(&self) -> u32
         ensures value { result ≡ self.now.periods }
-        ensures built { IsBuilt self.now }
+        ensures instance { IsInstance self.now }
     {
         self.periods
     }
@@ -64,7 +64,7 @@ impl Instance {
     /// The number of items.
     pub fn items(&self) -> u32
         ensures value { result ≡ item_count self.now }
-        ensures built { IsBuilt self.now }
+        ensures instance { IsInstance self.now }
     {
         self.items.len() as u32
     }
@@ -72,7 +72,7 @@ impl Instance {
     /// The number of resources.
     pub fn resources(&self) -> u32
         ensures value { result ≡ resource_count self.now }
-        ensures built { IsBuilt self.now }
+        ensures instance { IsInstance self.now }
     {
         self.resources.len() as u32
     }
@@ -240,18 +240,13 @@ impl Instance {
     }
 
     /// The largest total: no feasible plan makes more of an item in all.
-    ///
-    /// It adds the item's demands, so a call takes time in the number of periods.
     pub fn largest_total(&self, item: u32) -> u64
         requires low { 1 ≤ item }
         requires high { item ≤ item_count self.now }
         ensures value { (total : ℕ → ℕ) × AreLargestTotals self.now total × (result ≡ total item) }
+        ensures small { result ≤ 10 ^ 12 }
     {
-        let mut total = self.end_max(item);
-        for period in 1..self.periods() + 1 {
-            total += self.demand(item, period);
-        }
-        total.saturating_sub(self.opening(item))
+        self.explosion.total(item)
     }
 }
 

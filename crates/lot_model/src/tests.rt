@@ -1,142 +1,200 @@
-use crate::{Draft, DraftItem, Instance, Key, ModelCode, ModelFault, Place, is_uncoupled};
+use crate::{
+    Draft, DraftItem, DraftNeed, DraftRefusal, DraftResource, DraftUse, Instance, is_uncoupled,
+};
 use std::alloc::{AllocError, Global};
 use std::test::Fail;
 
-// One item over one period.
-fn draft(alloc: Global, name: &str, demand: i64) -> Result<Draft, AllocError> {
-    let item = DraftItem {
+// An item with so much demand in each of two periods.
+fn item(alloc: Global, name: &str, demand: i64) -> Result<DraftItem, AllocError> {
+    Ok(DraftItem {
         name: String::from_str(alloc, name)?,
-        demand: vec![in alloc; demand]?,
-        unit_cost: vec![in alloc; 2i64]?,
-        setup_cost: vec![in alloc; 5i64]?,
-        hold_cost: vec![in alloc; 0i64]?,
+        demand: vec![in alloc; demand, demand.saturating_add(1)]?,
+        unit_cost: vec![in alloc; 2i64, 3i64]?,
+        setup_cost: vec![in alloc; 5i64, 6i64]?,
+        hold_cost: vec![in alloc; 7i64, 8i64]?,
         backlog_cost: None,
-        opening: 0,
-        end_min: 0,
+        opening: 3,
+        end_min: 4,
         end_max: None,
         needs: Vec::new(alloc),
         uses: Vec::new(alloc),
-    };
-    Ok(Draft {
-        periods: 1,
-        resources: Vec::new(alloc),
-        items: vec![in alloc; item]?,
     })
 }
 
+// A line of components.
+fn need(alloc: Global, item: &str, quantity: i64) -> Result<DraftNeed, AllocError> {
+    Ok(DraftNeed {
+        item: String::from_str(alloc, item)?,
+        quantity,
+    })
+}
+
+// A draft of two items over two periods.
+fn draft(alloc: Global, first: DraftItem, second: DraftItem) -> Result<Draft, AllocError> {
+    let mut items = Vec::new(alloc);
+    items.push(first)?;
+    items.push(second)?;
+    Ok(Draft {
+        periods: 2,
+        resources: Vec::new(alloc),
+        items,
+    })
+}
+
+// The refusal of a draft as it is written, and how many items come back.
+fn refusal(alloc: Global, draft: Draft) -> Result<(String, usize), AllocError> {
+    match Instance::from_draft(alloc, draft) {
+        Err(DraftRefusal::Refused { fault, draft }) => {
+            Ok((fault.to_string(alloc)?, draft.items.len()))
+        }
+        _ => Ok((String::from_str(alloc, "none")?, 0)),
+    }
+}
+
+// Two items, of which the first takes two of the second, which takes time of a resource.
+fn parent_and_component(alloc: Global) -> Result<Instance, Fail> {
+    let mut first = item(alloc, "A", 10)?;
+    first.needs.push(need(alloc, "B", 2)?)?;
+    first.backlog_cost = Some(vec![in alloc; 1i64, 9i64]?);
+    let mut second = item(alloc, "B", 0)?;
+    second.end_max = Some(6);
+    second.uses.push(DraftUse {
+        resource: String::from_str(alloc, "m")?,
+        unit: 1,
+        setup: 2,
+    })?;
+    let mut d = draft(alloc, first, second)?;
+    d.resources.push(DraftResource {
+        name: String::from_str(alloc, "m")?,
+        capacity: vec![in alloc; 40i64, 50i64]?,
+    })?;
+    Ok(Instance::from_draft(alloc, d).ok().ok_or("refused")?)
+}
+
 #[test]
-fn an_instance_has_the_values_of_its_draft(rt: HostRuntime) -> Result<(), Fail> {
-    let alloc = rt.alloc();
-    let instance = Instance::from_draft(alloc, draft(alloc, "A", 10)?)
-        .ok()
-        .ok_or("refused")?;
+fn an_instance_has_the_names_of_its_draft(rt: HostRuntime) -> Result<(), Fail> {
+    let instance = parent_and_component(rt.alloc())?;
     assert_eq!(rt;
         (instance.periods(), instance.items(), instance.resources()),
-        (1, 1, 0)
+        (2, 2, 1)
     );
-    assert_eq!(rt; instance.item_name(1), "A");
+    assert_eq!(rt; instance.item_name(2), "B");
+    assert_eq!(rt; instance.resource_name(1), "m");
+    assert_eq!(rt; instance.capacity(1, 2), 50);
+    Ok(())
+}
+
+#[test]
+fn an_instance_has_the_costs_of_its_draft(rt: HostRuntime) -> Result<(), Fail> {
+    let instance = parent_and_component(rt.alloc())?;
+    assert_eq!(rt; (instance.periods(), instance.items()), (2, 2));
+    assert_eq!(rt; (instance.demand(1, 2), instance.unit_cost(1, 2)), (11, 3));
     assert_eq!(rt;
-        (
-            instance.demand(1, 1),
-            instance.unit_cost(1, 1),
-            instance.setup_cost(1, 1)
-        ),
-        (10, 2, 5)
+        (instance.setup_cost(2, 2), instance.hold_cost(2, 1)),
+        (6, 7)
     );
     assert_eq!(rt;
-        (instance.hold_cost(1, 1), instance.backlog_cost(1, 1)),
-        (0, None)
+        (instance.backlog_cost(1, 2), instance.backlog_cost(2, 2)),
+        (Some(9), None)
     );
+    Ok(())
+}
+
+#[test]
+fn an_instance_has_the_stocks_of_its_draft(rt: HostRuntime) -> Result<(), Fail> {
+    let instance = parent_and_component(rt.alloc())?;
+    assert_eq!(rt; instance.items(), 2);
+    assert_eq!(rt; (instance.opening(1), instance.end_min(1)), (3, 4));
+    assert_eq!(rt; (instance.end_max(1), instance.end_max(2)), (7, 6));
+    // 10 + 11 + 7 - 3, and 0 + 1 + 6 - 3 with twice that.
     assert_eq!(rt;
-        (
-            instance.opening(1),
-            instance.end_min(1),
-            instance.end_max(1)
-        ),
-        (0, 0, 0)
+        (instance.largest_total(1), instance.largest_total(2)),
+        (25, 54)
     );
-    assert_eq!(rt; instance.largest_total(1), 10);
+    Ok(())
+}
+
+#[test]
+fn an_instance_has_the_lines_of_its_draft(rt: HostRuntime) -> Result<(), Fail> {
+    let instance = parent_and_component(rt.alloc())?;
+    assert_eq!(rt; instance.items(), 2);
+    for need in instance.needs(1) {
+        assert_eq!(rt; (need.item, need.quantity), (2, 2));
+    }
+    for usage in instance.uses(2) {
+        assert_eq!(rt; (usage.resource, usage.unit, usage.setup), (1, 1, 2));
+    }
+    assert_eq!(rt; (instance.needs(1).len(), instance.needs(2).len()), (1, 0));
+    assert_eq!(rt; (instance.uses(1).len(), instance.uses(2).len()), (0, 1));
+    assert!(rt; !is_uncoupled(&instance));
+    Ok(())
+}
+
+#[test]
+fn a_model_without_lines_is_uncoupled(rt: HostRuntime) -> Result<(), Fail> {
+    let alloc = rt.alloc();
+    let d = draft(alloc, item(alloc, "A", 10)?, item(alloc, "B", 0)?)?;
+    let instance = Instance::from_draft(alloc, d).ok().ok_or("refused")?;
     assert!(rt; is_uncoupled(&instance));
     Ok(())
 }
 
 #[test]
-fn drafts_of_other_forms_come_back(rt: HostRuntime) -> Result<(), Fail> {
+fn backlog_costs_of_components_are_refused(rt: HostRuntime) -> Result<(), Fail> {
     let alloc = rt.alloc();
-    for (name, demand, built) in [
-        ("A", 1_000_000_000i64, true),
-        ("A", 1_000_000_001, false),
-        ("A", -1, false),
-        ("", 1, false),
-        ("A B", 1, false),
-        ("a-Z_0.9", 1, true),
-        ("12345678901234567890123456789012", 1, true),
-        ("123456789012345678901234567890123", 1, false),
-    ] {
-        let answer = Instance::from_draft(alloc, draft(alloc, name, demand)?);
-        assert_eq!(rt; answer.is_ok(), built, "{name} {demand}");
-    }
+    let mut first = item(alloc, "A", 0)?;
+    first.needs.push(need(alloc, "B", 2)?)?;
+    let mut second = item(alloc, "B", 0)?;
+    second.backlog_cost = Some(vec![in alloc; 1i64, 1i64]?);
+    let (text, items) = refusal(alloc, draft(alloc, first, second)?)?;
+    assert_eq!(rt; (text.as_str(), items), ("M11 item 2", 2));
     Ok(())
 }
 
 #[test]
-fn faults_are_written_with_their_places(rt: HostRuntime) -> Result<(), Fail> {
+fn cycles_are_refused_before_backlog_costs(rt: HostRuntime) -> Result<(), Fail> {
     let alloc = rt.alloc();
-    for (code, place, key, period, want) in [
-        (ModelCode::NotToml, Place::Root, None, None, "M1 root"),
-        (
-            ModelCode::UnknownKey,
-            Place::Item(1),
-            None,
-            None,
-            "M2 item 1",
-        ),
-        (
-            ModelCode::OutOfRange,
-            Place::Item(1),
-            Some(Key::Demand),
-            Some(2u64),
-            "M5 item 1 demand period 2",
-        ),
-        (
-            ModelCode::OutOfRange,
-            Place::Root,
-            Some(Key::Periods),
-            None,
-            "M5 root periods",
-        ),
-        (
-            ModelCode::UnknownName,
-            Place::Usage(1, 1),
-            None,
-            None,
-            "M9 item 1 uses 1",
-        ),
-        (
-            ModelCode::OutOfRange,
-            Place::Need(3, 2),
-            Some(Key::Quantity),
-            None,
-            "M5 item 3 needs 2 quantity",
-        ),
-        (
-            ModelCode::WrongLength,
-            Place::Resource(4),
-            Some(Key::Capacity),
-            None,
-            "M6 resource 4 capacity",
-        ),
-    ] {
-        let fault = ModelFault {
-            code,
-            place,
-            key,
-            period,
-        };
-        assert!(rt;
-            fault.to_string(alloc)?.as_str() == want,
-            "{fault} for {want}"
-        );
+    let mut first = item(alloc, "A", 0)?;
+    first.needs.push(need(alloc, "B", 1)?)?;
+    let mut second = item(alloc, "B", 0)?;
+    second.needs.push(need(alloc, "A", 1)?)?;
+    second.backlog_cost = Some(vec![in alloc; 1i64, 1i64]?);
+    let (text, items) = refusal(alloc, draft(alloc, first, second)?)?;
+    assert_eq!(rt; (text.as_str(), items), ("M10 item 1", 2));
+    Ok(())
+}
+
+// A name of two digits.
+fn name(alloc: Global, number: u32) -> Result<String, AllocError> {
+    format!(in alloc; "i{number}")
+}
+
+// An item of a chain, each of which takes a million of the next.
+fn link(alloc: Global, number: u32, last: u32) -> Result<DraftItem, AllocError> {
+    let mut made = item(alloc, name(alloc, number)?.as_str(), 0)?;
+    made.demand = vec![in alloc; 0i64, if number == 1 { 1i64 } else { 0i64 }]?;
+    made.opening = 0;
+    made.end_min = 0;
+    if number < last {
+        made.needs
+            .push(need(alloc, name(alloc, number + 1)?.as_str(), 1_000_000)?)?;
     }
+    Ok(made)
+}
+
+#[test]
+fn a_chain_of_forty_is_past_the_bound_at_the_fourth(rt: HostRuntime) -> Result<(), Fail> {
+    let alloc = rt.alloc();
+    let mut items = Vec::new(alloc);
+    for number in 1..41u32 {
+        items.push(link(alloc, number, 40)?)?;
+    }
+    let d = Draft {
+        periods: 2,
+        resources: Vec::new(alloc),
+        items,
+    };
+    let (text, count) = refusal(alloc, d)?;
+    assert_eq!(rt; (text.as_str(), count), ("M12 item 4", 40));
     Ok(())
 }

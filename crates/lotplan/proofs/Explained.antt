@@ -1,23 +1,23 @@
 -- What the parts of a run say of the whole, and what the whole says of its status.
 use Rattle.std.proofs.Common.{◌≡◌, ◌≢◌, ◌≤◌, ◌<◌, ◌∙◌, ◌⊎◌, ⊎_elim, ◌++◌, ℕ, List, [], true, false, Option, Some, None, IsTrue, length, inl, inr, refl, sym, ap, subst, arith, rules}
-use Rattle.std.specs.Prelude.{nat_lt}
+use Rattle.std.specs.Prelude.{Result, Ok, Err, IfOk}
+use Rattle.std.specs.declared.alloc.AllocError.{AllocError}
 use Rattle.lot_io.specs.Outside.{Files, AppendsSome}
 use Rattle.lot_sizing.specs.Problem.{Problem}
-use Rattle.lot_model.specs.declared.fault.ModelCode.{ModelCode}
-use Rattle.lot_model.specs.declared.fault.ModelCode.TheVariants.{NotBuilt}
 use Rattle.lotplan.specs.declared.answer.Said.{Said}
 use Rattle.lotplan.specs.Command.{Asked, version, planning, command_of}
-use Rattle.lotplan.specs.Answer.{Answer, named, optimal, no_command, refused, missing, unread, unwritten, too_long, no_memory, status_of, model_status}
-use Rattle.lotplan.specs.Run.{Shelved, Printed, Explains, PlanExplains, WriteExplains, HoldsProblem, Prints, PrintsSaid, Says, SaysSome, IsRun, HadNoFault, PlansBest, calls_for, file_calls_for, file_limit}
+use Rattle.lotplan.specs.Answer.{Answer, named, optimal, infeasible, no_command, refused, not_built, missing, unread, unwritten, too_long, no_memory, line_of, status_of}
+use Rattle.lotplan.specs.Run.{Shelved, Printed, Explains, PlanExplains, WriteExplains, HoldsCoupled, HoldsImpossible, HoldsProblem, Prints, PrintsSaid, Says, SaysSome, IsRun, HadNoFault, PlansBest, FindsNoPlan, CannotPlan, CallFor, FileCallsFor, file_limit}
 
--- what writing a best plan of a model's problem leaves, planning the model leaves
+-- what planning a model's problem leaves, planning the model leaves
 pub write_to_plan : (m p : List ℕ) (problem : Problem) (old mid new : Shelved) (answer : Answer) → (IsTrue old.told → HoldsProblem old.file m problem) → mid.told ≡ old.told → mid.file ≡ old.file → mid.write_faults ≡ old.write_faults → WriteExplains problem p mid new answer → PlanExplains m p old new answer
 write_to_plan m p problem old mid new (optimal amount) holds told files faults x = λ t.
     let wrote = x (subst IsTrue (sym told) t) in
-    let model = holds t in (
-      record { bytes = model.bytes; read = model.read; short = model.short; problem = problem; means = model.means; chosen = wrote.0.chosen; best = wrote.0.best; costs = wrote.0.costs; written = wrote.0.written },
-      λ other apart. wrote.1 other apart ∙ ap (λ (f : Files). f other) files,
-    )
+    (record { problem = problem; holds = holds t; writes = wrote.0 }, λ other apart. wrote.1 other apart ∙ ap (λ (f : Files). f other) files)
+write_to_plan m p problem old mid new infeasible holds told files faults x =
+    (λ t. record { problem = problem; holds = holds t; uncoupled = x.0; impossible = x.1 }, x.2 ∙ files)
+write_to_plan m p problem old mid new not_built holds told files faults x =
+    (λ t. record { problem = problem; holds = holds t; coupled = x.0 }, x.1 ∙ files)
 write_to_plan m p problem old mid new (unwritten file) holds told files faults x =
     (x.0, omega (arith, x.1, faults), λ t other apart. x.2 (subst IsTrue (sym told) t) other apart ∙ ap (λ (f : Files). f other) files)
 write_to_plan m p problem old mid new named holds told files faults x = absurd x
@@ -52,59 +52,120 @@ pub no_memory_run : (words : List (List ℕ)) (old new : Shelved) (out : Printed
 no_memory_run words old new out same = record { answer = no_memory; explains = no_memory_explains (command_of words) old new same; prints = inl (refl, λ _. append_none out.bytes) }
 
 -- ---- statuses
-model_status_some : (code : ModelCode) → 4 < model_status code
-model_status_some NotBuilt = omega arith
-model_status_some _ = omega arith
+-- the status is that of an answer, or 9
+not_there : {A : Type 0} (answer : Answer) (status : ℕ) (old new : Printed) → Prints answer status old new → (status ≡ status_of answer → ⊥) → (status ≡ 9 → ⊥) → A
+not_there answer status old new done one other = absurd (⊎_elim (λ whole. one whole.0) (λ part. other part.0) done)
 
-model_status_apart : (code : ModelCode) → (model_status code ≢ 8) × (model_status code ≢ 9)
-model_status_apart NotBuilt = (omega arith, omega arith)
-model_status_apart _ = (omega arith, omega arith)
+-- the line, where the status isn't 9
+line_there : (answer : Answer) (status : ℕ) (old new : Printed) → Prints answer status old new → status ≢ 9 → IsTrue old.told → new.bytes ≡ old.bytes ++ line_of answer
+line_there answer status old new done other = ⊎_elim (λ whole. whole.1) (λ part. absurd (other part.0)) done
 
 optimal_at : (m p : List ℕ) (status : ℕ) (old new : Shelved) (out_old out_new : Printed) (answer : Answer) → PlanExplains m p old new answer → Prints answer status out_old out_new → status ≡ 0 → IsTrue old.told → PlansBest old.file new.file m p out_old out_new
-optimal_at m p status old new out_old out_new (optimal amount) x done zero t = ⊎_elim (λ whole. record { amount = amount; holds = (x t).0; line = whole.1 }) (λ part. absurd (omega (arith, part.0))) done
-optimal_at m p status old new out_old out_new (refused fault) x done zero t = ⊎_elim (λ whole. absurd (omega (arith, whole.0, model_status_some fault.code))) (λ part. absurd (omega (arith, part.0))) done
-optimal_at m p status old new out_old out_new (missing file) x done zero t = ⊎_elim (λ whole. absurd (omega (arith, whole.0))) (λ part. absurd (omega (arith, part.0))) done
-optimal_at m p status old new out_old out_new (unread file) x done zero t = ⊎_elim (λ whole. absurd (omega (arith, whole.0))) (λ part. absurd (omega (arith, part.0))) done
-optimal_at m p status old new out_old out_new (unwritten file) x done zero t = ⊎_elim (λ whole. absurd (omega (arith, whole.0))) (λ part. absurd (omega (arith, part.0))) done
-optimal_at m p status old new out_old out_new (too_long file) x done zero t = ⊎_elim (λ whole. absurd (omega (arith, whole.0))) (λ part. absurd (omega (arith, part.0))) done
-optimal_at m p status old new out_old out_new no_memory x done zero t = ⊎_elim (λ whole. absurd (omega (arith, whole.0))) (λ part. absurd (omega (arith, part.0))) done
-optimal_at m p status old new out_old out_new named x done zero t = absurd x
-optimal_at m p status old new out_old out_new no_command x done zero t = absurd x
+optimal_at m p status old new out_old out_new (optimal amount) x done is t = record { amount = amount; holds = (x t).0; line = line_there (optimal amount) status out_old out_new done (λ e. omega (arith, e, is)) }
+optimal_at m p status old new out_old out_new infeasible x done is t = not_there infeasible status out_old out_new done (λ e. omega (arith, e, is)) (λ e. omega (arith, e, is))
+optimal_at m p status old new out_old out_new (refused fault) x done is t = not_there (refused fault) status out_old out_new done (λ e. omega (arith, e, is)) (λ e. omega (arith, e, is))
+optimal_at m p status old new out_old out_new not_built x done is t = not_there not_built status out_old out_new done (λ e. omega (arith, e, is)) (λ e. omega (arith, e, is))
+optimal_at m p status old new out_old out_new (missing file) x done is t = not_there (missing file) status out_old out_new done (λ e. omega (arith, e, is)) (λ e. omega (arith, e, is))
+optimal_at m p status old new out_old out_new (unread file) x done is t = not_there (unread file) status out_old out_new done (λ e. omega (arith, e, is)) (λ e. omega (arith, e, is))
+optimal_at m p status old new out_old out_new (unwritten file) x done is t = not_there (unwritten file) status out_old out_new done (λ e. omega (arith, e, is)) (λ e. omega (arith, e, is))
+optimal_at m p status old new out_old out_new (too_long file) x done is t = not_there (too_long file) status out_old out_new done (λ e. omega (arith, e, is)) (λ e. omega (arith, e, is))
+optimal_at m p status old new out_old out_new no_memory x done is t = not_there no_memory status out_old out_new done (λ e. omega (arith, e, is)) (λ e. omega (arith, e, is))
+optimal_at m p status old new out_old out_new named x done is t = absurd x
+optimal_at m p status old new out_old out_new no_command x done is t = absurd x
+
+impossible_at : (m p : List ℕ) (status : ℕ) (old new : Shelved) (out_old out_new : Printed) (answer : Answer) → PlanExplains m p old new answer → Prints answer status out_old out_new → status ≡ 1 → IsTrue old.told → HoldsImpossible old.file m × (IsTrue out_old.told → out_new.bytes ≡ out_old.bytes ++ line_of infeasible)
+impossible_at m p status old new out_old out_new (optimal amount) x done is t = not_there (optimal amount) status out_old out_new done (λ e. omega (arith, e, is)) (λ e. omega (arith, e, is))
+impossible_at m p status old new out_old out_new infeasible x done is t = (x.0 t, line_there infeasible status out_old out_new done (λ e. omega (arith, e, is)))
+impossible_at m p status old new out_old out_new (refused fault) x done is t = not_there (refused fault) status out_old out_new done (λ e. omega (arith, e, is)) (λ e. omega (arith, e, is))
+impossible_at m p status old new out_old out_new not_built x done is t = not_there not_built status out_old out_new done (λ e. omega (arith, e, is)) (λ e. omega (arith, e, is))
+impossible_at m p status old new out_old out_new (missing file) x done is t = not_there (missing file) status out_old out_new done (λ e. omega (arith, e, is)) (λ e. omega (arith, e, is))
+impossible_at m p status old new out_old out_new (unread file) x done is t = not_there (unread file) status out_old out_new done (λ e. omega (arith, e, is)) (λ e. omega (arith, e, is))
+impossible_at m p status old new out_old out_new (unwritten file) x done is t = not_there (unwritten file) status out_old out_new done (λ e. omega (arith, e, is)) (λ e. omega (arith, e, is))
+impossible_at m p status old new out_old out_new (too_long file) x done is t = not_there (too_long file) status out_old out_new done (λ e. omega (arith, e, is)) (λ e. omega (arith, e, is))
+impossible_at m p status old new out_old out_new no_memory x done is t = not_there no_memory status out_old out_new done (λ e. omega (arith, e, is)) (λ e. omega (arith, e, is))
+impossible_at m p status old new out_old out_new named x done is t = absurd x
+impossible_at m p status old new out_old out_new no_command x done is t = absurd x
+
+coupled_at : (m p : List ℕ) (status : ℕ) (old new : Shelved) (out_old out_new : Printed) (answer : Answer) → PlanExplains m p old new answer → Prints answer status out_old out_new → status ≡ 12 → IsTrue old.told → HoldsCoupled old.file m
+coupled_at m p status old new out_old out_new (optimal amount) x done is t = not_there (optimal amount) status out_old out_new done (λ e. omega (arith, e, is)) (λ e. omega (arith, e, is))
+coupled_at m p status old new out_old out_new infeasible x done is t = not_there infeasible status out_old out_new done (λ e. omega (arith, e, is)) (λ e. omega (arith, e, is))
+coupled_at m p status old new out_old out_new (refused fault) x done is t = not_there (refused fault) status out_old out_new done (λ e. omega (arith, e, is)) (λ e. omega (arith, e, is))
+coupled_at m p status old new out_old out_new not_built x done is t = x.0 t
+coupled_at m p status old new out_old out_new (missing file) x done is t = not_there (missing file) status out_old out_new done (λ e. omega (arith, e, is)) (λ e. omega (arith, e, is))
+coupled_at m p status old new out_old out_new (unread file) x done is t = not_there (unread file) status out_old out_new done (λ e. omega (arith, e, is)) (λ e. omega (arith, e, is))
+coupled_at m p status old new out_old out_new (unwritten file) x done is t = not_there (unwritten file) status out_old out_new done (λ e. omega (arith, e, is)) (λ e. omega (arith, e, is))
+coupled_at m p status old new out_old out_new (too_long file) x done is t = not_there (too_long file) status out_old out_new done (λ e. omega (arith, e, is)) (λ e. omega (arith, e, is))
+coupled_at m p status old new out_old out_new no_memory x done is t = not_there no_memory status out_old out_new done (λ e. omega (arith, e, is)) (λ e. omega (arith, e, is))
+coupled_at m p status old new out_old out_new named x done is t = absurd x
+coupled_at m p status old new out_old out_new no_command x done is t = absurd x
 
 -- status 0 of `plan`
 pub plans_best : (words : List (List ℕ)) (status : ℕ) (old new : Shelved) (out_old out_new : Printed) → IsRun words status old new out_old out_new → (m p c : List ℕ) → command_of words ≡ Some (planning m p c) → status ≡ 0 → IsTrue old.told → PlansBest old.file new.file m p out_old out_new
 plans_best words status old new out_old out_new run m p c asked zero t =
     optimal_at m p status old new out_old out_new run.answer (subst (λ k. Explains k old new run.answer) asked run.explains) run.prints zero t
 
-not_long : (bytes : List ℕ) → length bytes ≤ file_limit → nat_lt file_limit (length bytes) ≡ false
-not_long bytes h = search rules
+-- only planning ends in these
+finds_by : (words : List (List ℕ)) (asked : Option Asked) (status : ℕ) (old new : Shelved) (out_old out_new : Printed) (answer : Answer) → command_of words ≡ asked → Explains asked old new answer → Prints answer status out_old out_new → status ≡ 1 → IsTrue old.told → FindsNoPlan words old.file out_old out_new
+finds_by words None status old new out_old out_new answer same x done is t = not_there answer status out_old out_new done (λ e. ⊎_elim (λ a. omega (arith, e, is, ap status_of a)) (λ a. omega (arith, e, is, ap status_of a)) x.0) (λ e. omega (arith, e, is))
+finds_by words (Some version) status old new out_old out_new answer same x done is t = not_there answer status out_old out_new done (λ e. ⊎_elim (λ a. omega (arith, e, is, ap status_of a)) (λ a. omega (arith, e, is, ap status_of a)) x.0) (λ e. omega (arith, e, is))
+finds_by words (Some (planning m p c)) status old new out_old out_new answer same x done is t =
+    let found = impossible_at m p status old new out_old out_new answer x done is t in
+    record { model_file = m; asked = record { plan_file = p; certificate_file = c; is = same }; holds = found.0; line = found.1 }
 
-is_long : (bytes : List ℕ) → file_limit < length bytes → nat_lt file_limit (length bytes) ≡ true
-is_long bytes h = search rules
+-- status 1
+pub finds_none : (words : List (List ℕ)) (status : ℕ) (old new : Shelved) (out_old out_new : Printed) → IsRun words status old new out_old out_new → status ≡ 1 → IsTrue old.told → FindsNoPlan words old.file out_old out_new
+finds_none words status old new out_old out_new run is t = finds_by words (command_of words) status old new out_old out_new run.answer refl run.explains run.prints is t
 
-called_at : (m p : List ℕ) (status : ℕ) (old new : Shelved) (out_old out_new : Printed) → HadNoFault old new out_old out_new → IsTrue old.told → (answer : Answer) → PlanExplains m p old new answer → status ≡ status_of answer → (status ≡ 10) ⊎ (status ≡ file_calls_for (old.file m))
-called_at m p status old new out_old out_new fine t (optimal amount) x is = let h = (x t).0 in inr (rw (h.read, not_long h.bytes h.short, h.means) is)
-called_at m p status old new out_old out_new fine t (refused fault) x is = let h = x.0 t in inr (rw (h.read, not_long h.bytes h.short, h.means) is)
-called_at m p status old new out_old out_new fine t (missing file) x is = inr (rw (x.2 t) is)
+cannot_by : (words : List (List ℕ)) (asked : Option Asked) (status : ℕ) (old new : Shelved) (out_old out_new : Printed) (answer : Answer) → command_of words ≡ asked → Explains asked old new answer → Prints answer status out_old out_new → status ≡ 12 → IsTrue old.told → CannotPlan words old.file
+cannot_by words None status old new out_old out_new answer same x done is t = not_there answer status out_old out_new done (λ e. ⊎_elim (λ a. omega (arith, e, is, ap status_of a)) (λ a. omega (arith, e, is, ap status_of a)) x.0) (λ e. omega (arith, e, is))
+cannot_by words (Some version) status old new out_old out_new answer same x done is t = not_there answer status out_old out_new done (λ e. ⊎_elim (λ a. omega (arith, e, is, ap status_of a)) (λ a. omega (arith, e, is, ap status_of a)) x.0) (λ e. omega (arith, e, is))
+cannot_by words (Some (planning m p c)) status old new out_old out_new answer same x done is t =
+    record { model_file = m; asked = record { plan_file = p; certificate_file = c; is = same }; holds = coupled_at m p status old new out_old out_new answer x done is t }
+
+-- status 12
+pub cannot_plan : (words : List (List ℕ)) (status : ℕ) (old new : Shelved) (out_old out_new : Printed) → IsRun words status old new out_old out_new → status ≡ 12 → IsTrue old.told → CannotPlan words old.file
+cannot_plan words status old new out_old out_new run is t = cannot_by words (command_of words) status old new out_old out_new run.answer refl run.explains run.prints is t
+
+file_call : (found : Option (List ℕ)) (bytes : List ℕ) (status : ℕ) → found ≡ Some bytes → FileCallsFor (Some bytes) status → FileCallsFor found status
+file_call found bytes status same calls = subst (λ f. FileCallsFor f status) (sym same) calls
+
+called_at : (m p : List ℕ) (status : ℕ) (old new : Shelved) (out_old out_new : Printed) → HadNoFault old new out_old out_new → IsTrue old.told → (answer : Answer) → PlanExplains m p old new answer → status ≡ status_of answer → (status ≡ 10) ⊎ FileCallsFor (old.file m) status
+called_at m p status old new out_old out_new fine t (optimal amount) x is =
+    let h = (x t).0 in
+    inr (file_call (old.file m) h.holds.bytes status h.holds.read (inr (h.holds.short, inl (h.problem, h.holds.means, inl (h.writes.uncoupled, inl (is, h.writes.chosen, h.writes.best.feasible))))))
+called_at m p status old new out_old out_new fine t infeasible x is =
+    let h = x.0 t in
+    inr (file_call (old.file m) h.holds.bytes status h.holds.read (inr (h.holds.short, inl (h.problem, h.holds.means, inl (h.uncoupled, inr (is, h.impossible))))))
+called_at m p status old new out_old out_new fine t not_built x is =
+    let h = x.0 t in
+    inr (file_call (old.file m) h.holds.bytes status h.holds.read (inr (h.holds.short, inl (h.problem, h.holds.means, inr (h.coupled, is)))))
+called_at m p status old new out_old out_new fine t (refused fault) x is =
+    let h = x.0 t in
+    inr (file_call (old.file m) h.bytes status h.read (inr (h.short, inr (fault, h.means, is))))
+called_at m p status old new out_old out_new fine t (missing file) x is = inr (subst (λ f. FileCallsFor f status) (sym (x.2 t)) is)
 called_at m p status old new out_old out_new fine t (unread file) x is = absurd (fine.read x.1)
 called_at m p status old new out_old out_new fine t (unwritten file) x is = absurd (fine.written x.1)
-called_at m p status old new out_old out_new fine t (too_long file) x is = let h = x.2 t in inr (rw (h.read, is_long h.bytes h.long) is)
+called_at m p status old new out_old out_new fine t (too_long file) x is =
+    let h = x.2 t in
+    inr (file_call (old.file m) h.bytes status h.read (inl (h.long, is)))
 called_at m p status old new out_old out_new fine t no_memory x is = inl is
 called_at m p status old new out_old out_new fine t named x is = absurd x
 called_at m p status old new out_old out_new fine t no_command x is = absurd x
 
-called_by : (asked : Option Asked) (status : ℕ) (old new : Shelved) (out_old out_new : Printed) → HadNoFault old new out_old out_new → IsTrue old.told → (answer : Answer) → Explains asked old new answer → status ≡ status_of answer → (status ≡ 10) ⊎ (status ≡ calls_for asked old.file)
+called_by : (asked : Option Asked) (status : ℕ) (old new : Shelved) (out_old out_new : Printed) → HadNoFault old new out_old out_new → IsTrue old.told → (answer : Answer) → Explains asked old new answer → status ≡ status_of answer → (status ≡ 10) ⊎ CallFor asked old.file status
 called_by None status old new out_old out_new fine t answer x is = ⊎_elim (λ e. inr (is ∙ ap status_of e)) (λ e. inl (is ∙ ap status_of e)) x.0
 called_by (Some version) status old new out_old out_new fine t answer x is = ⊎_elim (λ e. inr (is ∙ ap status_of e)) (λ e. inl (is ∙ ap status_of e)) x.0
 called_by (Some (planning m p c)) status old new out_old out_new fine t answer x is = called_at m p status old new out_old out_new fine t answer x is
 
 -- the status without a fault
-pub called : (words : List (List ℕ)) (status : ℕ) (old new : Shelved) (out_old out_new : Printed) → IsRun words status old new out_old out_new → IsTrue old.told → HadNoFault old new out_old out_new → (status ≡ 10) ⊎ (status ≡ calls_for (command_of words) old.file)
+pub called : (words : List (List ℕ)) (status : ℕ) (old new : Shelved) (out_old out_new : Printed) → IsRun words status old new out_old out_new → IsTrue old.told → HadNoFault old new out_old out_new → (status ≡ 10) ⊎ CallFor (command_of words) old.file status
 called words status old new out_old out_new run t fine =
     ⊎_elim (λ whole. called_by (command_of words) status old new out_old out_new fine t run.answer run.explains whole.0) (λ part. absurd (fine.put part.1)) run.prints
 
 unchanged_at : (m p : List ℕ) (status : ℕ) (old new : Shelved) (answer : Answer) → PlanExplains m p old new answer → status ≡ status_of answer → status ≢ 0 → status ≢ 8 → new.file ≡ old.file
 unchanged_at m p status old new (optimal amount) x is some other = absurd (some is)
+unchanged_at m p status old new infeasible x is some other = x.1
+unchanged_at m p status old new not_built x is some other = x.1
 unchanged_at m p status old new (refused fault) x is some other = x.1
 unchanged_at m p status old new (missing file) x is some other = x.3
 unchanged_at m p status old new (unread file) x is some other = x.2
@@ -123,3 +184,8 @@ unchanged_by (Some (planning m p c)) status old new answer x is some other = unc
 pub unchanged : (words : List (List ℕ)) (status : ℕ) (old new : Shelved) (out_old out_new : Printed) → IsRun words status old new out_old out_new → status ≢ 0 → status ≢ 8 → status ≢ 9 → new.file ≡ old.file
 unchanged words status old new out_old out_new run some eight nine =
     ⊎_elim (λ whole. unchanged_by (command_of words) status old new run.answer run.explains whole.0 some eight) (λ part. absurd (nine part.0)) run.prints
+
+-- what is said of a model's problem is said of the model
+pub says_plan : (m p : List ℕ) (problem : Problem) (old mid new : Shelved) (r : Result Said AllocError) → (IsTrue old.told → HoldsProblem old.file m problem) → mid.told ≡ old.told → mid.file ≡ old.file → mid.write_faults ≡ old.write_faults → IfOk r (SaysSome (WriteExplains problem p mid new)) → IfOk r (SaysSome (PlanExplains m p old new))
+says_plan m p problem old mid new (Ok said) holds told files faults (answer, x, says) = (answer, write_to_plan m p problem old mid new answer holds told files faults x, says)
+says_plan m p problem old mid new (Err e) holds told files faults some = tt

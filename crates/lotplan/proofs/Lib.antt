@@ -1,2 +1,1 @@
-pub mod OnePeriod
 pub mod Explained

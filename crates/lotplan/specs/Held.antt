@@ -4,7 +4,7 @@ use Rattle.lotplan.specs.Answer as answer
 use Rattle.lotplan.specs.declared.command.Command.{Command}
 use Rattle.lotplan.specs.declared.command.Command.TheVariants.{Name, Plan}
 use Rattle.lotplan.specs.declared.answer.Answer.{Answer}
-use Rattle.lotplan.specs.declared.answer.Answer.TheVariants.{Named, Optimal, NoCommand, Refused, Missing, Unread, Unwritten, TooLong}
+use Rattle.lotplan.specs.declared.answer.Answer.TheVariants.{Named, Optimal, Infeasible, NoCommand, Refused, NotBuilt, Missing, Unread, Unwritten, TooLong}
 
 -- what a command asks for
 abbrev pub asked_of : Command → command.Asked
@@ -15,8 +15,10 @@ asked_of (Plan names) = command.planning names.model.now names.plan.now names.ce
 abbrev pub meant_by : Answer → answer.Answer
 meant_by Named = answer.named
 meant_by (Optimal amount) = answer.optimal amount
+meant_by Infeasible = answer.infeasible
 meant_by NoCommand = answer.no_command
 meant_by (Refused fault) = answer.refused fault
+meant_by NotBuilt = answer.not_built
 meant_by (Missing file) = answer.missing file.now
 meant_by (Unread file) = answer.unread file.now
 meant_by (Unwritten file) = answer.unwritten file.now

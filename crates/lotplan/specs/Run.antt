@@ -1,15 +1,15 @@
 -- What a run does to files and to the output, and why it answers what it does.
-use Rattle.std.specs.Prelude.{◌≡◌, ◌⊎◌, ℕ, ◌<◌, ◌≤◌, ◌+◌, string_bytes, Bool, IsTrue, List, ◌++◌, length, nat_lt, Option, Some, None, Result, Ok, Err, if◌then◌else◌}
-use Rattle.lot_sizing.specs.Problem.{Problem}
-use Rattle.lot_sizing.specs.Plan.{Plan, cost}
-use Rattle.lot_sizing.specs.Best.{IsBest}
+use Rattle.std.specs.Prelude.{◌≡◌, ◌⊎◌, ℕ, ◌<◌, ◌≤◌, ◌+◌, string_bytes, Bool, IsTrue, List, ◌++◌, length, codes, Option, Some, None, Ok, Err}
+use Rattle.lot_sizing.specs.Problem.{IsUncoupled, Problem}
+use Rattle.lot_sizing.specs.Plan.{IsFeasible, Plan, cost}
+use Rattle.lot_sizing.specs.Best.{IsBest, IsImpossible}
 use Rattle.lot_sizing.specs.Texts.{plan_text, optimal_line}
 use Rattle.lot_io.specs.Outside.{Files, Rose, RoseBy, SameElsewhere, AppendsSome}
-use Rattle.lot_model.specs.declared.fault.ModelFault.{ModelFault}
-use Rattle.instance_reader.specs.Model.{instance_of}
+use Rattle.lot_draft.specs.declared.fault.ModelFault.{ModelFault}
+use Rattle.instance_reader.specs.Model.{BytesMean}
 use Rattle.lotplan.specs.declared.answer.Said.{Said}
 use Rattle.lotplan.specs.Command.{Asked, version, planning, command_of}
-use Rattle.lotplan.specs.Answer.{Answer, named, optimal, no_command, refused, missing, unread, unwritten, too_long, no_memory, status_of, line_of, model_status}
+use Rattle.lotplan.specs.Answer.{Answer, named, optimal, infeasible, no_command, refused, not_built, missing, unread, unwritten, too_long, no_memory, status_of, line_of}
 
 -- the longest model file that is read
 abbrev pub file_limit : ℕ
@@ -36,24 +36,46 @@ pub record Printed : Type 0 where
 abbrev pub printed : Bool → List ℕ → ℕ → Printed
 printed told bytes faults = record { told = told; bytes = bytes; faults = faults }
 
--- the model file means a problem, and the plan file holds a best plan of it, which costs this amount
-pub record HoldsBest (before after : Files) (model_file plan_file : List ℕ) (amount : ℕ) : Type 0 where
+-- the model file means the problem
+pub record HoldsProblem (before : Files) (model_file : List ℕ) (problem : Problem) : Type 0 where
   pub bytes : List ℕ
   pub read : before model_file ≡ Some bytes
   pub short : length bytes ≤ file_limit
-  pub problem : Problem
-  pub means : instance_of bytes ≡ Ok problem
+  pub means : BytesMean bytes (Ok problem)
+
+-- the plan file holds a best plan of the problem, which costs this amount
+pub record WritesBest (after : Files) (problem : Problem) (plan_file : List ℕ) (amount : ℕ) : Type 0 where
+  pub uncoupled : IsUncoupled problem
   pub chosen : Plan
   pub best : IsBest problem chosen
   pub costs : cost problem chosen ≡ amount
   pub written : after plan_file ≡ Some (plan_text problem chosen)
+
+-- the model file means a problem, and the plan file holds a best plan of it, which costs this amount
+pub record HoldsBest (before after : Files) (model_file plan_file : List ℕ) (amount : ℕ) : Type 0 where
+  pub problem : Problem
+  pub holds : HoldsProblem before model_file problem
+  pub writes : WritesBest after problem plan_file amount
+
+-- the model file means a problem of which no plan is feasible
+pub record HoldsImpossible (before : Files) (model_file : List ℕ) : Type 0 where
+  pub problem : Problem
+  pub holds : HoldsProblem before model_file problem
+  pub uncoupled : IsUncoupled problem
+  pub impossible : IsImpossible problem
+
+-- the model file means a problem with an item that takes time on a resource or goes into another
+pub record HoldsCoupled (before : Files) (model_file : List ℕ) : Type 0 where
+  pub problem : Problem
+  pub holds : HoldsProblem before model_file problem
+  pub coupled : IsUncoupled problem → ⊥
 
 -- the model file means no problem, for this fault
 pub record HoldsNone (before : Files) (model_file : List ℕ) (fault : ModelFault) : Type 0 where
   pub bytes : List ℕ
   pub read : before model_file ≡ Some bytes
   pub short : length bytes ≤ file_limit
-  pub means : instance_of bytes ≡ Err fault
+  pub means : BytesMean bytes (Err fault)
 
 -- the file is longer than the limit
 pub record IsTooLong (before : Files) (file : List ℕ) : Type 0 where
@@ -64,6 +86,8 @@ pub record IsTooLong (before : Files) (file : List ℕ) : Type 0 where
 -- why planning these files ends in this answer, and what it leaves
 abbrev pub PlanExplains : List ℕ → List ℕ → Shelved → Shelved → Answer → Type 0
 PlanExplains m p old new (optimal amount) = IsTrue old.told → HoldsBest old.file new.file m p amount × SameElsewhere p old.file new.file
+PlanExplains m p old new infeasible = (IsTrue old.told → HoldsImpossible old.file m) × (new.file ≡ old.file)
+PlanExplains m p old new not_built = (IsTrue old.told → HoldsCoupled old.file m) × (new.file ≡ old.file)
 PlanExplains m p old new (refused fault) = (IsTrue old.told → HoldsNone old.file m fault) × (new.file ≡ old.file)
 PlanExplains m p old new (missing file) = (file ≡ m) × Rose old.misses new.misses × (IsTrue old.told → old.file m ≡ None) × (new.file ≡ old.file)
 PlanExplains m p old new (unread file) = (file ≡ m) × Rose old.faults new.faults × (new.file ≡ old.file)
@@ -92,18 +116,25 @@ pub record IsRun (words : List (List ℕ)) (status : ℕ) (old new : Shelved) (o
   pub prints : Prints answer status out_old out_new
 
 -- ---- the status that words and files call for, faults and want of memory aside
-abbrev pub model_calls_for : Result Problem ModelFault → ℕ
-model_calls_for (Ok problem) = 0
-model_calls_for (Err fault) = model_status fault.code
+-- for a problem 0 and 1 where its items have nothing to do with each other, and else 12
+abbrev pub ProblemCallsFor : Problem → ℕ → Type 0
+ProblemCallsFor problem status =
+    (IsUncoupled problem × (((status ≡ 0) × (p : Plan) × IsFeasible problem p) ⊎ ((status ≡ 1) × IsImpossible problem)))
+    ⊎ ((IsUncoupled problem → ⊥) × (status ≡ 12))
 
-abbrev pub file_calls_for : Option (List ℕ) → ℕ
-file_calls_for None = 6
-file_calls_for (Some bytes) = if nat_lt file_limit (length bytes) then 11 else model_calls_for (instance_of bytes)
+abbrev pub BytesCallFor : List ℕ → ℕ → Type 0
+BytesCallFor bytes status =
+    ((problem : Problem) × BytesMean bytes (Ok problem) × ProblemCallsFor problem status)
+    ⊎ ((fault : ModelFault) × BytesMean bytes (Err fault) × (status ≡ 5))
 
-abbrev pub calls_for : Option Asked → Files → ℕ
-calls_for None file = 4
-calls_for (Some version) file = 0
-calls_for (Some (planning m p c)) file = file_calls_for (file m)
+abbrev pub FileCallsFor : Option (List ℕ) → ℕ → Type 0
+FileCallsFor None status = status ≡ 6
+FileCallsFor (Some bytes) status = ((file_limit < length bytes) × (status ≡ 11)) ⊎ ((length bytes ≤ file_limit) × BytesCallFor bytes status)
+
+abbrev pub CallFor : Option Asked → Files → ℕ → Type 0
+CallFor None file status = status ≡ 4
+CallFor (Some version) file status = status ≡ 0
+CallFor (Some (planning m p c)) file status = FileCallsFor (file m) status
 
 -- no call on files or output failed
 pub record HadNoFault (old new : Shelved) (out_old out_new : Printed) : Type 0 where
@@ -111,15 +142,31 @@ pub record HadNoFault (old new : Shelved) (out_old out_new : Printed) : Type 0 w
   pub written : Rose old.write_faults new.write_faults → ⊥
   pub put : Rose out_old.faults out_new.faults → ⊥
 
--- the words ask to plan a model file that means no problem, for a fault of this status
-pub record RefusesModel (words : List (List ℕ)) (before : Files) (status : ℕ) : Type 0 where
-  pub model_file : List ℕ
+-- the words ask to plan a model file
+pub record IsAsked (words : List (List ℕ)) (model_file : List ℕ) : Type 0 where
   pub plan_file : List ℕ
   pub certificate_file : List ℕ
-  pub asked : command_of words ≡ Some (planning model_file plan_file certificate_file)
+  pub is : command_of words ≡ Some (planning model_file plan_file certificate_file)
+
+-- they ask to plan one that means no problem
+pub record RefusesModel (words : List (List ℕ)) (before : Files) : Type 0 where
+  pub model_file : List ℕ
+  pub asked : IsAsked words model_file
   pub fault : ModelFault
   pub none : HoldsNone before model_file fault
-  pub called : status ≡ model_status fault.code
+
+-- they ask to plan one of whose problem no plan is feasible, and the line says so
+pub record FindsNoPlan (words : List (List ℕ)) (before : Files) (out_old out_new : Printed) : Type 0 where
+  pub model_file : List ℕ
+  pub asked : IsAsked words model_file
+  pub holds : HoldsImpossible before model_file
+  pub line : IsTrue out_old.told → out_new.bytes ≡ out_old.bytes ++ codes "infeasible\n"
+
+-- they ask to plan one that can't be planned yet
+pub record CannotPlan (words : List (List ℕ)) (before : Files) : Type 0 where
+  pub model_file : List ℕ
+  pub asked : IsAsked words model_file
+  pub holds : HoldsCoupled before model_file
 
 -- the plan file holds a best plan of the problem in the model file, and the line has its cost
 pub record PlansBest (before after : Files) (model_file plan_file : List ℕ) (out_old out_new : Printed) : Type 0 where
@@ -128,23 +175,11 @@ pub record PlansBest (before after : Files) (model_file plan_file : List ℕ) (o
   pub line : IsTrue out_old.told → out_new.bytes ≡ out_old.bytes ++ optimal_line amount
 
 -- ---- the steps of a run
--- the bytes of the file mean the problem
-pub record HoldsProblem (before : Files) (model_file : List ℕ) (problem : Problem) : Type 0 where
-  pub bytes : List ℕ
-  pub read : before model_file ≡ Some bytes
-  pub short : length bytes ≤ file_limit
-  pub means : instance_of bytes ≡ Ok problem
-
--- the plan file holds a best plan of the problem, which costs this amount
-pub record WritesBest (after : Files) (problem : Problem) (plan_file : List ℕ) (amount : ℕ) : Type 0 where
-  pub chosen : Plan
-  pub best : IsBest problem chosen
-  pub costs : cost problem chosen ≡ amount
-  pub written : after plan_file ≡ Some (plan_text problem chosen)
-
--- why writing a best plan ends in this answer, and what it leaves
+-- why planning a problem ends in this answer, and what it leaves
 abbrev pub WriteExplains : Problem → List ℕ → Shelved → Shelved → Answer → Type 0
 WriteExplains problem p old new (optimal amount) = IsTrue old.told → WritesBest new.file problem p amount × SameElsewhere p old.file new.file
+WriteExplains problem p old new infeasible = IsUncoupled problem × IsImpossible problem × (new.file ≡ old.file)
+WriteExplains problem p old new not_built = (IsUncoupled problem → ⊥) × (new.file ≡ old.file)
 WriteExplains problem p old new (unwritten file) = (file ≡ p) × Rose old.write_faults new.write_faults × (IsTrue old.told → SameElsewhere p old.file new.file)
 WriteExplains problem p old new _ = ⊥
 

@@ -1,8 +1,8 @@
 // What a run answers.
 ghost use Rattle.std.specs.Prelude.{◌≡◌, ◌++◌, Some, IfOk, string_bytes, codes};
-ghost use Rattle.lotplan.specs.Answer.{line_of, model_line, status_of};
+ghost use Rattle.lotplan.specs.Answer.{line_of, status_of};
 
-use lot_model::{ModelCode, ModelFault};
+use lot_model::ModelFault;
 use std::alloc::{AllocError, Global};
 
 /// What a run answers, with the name of the file that it concerns. Want of memory is an error beside
@@ -13,10 +13,14 @@ pub enum Answer<'a> {
     Named,
     /// A best plan was written, with this cost.
     Optimal(u128),
+    /// No plan is feasible.
+    Infeasible,
     /// The words are no command.
     NoCommand,
-    /// The model is refused, or can't be planned yet.
+    /// The model is refused.
     Refused(ModelFault),
+    /// The model can't be planned yet.
+    NotBuilt,
     /// The file is absent.
     Missing(&'a str),
     /// The file could not be read.
@@ -54,11 +58,10 @@ impl Answer<'_> {
     {
         match self {
             Answer::Named | Answer::Optimal(_) => 0,
+            Answer::Infeasible => 1,
             Answer::NoCommand => 4,
-            Answer::Refused(fault) => match fault.code {
-                ModelCode::NotBuilt => 12,
-                _ => 5,
-            },
+            Answer::Refused(_) => 5,
+            Answer::NotBuilt => 12,
             Answer::Missing(_) => 6,
             Answer::Unread(_) => 7,
             Answer::Unwritten(_) => 8,
@@ -73,22 +76,14 @@ impl Answer<'_> {
         match self {
             Answer::Named => String::from_str(alloc, "lotplan 1\n"),
             Answer::Optimal(cost) => format!(in alloc; "optimal {cost}\n"),
+            Answer::Infeasible => String::from_str(alloc, "infeasible\n"),
             Answer::NoCommand => String::from_str(alloc, "refused words\n"),
-            Answer::Refused(fault) => model_line(alloc, fault),
+            Answer::Refused(fault) => format!(in alloc; "refused model {fault}\n"),
+            Answer::NotBuilt => String::from_str(alloc, "refused notbuilt\n"),
             Answer::Missing(file) => format!(in alloc; "refused missing {file}\n"),
             Answer::Unread(file) => format!(in alloc; "refused read {file}\n"),
             Answer::Unwritten(file) => format!(in alloc; "refused write {file}\n"),
             Answer::TooLong(file) => format!(in alloc; "refused long {file}\n"),
         }
-    }
-}
-
-// The line of a refused model.
-fn model_line(alloc: Global, fault: &ModelFault) -> Result<String, AllocError>
-    ensures { IfOk result (λ line. string_bytes line ≡ model_line fault.now.code fault.now) }
-{
-    match fault.code {
-        ModelCode::NotBuilt => String::from_str(alloc, "refused notbuilt\n"),
-        _ => format!(in alloc; "refused model {fault}\n"),
     }
 }

@@ -2,7 +2,8 @@
 //!
 //! `main` gives the command line, the machine's files and standard output to `run`, and ends with
 //! its status. `run` reads the words, plans, writes and prints; what each status means is its
-//! contract. So far a model of one item over one period is planned.
+//! contract. So far models are planned in which no item takes time on a
+//! resource or goes into another.
 #![tactic(auto)]
 
 ghost use Rattle.lotplan.specs.Answer.{no_command};
@@ -11,7 +12,6 @@ ghost use Rattle.lotplan.specs.Run.{printed, Prints};
 mod answer;
 mod command;
 mod planner;
-mod planning;
 mod run;
 mod text;
 

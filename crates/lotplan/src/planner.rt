@@ -1,15 +1,19 @@
 // Planning the model in a file.
 ghost use Rattle.std.specs.Prelude.{◌≡◌, IsTrue, IfOk, IfErr, OnErr};
+ghost use Rattle.lot_sizing.specs.Problem.{IsUncoupled};
+ghost use Rattle.lot_sizing.specs.Plan.{cost};
+ghost use Rattle.lot_sizing.specs.Best.{IsBest};
+ghost use Rattle.plan_rules.specs.Held.{AllFit, plan_of};
 ghost use Rattle.lotplan.specs.Run.{shelved, HoldsProblem, PlanExplains, SaysSome, WriteExplains};
 ghost use Rattle.lotplan.specs.Stops.{IsStop};
 
 use crate::answer::{Answer, Said};
-use crate::planning::best_plan;
 use crate::text::plan_text;
 use instance_reader::{ReadModelFault, read_instance};
 use lot_io::{ReadFault, Shelf, read_file, write_file};
-use lot_model::Instance;
+use lot_model::{Instance, is_uncoupled};
 use std::alloc::{AllocError, Global};
+use uncoupled::{Planned, plan_uncoupled};
 
 // The longest model file that is read, in bytes.
 const FILE_LIMIT: u64 = 16_777_216;
@@ -51,8 +55,35 @@ fn read_model<'a, S: Shelf>(
     }
 }
 
-// Writes a best plan of an instance. All memory is taken before the file is started.
-fn write_best<S: Shelf>(
+// Writes a plan of an instance. All memory is taken before the file is started.
+fn write_plan<S: Shelf>(
+    alloc: Global,
+    instance: &Instance,
+    planned: &Planned,
+    plan: &str,
+    shelf: &mut S,
+) -> Result<Said, AllocError>
+    requires uncoupled { IsUncoupled instance.now }
+    requires fits { AllFit instance.now planned.now.plan }
+    requires best { IsBest instance.now (plan_of planned.now.plan) }
+    requires costs { planned.now.cost ≡ cost instance.now (plan_of planned.now.plan) }
+    ensures said { IfOk result (SaysSome (WriteExplains instance.now plan.now
+        (shelved (S.told shelf.old) (S.file shelf.old) (S.faults shelf.old) (S.write_faults shelf.old) (S.misses shelf.old) (S.given shelf.old))
+        (shelved (S.told shelf.new) (S.file shelf.new) (S.faults shelf.new) (S.write_faults shelf.new) (S.misses shelf.new) (S.given shelf.new)))) }
+    ensures memory { OnErr result (S.file shelf.new ≡ S.file shelf.old) }
+    ensures told { S.told shelf.new ≡ S.told shelf.old }
+{
+    let text = plan_text(alloc, instance, &planned.plan)?;
+    let written = Answer::Optimal(planned.cost).said(alloc)?;
+    let unwritten = Answer::Unwritten(plan).said(alloc)?;
+    match write_file(shelf, plan, text.as_bytes()) {
+        Ok(()) => Ok(written),
+        Err(_) => Ok(unwritten),
+    }
+}
+
+// Plans an instance, and writes a best plan where there is one.
+fn plan_instance<S: Shelf>(
     alloc: Global,
     instance: &Instance,
     plan: &str,
@@ -64,13 +95,12 @@ fn write_best<S: Shelf>(
     ensures memory { OnErr result (S.file shelf.new ≡ S.file shelf.old) }
     ensures told { S.told shelf.new ≡ S.told shelf.old }
 {
-    let planned = best_plan(alloc, instance)?;
-    let text = plan_text(alloc, instance, &planned.plan)?;
-    let written = Answer::Optimal(planned.cost).said(alloc)?;
-    let unwritten = Answer::Unwritten(plan).said(alloc)?;
-    match write_file(shelf, plan, text.as_bytes()) {
-        Ok(()) => Ok(written),
-        Err(_) => Ok(unwritten),
+    if !is_uncoupled(instance) {
+        return Answer::NotBuilt.said(alloc);
+    }
+    match plan_uncoupled(alloc, instance)? {
+        Some(planned) => write_plan(alloc, instance, &planned, plan, shelf),
+        None => Answer::Infeasible.said(alloc),
     }
 }
 
@@ -88,7 +118,7 @@ pub fn plan_files<S: Shelf>(
     ensures told { S.told shelf.new ≡ S.told shelf.old }
 {
     match read_model(alloc, model, shelf) {
-        Ok(instance) => write_best(alloc, &instance, plan, shelf),
+        Ok(instance) => plan_instance(alloc, &instance, plan, shelf),
         Err(Stop::Answered(answer)) => answer.said(alloc),
         Err(Stop::Memory) => Err(AllocError),
     }

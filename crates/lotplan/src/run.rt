@@ -2,7 +2,7 @@
 ghost use Rattle.std.specs.Prelude.{◌≡◌, ◌≢◌, ◌⊎◌, ◌+◌, ℕ, List, IsTrue, Some, None, map, string_bytes, IfOk, OnErr};
 ghost use Rattle.lot_io.specs.Outside.{Rose, RoseBy, SameElsewhere};
 ghost use Rattle.lotplan.specs.Command.{command_of, planning};
-ghost use Rattle.lotplan.specs.Run.{calls_for, file_limit, printed, shelved, Explains, HadNoFault, IsRun, PlansBest, PrintsSaid, RefusesModel, SaysSome};
+ghost use Rattle.lotplan.specs.Run.{CallFor, file_limit, printed, shelved, CannotPlan, Explains, FindsNoPlan, HadNoFault, IsRun, PlansBest, PrintsSaid, RefusesModel, SaysSome};
 
 use crate::answer::{Answer, Said};
 use crate::command::{Command, read_words};
@@ -13,7 +13,7 @@ use std::alloc::{AllocError, Global};
 /// Does what the words ask for, prints one line, and gives the status of the process.
 ///
 /// `words` are those after the program's name: none for the program's name and version, or
-/// `plan MODEL PLAN CERTIFICATE`. The statuses are 0 done, 4 no command, 5 the model is refused,
+/// `plan MODEL PLAN CERTIFICATE`. The statuses are 0 done, 1 no plan is feasible, 4 no command, 5 the model is refused,
 /// 6 a file is absent, 7 it could not be read, 8 it could not be written, 9 the line could not be
 /// printed, 10 want of memory, 11 the model file is longer than 16,777,216 bytes, 12 the model can't
 /// be planned yet. All memory is taken before the first write.
@@ -31,11 +31,15 @@ pub fn run<S: Shelf, K: Sink>(alloc: Global, words: &[String], shelf: &mut S, ou
         (shelved (S.told shelf.new) (S.file shelf.new) (S.faults shelf.new) (S.write_faults shelf.new) (S.misses shelf.new) (S.given shelf.new))
         (printed (K.told out.old) (K.bytes out.old) (K.faults out.old))
         (printed (K.told out.new) (K.bytes out.new) (K.faults out.new))
-        → (result ≡ 10) ⊎ (result ≡ calls_for (command_of (map string_bytes words.now)) (S.file shelf.old)) }
+        → (result ≡ 10) ⊎ CallFor (command_of (map string_bytes words.now)) (S.file shelf.old) result }
 
     // The cause of each other status.
     ensures no_command { result ≡ 4 → command_of (map string_bytes words.now) ≡ None }
-    ensures refused { (result ≡ 5) ⊎ (result ≡ 12) → IsTrue (S.told shelf.old) → RefusesModel (map string_bytes words.now) (S.file shelf.old) result }
+    ensures infeasible { result ≡ 1 → IsTrue (S.told shelf.old) → FindsNoPlan (map string_bytes words.now) (S.file shelf.old)
+        (printed (K.told out.old) (K.bytes out.old) (K.faults out.old))
+        (printed (K.told out.new) (K.bytes out.new) (K.faults out.new)) }
+    ensures refused { result ≡ 5 → IsTrue (S.told shelf.old) → RefusesModel (map string_bytes words.now) (S.file shelf.old) }
+    ensures not_built { result ≡ 12 → IsTrue (S.told shelf.old) → CannotPlan (map string_bytes words.now) (S.file shelf.old) }
     ensures missing { result ≡ 6 → Rose (S.misses shelf.old) (S.misses shelf.new) }
     ensures unread { result ≡ 7 → Rose (S.faults shelf.old) (S.faults shelf.new) }
     ensures unwritten { result ≡ 8 → Rose (S.write_faults shelf.old) (S.write_faults shelf.new) }

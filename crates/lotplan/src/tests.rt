@@ -80,26 +80,174 @@ fn models_are_planned(rt: HostRuntime) -> Result<(), Fail> {
     Ok(())
 }
 
+// A model of one item, with these lines.
+fn one_item(alloc: Global, periods: u32, lines: &str) -> Result<String, AllocError> {
+    format!(in alloc; "version = 1\nperiods = {periods}\n[[item]]\nname = \"A\"\n{lines}\n")
+}
+
+// Whether planning a model ends with this status, prints this line and leaves these records in the plan
+// file, which is absent where there are none.
+fn ends_in(
+    alloc: Global,
+    model: &str,
+    status: u8,
+    line: &str,
+    records: &str,
+) -> Result<bool, AllocError> {
+    let words = texts(alloc, &["plan", "m", "p", "c"])?;
+    let mut shelf = shelf_with(alloc, model.as_bytes(), &[], &[], &[])?;
+    let mut out = MemorySink::new(alloc, Vec::new(alloc));
+    let ended = run(alloc, words.as_slice(), &mut shelf, &mut out);
+    let text = format!(in alloc; "{HEADER}{records}")?;
+    let kept = if records.is_empty() {
+        shelf.files.len() == 1 && shelf.starts == 0
+    } else {
+        shelf.files.len() == 2 && holds(&shelf, "p", text.as_str())
+    };
+    let said = ended == status && out.bytes.as_slice() == line.as_bytes();
+    Ok(said && kept && holds(&shelf, "m", model))
+}
+
+#[test]
+fn items_by_themselves_are_planned(rt: HostRuntime) -> Result<(), Fail> {
+    let alloc = rt.alloc();
+    for (lines, line, records) in [
+        (
+            "opening = 7\ndemand = [3, 3]\nend_min = 1\nhold_cost = 1\nsetup_cost = 10",
+            "optimal 5\n",
+            "A,1,0,0,4,0\nA,2,0,0,1,0\n",
+        ),
+        (
+            "demand = [4, 6]\nsetup_cost = [100, 20]\nhold_cost = 1\nbacklog_cost = 2",
+            "optimal 28\n",
+            "A,1,0,0,0,4\nA,2,10,1,0,0\n",
+        ),
+        (
+            "demand = [4, 6]\nsetup_cost = [100, 20]\nhold_cost = 1",
+            "optimal 106\n",
+            "A,1,10,1,6,0\nA,2,0,0,0,0\n",
+        ),
+    ] {
+        let model = one_item(alloc, 2, lines)?;
+        assert!(rt; ends_in(alloc, model.as_str(), 0, line, records)?);
+    }
+    Ok(())
+}
+
+#[test]
+fn twelve_periods_are_planned(rt: HostRuntime) -> Result<(), Fail> {
+    let alloc = rt.alloc();
+    let model = one_item(
+        alloc,
+        12,
+        "demand = [69, 29, 36, 61, 61, 26, 34, 67, 45, 67, 79, 56]\nsetup_cost = [85, 102, 102, 101, 98, 114, 105, 86, 119, 110, 98, 114]\nhold_cost = 1",
+    )?;
+    let records =
+        "A,1,98,1,29,0\nA,2,0,0,0,0\nA,3,97,1,61,0\nA,4,0,0,0,0\nA,5,121,1,60,0\nA,6,0,0,34,0\nA,7,0,0,0,0\nA,8,112,1,45,0\nA,9,0,0,0,0\nA,10,67,1,0,0\nA,11,135,1,56,0\nA,12,0,0,0,0\n";
+    assert!(rt; ends_in(alloc, model.as_str(), 0, "optimal 864\n", records)?);
+    Ok(())
+}
+
+#[test]
+fn a_stock_without_room_is_infeasible(rt: HostRuntime) -> Result<(), Fail> {
+    let alloc = rt.alloc();
+    let model = one_item(alloc, 1, "opening = 9\ndemand = [3]\nend_max = 5")?;
+    assert!(rt; ends_in(alloc, model.as_str(), 1, "infeasible\n", "")?);
+    let model = one_item(alloc, 1, "opening = 8\ndemand = [3]\nend_max = 5")?;
+    assert!(rt; ends_in(alloc, model.as_str(), 0, "optimal 0\n", "A,1,0,0,5,0\n")?);
+    Ok(())
+}
+
+// A model of two items over one period, with these lines.
+fn two_items(alloc: Global, first: &str, second: &str) -> Result<String, AllocError> {
+    format!(in alloc;
+        "version = 1\nperiods = 1\n[[item]]\nname = \"A\"\n{first}\n[[item]]\nname = \"B\"\n{second}\n"
+    )
+}
+
+#[test]
+fn several_items_are_planned(rt: HostRuntime) -> Result<(), Fail> {
+    let alloc = rt.alloc();
+    let model = two_items(
+        alloc,
+        "demand = [10]\nsetup_cost = 5\nunit_cost = 2",
+        "demand = [4]\nsetup_cost = 3\nopening = 1",
+    )?;
+    let records = "A,1,10,1,0,0\nB,1,3,1,0,0\n";
+    assert!(rt; ends_in(alloc, model.as_str(), 0, "optimal 28\n", records)?);
+    Ok(())
+}
+
 #[test]
 fn models_are_refused(rt: HostRuntime) -> Result<(), Fail> {
     let alloc = rt.alloc();
-    let words = texts(alloc, &["plan", "m", "p", "c"])?;
-    let kept = format!(in alloc; "{TEN}hold_cost = 1\n")?;
-    for (model, status, line) in [
-        (kept.as_str(), 12u8, "refused notbuilt\n"),
-        ("version = 1\nperiods =\n", 5, "refused model M1 root\n"),
-        ("", 12, "refused notbuilt\n"),
+    for (first, second, status, line) in [
+        (
+            "demand = [0]\nneeds = [{ item = \"B\", quantity = 1 }]",
+            "demand = [0]\nneeds = [{ item = \"A\", quantity = 1 }]",
+            5u8,
+            "refused model M10 item 1\n",
+        ),
+        (
+            "demand = [5]\nneeds = [{ item = \"B\", quantity = 2 }]",
+            "demand = [0]\nbacklog_cost = 1",
+            5,
+            "refused model M11 item 2\n",
+        ),
+        (
+            "demand = [5]\nneeds = [{ item = \"B\", quantity = 2 }]",
+            "demand = [0]\nhold_cost = 1",
+            12,
+            "refused notbuilt\n",
+        ),
     ] {
-        let mut shelf = shelf_with(alloc, model.as_bytes(), &[], &[], &[])?;
-        let mut out = MemorySink::new(alloc, Vec::new(alloc));
-        assert_eq!(rt;
-            run(alloc, words.as_slice(), &mut shelf, &mut out),
-            status,
-            "{line}"
-        );
-        assert!(rt; out.bytes.as_slice() == line.as_bytes(), "{line}");
-        assert!(rt; shelf.files.len() == 1 && shelf.starts == 0);
+        let model = two_items(alloc, first, second)?;
+        assert!(rt; ends_in(alloc, model.as_str(), status, line, "")?);
     }
+    Ok(())
+}
+
+#[test]
+fn texts_that_are_no_model_are_refused(rt: HostRuntime) -> Result<(), Fail> {
+    let alloc = rt.alloc();
+    assert!(rt;
+        ends_in(
+            alloc,
+            "version = 1\nperiods =\n",
+            5,
+            "refused model M1 root\n",
+            ""
+        )?
+    );
+    assert!(rt; ends_in(alloc, "", 5, "refused model M3 root version\n", "")?);
+    Ok(())
+}
+
+// Forty items, each of which takes a million of the next.
+fn chain(alloc: Global) -> Result<String, AllocError> {
+    let mut text = String::from_str(alloc, "version = 1\nperiods = 1\n")?;
+    for item in 1..41u32 {
+        let demand = if item == 1 { 1u32 } else { 0u32 };
+        write!(
+            &mut text,
+            "[[item]]\nname = \"i{item}\"\ndemand = [{demand}]\n"
+        )?;
+        if item < 40 {
+            let next = item + 1;
+            write!(
+                &mut text,
+                "needs = [{{ item = \"i{next}\", quantity = 1000000 }}]\n"
+            )?;
+        }
+    }
+    Ok(text)
+}
+
+#[test]
+fn quantities_past_the_bound_are_refused(rt: HostRuntime) -> Result<(), Fail> {
+    let alloc = rt.alloc();
+    let model = chain(alloc)?;
+    assert!(rt; ends_in(alloc, model.as_str(), 5, "refused model M12 item 4\n", "")?);
     Ok(())
 }
 

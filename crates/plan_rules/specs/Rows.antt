@@ -1,13 +1,9 @@
 -- Rows of the least stocks and backlogs.
-use Rattle.std.specs.Prelude.{◌≡◌, ◌≢◌, ◌⊎◌, ◌≤◌, ◌^◌, ℕ, []}
-use Rattle.lot_sizing.specs.Problem.{Problem, item_at, item_count}
+use Rattle.std.specs.Prelude.{◌≡◌, ◌≢◌, ◌⊎◌, ◌≤◌, ◌^◌, ℕ}
+use Rattle.lot_sizing.specs.Problem.{Problem, item_count}
 use Rattle.lot_sizing.specs.Plan.{Plan, Table, EachCell, IsFeasible, cost}
 use Rattle.lot_sizing.specs.Least.{least_stock, least_backlog, HasChoice}
 use Rattle.plan_rules.specs.Cells.{Cells, table_of}
-
--- no item goes into another
-abbrev pub NeedsNothing : Problem → Type 0
-NeedsNothing m = (i : ℕ) → 1 ≤ i → i ≤ item_count m → (item_at m i).needs ≡ []
 
 -- the tables have the least stock and backlog here
 abbrev pub HasLeast : Problem → Table → Table → Table → ℕ → ℕ → Type 0

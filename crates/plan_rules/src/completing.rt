@@ -4,7 +4,7 @@ ghost use Rattle.lot_sizing.specs.Problem.{item_count};
 ghost use Rattle.lot_sizing.specs.Plan.{IsFeasible, EachCell};
 ghost use Rattle.plan_rules.specs.Cells.{Fits, table_of};
 ghost use Rattle.plan_rules.specs.Held.{AllFit, plan_of};
-ghost use Rattle.plan_rules.specs.Rows.{HasLeast, NeedsNothing, OtherRowsSame, IsTooLarge, HasTooLarge, IsLeastWith, HasNoPlan};
+ghost use Rattle.plan_rules.specs.Rows.{HasLeast, OtherRowsSame, IsTooLarge, HasTooLarge, IsLeastWith, HasNoPlan};
 
 use crate::judging::judge;
 use crate::{Grid, Plan, sums};
@@ -78,7 +78,6 @@ pub fn complete(
 ) -> Result<Option<Plan>, AllocError>
     requires make { Fits instance.now make }
     requires setup { Fits instance.now setup }
-    requires free { NeedsNothing instance.now }
     ensures choice { IfOk result (λ found. IfSome found (λ plan. (plan.make ≡ make) × (plan.setup ≡ setup))) }
     ensures feasible { IfOk result (λ found. IfSome found (λ plan. AllFit instance.now plan × IsFeasible instance.now (plan_of plan))) }
     ensures least { IfOk result (λ found. IfSome found (λ plan. IsLeastWith instance.now (table_of make) (table_of setup) (plan_of plan))) }

@@ -113,6 +113,24 @@ fn judge_end(instance: &Instance, plan: &Plan) -> Result<(), u32>
     Ok(())
 }
 
+// Whether nothing is owed of an item at the end of a period, or it may be.
+fn is_backlog_allowed(instance: &Instance, plan: &Plan, item: u32, period: u32) -> bool
+    requires plan { AllFit instance.now plan.now }
+    requires item_low { 1 ≤ item }
+    requires item_high { item ≤ item_count instance.now }
+    requires low { 1 ≤ period }
+    requires high { period ≤ instance.now.periods }
+    ensures { IsTrue result ↔ IsBacklogAllowed instance.now (plan_of plan.now) item period }
+{
+    if plan.backlog.get(item, period) == 0 {
+        return true;
+    }
+    if period == instance.periods() {
+        return false;
+    }
+    instance.backlog_cost(item, period).is_some()
+}
+
 // Each backlog is allowed.
 fn judge_backlog(instance: &Instance, plan: &Plan) -> Result<(), (u32, u32)>
     requires { AllFit instance.now plan.now }
@@ -122,8 +140,7 @@ fn judge_backlog(instance: &Instance, plan: &Plan) -> Result<(), (u32, u32)>
     let periods = instance.periods();
     for item in 1..instance.items() + 1 {
         for period in 1..periods + 1 {
-            let free = instance.backlog_cost(item, period).is_some() && period != periods;
-            if !free && plan.backlog.get(item, period) > 0 {
+            if !is_backlog_allowed(instance, plan, item, period) {
                 return Err((item, period));
             }
         }

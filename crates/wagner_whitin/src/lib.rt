@@ -17,6 +17,7 @@ mod table;
 
 pub use echelon::{Block, Blocks, SingleItem};
 pub use plain::plain_least_cost;
+pub use prices::needed;
 pub use solving::{solve, solve_over_servers};
 
 #[cfg(test)]

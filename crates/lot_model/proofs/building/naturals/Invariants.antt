@@ -1,5 +1,5 @@
 use Rattle.std.proofs.Common.{◌≡◌, map, take}
-use Rattle.lot_model.specs.Drafts.{natural}
+use Rattle.lot_draft.specs.Meaning.{natural}
 use Rattle.lot_model.proofs.building.naturals.Given as goal
 
 abbrev pub invariant-loop-number : goal.invariant-loop-number

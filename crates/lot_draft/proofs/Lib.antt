@@ -1,0 +1,6 @@
+pub mod Members
+pub mod Scans
+pub mod Apart
+pub mod Faults
+pub mod Limits
+pub mod PlaceOf

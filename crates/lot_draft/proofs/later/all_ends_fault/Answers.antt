@@ -1,0 +1,11 @@
+use Rattle.std.proofs.Common.{◌≡◌, ◌+◌, ◌∙◌, sym, ap, map}
+use Rattle.lot_draft.specs.Raw.{raw_item}
+use Rattle.lot_draft.specs.Refusals.{ends_fault, first_in}
+use Rattle.lot_draft.proofs.Scans.{found_in, passed_in}
+use Rattle.lot_draft.proofs.later.all_ends_fault.Goals as goal
+
+pub returns-in-Some : goal.returns-in-Some
+returns-in-Some c = found_in raw_item ends_fault (first_in ends_fault 1 (map raw_item c.args.items.now)) c.ends_fault.result c.loop-at.at c.args.items.now c.index-items-at.result c.in-Some.found c.loop-at.invariant c.loop-at-test.true c.index-items-at.is c.ends_fault.ensures c.in-Some.is
+
+pub loop-at-preserved : goal.loop-at-preserved
+loop-at-preserved c = passed_in raw_item ends_fault (first_in ends_fault 1 (map raw_item c.args.items.now)) c.ends_fault.result c.loop-at.at c.args.items.now c.index-items-at.result c.loop-at.invariant c.loop-at-test.true c.index-items-at.is c.ends_fault.ensures c.in_default.is

@@ -1,0 +1,522 @@
+// The first rule of counts, names, lists, numbers and lines that a draft breaks.
+ghost use Rattle.std.specs.Prelude.{◌≡◌, ◌≤◌, ◌*◌, ◌^◌, false, length, map, nat_le, None, option_map, pos, take};
+ghost use Rattle.std.specs.List.{sum_by};
+ghost use Rattle.lot_draft.specs.Raw.{raw_item, raw_model, raw_need, raw_resource, raw_use};
+ghost use Rattle.lot_draft.specs.Refusals.{capacity_fault, count_fault, entry_fault, first_in, is_among, item_lines_fault, item_lists_fault, item_name_fault, item_names, item_numbers_fault, item_repeat, lines_fault, name_fault, need_fault, need_names, number_fault, numbers_fault, optional_number_fault, optional_series_fault, or_then, plain_fault, repeat_fault, resource_name_fault, resource_names, resource_repeat, series_fault, unless, use_fault, use_names};
+ghost use Rattle.lot_sizing.specs.Problem.{item_count};
+ghost use Rattle.lot_draft.specs.Meaning.{problem_of, HaveNeeds};
+
+use crate::names::is_name;
+use crate::{
+    Draft, DraftItem, DraftNeed, DraftResource, DraftUse, Key, ModelCode, ModelFault, Place,
+};
+
+/// A fault at a place.
+pub fn fault(
+    code: ModelCode,
+    place: Place,
+    key: Option<Key>,
+    period: Option<u64>,
+) -> Option<ModelFault>
+    ensures { result ≡ unless false code place key period }
+{
+    Some(ModelFault {
+        code,
+        place,
+        key,
+        period,
+    })
+}
+
+// Whether there are at most 400 lines of components in all.
+fn has_few_lines(items: &[DraftItem]) -> bool
+    ensures { result ≡ nat_le (sum_by (λ i. length i.needs) (map raw_item items.now)) 400 }
+{
+    let mut count = 0usize;
+    for place in 0..items.len() {
+        let lines = items[place].needs.len();
+        if lines > 400 - count {
+            return false;
+        }
+        count += lines;
+    }
+    true
+}
+
+// So many periods, resources, items and lines of components.
+fn count_fault(draft: &Draft) -> Option<ModelFault>
+    ensures { result ≡ count_fault (raw_model draft.now) }
+{
+    if draft.periods < 1 || draft.periods > 60 {
+        return fault(ModelCode::OutOfRange, Place::Root, Some(Key::Periods), None);
+    }
+    if draft.resources.len() > 20 {
+        return fault(
+            ModelCode::OutOfRange,
+            Place::Root,
+            Some(Key::Resource),
+            None,
+        );
+    }
+    if draft.items.is_empty() || draft.items.len() > 40 {
+        return fault(ModelCode::OutOfRange, Place::Root, Some(Key::Item), None);
+    }
+    if !has_few_lines(&draft.items) {
+        return fault(ModelCode::OutOfRange, Place::Root, Some(Key::Needs), None);
+    }
+    None
+}
+
+// A number from low to the most.
+fn number_fault(place: Place, key: Key, number: i64, low: i64, most: i64) -> Option<ModelFault>
+    ensures { result ≡ number_fault low most place key number }
+{
+    if number < low || number > most {
+        return fault(ModelCode::OutOfRange, place, Some(key), None);
+    }
+    None
+}
+
+// An entry of a list, from 0 to a billion.
+fn entry_fault(place: Place, key: Key, number: i64, period: u64) -> Option<ModelFault>
+    ensures { result ≡ entry_fault place key period number }
+{
+    if number < 0 || number > 1_000_000_000 {
+        return fault(ModelCode::OutOfRange, place, Some(key), Some(period));
+    }
+    None
+}
+
+// A list with an entry for each period, each from 0 to a billion.
+fn series_fault(place: Place, key: Key, list: &[i64], periods: u32) -> Option<ModelFault>
+    ensures { result ≡ series_fault (pos periods) place key list.now }
+{
+    if list.len() != periods as usize {
+        return fault(ModelCode::WrongLength, place, Some(key), None);
+    }
+    for at in 0..list.len() {
+        if let Some(found) = entry_fault(place, key, list[at], at as u64 + 1) {
+            return Some(found);
+        }
+    }
+    None
+}
+
+// The same of a list that may be absent.
+fn optional_series_fault(
+    place: Place,
+    key: Key,
+    list: &Option<Vec<i64>>,
+    periods: u32,
+) -> Option<ModelFault>
+    ensures { result ≡ optional_series_fault (pos periods) place key (option_map (λ v. v.items) list.now) }
+{
+    match list {
+        Some(list) => series_fault(place, key, list, periods),
+        None => None,
+    }
+}
+
+// A number from 0 to two billions, where there is one.
+fn optional_number_fault(place: Place, key: Key, number: Option<i64>) -> Option<ModelFault>
+    ensures { result ≡ optional_number_fault (pos (2 * 10 ^ 9)) place key number }
+{
+    match number {
+        Some(number) => number_fault(place, key, number, 0, 2_000_000_000),
+        None => None,
+    }
+}
+
+// The lists of an item, key by key.
+fn item_lists_fault(item: &DraftItem, number: u32, periods: u32) -> Option<ModelFault>
+    ensures { result ≡ item_lists_fault (pos periods) number (raw_item item.now) }
+{
+    let at = Place::Item(number);
+    if let Some(found) = series_fault(at, Key::Demand, &item.demand, periods) {
+        return Some(found);
+    }
+    if let Some(found) = series_fault(at, Key::UnitCost, &item.unit_cost, periods) {
+        return Some(found);
+    }
+    if let Some(found) = series_fault(at, Key::SetupCost, &item.setup_cost, periods) {
+        return Some(found);
+    }
+    if let Some(found) = series_fault(at, Key::HoldCost, &item.hold_cost, periods) {
+        return Some(found);
+    }
+    optional_series_fault(at, Key::BacklogCost, &item.backlog_cost, periods)
+}
+
+// The lists and numbers of an item, key by key.
+fn item_numbers_fault(item: &DraftItem, number: u32, periods: u32) -> Option<ModelFault>
+    ensures { result ≡ item_numbers_fault (pos periods) number (raw_item item.now) }
+{
+    let at = Place::Item(number);
+    if let Some(found) = item_lists_fault(item, number, periods) {
+        return Some(found);
+    }
+    if let Some(found) = number_fault(at, Key::Opening, item.opening, 0, 1_000_000_000) {
+        return Some(found);
+    }
+    if let Some(found) = number_fault(at, Key::EndMin, item.end_min, 0, 1_000_000_000) {
+        return Some(found);
+    }
+    optional_number_fault(at, Key::EndMax, item.end_max)
+}
+
+// A resource's name.
+fn resource_name_fault(resource: &DraftResource, number: u32) -> Option<ModelFault>
+    ensures { result ≡ resource_name_fault number (raw_resource resource.now) }
+{
+    if is_name(&resource.name) {
+        return None;
+    }
+    fault(ModelCode::BadName, Place::Resource(number), None, None)
+}
+
+// An item's name.
+fn item_name_fault(item: &DraftItem, number: u32) -> Option<ModelFault>
+    ensures { result ≡ item_name_fault number (raw_item item.now) }
+{
+    if is_name(&item.name) {
+        return None;
+    }
+    fault(ModelCode::BadName, Place::Item(number), None, None)
+}
+
+// The names of resources.
+fn resource_names_fault(resources: &[DraftResource]) -> Option<ModelFault>
+    requires few { length resources.now ≤ 20 }
+    ensures { result ≡ first_in resource_name_fault 1 (map raw_resource resources.now) }
+{
+    for at in 0..resources.len() {
+        let resource = &resources[at];
+        if let Some(found) = resource_name_fault(resource, at as u32 + 1) {
+            return Some(found);
+        }
+    }
+    None
+}
+
+// The names of items.
+fn item_names_fault(items: &[DraftItem]) -> Option<ModelFault>
+    requires few { length items.now ≤ 40 }
+    ensures { result ≡ first_in item_name_fault 1 (map raw_item items.now) }
+{
+    for at in 0..items.len() {
+        let item = &items[at];
+        if let Some(found) = item_name_fault(item, at as u32 + 1) {
+            return Some(found);
+        }
+    }
+    None
+}
+
+// The capacities of resources.
+fn capacities_fault(resources: &[DraftResource], periods: u32) -> Option<ModelFault>
+    requires few { length resources.now ≤ 20 }
+    ensures { result ≡ first_in (capacity_fault (pos periods)) 1 (map raw_resource resources.now) }
+{
+    for at in 0..resources.len() {
+        let resource = &resources[at];
+        if let Some(found) = capacity_fault(resource, at as u32 + 1, periods) {
+            return Some(found);
+        }
+    }
+    None
+}
+
+// The capacities of a resource.
+fn capacity_fault(resource: &DraftResource, number: u32, periods: u32) -> Option<ModelFault>
+    ensures { result ≡ capacity_fault (pos periods) number (raw_resource resource.now) }
+{
+    series_fault(
+        Place::Resource(number),
+        Key::Capacity,
+        &resource.capacity,
+        periods,
+    )
+}
+
+// The lists and numbers of items.
+fn items_numbers_fault(items: &[DraftItem], periods: u32) -> Option<ModelFault>
+    requires few { length items.now ≤ 40 }
+    ensures { result ≡ first_in (item_numbers_fault (pos periods)) 1 (map raw_item items.now) }
+{
+    for at in 0..items.len() {
+        let item = &items[at];
+        if let Some(found) = item_numbers_fault(item, at as u32 + 1, periods) {
+            return Some(found);
+        }
+    }
+    None
+}
+
+// Whether one of the first items has a name.
+fn is_item_name(items: &[DraftItem], count: usize, name: &str) -> bool
+    requires { count ≤ length items.now }
+    ensures { result ≡ is_among (take count (item_names (map raw_item items.now))) name.now }
+{
+    for at in 0..count {
+        let item = &items[at];
+        if item.name.as_str() == name {
+            return true;
+        }
+    }
+    false
+}
+
+// Whether one of the first resources has a name.
+fn is_resource_name(resources: &[DraftResource], count: usize, name: &str) -> bool
+    requires { count ≤ length resources.now }
+    ensures { result ≡ is_among (take count (resource_names (map raw_resource resources.now))) name.now }
+{
+    for at in 0..count {
+        let resource = &resources[at];
+        if resource.name.as_str() == name {
+            return true;
+        }
+    }
+    false
+}
+
+/// Whether one of the first lines of components names an item.
+pub fn is_need_name(needs: &[DraftNeed], count: usize, name: &str) -> bool
+    requires { count ≤ length needs.now }
+    ensures { result ≡ is_among (take count (need_names (map raw_need needs.now))) name.now }
+{
+    for at in 0..count {
+        let need = &needs[at];
+        if need.item.as_str() == name {
+            return true;
+        }
+    }
+    false
+}
+
+// Whether one of the first lines of resources names a resource.
+fn is_use_name(uses: &[DraftUse], count: usize, name: &str) -> bool
+    requires { count ≤ length uses.now }
+    ensures { result ≡ is_among (take count (use_names (map raw_use uses.now))) name.now }
+{
+    for at in 0..count {
+        let usage = &uses[at];
+        if usage.resource.as_str() == name {
+            return true;
+        }
+    }
+    false
+}
+
+// The name of a resource, where it is that of an earlier one.
+fn resource_repeat(
+    resources: &[DraftResource],
+    resource: &DraftResource,
+    number: u32,
+) -> Option<ModelFault>
+    requires low { 1 ≤ number }
+    requires high { number ≤ length resources.now }
+    ensures { result ≡ resource_repeat (map raw_resource resources.now) number (raw_resource resource.now) }
+{
+    if is_resource_name(resources, (number - 1) as usize, &resource.name) {
+        return fault(ModelCode::RepeatedName, Place::Resource(number), None, None);
+    }
+    None
+}
+
+// Names of resources that stand before.
+fn resource_repeats_fault(resources: &[DraftResource]) -> Option<ModelFault>
+    requires few { length resources.now ≤ 40 }
+    ensures { result ≡ first_in (resource_repeat (map raw_resource resources.now)) 1 (map raw_resource resources.now) }
+{
+    for at in 0..resources.len() {
+        let resource = &resources[at];
+        if let Some(found) = resource_repeat(resources, resource, at as u32 + 1) {
+            return Some(found);
+        }
+    }
+    None
+}
+
+// The name of a item, where it is that of an earlier one.
+fn item_repeat(items: &[DraftItem], item: &DraftItem, number: u32) -> Option<ModelFault>
+    requires low { 1 ≤ number }
+    requires high { number ≤ length items.now }
+    ensures { result ≡ item_repeat (map raw_item items.now) number (raw_item item.now) }
+{
+    if is_item_name(items, (number - 1) as usize, &item.name) {
+        return fault(ModelCode::RepeatedName, Place::Item(number), None, None);
+    }
+    None
+}
+
+// Names of items that stand before.
+fn item_repeats_fault(items: &[DraftItem]) -> Option<ModelFault>
+    requires few { length items.now ≤ 40 }
+    ensures { result ≡ first_in (item_repeat (map raw_item items.now)) 1 (map raw_item items.now) }
+{
+    for at in 0..items.len() {
+        let item = &items[at];
+        if let Some(found) = item_repeat(items, item, at as u32 + 1) {
+            return Some(found);
+        }
+    }
+    None
+}
+
+// A line of components: an unknown item, one of an earlier line, or a quantity out of range.
+fn need_fault(
+    items: &[DraftItem],
+    item: u32,
+    needs: &[DraftNeed],
+    need: &DraftNeed,
+    line: u32,
+) -> Option<ModelFault>
+    requires low { 1 ≤ line }
+    requires high { line ≤ length needs.now }
+    ensures { result ≡ need_fault (item_names (map raw_item items.now)) item (map raw_need needs.now) line (raw_need need.now) }
+{
+    let at = Place::Need(item, line);
+    if !is_item_name(items, items.len(), &need.item) {
+        return fault(ModelCode::UnknownName, at, None, None);
+    }
+    if is_need_name(needs, (line - 1) as usize, &need.item) {
+        return fault(ModelCode::RepeatedName, at, None, None);
+    }
+    number_fault(at, Key::Quantity, need.quantity, 1, 1_000_000)
+}
+
+// A line of resources: an unknown one, one of an earlier line, or a time out of range.
+fn use_fault(
+    resources: &[DraftResource],
+    item: u32,
+    uses: &[DraftUse],
+    usage: &DraftUse,
+    line: u32,
+) -> Option<ModelFault>
+    requires low { 1 ≤ line }
+    requires high { line ≤ length uses.now }
+    ensures { result ≡ use_fault (resource_names (map raw_resource resources.now)) item (map raw_use uses.now) line (raw_use usage.now) }
+{
+    let at = Place::Usage(item, line);
+    if !is_resource_name(resources, resources.len(), &usage.resource) {
+        return fault(ModelCode::UnknownName, at, None, None);
+    }
+    if is_use_name(uses, (line - 1) as usize, &usage.resource) {
+        return fault(ModelCode::RepeatedName, at, None, None);
+    }
+    if let Some(found) = number_fault(at, Key::Unit, usage.unit, 0, 1_000_000_000) {
+        return Some(found);
+    }
+    number_fault(at, Key::Setup, usage.setup, 0, 1_000_000_000)
+}
+
+// The lines of resources of an item.
+fn uses_fault(resources: &[DraftResource], item: u32, uses: &[DraftUse]) -> Option<ModelFault>
+    requires few { length resources.now ≤ 20 }
+    ensures { result ≡ first_in (use_fault (resource_names (map raw_resource resources.now)) item (map raw_use uses.now)) 1 (map raw_use uses.now) }
+{
+    for at in 0..uses.len() {
+        let usage = &uses[at];
+        if let Some(found) = use_fault(resources, item, uses, usage, at as u32 + 1) {
+            return Some(found);
+        }
+    }
+    None
+}
+
+// The lines of components of an item.
+fn needs_fault(items: &[DraftItem], item: u32, needs: &[DraftNeed]) -> Option<ModelFault>
+    requires few { length needs.now ≤ 400 }
+    ensures { result ≡ first_in (need_fault (item_names (map raw_item items.now)) item (map raw_need needs.now)) 1 (map raw_need needs.now) }
+{
+    for at in 0..needs.len() {
+        let need = &needs[at];
+        if let Some(found) = need_fault(items, item, needs, need, at as u32 + 1) {
+            return Some(found);
+        }
+    }
+    None
+}
+
+// The lines of an item: its components, then its resources.
+fn item_lines_fault(draft: &Draft, number: u32, item: &DraftItem) -> Option<ModelFault>
+    requires few { length draft.now.resources.items ≤ 20 }
+    requires lines { length item.now.needs.items ≤ 400 }
+    ensures { result ≡ item_lines_fault (raw_model draft.now) number (raw_item item.now) }
+{
+    if let Some(found) = needs_fault(&draft.items, number, &item.needs) {
+        return Some(found);
+    }
+    uses_fault(&draft.resources, number, &item.uses)
+}
+
+// The lines of the items.
+fn lines_fault(draft: &Draft) -> Option<ModelFault>
+    requires resources { length draft.now.resources.items ≤ 20 }
+    requires items { length draft.now.items.items ≤ 40 }
+    requires lines { sum_by (λ i. length i.needs) (map raw_item draft.now.items.items) ≤ 400 }
+    ensures { result ≡ lines_fault (raw_model draft.now) }
+{
+    for at in 0..draft.items.len() {
+        let item = &draft.items[at];
+        if let Some(found) = item_lines_fault(draft, at as u32 + 1, item) {
+            return Some(found);
+        }
+    }
+    None
+}
+
+// The names of resources and items, then repeated ones.
+fn names_fault(draft: &Draft) -> Option<ModelFault>
+    requires resources { length draft.now.resources.items ≤ 20 }
+    requires items { length draft.now.items.items ≤ 40 }
+    ensures { result ≡ or_then (name_fault (raw_model draft.now)) (repeat_fault (raw_model draft.now)) }
+{
+    if let Some(found) = resource_names_fault(&draft.resources) {
+        return Some(found);
+    }
+    if let Some(found) = item_names_fault(&draft.items) {
+        return Some(found);
+    }
+    if let Some(found) = resource_repeats_fault(&draft.resources) {
+        return Some(found);
+    }
+    item_repeats_fault(&draft.items)
+}
+
+// The lists and numbers, then the lines.
+fn numbers_and_lines_fault(draft: &Draft, periods: u32) -> Option<ModelFault>
+    requires resources { length draft.now.resources.items ≤ 20 }
+    requires items { length draft.now.items.items ≤ 40 }
+    requires lines { sum_by (λ i. length i.needs) (map raw_item draft.now.items.items) ≤ 400 }
+    requires periods { draft.now.periods ≡ pos periods }
+    ensures { result ≡ or_then (numbers_fault (raw_model draft.now)) (lines_fault (raw_model draft.now)) }
+{
+    if let Some(found) = capacities_fault(&draft.resources, periods) {
+        return Some(found);
+    }
+    if let Some(found) = items_numbers_fault(&draft.items, periods) {
+        return Some(found);
+    }
+    lines_fault(draft)
+}
+
+/// The first rule of counts, names, lists, numbers and lines that a draft breaks.
+///
+/// Names and lines are compared pair by pair, of which there are at most 400 times 400.
+///
+/// Where there is none, the components of each item are items, and one unit takes at most a million of each.
+pub fn plain_fault(draft: &Draft) -> Option<ModelFault>
+    ensures value { result ≡ plain_fault (raw_model draft.now) }
+    ensures count { result ≡ None → item_count (problem_of (raw_model draft.now)) ≤ 40 }
+    ensures needs { result ≡ None → HaveNeeds (problem_of (raw_model draft.now)) }
+{
+    if let Some(found) = count_fault(draft) {
+        return Some(found);
+    }
+    if let Some(found) = names_fault(draft) {
+        return Some(found);
+    }
+    numbers_and_lines_fault(draft, draft.periods as u32)
+}

@@ -1,0 +1,115 @@
+-- The bill of a problem, and that of the lists of its items' components.
+use Rattle.std.proofs.Common.{◌≡◌, ◌≤◌, ◌<◌, ◌+◌, ◌-◌, ◌*◌, ◌∙◌, ℕ, zero, suc, refl, sym, ap, subst, arith, List, [], ◌∷◌, length, map, slice_index_or}
+use Rattle.std.proofs.Math.Path.{fun_ext}
+use Rattle.std.proofs.Math.ListN.{get_or-map}
+use Rattle.std.proofs.lemmas.List.{get_or_default, length-map}
+use Rattle.lot_sizing.specs.declared.Need.{Need}
+use Rattle.lot_sizing.specs.Sums.{sum_to}
+use Rattle.lot_sizing.specs.Problem.{AreNeeds, IsWithinLimits, Item, Problem, entry, item_at, item_count, no_item, per_unit}
+use Rattle.lot_sizing.specs.Bill.{AreTotals, AreWeights, Bill, GoesInto, GoesIntoOver, HasRanks, bill_of}
+use Rattle.lot_sizing.proofs.Sums.{sum_to-same}
+use Rattle.bill.specs.Lines.{AreLines, bill_of_lines, lines_of, units_in}
+use Rattle.bill.specs.Over.{HasAll, IsBoundFault, IsFirstOver, IsWithin, OfAll}
+use Rattle.bill.specs.Sets.{HasNoCycle}
+use Rattle.bill.specs.Laws.{TotalsExist, WeightsExist}
+use Rattle.std.specs.Prelude.{Result, Ok, Err, IfOk, IfErr}
+use Rattle.lot_draft.specs.Raw.{RawItem, RawModel}
+use Rattle.lot_draft.specs.Refusals.{item_names, resource_names}
+use Rattle.lot_draft.specs.Meaning.{HaveNeeds, item_of, need_of, problem_of}
+use Rattle.bill.specs.declared.explosion.BoundFault.{BoundFault}
+use Rattle.bill.specs.declared.explosion.BoundFault.TheVariants.{Over, Memory}
+use Rattle.lot_model.specs.Held.{IsOverFault}
+use Rattle.lot_model.specs.Meaning.{IsBounded, asked_of, there_of}
+
+abbrev pub needs_in : Problem → List (List Need)
+needs_in m = map (λ a. a.needs) m.items
+
+abbrev with_units : ℕ → (ℕ → ℕ → ℕ) → Bill
+with_units n u = record { items = n; units = u }
+
+line_read : (m : Problem) (j : ℕ) → lines_of (needs_in m) j ≡ (item_at m j).needs
+line_read m j = get_or-map (λ a. a.needs) m.items (j - 1) no_item
+
+pub bill_same : (m : Problem) → bill_of_lines (needs_in m) ≡ bill_of m
+bill_same m =
+    let units : (i j : ℕ) → units_in (lines_of (needs_in m) j) i ≡ per_unit m i j = λ i j. ap (λ ls. units_in ls i) (line_read m j) in
+    let same : (λ i j. units_in (lines_of (needs_in m) j) i) ≡ per_unit m = fun_ext (λ i. fun_ext (λ j. units i j)) in
+    ap (λ n. with_units n (λ i j. units_in (lines_of (needs_in m) j) i)) (length-map m.items (λ a. a.needs)) ∙ ap (with_units (item_count m)) same
+
+pub bill_is : (m : Problem) (lines : List (List Need)) → lines ≡ needs_in m → bill_of_lines lines ≡ bill_of m
+bill_is m lines e = ap bill_of_lines e ∙ bill_same m
+
+are_lines : (m : Problem) → HaveNeeds m → item_count m ≤ 40 → AreLines (needs_in m)
+are_lines m h few =
+    let count = length-map m.items (λ a. a.needs) in
+    record {
+      items = omega (arith, few, count);
+      few = λ j low high. let n = h j low (omega (arith, high, count)) in rw (line_read m j) n.count;
+      each = λ j low high.
+          let n = h j low (omega (arith, high, count)) in
+          rw (line_read m j, count) (λ k d less. record { low = (n.items_exist k d less).0; high = (n.items_exist k d less).1; some = (n.quantities k d less).0; few = (n.quantities k d less).1 });
+    }
+
+pub lines_are : (m : Problem) (lines : List (List Need)) → lines ≡ needs_in m → HaveNeeds m → item_count m ≤ 40 → AreLines lines
+lines_are m lines e h few = subst AreLines (sym e) (are_lines m h few)
+
+pub limits_needs : (m : Problem) → IsWithinLimits m → HaveNeeds m
+limits_needs m limits i low high = (limits.each_item i low high).needs
+
+-- an item that goes into another over some lines has a higher rank
+higher : (b : Bill) (rank : ℕ → ℕ) → HasRanks b rank → (n i j : ℕ) → 1 ≤ i → i ≤ b.items → 1 ≤ j → j ≤ b.items → GoesIntoOver b n i j → rank j < rank i
+higher b rank ranks zero i j i_low i_high j_low j_high over = ranks i j i_low i_high j_low j_high over
+higher b rank ranks (suc n) i j i_low i_high j_low j_high (k, low, high, one, rest) =
+    omega (arith, ranks i k i_low i_high low high one, higher b rank ranks n k j low high j_low j_high rest)
+
+pub no_cycle : (b : Bill) (rank : ℕ → ℕ) → HasRanks b rank → HasNoCycle b
+no_cycle b rank ranks i low high (n, over) = absurd (omega (arith, higher b rank ranks n i i low high low high over))
+
+-- what is said of all totals goes by what is asked and there of each item alone
+pub of_same : (b : Bill) (asked there asked2 there2 : ℕ → ℕ) (P : (ℕ → ℕ) → (ℕ → ℕ → ℕ) → Type 0) → ((i : ℕ) → 1 ≤ i → i ≤ b.items → asked i ≡ asked2 i) → ((i : ℕ) → 1 ≤ i → i ≤ b.items → there i ≡ there2 i) → OfAll b asked there P → OfAll b asked2 there2 P
+of_same b asked there asked2 there2 P a t all total weight totals weights =
+    all total weight (λ i low high. totals i low high ∙ ap (λ x. (x + sum_to b.items (λ j. b.units i j * total j)) - there2 i) (sym (a i low high)) ∙ ap (λ x. (asked i + sum_to b.items (λ j. b.units i j * total j)) - x) (sym (t i low high))) weights
+
+-- the entry of a list with a number for each item
+pub mapped : (m : Problem) (f : Item → ℕ) (i : ℕ) → 1 ≤ i → i ≤ item_count m → entry (map f m.items) i ≡ f (item_at m i)
+mapped m f i low high = get_or_default (map f m.items) (i - 1) 0 (f no_item) (omega (arith, low, high, length-map m.items f)) ∙ get_or-map f m.items (i - 1) no_item
+
+-- totals that are known are totals
+pub known_totals : (b : Bill) (asked there : ℕ → ℕ) (rank : ℕ → ℕ) (totals : List ℕ) (weights : List (List ℕ)) → HasRanks b rank → TotalsExist → WeightsExist → OfAll b asked there (λ total weight. HasAll b total weight totals weights) → AreTotals b asked there (entry totals)
+known_totals b asked there rank totals weights ranks some_total some_weight all i low high =
+    let t = some_total b asked there rank ranks in
+    let w = some_weight b rank ranks in
+    let h = all t.0 w.0 t.1 w.1 in
+    let same : sum_to b.items (λ j. b.units i j * t.0 j) ≡ sum_to b.items (λ j. b.units i j * entry totals j) = sum_to-same b.items (λ j. b.units i j * t.0 j) (λ j. b.units i j * entry totals j) (λ j j_low j_high. ap (λ x. b.units i j * x) (sym (h.known j j_low j_high).in_all)) in
+    (h.known i low high).in_all ∙ t.1 i low high ∙ ap (λ x. (asked i + x) - there i) same
+
+pub all_within : (b : Bill) (asked there : ℕ → ℕ) (totals : List ℕ) (weights : List (List ℕ)) → OfAll b asked there (λ total weight. HasAll b total weight totals weights) → OfAll b asked there (λ total weight. (i : ℕ) → 1 ≤ i → i ≤ b.items → IsWithin b total weight i)
+all_within b asked there totals weights all total weight t w = (all total weight t w).within
+
+-- what is said of the lists is said of the problem
+pub from_lists : (m : Problem) (lines : List (List Need)) (asked there : List ℕ) (P : Bill → (ℕ → ℕ) → (ℕ → ℕ → ℕ) → Type 0) → lines ≡ needs_in m → asked ≡ map (λ a. sum_to m.periods (entry a.demand) + a.end_max) m.items → there ≡ map (λ a. a.opening) m.items → OfAll (bill_of_lines lines) (entry asked) (entry there) (P (bill_of_lines lines)) → OfAll (bill_of m) (asked_of m) (there_of m) (P (bill_of m))
+from_lists m lines asked there P same as_asked as_there h =
+    of_same (bill_of m) (entry asked) (entry there) (asked_of m) (there_of m) (P (bill_of m))
+    (λ i low high. ap (λ xs. entry xs i) as_asked ∙ mapped m (λ a. sum_to m.periods (entry a.demand) + a.end_max) i low high)
+    (λ i low high. ap (λ xs. entry xs i) as_there ∙ mapped m (λ a. a.opening) i low high)
+    (subst (λ b. OfAll b (entry asked) (entry there) (P b)) (bill_is m lines same) h)
+
+pub map_ok : {A E : Type 0} → (r : Result A E) (P Q : A → Type 0) → ((a : A) → P a → Q a) → IfOk r P → IfOk r Q
+map_ok (Ok a) P Q f h = f a h
+map_ok (Err e) P Q f h = h
+
+pub map_err : {A E : Type 0} → (r : Result A E) (P Q : E → Type 0) → ((e : E) → P e → Q e) → IfErr r P → IfErr r Q
+map_err (Ok a) P Q f h = h
+map_err (Err e) P Q f h = f e h
+
+drafted_from : (resources names : List (List ℕ)) (is : List RawItem) → map (λ a. map (need_of names) a.needs) is ≡ map (λ a. a.needs) (map (item_of resources names) is)
+drafted_from resources names [] = refl
+drafted_from resources names (a ∷ is) = ap (λ rest. map (need_of names) a.needs ∷ rest) (drafted_from resources names is)
+
+pub drafted : (m : RawModel) → map (λ a. map (need_of (item_names m.items)) a.needs) m.items ≡ needs_in (problem_of m)
+drafted m = drafted_from (resource_names m.resources) (item_names m.items) m.items
+
+-- so is the fault of the lists
+pub over_fault : (m : Problem) (lines : List (List Need)) (asked there : List ℕ) → lines ≡ needs_in m → asked ≡ map (λ a. sum_to m.periods (entry a.demand) + a.end_max) m.items → there ≡ map (λ a. a.opening) m.items → (e : BoundFault) → IsBoundFault (bill_of_lines lines) (entry asked) (entry there) e → IsOverFault m e
+over_fault m lines asked there same as_asked as_there (Over i) h = from_lists m lines asked there (λ b total weight. IsFirstOver b total weight i) same as_asked as_there h
+over_fault m lines asked there same as_asked as_there Memory h = tt

@@ -1,0 +1,66 @@
+-- What a model means: a problem, or the first rule that it breaks.
+use Rattle.std.specs.Prelude.{◌≡◌, ◌⊎◌, ℕ, ◌+◌, ◌≤◌, Some, None, Result, Ok, Err}
+use Rattle.lot_sizing.specs.Sums.{sum_to}
+use Rattle.lot_sizing.specs.Problem.{Problem, demand, item_at, item_count}
+use Rattle.lot_sizing.specs.Bill.{bill_of}
+use Rattle.bill.specs.Over.{IsFirstOver, IsWithin, OfAll}
+use Rattle.bill.specs.Sets.{HasNoCycle, IsFirstOnCycle}
+use Rattle.lot_draft.specs.Raw.{RawModel, raw_model}
+use Rattle.lot_draft.specs.Meaning.{problem_of}
+use Rattle.lot_draft.specs.Refusals.{later_fault, plain_fault}
+use Rattle.lot_draft.specs.declared.draft.Draft.{Draft}
+use Rattle.lot_draft.specs.declared.draft.DraftRefusal.{DraftRefusal}
+use Rattle.lot_draft.specs.declared.draft.DraftRefusal.TheVariants.{Refused, Memory}
+use Rattle.lot_draft.specs.declared.fault.ModelFault.{ModelFault}
+use Rattle.lot_draft.specs.declared.fault.ModelCode.{ModelCode}
+use Rattle.lot_draft.specs.declared.fault.ModelCode.TheVariants.{Cycle, QuantityBound}
+use Rattle.lot_draft.specs.declared.fault.Place.TheVariants.{Item}
+
+-- what is asked of an item from outside, and what is there of it
+abbrev pub asked_of : Problem → ℕ → ℕ
+asked_of m i = sum_to m.periods (demand m i) + (item_at m i).end_max
+
+abbrev pub there_of : Problem → ℕ → ℕ
+there_of m i = (item_at m i).opening
+
+-- a rule on an item as a whole
+abbrev pub at_item : ModelCode → ℕ → ModelFault
+at_item code i = record { code = code; place = Item i; key = None; period = None }
+
+-- the first item that is its own component
+abbrev pub IsCycle : Problem → ModelFault → Type 0
+IsCycle p f = (i : ℕ) × IsFirstOnCycle (bill_of p) i × (f ≡ at_item Cycle i)
+
+-- the first item whose largest total or one of whose weights is past the bound, of those that go only into items within it
+abbrev pub IsPastBound : Problem → ModelFault → Type 0
+IsPastBound p f = (i : ℕ) × OfAll (bill_of p) (asked_of p) (there_of p) (λ total weight. IsFirstOver (bill_of p) total weight i) × (f ≡ at_item QuantityBound i)
+
+-- all largest totals and weights are within the bound
+abbrev pub IsBounded : Problem → Type 0
+IsBounded p = OfAll (bill_of p) (asked_of p) (there_of p) (λ total weight. (i : ℕ) → 1 ≤ i → i ≤ item_count p → IsWithin (bill_of p) total weight i)
+
+-- the first rule that a model breaks, in this order: counts, names, lists, numbers and lines; cycles; backlog costs of components and crossed ends; totals and weights
+abbrev pub BreaksFirst : RawModel → ModelFault → Type 0
+BreaksFirst m f =
+    (plain_fault m ≡ Some f)
+    ⊎ ((plain_fault m ≡ None)
+    × (IsCycle (problem_of m) f
+    ⊎ (HasNoCycle (bill_of (problem_of m))
+    × ((later_fault m ≡ Some f) ⊎ ((later_fault m ≡ None) × IsPastBound (problem_of m) f)))))
+
+-- the model breaks no rule
+pub record BreaksNone (m : RawModel) : Type 0 where
+  pub plain : plain_fault m ≡ None
+  pub no_cycle : HasNoCycle (bill_of (problem_of m))
+  pub later : later_fault m ≡ None
+  pub bounded : IsBounded (problem_of m)
+
+-- what a model means
+abbrev pub Means : RawModel → Result Problem ModelFault → Type 0
+Means m (Ok p) = (p ≡ problem_of m) × BreaksNone m
+Means m (Err f) = BreaksFirst m f
+
+-- the draft is back as it was, and where memory isn't the cause this is the first rule that it breaks
+abbrev pub IsRefused : Draft → DraftRefusal → Type 0
+IsRefused draft (Refused fault back) = (back ≡ draft) × Means (raw_model draft) (Err fault)
+IsRefused draft (Memory back) = back ≡ draft

@@ -1,0 +1,60 @@
+use crate::plan_uncoupled;
+use lot_model::{Draft, DraftItem, Instance, is_uncoupled};
+use std::alloc::{AllocError, Global};
+use std::test::Fail;
+
+// An item with demand 4 and 6, setup costs 100 and 20 and hold cost 1.
+fn item(alloc: Global, name: &str, opening: i64) -> Result<DraftItem, AllocError> {
+    Ok(DraftItem {
+        name: String::from_str(alloc, name)?,
+        demand: vec![in alloc; 4i64, 6i64]?,
+        unit_cost: vec![in alloc; 0i64, 0i64]?,
+        setup_cost: vec![in alloc; 100i64, 20i64]?,
+        hold_cost: vec![in alloc; 1i64, 1i64]?,
+        backlog_cost: None,
+        opening,
+        end_min: 0,
+        end_max: None,
+        needs: Vec::new(alloc),
+        uses: Vec::new(alloc),
+    })
+}
+
+fn instance(alloc: Global, first: DraftItem, second: DraftItem) -> Result<Instance, Fail> {
+    let mut items = Vec::new(alloc);
+    items.push(first)?;
+    items.push(second)?;
+    let draft = Draft {
+        periods: 2,
+        resources: Vec::new(alloc),
+        items,
+    };
+    Ok(Instance::from_draft(alloc, draft).ok().ok_or("refused")?)
+}
+
+#[test]
+fn items_are_planned_apart(rt: HostRuntime) -> Result<(), Fail> {
+    let alloc = rt.alloc();
+    let mut owed = item(alloc, "B", 0)?;
+    owed.backlog_cost = Some(vec![in alloc; 2i64, 2i64]?);
+    let instance = instance(alloc, item(alloc, "A", 0)?, owed)?;
+    assert!(rt; is_uncoupled(&instance));
+    let planned = plan_uncoupled(alloc, &instance)?.ok_or("no plan")?;
+    // All of A in the first period, and all of B in the second.
+    assert_eq!(rt; planned.cost, 106 + 28);
+    let plan = planned.plan;
+    assert_eq!(rt; (plan.make.items(), plan.make.periods()), (2, 2));
+    assert_eq!(rt; (plan.make.get(1, 1), plan.make.get(2, 2)), (10, 10));
+    Ok(())
+}
+
+#[test]
+fn a_stock_without_room_has_no_plan(rt: HostRuntime) -> Result<(), Fail> {
+    let alloc = rt.alloc();
+    let mut full = item(alloc, "B", 16)?;
+    full.end_max = Some(5);
+    let instance = instance(alloc, item(alloc, "A", 0)?, full)?;
+    assert!(rt; is_uncoupled(&instance));
+    assert!(rt; plan_uncoupled(alloc, &instance)?.is_none());
+    Ok(())
+}
