@@ -2,3 +2,4 @@ pub mod Document
 pub mod Reading
 pub mod Tables
 pub mod Model
+pub mod Laws

@@ -10,11 +10,13 @@ ghost use Rattle.instance_reader.specs.Model.{BytesMean, IsRefusal};
 
 mod document;
 mod fault;
+mod laws;
 mod reading;
 mod tables;
 mod told;
 
 pub use fault::ReadModelFault;
+pub use laws::bytes_mean_one_thing;
 use lot_model::{DraftRefusal, Instance};
 use std::alloc::Global;
 

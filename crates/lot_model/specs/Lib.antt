@@ -1,3 +1,4 @@
 pub mod Meaning
 pub mod Views
 pub mod Held
+pub mod Laws

@@ -2,9 +2,9 @@
 use Rattle.std.specs.Prelude.{◌≡◌, ◌⊎◌, ℕ, ◌+◌, ◌≤◌, Some, None, Result, Ok, Err}
 use Rattle.lot_sizing.specs.Sums.{sum_to}
 use Rattle.lot_sizing.specs.Problem.{Problem, demand, item_at, item_count}
-use Rattle.lot_sizing.specs.Bill.{bill_of}
+use Rattle.lot_sizing.specs.Bill.{HasRanks, bill_of}
 use Rattle.bill.specs.Over.{IsFirstOver, IsWithin, OfAll}
-use Rattle.bill.specs.Sets.{HasNoCycle, IsFirstOnCycle}
+use Rattle.bill.specs.Sets.{IsFirstOnCycle}
 use Rattle.lot_draft.specs.Raw.{RawModel, raw_model}
 use Rattle.lot_draft.specs.Meaning.{problem_of}
 use Rattle.lot_draft.specs.Refusals.{later_fault, plain_fault}
@@ -22,6 +22,10 @@ asked_of m i = sum_to m.periods (demand m i) + (item_at m i).end_max
 
 abbrev pub there_of : Problem → ℕ → ℕ
 there_of m i = (item_at m i).opening
+
+-- each item has a rank above those of the items that it goes into, so none is its own component
+abbrev pub IsRanked : Problem → Type 0
+IsRanked p = (rank : ℕ → ℕ) × HasRanks (bill_of p) rank
 
 -- a rule on an item as a whole
 abbrev pub at_item : ModelCode → ℕ → ModelFault
@@ -45,13 +49,13 @@ BreaksFirst m f =
     (plain_fault m ≡ Some f)
     ⊎ ((plain_fault m ≡ None)
     × (IsCycle (problem_of m) f
-    ⊎ (HasNoCycle (bill_of (problem_of m))
+    ⊎ (IsRanked (problem_of m)
     × ((later_fault m ≡ Some f) ⊎ ((later_fault m ≡ None) × IsPastBound (problem_of m) f)))))
 
 -- the model breaks no rule
 pub record BreaksNone (m : RawModel) : Type 0 where
   pub plain : plain_fault m ≡ None
-  pub no_cycle : HasNoCycle (bill_of (problem_of m))
+  pub ranked : IsRanked (problem_of m)
   pub later : later_fault m ≡ None
   pub bounded : IsBounded (problem_of m)
 

@@ -9,10 +9,12 @@
 mod building;
 mod data;
 mod instance;
+mod laws;
 mod making;
 mod totals;
 
 pub use instance::{Instance, is_uncoupled};
+pub use laws::a_model_means_one_thing;
 pub use lot_draft::{
     Draft, DraftItem, DraftNeed, DraftRefusal, DraftResource, DraftUse, Key, ModelCode, ModelFault,
     Place,

@@ -1,8 +1,12 @@
 -- What a run answers: its line and its status.
-use Rattle.std.specs.Prelude.{ℕ, List, [], ◌++◌, codes}
+use Rattle.std.specs.Prelude.{ℕ, List, [], ◌++◌, codes, decimal}
 use Rattle.lot_sizing.specs.Texts.{optimal_line}
 use Rattle.lot_draft.specs.declared.fault.ModelFault.{ModelFault}
 use Rattle.lot_draft.specs.Faults.{fault_text}
+use Rattle.plan_rules.specs.declared.broken.Broken.{Broken}
+use Rattle.plan_rules.specs.Texts.{broken_text}
+use Rattle.plan_file.specs.declared.fault.PlanFault.{PlanFault}
+use Rattle.plan_file.specs.Texts.{plan_fault_text}
 
 pub data Answer : Type 0 where
   -- the program's name and version
@@ -11,6 +15,12 @@ pub data Answer : Type 0 where
   optimal : ℕ → Answer
   -- no plan is feasible
   infeasible : Answer
+  -- the plan is feasible, and costs this
+  feasible : ℕ → Answer
+  -- the plan file holds no plan
+  no_plan : PlanFault → Answer
+  -- the plan breaks this rule first
+  broken : Broken → Answer
   -- the words are no command
   no_command : Answer
   -- the model is refused
@@ -32,6 +42,9 @@ abbrev pub status_of : Answer → ℕ
 status_of named = 0
 status_of (optimal amount) = 0
 status_of infeasible = 1
+status_of (feasible amount) = 0
+status_of (no_plan fault) = 3
+status_of (broken rule) = 3
 status_of no_command = 4
 status_of (refused fault) = 5
 status_of not_built = 12
@@ -46,6 +59,9 @@ abbrev pub line_of : Answer → List ℕ
 line_of named = codes "lotplan 1\n"
 line_of (optimal amount) = optimal_line amount
 line_of infeasible = codes "infeasible\n"
+line_of (feasible amount) = codes "feasible " ++ (decimal amount ++ codes "\n")
+line_of (no_plan fault) = plan_fault_text fault ++ codes "\n"
+line_of (broken rule) = broken_text rule ++ codes "\n"
 line_of no_command = codes "refused words\n"
 line_of (refused fault) = codes "refused model " ++ (fault_text fault ++ codes "\n")
 line_of not_built = codes "refused notbuilt\n"

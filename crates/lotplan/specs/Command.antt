@@ -7,6 +7,8 @@ pub data Asked : Type 0 where
   version : Asked
   -- to plan a model file, with the names of the model file, the plan file and the certificate file
   planning : List ℕ → List ℕ → List ℕ → Asked
+  -- to judge a plan file, with the names of the model file and the plan file
+  judging : List ℕ → List ℕ → Asked
 
 -- a file's name isn't empty and doesn't begin with `-`
 abbrev pub is_file_name : List ℕ → Bool
@@ -17,8 +19,13 @@ is_file_name (b ∷ bs) = not (b == 45)
 abbrev pub are_file_names : List ℕ → List ℕ → List ℕ → Bool
 are_file_names m p c = is_file_name m && (is_file_name p && (is_file_name c && (not (bytes_eq m p) && (not (bytes_eq m c) && not (bytes_eq p c)))))
 
--- no words, or `plan` and three names
+-- two files' names, which aren't the same
+abbrev pub are_two_names : List ℕ → List ℕ → Bool
+are_two_names m p = is_file_name m && (is_file_name p && not (bytes_eq m p))
+
+-- no words, or `judge` and two names, or `plan` and three
 abbrev pub command_of : List (List ℕ) → Option Asked
 command_of [] = Some version
+command_of (word ∷ m ∷ p ∷ []) = if bytes_eq word (codes "judge") && are_two_names m p then Some (judging m p) else None
 command_of (word ∷ m ∷ p ∷ c ∷ []) = if bytes_eq word (codes "plan") && are_file_names m p c then Some (planning m p c) else None
 command_of _ = None

@@ -3,6 +3,8 @@ ghost use Rattle.std.specs.Prelude.{◌≡◌, ◌++◌, Some, IfOk, string_byte
 ghost use Rattle.lotplan.specs.Answer.{line_of, status_of};
 
 use lot_model::ModelFault;
+use plan_file::PlanFault;
+use plan_rules::Broken;
 use std::alloc::{AllocError, Global};
 
 /// What a run answers, with the name of the file that it concerns. Want of memory is an error beside
@@ -15,6 +17,12 @@ pub enum Answer<'a> {
     Optimal(u128),
     /// No plan is feasible.
     Infeasible,
+    /// The plan is feasible, and costs this.
+    Feasible(u128),
+    /// The plan file holds no plan.
+    NoPlan(PlanFault),
+    /// The plan breaks this rule first.
+    Broken(Broken),
     /// The words are no command.
     NoCommand,
     /// The model is refused.
@@ -57,8 +65,9 @@ impl Answer<'_> {
         ensures { result ≡ status_of (meant_by self.now) }
     {
         match self {
-            Answer::Named | Answer::Optimal(_) => 0,
+            Answer::Named | Answer::Optimal(_) | Answer::Feasible(_) => 0,
             Answer::Infeasible => 1,
+            Answer::NoPlan(_) | Answer::Broken(_) => 3,
             Answer::NoCommand => 4,
             Answer::Refused(_) => 5,
             Answer::NotBuilt => 12,
@@ -77,6 +86,9 @@ impl Answer<'_> {
             Answer::Named => String::from_str(alloc, "lotplan 1\n"),
             Answer::Optimal(cost) => format!(in alloc; "optimal {cost}\n"),
             Answer::Infeasible => String::from_str(alloc, "infeasible\n"),
+            Answer::Feasible(cost) => format!(in alloc; "feasible {cost}\n"),
+            Answer::NoPlan(fault) => format!(in alloc; "{fault}\n"),
+            Answer::Broken(rule) => format!(in alloc; "{rule}\n"),
             Answer::NoCommand => String::from_str(alloc, "refused words\n"),
             Answer::Refused(fault) => format!(in alloc; "refused model {fault}\n"),
             Answer::NotBuilt => String::from_str(alloc, "refused notbuilt\n"),

@@ -1,6 +1,6 @@
 // What the words of a command line ask for.
 ghost use Rattle.std.specs.Prelude.{◌≡◌, map, option_map, string_bytes};
-ghost use Rattle.lotplan.specs.Command.{are_file_names, command_of, is_file_name};
+ghost use Rattle.lotplan.specs.Command.{are_file_names, are_two_names, command_of, is_file_name};
 ghost use Rattle.lotplan.specs.Held.{asked_of};
 
 /// What the words ask for.
@@ -10,6 +10,8 @@ pub enum Command<'a> {
     Name,
     /// To plan a model file.
     Plan(Names<'a>),
+    /// To judge a plan file.
+    Judge(TwoNames<'a>),
 }
 
 /// The names of the files of a plan, no two of them the same.
@@ -21,6 +23,15 @@ pub struct Names<'a> {
     pub plan: &'a str,
     /// The certificate file.
     pub certificate: &'a str,
+}
+
+/// The names of the files of a judgement, which aren't the same.
+#[derive(Clone, Copy, Debug, PartialEq, Eq)]
+pub struct TwoNames<'a> {
+    /// The model file, which is read.
+    pub model: &'a str,
+    /// The plan file, which is read.
+    pub plan: &'a str,
 }
 
 // Whether a text is the name of a file.
@@ -45,12 +56,30 @@ fn are_file_names(model: &str, plan: &str, certificate: &str) -> bool
         && plan != certificate
 }
 
+// Whether two texts are names of files, which aren't the same.
+fn are_two_names(model: &str, plan: &str) -> bool
+    ensures { result ≡ are_two_names model.now plan.now }
+{
+    is_file_name(model) && is_file_name(plan) && model != plan
+}
+
 /// What the words ask for, if they are a command.
 pub fn read_words<'a>(words: &'a [String]) -> Option<Command<'a>>
     ensures { option_map asked_of result ≡ command_of (map string_bytes words.entry.now) }
 {
     match words {
         [] => Some(Command::Name),
+        [word, model, plan] => {
+            let names = TwoNames {
+                model: model.as_str(),
+                plan: plan.as_str(),
+            };
+            if word.as_str() == "judge" && are_two_names(names.model, names.plan) {
+                Some(Command::Judge(names))
+            } else {
+                None
+            }
+        }
         [word, model, plan, certificate] => {
             let names = Names {
                 model: model.as_str(),

@@ -11,9 +11,9 @@ ghost use Rattle.lotplan.specs.Run.{printed, Prints};
 
 mod answer;
 mod command;
+mod judging;
 mod planner;
 mod run;
-mod text;
 
 use lot_io::{DiskShelf, Sink, StdSink};
 pub use run::run;

@@ -1,5 +1,5 @@
 // Planning the model in a file.
-ghost use Rattle.std.specs.Prelude.{◌≡◌, IsTrue, IfOk, IfErr, OnErr};
+ghost use Rattle.std.specs.Prelude.{◌≡◌, ◌≤◌, IsTrue, IfOk, IfErr, OnErr};
 ghost use Rattle.lot_sizing.specs.Problem.{IsUncoupled};
 ghost use Rattle.lot_sizing.specs.Plan.{cost};
 ghost use Rattle.lot_sizing.specs.Best.{IsBest};
@@ -8,15 +8,15 @@ ghost use Rattle.lotplan.specs.Run.{shelved, HoldsProblem, PlanExplains, SaysSom
 ghost use Rattle.lotplan.specs.Stops.{IsStop};
 
 use crate::answer::{Answer, Said};
-use crate::text::plan_text;
 use instance_reader::{ReadModelFault, read_instance};
 use lot_io::{ReadFault, Shelf, read_file, write_file};
 use lot_model::{Instance, is_uncoupled};
+use plan_file::write_plan;
 use std::alloc::{AllocError, Global};
 use uncoupled::{Planned, plan_uncoupled};
 
-// The longest model file that is read, in bytes.
-const FILE_LIMIT: u64 = 16_777_216;
+/// The longest file that is read, in bytes.
+pub const FILE_LIMIT: u64 = 16_777_216;
 
 /// Why there is no instance to plan.
 #[derive(Clone, Copy, Debug, PartialEq, Eq)]
@@ -27,8 +27,8 @@ pub enum Stop<'a> {
     Memory,
 }
 
-// The instance in a model file.
-fn read_model<'a, S: Shelf>(
+/// The instance in a model file.
+pub fn read_model<'a, S: Shelf>(
     alloc: Global,
     model: &'a str,
     shelf: &mut S,
@@ -40,6 +40,9 @@ fn read_model<'a, S: Shelf>(
     ensures told { S.told shelf.new ≡ S.told shelf.old }
     ensures files { S.file shelf.new ≡ S.file shelf.old }
     ensures write_faults { S.write_faults shelf.new ≡ S.write_faults shelf.old }
+    ensures misses { S.misses shelf.old ≤ S.misses shelf.new }
+    ensures faults { S.faults shelf.old ≤ S.faults shelf.new }
+    ensures given { S.given shelf.old ≤ S.given shelf.new }
 {
     let bytes = match read_file(alloc, shelf, model, FILE_LIMIT) {
         Ok(bytes) => bytes,
@@ -56,7 +59,7 @@ fn read_model<'a, S: Shelf>(
 }
 
 // Writes a plan of an instance. All memory is taken before the file is started.
-fn write_plan<S: Shelf>(
+fn write_best<S: Shelf>(
     alloc: Global,
     instance: &Instance,
     planned: &Planned,
@@ -73,10 +76,10 @@ fn write_plan<S: Shelf>(
     ensures memory { OnErr result (S.file shelf.new ≡ S.file shelf.old) }
     ensures told { S.told shelf.new ≡ S.told shelf.old }
 {
-    let text = plan_text(alloc, instance, &planned.plan)?;
+    let bytes = write_plan(alloc, instance, &planned.plan)?;
     let written = Answer::Optimal(planned.cost).said(alloc)?;
     let unwritten = Answer::Unwritten(plan).said(alloc)?;
-    match write_file(shelf, plan, text.as_bytes()) {
+    match write_file(shelf, plan, bytes.as_slice()) {
         Ok(()) => Ok(written),
         Err(_) => Ok(unwritten),
     }
@@ -99,7 +102,7 @@ fn plan_instance<S: Shelf>(
         return Answer::NotBuilt.said(alloc);
     }
     match plan_uncoupled(alloc, instance)? {
-        Some(planned) => write_plan(alloc, instance, &planned, plan, shelf),
+        Some(planned) => write_best(alloc, instance, &planned, plan, shelf),
         None => Answer::Infeasible.said(alloc),
     }
 }

@@ -1,26 +1,34 @@
 // The top call.
 ghost use Rattle.std.specs.Prelude.{◌≡◌, ◌≢◌, ◌⊎◌, ◌+◌, ℕ, List, IsTrue, Some, None, map, string_bytes, IfOk, OnErr};
 ghost use Rattle.lot_io.specs.Outside.{Rose, RoseBy, SameElsewhere};
-ghost use Rattle.lotplan.specs.Command.{command_of, planning};
-ghost use Rattle.lotplan.specs.Run.{CallFor, file_limit, printed, shelved, CannotPlan, Explains, FindsNoPlan, HadNoFault, IsRun, PlansBest, PrintsSaid, RefusesModel, SaysSome};
+ghost use Rattle.lotplan.specs.Command.{command_of, judging, planning};
+ghost use Rattle.lotplan.specs.Run.{CallFor, file_limit, printed, shelved, CannotPlan, Explains, FindsFault, FindsFeasible, FindsNoPlan, HadNoFault, IsRun, PlansBest, PrintsSaid, RefusesModel, SaysSome};
 
 use crate::answer::{Answer, Said};
 use crate::command::{Command, read_words};
+use crate::judging::judge_files;
 use crate::planner::plan_files;
 use lot_io::{Shelf, Sink};
 use std::alloc::{AllocError, Global};
 
 /// Does what the words ask for, prints one line, and gives the status of the process.
 ///
-/// `words` are those after the program's name: none for the program's name and version, or
-/// `plan MODEL PLAN CERTIFICATE`. The statuses are 0 done, 1 no plan is feasible, 4 no command, 5 the model is refused,
-/// 6 a file is absent, 7 it could not be read, 8 it could not be written, 9 the line could not be
-/// printed, 10 want of memory, 11 the model file is longer than 16,777,216 bytes, 12 the model can't
-/// be planned yet. All memory is taken before the first write.
+/// `words` are those after the program's name: none for the program's name and version,
+/// `plan MODEL PLAN CERTIFICATE` or `judge MODEL PLAN`. The statuses are 0 done, 1 no plan is feasible, 3 the
+/// plan file holds no plan or one that breaks a rule, 4 no command, 5 the model is refused, 6 a file is
+/// absent, 7 it could not be read, 8 it could not be written, 9 the line could not be printed, 10 want of
+/// memory, 11 a file is longer than 16,777,216 bytes, 12 the model can't be planned yet. All memory is taken
+/// before the first write.
 pub fn run<S: Shelf, K: Sink>(alloc: Global, words: &[String], shelf: &mut S, out: &mut K) -> u8
     // After `plan` with status 0 the plan file holds a best plan, and the line has its cost.
     ensures optimal { (m p c : List ℕ) → command_of (map string_bytes words.now) ≡ Some (planning m p c)
         → result ≡ 0 → IsTrue (S.told shelf.old) → PlansBest (S.file shelf.old) (S.file shelf.new) m p
+        (printed (K.told out.old) (K.bytes out.old) (K.faults out.old))
+        (printed (K.told out.new) (K.bytes out.new) (K.faults out.new)) }
+
+    // After `judge` with status 0 the plan file holds a feasible plan, and the line has its cost.
+    ensures judged { (m p : List ℕ) → command_of (map string_bytes words.now) ≡ Some (judging m p)
+        → result ≡ 0 → IsTrue (S.told shelf.old) → FindsFeasible (S.file shelf.old) m p
         (printed (K.told out.old) (K.bytes out.old) (K.faults out.old))
         (printed (K.told out.new) (K.bytes out.new) (K.faults out.new)) }
 
@@ -38,6 +46,9 @@ pub fn run<S: Shelf, K: Sink>(alloc: Global, words: &[String], shelf: &mut S, ou
     ensures infeasible { result ≡ 1 → IsTrue (S.told shelf.old) → FindsNoPlan (map string_bytes words.now) (S.file shelf.old)
         (printed (K.told out.old) (K.bytes out.old) (K.faults out.old))
         (printed (K.told out.new) (K.bytes out.new) (K.faults out.new)) }
+    ensures faulty { result ≡ 3 → IsTrue (S.told shelf.old) → FindsFault (map string_bytes words.now) (S.file shelf.old)
+        (printed (K.told out.old) (K.bytes out.old) (K.faults out.old))
+        (printed (K.told out.new) (K.bytes out.new) (K.faults out.new)) }
     ensures refused { result ≡ 5 → IsTrue (S.told shelf.old) → RefusesModel (map string_bytes words.now) (S.file shelf.old) }
     ensures not_built { result ≡ 12 → IsTrue (S.told shelf.old) → CannotPlan (map string_bytes words.now) (S.file shelf.old) }
     ensures missing { result ≡ 6 → Rose (S.misses shelf.old) (S.misses shelf.new) }
@@ -50,6 +61,7 @@ pub fn run<S: Shelf, K: Sink>(alloc: Global, words: &[String], shelf: &mut S, ou
     ensures unchanged { result ≢ 0 → result ≢ 8 → result ≢ 9 → S.file shelf.new ≡ S.file shelf.old }
     ensures others { (m p c : List ℕ) → command_of (map string_bytes words.now) ≡ Some (planning m p c)
         → IsTrue (S.told shelf.old) → SameElsewhere p (S.file shelf.old) (S.file shelf.new) }
+    ensures judge_writes_nothing { (m p : List ℕ) → command_of (map string_bytes words.now) ≡ Some (judging m p) → S.file shelf.new ≡ S.file shelf.old }
     ensures silent { result ≡ 10 → IsTrue (K.told out.old) → K.bytes out.new ≡ K.bytes out.old }
     ensures told_shelf { S.told shelf.new ≡ S.told shelf.old }
     ensures told_sink { K.told out.new ≡ K.told out.old }
@@ -92,5 +104,6 @@ fn said<S: Shelf>(alloc: Global, words: &[String], shelf: &mut S) -> Result<Said
         None => Answer::NoCommand.said(alloc),
         Some(Command::Name) => Answer::Named.said(alloc),
         Some(Command::Plan(names)) => plan_files(alloc, names.model, names.plan, shelf),
+        Some(Command::Judge(names)) => judge_files(alloc, names.model, names.plan, shelf),
     }
 }

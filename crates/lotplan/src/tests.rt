@@ -179,6 +179,18 @@ fn several_items_are_planned(rt: HostRuntime) -> Result<(), Fail> {
 }
 
 #[test]
+fn items_with_and_without_backlog_are_planned(rt: HostRuntime) -> Result<(), Fail> {
+    let alloc = rt.alloc();
+    let costs = "demand = [4, 6]\nsetup_cost = [100, 20]\nhold_cost = 1";
+    let model = format!(in alloc;
+        "version = 1\nperiods = 2\n[[item]]\nname = \"A\"\n{costs}\n[[item]]\nname = \"B\"\n{costs}\nbacklog_cost = 2\n"
+    )?;
+    let records = "A,1,10,1,6,0\nA,2,0,0,0,0\nB,1,0,0,0,4\nB,2,10,1,0,0\n";
+    assert!(rt; ends_in(alloc, model.as_str(), 0, "optimal 134\n", records)?);
+    Ok(())
+}
+
+#[test]
 fn models_are_refused(rt: HostRuntime) -> Result<(), Fail> {
     let alloc = rt.alloc();
     for (first, second, status, line) in [
@@ -251,11 +263,116 @@ fn quantities_past_the_bound_are_refused(rt: HostRuntime) -> Result<(), Fail> {
     Ok(())
 }
 
+// The model of a resource of capacity 6 and an item that takes time on it.
+const SHOP: &str =
+    "version = 1\nperiods = 2\n[[resource]]\nname = \"m\"\ncapacity = 6\n[[item]]\nname = \"A\"\ndemand = [2, 8]\nsetup_cost = 10\nhold_cost = 1\nuses = [{ resource = \"m\", unit = 1, setup = 1 }]\n";
+
+// Whether judging these records ends with this status and prints this line, and no file changes.
+fn judged_as(
+    alloc: Global,
+    model: &str,
+    records: &str,
+    status: u8,
+    line: &str,
+) -> Result<bool, AllocError> {
+    let words = texts(alloc, &["judge", "m", "p"])?;
+    let mut shelf = shelf_with(alloc, model.as_bytes(), &[], &[], &[])?;
+    let text = format!(in alloc; "{HEADER}{records}")?;
+    shelf.files.insert(
+        String::from_str(alloc, "p")?,
+        Vec::from_slice(alloc, text.as_bytes())?,
+    )?;
+    let mut out = MemorySink::new(alloc, Vec::new(alloc));
+    let ended = run(alloc, words.as_slice(), &mut shelf, &mut out);
+    let kept = shelf.files.len() == 2 && shelf.starts == 0 && holds(&shelf, "p", text.as_str());
+    Ok(
+        ended == status
+            && out.bytes.as_slice() == line.as_bytes()
+            && kept
+            && holds(&shelf, "m", model),
+    )
+}
+
+#[test]
+fn plans_of_a_shop_are_judged(rt: HostRuntime) -> Result<(), Fail> {
+    let alloc = rt.alloc();
+    for (records, status, line) in [
+        ("A,1,5,1,3,0\nA,2,5,1,0,0\n", 0u8, "feasible 23\n"),
+        (
+            "A,1,5,2,3,0\nA,2,5,1,0,0\n",
+            3,
+            "broken 2 item 1 period 1\n",
+        ),
+        (
+            "A,1,4,1,3,0\nA,2,5,1,0,0\n",
+            3,
+            "broken 3 item 1 period 1 left 4 right 5\n",
+        ),
+        (
+            "A,1,5,1,3,0\nA,2,5,0,0,0\n",
+            3,
+            "broken 4 item 1 period 2\n",
+        ),
+        (
+            "A,1,6,1,4,0\nA,2,4,1,0,0\n",
+            3,
+            "broken 5 resource 1 period 1 used 7\n",
+        ),
+        ("A,1,5,1,3,0\n", 3, "plan count\n"),
+        ("A,1,05,1,3,0\nA,2,5,1,0,0\n", 3, "plan number 1 3\n"),
+        ("A,2,5,1,0,0\nA,1,5,1,3,0\n", 3, "plan row 1\n"),
+    ] {
+        assert!(rt; judged_as(alloc, SHOP, records, status, line)?);
+    }
+    Ok(())
+}
+
+#[test]
+fn end_stocks_and_backlogs_are_judged(rt: HostRuntime) -> Result<(), Fail> {
+    let alloc = rt.alloc();
+    assert!(rt; judged_as(alloc, TEN, "A,1,11,1,1,0\n", 3, "broken 6 item 1\n")?);
+    assert!(rt; judged_as(alloc, TEN, "A,1,10,1,0,0\n", 0, "feasible 25\n")?);
+    let model = one_item(
+        alloc,
+        2,
+        "demand = [4, 6]\nsetup_cost = [100, 20]\nhold_cost = 1",
+    )?;
+    let records = "A,1,0,0,0,4\nA,2,10,1,0,0\n";
+    assert!(rt;
+        judged_as(
+            alloc,
+            model.as_str(),
+            records,
+            3,
+            "broken 7 item 1 period 1\n"
+        )?
+    );
+    Ok(())
+}
+
+#[test]
+fn a_judgement_names_the_file_that_is_absent(rt: HostRuntime) -> Result<(), Fail> {
+    let alloc = rt.alloc();
+    for (model, plan, line) in [
+        ("n", "p", "refused missing n\n"),
+        ("m", "q", "refused missing q\n"),
+    ] {
+        let words = texts(alloc, &["judge", model, plan])?;
+        let mut shelf = shelf_with(alloc, TEN.as_bytes(), &[], &[], &[])?;
+        let mut out = MemorySink::new(alloc, Vec::new(alloc));
+        assert_eq!(rt; run(alloc, words.as_slice(), &mut shelf, &mut out), 6);
+        assert!(rt; out.bytes.as_slice() == line.as_bytes());
+    }
+    Ok(())
+}
+
 #[test]
 fn words_are_refused(rt: HostRuntime) -> Result<(), Fail> {
     let alloc = rt.alloc();
-    let cases: [(&[&str], u8, &str); 9] = [
+    let cases: [(&[&str], u8, &str); 11] = [
         (&[], 0, "lotplan 1\n"),
+        (&["judge", "m", "m"], 4, "refused words\n"),
+        (&["judge", "m", "p", "c"], 4, "refused words\n"),
         (&["plan", "m", "p"], 4, "refused words\n"),
         (&["plan", "m", "m", "c"], 4, "refused words\n"),
         (&["plan", "m", "p", "p"], 4, "refused words\n"),

@@ -58,3 +58,56 @@ fn a_stock_without_room_has_no_plan(rt: HostRuntime) -> Result<(), Fail> {
     assert!(rt; plan_uncoupled(alloc, &instance)?.is_none());
     Ok(())
 }
+
+// The least cost of an item over three periods, by the recursion and by the plain one.
+fn least_costs(
+    alloc: Global,
+    demand: [i64; 3],
+    backlog_cost: i64,
+    opening: i64,
+    end_min: i64,
+) -> Result<(u128, u128), Fail> {
+    let [first, second, third] = demand;
+    let item = DraftItem {
+        name: String::from_str(alloc, "A")?,
+        demand: vec![in alloc; first, second, third]?,
+        unit_cost: vec![in alloc; 1i64, 1i64, 1i64]?,
+        setup_cost: vec![in alloc; 12i64, 10i64, 12i64]?,
+        hold_cost: vec![in alloc; 1i64, 2i64, 1i64]?,
+        backlog_cost: Some(vec![in alloc; backlog_cost, backlog_cost, backlog_cost]?),
+        opening,
+        end_min,
+        end_max: None,
+        needs: Vec::new(alloc),
+        uses: Vec::new(alloc),
+    };
+    let draft = Draft {
+        periods: 3,
+        resources: Vec::new(alloc),
+        items: vec![in alloc; item]?,
+    };
+    let instance = Instance::from_draft(alloc, draft).ok().ok_or("refused")?;
+    if instance.items() != 1 {
+        return Err("not one item".into());
+    }
+    let single = echelon::single_of(alloc, &instance, 1)?;
+    let found = backlog_dp::solve(alloc, &single)?;
+    Ok((found.cost, wagner_whitin::plain_least_cost(alloc, &single)?))
+}
+
+#[test]
+fn both_recursions_give_the_same_cost(rt: HostRuntime) -> Result<(), Fail> {
+    let alloc = rt.alloc();
+    for (demand, backlog_cost, opening, end_min, want) in [
+        ([5i64, 5, 5], 2i64, 0i64, 0i64, 44u128),
+        ([5, 5, 5], 0, 0, 0, 27),
+        ([0, 0, 9], 1, 0, 0, 21),
+        ([9, 0, 0], 3, 4, 2, 25),
+        ([0, 0, 0], 1, 7, 0, 0),
+    ] {
+        let (found, plain) = least_costs(alloc, demand, backlog_cost, opening, end_min)?;
+        assert_eq!(rt; found, plain);
+        assert_eq!(rt; found, want);
+    }
+    Ok(())
+}

@@ -6,7 +6,7 @@ use Rattle.lot_draft.specs.Raw.{RawItem, raw_item, raw_model}
 use Rattle.lot_draft.specs.Refusals.{item_names, later_fault, plain_fault}
 use Rattle.lot_draft.specs.Meaning.{need_of, problem_of}
 use Rattle.lot_model.specs.Views.{IsInstance}
-use Rattle.lot_model.proofs.Bills.{drafted, lines_are, needs_in, no_cycle}
+use Rattle.lot_model.proofs.Bills.{drafted, lines_are, needs_in}
 use Rattle.lot_model.proofs.making.instance.Goals as goal
 
 pub ranks-requires-clause-lines : goal.ranks-requires-clause-lines
@@ -24,7 +24,7 @@ returns-in-Some-later_fault-clause-refused c =
     let m = raw_model c.args.draft.now in
     let plain : plain_fault m ≡ None = sym c.plain_fault.ensures.value ∙ c.in_default.is in
     let later : later_fault m ≡ Some c.in-Some-later_fault.fault = sym c.later_fault.ensures.value ∙ c.in-Some-later_fault.is in
-    inr (plain, inr (no_cycle (bill_of (problem_of m)) (entry c.in_ok-ranks.ranks.items) c.in_ok-ranks.ensures.ranks, inl later))
+    inr (plain, inr ((entry c.in_ok-ranks.ranks.items, c.in_ok-ranks.ensures.ranks), inl later))
 
 pub totals-requires-clause-lines : goal.totals-requires-clause-lines
 totals-requires-clause-lines c =
@@ -61,7 +61,7 @@ returns-clause-values c =
       c.in_ok-parts.ensures,
       record {
         plain = sym c.plain_fault.ensures.value ∙ c.in_default.is;
-        no_cycle = no_cycle (bill_of (problem_of m)) (entry c.in_ok-ranks.ranks.items) c.in_ok-ranks.ensures.ranks;
+        ranked = (entry c.in_ok-ranks.ranks.items, c.in_ok-ranks.ensures.ranks);
         later = sym c.later_fault.ensures.value ∙ c.in_default-later_fault.is;
         bounded = c.in_ok-explosion.ensures.bounded;
       },

@@ -1,6 +1,6 @@
 use Rattle.std.proofs.Common.{ℕ, List, map, string_bytes}
 use Rattle.lotplan.specs.Run.{IsRun, Printed, Shelved, printed, shelved}
-use Rattle.lotplan.proofs.Explained.{called, cannot_plan, finds_none, is_run, no_memory_run, plans_best, unchanged}
+use Rattle.lotplan.proofs.Explained.{called, cannot_plan, finds_fault, finds_feasible, finds_none, is_run, no_memory_run, plans_best, unchanged}
 use Rattle.lotplan.proofs.run.run.Given.{Over}
 use Rattle.lotplan.proofs.run.run.Goals as goal
 
@@ -40,3 +40,9 @@ returns-in-Ok-clause-infeasible g c = finds_none (words g c) c.print.result (old
 
 pub returns-in-Ok-clause-not_built : goal.returns-in-Ok-clause-not_built
 returns-in-Ok-clause-not_built g c = cannot_plan (words g c) c.print.result (old g c) (new g c) (out_old g c) (out_new g c) (whole g c)
+
+pub returns-in-Ok-clause-judged : goal.returns-in-Ok-clause-judged
+returns-in-Ok-clause-judged g c = finds_feasible (words g c) c.print.result (old g c) (new g c) (out_old g c) (out_new g c) (whole g c)
+
+pub returns-in-Ok-clause-faulty : goal.returns-in-Ok-clause-faulty
+returns-in-Ok-clause-faulty g c = finds_fault (words g c) c.print.result (old g c) (new g c) (out_old g c) (out_new g c) (whole g c)

@@ -1,8 +1,0 @@
-use Rattle.std.proofs.Common.{◌≡◌, ◌-◌, ◌++◌, string_bytes}
-use Rattle.lot_sizing.specs.Texts.{join_to, plan_record}
-use Rattle.plan_rules.specs.Held.{plan_of}
-use Rattle.lotplan.proofs.text.add_records.Given as goal
-
--- the records of the periods so far are added
-abbrev pub invariant-loop-period : goal.invariant-loop-period
-invariant-loop-period l = string_bytes l.text ≡ string_bytes l.fn.text ++ join_to (l.period-counter - 1) (plan_record l.instance (plan_of l.plan) l.item)

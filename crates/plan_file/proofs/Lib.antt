@@ -1,0 +1,6 @@
+pub mod Reached
+pub mod Cells
+pub mod Places
+pub mod Fronts
+pub mod Plain
+pub mod Written

@@ -1,0 +1,11 @@
+use Rattle.std.proofs.Common.{◌∙◌, ap, sym, subst}
+use Rattle.plan_rules.specs.Held.{plan_of}
+use Rattle.plan_file.specs.Records.{IsPlanOf, records_of}
+use Rattle.plan_file.proofs.Written.{text_read}
+use Rattle.plan_file.proofs.writing.write_plan.Goals as goal
+
+pub returns-clause-read : goal.returns-clause-read
+returns-clause-read c =
+    let m = c.args.instance.now in
+    let p = plan_of c.args.plan.now in
+    subst (λ bytes. IsPlanOf m (records_of bytes) p) (sym (ap (λ v. v.items) c.into_bytes.ensures.value ∙ c.in_ok-text.ensures.text)) (text_read m p c.in_ok-text.ensures.instance.limits c.in_ok-text.ensures.fit)

@@ -1,0 +1,5 @@
+pub mod Records
+pub mod Faults
+pub mod Numbers
+pub mod Texts
+pub mod Written

@@ -1,0 +1,73 @@
+-- What the records of a plan file mean.
+use Rattle.std.specs.Prelude.{◌≡◌, ◌≢◌, ◌⊎◌, ℕ, ◌+◌, ◌-◌, ◌*◌, ◌^◌, ◌≤◌, ◌<◌, Bool, ◌&&◌, ◌==◌, IsTrue, List, [], ◌∷◌, length, slice_index_or, unwrap_or, codes, decimal}
+use Rattle.std.specs.Str.{bytes_eq}
+use Rattle.std.specs.Str.Parse.{digits_value}
+use Rattle.csv.specs.Reading.{default_config, records, strip_bom}
+use Rattle.csv.specs.Records.{field_at}
+use Rattle.lot_io.specs.Digits.{IsWholeText}
+use Rattle.lot_sizing.specs.Problem.{Problem, item_at, item_count}
+use Rattle.lot_sizing.specs.Plan.{EachCell, Plan}
+use Rattle.plan_rules.specs.Cells.{place}
+
+-- a record as its fields
+abbrev pub Record : Type 0
+Record = List (List ℕ)
+
+-- the records of a text, with no header row
+abbrev pub records_of : List ℕ → List Record
+records_of bytes = records default_config (strip_bom bytes)
+
+-- a record by its number, and nothing where it is absent
+abbrev pub record_at : List Record → ℕ → Record
+record_at rs n = slice_index_or rs n []
+
+-- a field by its number, counted from 1
+abbrev pub field : Record → ℕ → List ℕ
+field r c = unwrap_or (field_at r (c - 1)) []
+
+abbrev pub is_header : Record → Bool
+is_header r = (length r == 6) && (bytes_eq (field r 1) (codes "item") && (bytes_eq (field r 2) (codes "period") && (bytes_eq (field r 3) (codes "make") && (bytes_eq (field r 4) (codes "setup") && (bytes_eq (field r 5) (codes "stock") && bytes_eq (field r 6) (codes "backlog"))))))
+
+-- the first record is the header
+pub record HasHeader (rs : List Record) : Type 0 where
+  pub there : 0 < length rs
+  pub header : IsTrue (is_header (record_at rs 0))
+
+-- the record of an item and a period, the header being record 0
+abbrev pub number_of : Problem → ℕ → ℕ → ℕ
+number_of m i t = place m.periods i t + 1
+
+-- six fields, the item's name and the period first
+abbrev pub is_row : Problem → ℕ → ℕ → Record → Bool
+is_row m i t r = (length r == 6) && (bytes_eq (field r 1) (item_at m i).name && bytes_eq (field r 2) (decimal t))
+
+-- decimal digits of a number that fits
+pub record IsNumber (text : List ℕ) : Type 0 where
+  pub whole : IsWholeText text
+  pub fits : digits_value 10 text < 2 ^ 64
+
+-- the last four fields are numbers
+abbrev pub HasNumbers : Record → Type 0
+HasNumbers r = (c : ℕ) → 3 ≤ c → c ≤ 6 → IsNumber (field r c)
+
+-- the record of an item and a period is there, is theirs and has numbers
+pub record IsGood (m : Problem) (rs : List Record) (i t : ℕ) : Type 0 where
+  pub there : number_of m i t < length rs
+  pub row : IsTrue (is_row m i t (record_at rs (number_of m i t)))
+  pub numbers : HasNumbers (record_at rs (number_of m i t))
+
+-- the plan has the numbers of a record
+pub record AreNumbersOf (r : Record) (p : Plan) (i t : ℕ) : Type 0 where
+  pub make : p.make i t ≡ digits_value 10 (field r 3)
+  pub setup : p.setup i t ≡ digits_value 10 (field r 4)
+  pub stock : p.stock i t ≡ digits_value 10 (field r 5)
+  pub backlog : p.backlog i t ≡ digits_value 10 (field r 6)
+
+abbrev pub IsRead : Problem → List Record → Plan → ℕ → ℕ → Type 0
+IsRead m rs p i t = IsGood m rs i t × AreNumbersOf (record_at rs (number_of m i t)) p i t
+
+-- the records are a header and the plan's, and no others
+pub record IsPlanOf (m : Problem) (rs : List Record) (p : Plan) : Type 0 where
+  pub header : HasHeader rs
+  pub count : length rs ≡ item_count m * m.periods + 1
+  pub each : EachCell m (IsRead m rs p)

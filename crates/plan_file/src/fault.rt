@@ -1,0 +1,60 @@
+// Why bytes were not read as a plan.
+ghost use Rattle.std.specs.Prelude.{Some};
+ghost use Rattle.plan_file.specs.Texts.{plan_fault_text};
+
+use std::alloc::{AllocError, AllocFailed};
+use std::error::Error;
+use std::fmt;
+
+/// Why bytes were not read as a plan. Records after the header are counted from 1, and so are fields.
+#[derive(Clone, Copy, Debug, PartialEq, Eq)]
+pub enum PlanFault {
+    /// The first record isn't the header.
+    Header,
+    /// A record is absent, or one follows the last.
+    RowCount,
+    /// A record hasn't six fields, or isn't that of its item and period.
+    Row(u32),
+    /// A field of a record is no whole number of 64 bits.
+    Number(u32, u32),
+    /// Memory ran out.
+    Memory,
+}
+
+impl From<AllocError> for PlanFault {
+    ghost use Rattle.std.specs.Prelude.{◌≡◌};
+    ghost use Rattle.plan_file.specs.declared.fault.PlanFault.TheVariants.{Memory};
+
+    ghost from_gives = { λ _ e. e ≡ Memory };
+
+    fn from(_: AllocError) -> PlanFault {
+        PlanFault::Memory
+    }
+}
+
+impl<T: Drop> From<AllocFailed<T>> for PlanFault {
+    ghost use Rattle.std.specs.Prelude.{◌≡◌};
+    ghost use Rattle.plan_file.specs.declared.fault.PlanFault.TheVariants.{Memory};
+
+    ghost from_gives = { λ _ e. e ≡ Memory };
+
+    fn from(_: AllocFailed<T>) -> PlanFault {
+        PlanFault::Memory
+    }
+}
+
+impl fmt::Display for PlanFault {
+    ghost output = { λ fault. Some (plan_fault_text fault) };
+
+    fn fmt<W: fmt::Write>(&self, f: &mut fmt::Formatter<W>) -> fmt::Result {
+        match self {
+            PlanFault::Header => f.write_str("plan header"),
+            PlanFault::RowCount => f.write_str("plan count"),
+            PlanFault::Row(record) => write!(f, "plan row {record}"),
+            PlanFault::Number(record, field) => write!(f, "plan number {record} {field}"),
+            PlanFault::Memory => f.write_str("out of memory"),
+        }
+    }
+}
+
+impl Error for PlanFault {}

@@ -1,0 +1,222 @@
+// From the records of a text to a plan.
+ghost use Rattle.std.specs.Prelude.{◌≡◌, ◌≢◌, ◌⊎◌, ◌≤◌, ◌<◌, ◌-◌, ℕ, IfOk, IfErr, IfSome, IfNone, OnOk, IsTrue, ◌↔◌, List, [], map, length, unwrap_or};
+ghost use Rattle.std.specs.Str.Parse.{digits_value};
+ghost use Rattle.csv.specs.Records.{field_at, fields_of};
+ghost use Rattle.lot_sizing.specs.Problem.{item_count};
+ghost use Rattle.lot_sizing.specs.Plan.{EachCell};
+ghost use Rattle.plan_rules.specs.Held.{AllFit, plan_of};
+ghost use Rattle.plan_file.specs.Records.{AreNumbersOf, HasHeader, HasNumbers, IsNumber, IsPlanOf, IsRead, field, is_header, is_row, number_of, record_at, records_of};
+ghost use Rattle.plan_file.specs.Faults.{IsFirstBad, IsPlanFault, IsRecordFault, IsRowsFault};
+ghost use Rattle.plan_file.specs.Numbers.{ArePut, HasNumbersIn, IsPutFrom};
+
+use crate::PlanFault;
+use crate::records::first_records;
+use csv::ByteRecord;
+use lot_io::{NumberFault, read_whole};
+use lot_model::Instance;
+use plan_rules::{Grid, Plan};
+use std::alloc::{AllocError, Global};
+
+// A field of a record, counted from 1, and nothing where it is absent.
+fn field(row: &ByteRecord, number: usize) -> &[u8]
+    requires { 1 ≤ number }
+    ensures { result.now ≡ field (fields_of row.entry.now) number }
+{
+    match row.get(number - 1) {
+        Some(found) => found,
+        None => &[],
+    }
+}
+
+// Whether a record is the header.
+fn is_header(row: &ByteRecord) -> bool
+    ensures { result ≡ is_header (fields_of row.now) }
+{
+    row.len() == 6
+        && field(row, 1) == b"item".as_slice()
+        && field(row, 2) == b"period".as_slice()
+        && field(row, 3) == b"make".as_slice()
+        && field(row, 4) == b"setup".as_slice()
+        && field(row, 5) == b"stock".as_slice()
+        && field(row, 6) == b"backlog".as_slice()
+}
+
+// Whether a record is that of an item and a period.
+fn is_row(
+    alloc: Global,
+    instance: &Instance,
+    item: u32,
+    period: u32,
+    row: &ByteRecord,
+) -> Result<bool, AllocError>
+    requires low { 1 ≤ item }
+    requires high { item ≤ item_count instance.now }
+    ensures { IfOk result (λ found. found ≡ is_row instance.now item period (fields_of row.now)) }
+{
+    let text = period.to_string(alloc)?;
+    Ok(
+        row.len() == 6
+            && field(row, 1) == instance.item_name(item).as_bytes()
+            && field(row, 2) == text.as_bytes(),
+    )
+}
+
+// The number that a field holds.
+fn number(text: &[u8]) -> Option<u64>
+    ensures some { IfSome result (λ n. IsNumber text.now × (n ≡ digits_value 10 text.now)) }
+    ensures none { IfNone result (IsNumber text.now → ⊥) }
+{
+    match read_whole(text, u64::MAX as u128) {
+        Ok(n) => Some(n as u64),
+        Err(NumberFault::NotDigits) => None,
+        Err(NumberFault::LeadingZero) => None,
+        Err(NumberFault::TooLarge) => None,
+    }
+}
+
+/// The four numbers of a record.
+#[derive(Clone, Copy)]
+pub struct Numbers {
+    pub make: u64,
+    pub setup: u64,
+    pub stock: u64,
+    pub backlog: u64,
+}
+
+// The numbers of a record, or the first of the last four fields that is none.
+fn numbers_of(row: &ByteRecord) -> Result<Numbers, u32>
+    ensures ok { IfOk result (HasNumbersIn (fields_of row.now)) }
+    ensures bad { IfErr result (IsFirstBad (fields_of row.now)) }
+{
+    let make = match number(field(row, 3)) {
+        Some(n) => n,
+        None => return Err(3),
+    };
+    let setup = match number(field(row, 4)) {
+        Some(n) => n,
+        None => return Err(4),
+    };
+    let stock = match number(field(row, 5)) {
+        Some(n) => n,
+        None => return Err(5),
+    };
+    let backlog = match number(field(row, 6)) {
+        Some(n) => n,
+        None => return Err(6),
+    };
+    Ok(Numbers {
+        make,
+        setup,
+        stock,
+        backlog,
+    })
+}
+
+// Puts the numbers of a record in a plan.
+fn put(instance: &Instance, plan: &mut Plan, item: u32, period: u32, numbers: Numbers)
+    requires fits { AllFit instance.now plan.old }
+    requires item_low { 1 ≤ item }
+    requires item_high { item ≤ item_count instance.now }
+    requires low { 1 ≤ period }
+    requires high { period ≤ instance.now.periods }
+    ensures fits { AllFit instance.now plan.new }
+    ensures put { ArePut instance.now (plan_of plan.old) (plan_of plan.new) item period numbers }
+{
+    plan.make.set(item, period, numbers.make);
+    plan.setup.set(item, period, numbers.setup);
+    plan.stock.set(item, period, numbers.stock);
+    plan.backlog.set(item, period, numbers.backlog);
+}
+
+// Reads the record of an item and a period into a plan.
+fn read_record(
+    alloc: Global,
+    instance: &Instance,
+    rows: &[ByteRecord],
+    item: u32,
+    period: u32,
+    plan: &mut Plan,
+) -> Result<(), PlanFault>
+    requires fits { AllFit instance.now plan.old }
+    requires item_low { 1 ≤ item }
+    requires item_high { item ≤ item_count instance.now }
+    requires low { 1 ≤ period }
+    requires high { period ≤ instance.now.periods }
+    ensures fits { AllFit instance.now plan.new }
+    ensures read { OnOk result (IsPutFrom instance.now (map fields_of rows.now) (plan_of plan.old) (plan_of plan.new) item period) }
+    ensures refused { IfErr result (IsRecordFault instance.now (map fields_of rows.now) item period) }
+{
+    let number = (item - 1) * instance.periods() + period;
+    if number as usize >= rows.len() {
+        return Err(PlanFault::RowCount);
+    }
+    let row = &rows[number as usize];
+    if !is_row(alloc, instance, item, period, row)? {
+        return Err(PlanFault::Row(number));
+    }
+    match numbers_of(row) {
+        Ok(numbers) => {
+            put(instance, plan, item, period, numbers);
+            Ok(())
+        }
+        Err(column) => Err(PlanFault::Number(number, column)),
+    }
+}
+
+// Reads all records after the header into a plan.
+fn read_records(
+    alloc: Global,
+    instance: &Instance,
+    rows: &[ByteRecord],
+    plan: &mut Plan,
+) -> Result<(), PlanFault>
+    requires fits { AllFit instance.now plan.old }
+    ensures fits { OnOk result (AllFit instance.now plan.new) }
+    ensures read { OnOk result (EachCell instance.now (IsRead instance.now (map fields_of rows.now) (plan_of plan.new))) }
+    ensures refused { IfErr result (IsRowsFault instance.now (map fields_of rows.now)) }
+{
+    let periods = instance.periods();
+    for item in 1..instance.items() + 1 {
+        for period in 1..periods + 1 {
+            read_record(alloc, instance, rows, item, period, plan)?;
+        }
+    }
+    Ok(())
+}
+
+// Whether the first record is the header.
+fn has_header(rows: &[ByteRecord]) -> bool
+    ensures { IsTrue result ↔ HasHeader (map fields_of rows.now) }
+{
+    match rows.first() {
+        Some(row) => is_header(row),
+        None => false,
+    }
+}
+
+/// The plan whose records these bytes are, after a header, or the first fault in their order.
+///
+/// It takes time in the length of the bytes, and memory for no more records than the plan has and two.
+pub fn read_plan(alloc: Global, instance: &Instance, bytes: &[u8]) -> Result<Plan, PlanFault>
+    ensures fits { IfOk result (AllFit instance.now) }
+    ensures plan { IfOk result (λ plan. IsPlanOf instance.now (records_of bytes.now) (plan_of plan)) }
+    ensures refused { IfErr result (IsPlanFault instance.now (records_of bytes.now)) }
+{
+    let (items, periods) = (instance.items(), instance.periods());
+    let count = (items * periods) as usize;
+    let rows = first_records(alloc, bytes, count + 2)?;
+    if !has_header(&rows) {
+        return Err(PlanFault::Header);
+    }
+    let mut plan = Plan {
+        make: Grid::filled(alloc, items, periods, 0)?,
+        setup: Grid::filled(alloc, items, periods, 0)?,
+        stock: Grid::filled(alloc, items, periods, 0)?,
+        backlog: Grid::filled(alloc, items, periods, 0)?,
+    };
+    read_records(alloc, instance, &rows, &mut plan)?;
+    if rows.len() != count + 1 {
+        return Err(PlanFault::RowCount);
+    }
+    Ok(plan)
+}

@@ -1,0 +1,90 @@
+use crate::{read_plan, write_plan};
+use lot_model::{Draft, DraftItem, Instance};
+use plan_rules::{Grid, Plan};
+use std::alloc::{AllocError, Global};
+use std::test::Fail;
+
+// An item over two periods.
+fn instance(alloc: Global) -> Result<Instance, Fail> {
+    let item = DraftItem {
+        name: String::from_str(alloc, "A")?,
+        demand: vec![in alloc; 2i64, 8i64]?,
+        unit_cost: vec![in alloc; 0i64, 0i64]?,
+        setup_cost: vec![in alloc; 10i64, 10i64]?,
+        hold_cost: vec![in alloc; 1i64, 1i64]?,
+        backlog_cost: None,
+        opening: 0,
+        end_min: 0,
+        end_max: None,
+        needs: Vec::new(alloc),
+        uses: Vec::new(alloc),
+    };
+    let draft = Draft {
+        periods: 2,
+        resources: Vec::new(alloc),
+        items: vec![in alloc; item]?,
+    };
+    Ok(Instance::from_draft(alloc, draft).ok().ok_or("refused")?)
+}
+
+// The fault of records after the header, and none where they are a plan's.
+fn fault(alloc: Global, instance: &Instance, text: &str) -> Result<String, AllocError> {
+    match read_plan(alloc, instance, text.as_bytes()) {
+        Ok(_) => String::from_str(alloc, "none"),
+        Err(fault) => fault.to_string(alloc),
+    }
+}
+
+#[test]
+fn faults_are_named_in_the_order_of_the_file(rt: HostRuntime) -> Result<(), Fail> {
+    let alloc = rt.alloc();
+    let instance = instance(alloc)?;
+    for (records, want) in [
+        ("A,1,5,1,3,0\nA,2,5,1,0,0\n", "none"),
+        ("\"A\",1,5,1,3,0\r\n\r\nA,2,5,1,0,\"0\"", "none"),
+        ("A,1,5,1,3,0\n", "plan count"),
+        ("A,1,5,1,3,0\nA,2,5,1,0,0\nA,3\n", "plan count"),
+        ("A,1,05,1,3,0\nA,2,5,1,0,0\n", "plan number 1 3"),
+        ("A,2,5,1,0,0\nA,1,5,1,3,0\n", "plan row 1"),
+        ("A,1,5,1,3,0\nA,2,5,1,0\n", "plan row 2"),
+        ("A,1,5,1,3,0\nB,2,5,1,0,x\n", "plan row 2"),
+        ("A,1,5,1,3,18446744073709551616\nA,2\n", "plan number 1 6"),
+    ] {
+        let text = format!(in alloc; "item,period,make,setup,stock,backlog\n{records}")?;
+        let found = fault(alloc, &instance, text.as_str())?;
+        assert_eq!(rt; found.as_str(), want);
+    }
+    Ok(())
+}
+
+#[test]
+fn a_header_is_asked_for(rt: HostRuntime) -> Result<(), Fail> {
+    let alloc = rt.alloc();
+    let instance = instance(alloc)?;
+    for text in ["", "A,1,5,1,3,0\n", "item,period,make,setup,stock\n"] {
+        let found = fault(alloc, &instance, text)?;
+        assert_eq!(rt; found.as_str(), "plan header");
+    }
+    Ok(())
+}
+
+#[test]
+fn a_plan_that_is_written_is_read_again(rt: HostRuntime) -> Result<(), Fail> {
+    let alloc = rt.alloc();
+    let instance = instance(alloc)?;
+    let (items, periods) = (instance.items(), instance.periods());
+    let plan = Plan {
+        make: Grid::filled(alloc, items, periods, u64::MAX)?,
+        setup: Grid::filled(alloc, items, periods, 1)?,
+        stock: Grid::filled(alloc, items, periods, 10)?,
+        backlog: Grid::filled(alloc, items, periods, 0)?,
+    };
+    let bytes = write_plan(alloc, &instance, &plan)?;
+    let read = read_plan(alloc, &instance, bytes.as_slice())?;
+    assert_eq!(rt; (items, periods), (1, 2));
+    assert_eq!(rt; (read.make.items(), read.make.periods()), (1, 2));
+    assert_eq!(rt; read.make.get(1, 2), u64::MAX);
+    assert_eq!(rt; (read.stock.items(), read.stock.periods()), (1, 2));
+    assert_eq!(rt; read.stock.get(1, 1), 10);
+    Ok(())
+}
