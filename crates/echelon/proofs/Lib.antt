@@ -1,2 +1,5 @@
 pub mod Nets
 pub mod Singles
+pub mod Orders
+pub mod Explosions
+pub mod Wholes

@@ -1,12 +1,12 @@
 -- An item of an instance by itself.
-use Rattle.std.proofs.Common.{◌≡◌, ◌≢◌, ◌≤◌, ◌<◌, ◌+◌, ◌-◌, ◌*◌, ◌^◌, ◌∙◌, ℕ, zero, suc, refl, sym, ap, subst, arith, List, length, slice_index_or, IfSome}
-use Rattle.std.specs.Prelude.{if◌then◌else◌, ◌==◌}
+use Rattle.std.proofs.Common.{◌≡◌, ◌≤◌, ◌+◌, ◌-◌, ◌^◌, ◌∙◌, ℕ, zero, suc, refl, sym, ap, subst, arith, List, length, slice_index_or, IfSome}
 use Rattle.std.proofs.lemmas.Grind.{same_number_lists}
 use Rattle.lot_sizing.specs.Sums.{sum_to}
 use Rattle.lot_sizing.specs.Problem.{IsSeries, IsWithinLimits, Problem, demand, entry, item_at, item_count}
 use Rattle.lot_sizing.specs.Single.{IsWithinBounds, net_demand}
-use Rattle.lot_sizing.specs.Net.{Asked, IsSingleOf, asked_of, asked_to, needed_to, net_in}
+use Rattle.lot_sizing.specs.Net.{Asked, IsSingleOf, asked_of, asked_to, net_in}
 use Rattle.lot_sizing.proofs.Bounds.{demand_small}
+use Rattle.lot_sizing.proofs.Reduction.{net_so_far}
 use Rattle.lot_sizing.proofs.Sums.{sum_to-bound, sum_to-same}
 use Rattle.echelon.specs.Views.{HasEach, asked_in, numbers_to, single_in}
 use Rattle.echelon.proofs.Nets.{each_more}
@@ -28,27 +28,15 @@ net_is m i demands net opening end_min within low high is_demand is_opening is_e
     let size = (within.each_item i low high).lists.demand.size in
     same_numbers m.periods (net_in (asked_of m i)) net (numbers_to (net_in (asked_of m i)) m.periods) (rw (is_demand, is_opening, is_end, size) at each) (numbers_each (net_in (asked_of m i)) m.periods)
 
-later : (a : Asked) (t : ℕ) → t ≢ a.periods → (if t == a.periods then a.end_min else 0) ≡ 0
-later a t h = grind (arith, h)
-
 most_asked : (a : Asked) (t : ℕ) → asked_to a t ≤ sum_to t a.demand + a.end_min
 most_asked a t = grind arith
-
-needed_rises : (a : Asked) (t : ℕ) → suc t ≤ a.periods → needed_to a t ≤ needed_to a (suc t)
-needed_rises a t h = omega (arith, later a t (λ same. omega (arith, same, h)))
-
-net_to : (a : Asked) → 1 ≤ a.periods → (t : ℕ) → t ≤ a.periods → sum_to t (net_in a) ≡ needed_to a t
-net_to a some zero h = omega (arith, later a 0 (λ same. omega (arith, same, some)))
-net_to a some (suc t) h =
-    let e : suc t - 1 ≡ t = omega arith in
-    omega (arith, net_to a some t (omega (arith, h)), needed_rises a t h, ap (needed_to a) e)
 
 -- all net demands of an item within the limits
 net_small : (m : Problem) (i : ℕ) → IsWithinLimits m → 1 ≤ i → i ≤ item_count m → sum_to m.periods (net_in (asked_of m i)) ≤ 10 ^ 12
 net_small m i within low high =
     let a = asked_of m i in
     let each = sum_to-bound m.periods (10 ^ 9) (demand m i) (λ t t_low t_high. demand_small m within i t low high t_low t_high) in
-    omega (arith, net_to a within.some_period m.periods (omega arith), most_asked a m.periods, each, within.periods, (within.each_item i low high).end_min)
+    omega (arith, net_so_far a within.some_period m.periods (omega arith), most_asked a m.periods, each, within.periods, (within.each_item i low high).end_min)
 
 pub is_single : (m : Problem) (i : ℕ) → IsSingleOf m i (single_in m i)
 is_single m i =

@@ -1,7 +1,9 @@
 //! Items by themselves, and with what they go into.
 //!
-//! An `EchelonItem` is what is asked of an item and of all items that it goes into; `net_of` gives what
-//! remains to be made for it in each period once its opening stock is used up, and what is left of that.
+//! An `Explosion` has the weights of an instance's items, and an order in which each stands before its
+//! components. `echelon_of` gives what is asked of an item and of all items that it goes into, an
+//! `EchelonItem`; `net_of` gives what remains to be made for it in each period once its opening stock is
+//! used up, and what is left of that.
 //! A `SingleItem` is what remains to be made of one item in each period once its opening stock is
 //! used up, with its costs. A recursion answers `Blocks`: a least cost, which period serves which
 //! positions, and the potentials that show that no plan costs less. The definitions of `lot_sizing`
@@ -10,13 +12,17 @@
 #![tactic(auto)]
 
 mod alone;
+mod explosion;
 mod net;
 mod single;
+mod whole;
 
 pub use alone::single_of;
+pub use explosion::Explosion;
 pub use lot_sizing::Block;
 pub use net::{EchelonItem, Net, is_within_limits, net_of};
 pub use single::{Blocks, SingleItem, is_within_bounds};
+pub use whole::echelon_of;
 
 #[cfg(test)]
 mod tests;

@@ -1,5 +1,8 @@
-use crate::{EchelonItem, SingleItem, is_within_bounds, is_within_limits, net_of, single_of};
-use lot_model::{Draft, DraftItem, Instance};
+use crate::{
+    EchelonItem, Explosion, SingleItem, echelon_of, is_within_bounds, is_within_limits, net_of,
+    single_of,
+};
+use lot_model::{Draft, DraftItem, DraftNeed, Instance};
 use std::alloc::{AllocError, Global};
 use std::test::Fail;
 
@@ -91,7 +94,7 @@ fn limits_of_echelons(rt: HostRuntime) -> Result<(), Fail> {
     Ok(())
 }
 
-// Demand 10 and 11, an opening stock of 3 and a required end stock of 4.
+// An item that is asked for 10 and 11, with an opening stock of 3 and a required end stock of 4.
 fn draft_item(alloc: Global) -> Result<DraftItem, AllocError> {
     Ok(DraftItem {
         name: String::from_str(alloc, "A")?,
@@ -125,5 +128,87 @@ fn an_item_of_an_instance_is_taken_by_itself(rt: HostRuntime) -> Result<(), Fail
     assert!(rt; single.hold.as_slice() == [7u64, 8].as_slice());
     let back = single.back.ok_or("no backlog costs")?;
     assert!(rt; back.as_slice() == [9u64, 9].as_slice());
+    Ok(())
+}
+
+// A part that is asked for 1 in the second period, and takes three of its component.
+fn part(alloc: Global, name: &str, component: Option<&str>) -> Result<DraftItem, AllocError> {
+    let mut part = DraftItem {
+        name: String::from_str(alloc, name)?,
+        demand: vec![in alloc; 0i64, 1i64]?,
+        unit_cost: vec![in alloc; 0i64, 0i64]?,
+        setup_cost: vec![in alloc; 0i64, 0i64]?,
+        hold_cost: vec![in alloc; 0i64, 0i64]?,
+        backlog_cost: None,
+        opening: 2,
+        end_min: 5,
+        end_max: None,
+        needs: Vec::new(alloc),
+        uses: Vec::new(alloc),
+    };
+    if let Some(component) = component {
+        part.needs.push(DraftNeed {
+            item: String::from_str(alloc, component)?,
+            quantity: 3,
+        })?;
+    }
+    Ok(part)
+}
+
+// One "A" takes two "B", and one "B" three "C".
+fn chain(alloc: Global) -> Result<Instance, Fail> {
+    let mut items = Vec::with_capacity(alloc, 3)?;
+    items.push(part(alloc, "C", None)?)?;
+    let mut first = draft_item(alloc)?;
+    first.needs.push(DraftNeed {
+        item: String::from_str(alloc, "B")?,
+        quantity: 2,
+    })?;
+    items.push(first)?;
+    items.push(part(alloc, "B", Some("C"))?)?;
+    let draft = Draft {
+        periods: 2,
+        resources: Vec::new(alloc),
+        items,
+    };
+    Ok(Instance::from_draft(alloc, draft).ok().ok_or("refused")?)
+}
+
+#[test]
+fn an_echelon_asks_for_what_its_items_go_into(rt: HostRuntime) -> Result<(), Fail> {
+    let alloc = rt.alloc();
+    let instance = chain(alloc)?;
+    let explosion = Explosion::of(alloc, &instance)?;
+    assert_eq!(rt; instance.items(), 3);
+    let weights = (
+        explosion.weight(1, 1),
+        explosion.weight(1, 2),
+        explosion.weight(1, 3),
+    );
+    assert_eq!(rt; weights, (1, 6, 3));
+    assert!(rt; explosion.order() == &[2u32, 3, 1][..]);
+    let echelon = echelon_of(alloc, &instance, &explosion, 1)?;
+    // 6 * 10 and 6 * 11 + 3 * 1 + 1, 6 * 3 + 3 * 2 + 2, and 6 * 4 + 3 * 5 + 5.
+    assert!(rt; echelon.demand.as_slice() == &[60u128, 70][..]);
+    assert_eq!(rt; (echelon.opening, echelon.end_min), (26, 44));
+    assert!(rt; echelon.weights.as_slice() == &[1u64, 6, 3][..]);
+    assert!(rt; echelon.backs.as_slice() == &[false, true, false][..]);
+    assert!(rt; echelon.backlogged);
+    let net = net_of(alloc, &echelon)?;
+    assert!(rt; net.net.as_slice() == &[34u128, 114][..]);
+    assert!(rt; net.left.as_slice() == &[0u128, 44][..]);
+    Ok(())
+}
+
+#[test]
+fn an_end_product_is_an_echelon_by_itself(rt: HostRuntime) -> Result<(), Fail> {
+    let alloc = rt.alloc();
+    let instance = chain(alloc)?;
+    let explosion = Explosion::of(alloc, &instance)?;
+    assert_eq!(rt; instance.items(), 3);
+    let echelon = echelon_of(alloc, &instance, &explosion, 2)?;
+    assert_eq!(rt; (echelon.item, echelon.opening, echelon.end_min), (2, 3, 4));
+    assert!(rt; echelon.demand.as_slice() == &[10u128, 11][..]);
+    assert!(rt; echelon.weights.as_slice() == &[0u64, 1, 0][..]);
     Ok(())
 }

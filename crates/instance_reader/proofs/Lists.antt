@@ -5,16 +5,9 @@ use Rattle.toml.specs.Data.{Data}
 use Rattle.toml.specs.View.{items_view, view}
 use Rattle.toml.specs.declared.value.Value.{Value}
 use Rattle.lot_draft.specs.declared.fault.ModelFault.{ModelFault}
-use Rattle.instance_reader.specs.Reading.{IsWhyNot, Read, copies, each_read, map_read, then_read}
+use Rattle.instance_reader.specs.Reading.{IsWhyNot, Read, each_read, map_read, then_read}
 use Rattle.instance_reader.specs.declared.fault.ReadModelFault.{ReadModelFault}
 use Rattle.instance_reader.specs.declared.fault.ReadModelFault.TheVariants.{Refused, Memory}
-
-copies_last : {A : Type 0} (n : ℕ) (x : A) → copies n x ++ (x ∷ []) ≡ copies (suc n) x
-copies_last zero x = refl
-copies_last (suc n) x = ap (λ xs. x ∷ xs) (copies_last n x)
-
-pub copies-last : {A : Type 0} (n : ℕ) (x : A) → copies n x ++ (x ∷ []) ≡ copies (n + 1) x
-copies-last n x = let next : suc n ≡ n + 1 = omega arith in copies_last n x ∙ ap (λ k. copies k x) next
 
 -- the element at k, and those after it
 each_at : {A : Type 0} (one : ℕ → Data → Read A) (n k : ℕ) (d : Value) (xs : List Value) → k < length xs → each_read one n (items_view (drop k xs)) ≡ then_read (one n (view (slice_index_or xs k d))) (λ x. map_read (λ rest. x ∷ rest) (each_read one (suc n) (items_view (drop (suc k) xs))))

@@ -9,7 +9,7 @@ use Rattle.lot_model.specs.Meaning.{Means}
 use Rattle.lot_model.proofs.Meanings.{means_one}
 use Rattle.instance_reader.specs.Document.{document_of}
 use Rattle.instance_reader.specs.Tables.{model_read}
-use Rattle.instance_reader.specs.Model.{BytesMean, DocumentMeans, IsProblem, IsTold, told}
+use Rattle.instance_reader.specs.Model.{BytesMean, DocumentMeans, IsTold, told}
 
 abbrev ok_or : {A B : Type 0} → Result A B → A → A
 ok_or (Ok x) d = x

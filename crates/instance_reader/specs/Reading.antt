@@ -1,5 +1,5 @@
 -- What is read from a value, or the fault where it is absent or of another kind.
-use Rattle.std.specs.Prelude.{◌≡◌, ℕ, zero, suc, ℤ, pos, List, [], ◌∷◌, Option, Some, None, Result, Ok, Err, ⊤}
+use Rattle.std.specs.Prelude.{◌≡◌, ℕ, suc, ℤ, pos, List, [], ◌∷◌, replicate, Option, Some, None, Result, Ok, Err, ⊤}
 use Rattle.toml.specs.Data.{Data, Items, item, no_items, Members, as_array, as_integer, as_str}
 use Rattle.lot_draft.specs.declared.fault.ModelFault.{ModelFault}
 use Rattle.lot_draft.specs.declared.fault.ModelCode.{ModelCode}
@@ -21,11 +21,6 @@ then_read (Err f) next = Err f
 abbrev pub map_read : {A B : Type 0} → (A → B) → Read A → Read B
 map_read g (Ok x) = Ok (g x)
 map_read g (Err f) = Err f
-
--- so many of one thing
-abbrev pub copies : {A : Type 0} → ℕ → A → List A
-copies zero x = []
-copies (suc n) x = x ∷ copies n x
 
 -- what each element of a list is read as, counted from n
 abbrev pub each_read : {A : Type 0} → (ℕ → Data → Read A) → ℕ → Items → Read (List A)
@@ -89,7 +84,7 @@ entries p k xs = each_read (entry p k) 1 xs
 
 abbrev pub series_by : ℕ → Place → Key → Option Items → Option ℤ → Read (List ℤ)
 series_by periods p k (Some xs) one = entries p k xs
-series_by periods p k None (Some x) = Ok (copies periods x)
+series_by periods p k None (Some x) = Ok (replicate periods x)
 series_by periods p k None None = Err (fault_at WrongKind p k)
 
 -- a list, or one number that stands for every period
@@ -100,7 +95,7 @@ abbrev pub needed_series : ℕ → Place → Key → Members → Read (List ℤ)
 needed_series periods p k t = needed p k (series periods p k) t
 
 abbrev pub series_or_zeros : ℕ → Place → Key → Members → Read (List ℤ)
-series_or_zeros periods p k t = where_absent (Ok (copies periods (pos 0))) (series periods p k) (value_at k t)
+series_or_zeros periods p k t = where_absent (Ok (replicate periods (pos 0))) (series periods p k) (value_at k t)
 
 abbrev pub optional_series : ℕ → Place → Key → Members → Read (Option (List ℤ))
 optional_series periods p k t = where_absent (Ok None) (λ v. map_read Some (series periods p k v)) (value_at k t)

@@ -1,5 +1,5 @@
 -- What the tables of a model are read as, key by key.
-use Rattle.std.specs.Prelude.{ℕ, suc, ℤ, pos, int_le, ◌&&◌, ◌==◌, Bool, true, false, List, [], ◌∷◌, Option, Some, None, Result, Ok, Err, is_some, codes, if◌then◌else◌}
+use Rattle.std.specs.Prelude.{ℕ, ℤ, pos, int_le, ◌&&◌, Bool, true, List, [], ◌∷◌, Option, Some, None, Ok, Err, is_some, codes, if◌then◌else◌}
 use Rattle.toml.specs.Data.{Data, Items, item, no_items, Members, as_array, as_table}
 use Rattle.lot_draft.specs.Raw.{RawItem, RawModel, RawNeed, RawResource, RawUse}
 use Rattle.lot_draft.specs.Meaning.{natural}
@@ -11,7 +11,7 @@ use Rattle.lot_draft.specs.declared.fault.Place.TheVariants as place
 use Rattle.lot_draft.specs.declared.fault.Key.{Key}
 use Rattle.lot_draft.specs.declared.fault.Key.TheVariants as key
 use Rattle.instance_reader.specs.Document.{has_only, value_at}
-use Rattle.instance_reader.specs.Reading.{Read, each_read, fault_at, map_read, needed, needed_number, needed_series, needed_text, number_or_zero, optional_number, optional_series, or_fault, series_or_zeros, then_read, unknown_key, where_absent}
+use Rattle.instance_reader.specs.Reading.{Read, each_read, fault_at, needed, needed_number, needed_series, needed_text, number_or_zero, optional_number, optional_series, or_fault, series_or_zeros, then_read, unknown_key, where_absent}
 
 -- each element is a table
 abbrev pub are_tables : Items → Bool

@@ -1,7 +1,7 @@
 // What is read from a value, or the fault where it is absent or of another kind.
-ghost use Rattle.std.specs.Prelude.{◌≡◌, Ok, Some, None, IfOk, IfErr, option_map, string_bytes};
+ghost use Rattle.std.specs.Prelude.{◌≡◌, Ok, Some, None, IfOk, IfErr, option_map, replicate, string_bytes};
 ghost use Rattle.toml.specs.View.{items_view, table_view, view};
-ghost use Rattle.instance_reader.specs.Reading.{IsWhyNot, copies, entries, entry, needed_number, needed_series, needed_text, number, number_or_zero, optional_number, optional_series, series, series_or_zeros, text};
+ghost use Rattle.instance_reader.specs.Reading.{IsWhyNot, entries, entry, needed_number, needed_series, needed_text, number, number_or_zero, optional_number, optional_series, series, series_or_zeros, text};
 
 use crate::ReadModelFault;
 use crate::document::value_at;
@@ -113,7 +113,7 @@ fn entries(
 
 // One number for each period.
 fn copies(alloc: Global, number: i64, periods: u32) -> Result<Vec<i64>, AllocError>
-    ensures { IfOk result (λ found. found.items ≡ copies periods number) }
+    ensures { IfOk result (λ found. found.items ≡ replicate periods number) }
 {
     let mut list = Vec::new(alloc);
     for _period in 0..periods {

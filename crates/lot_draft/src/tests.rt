@@ -21,7 +21,7 @@ fn draft(alloc: Global, first: DraftItem, second: DraftItem) -> Result<Draft, Al
     })
 }
 
-// An item with demand 2 and 8.
+// An item that is asked for 2 and 8.
 fn item(alloc: Global, name: &str) -> Result<DraftItem, AllocError> {
     Ok(DraftItem {
         name: String::from_str(alloc, name)?,

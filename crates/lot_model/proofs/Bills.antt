@@ -1,12 +1,12 @@
 -- The bill of a problem, and that of the lists of its items' components.
-use Rattle.std.proofs.Common.{◌≡◌, ◌≤◌, ◌<◌, ◌+◌, ◌-◌, ◌*◌, ◌∙◌, ℕ, zero, suc, refl, sym, ap, subst, arith, List, [], ◌∷◌, length, map, slice_index_or}
+use Rattle.std.proofs.Common.{◌≡◌, ◌≤◌, ◌<◌, ◌+◌, ◌-◌, ◌*◌, ◌∙◌, ℕ, zero, suc, refl, sym, ap, subst, arith, List, [], ◌∷◌, map}
 use Rattle.std.proofs.Math.Path.{fun_ext}
 use Rattle.std.proofs.Math.ListN.{get_or-map}
 use Rattle.std.proofs.lemmas.List.{get_or_default, length-map}
 use Rattle.lot_sizing.specs.declared.Need.{Need}
 use Rattle.lot_sizing.specs.Sums.{sum_to}
-use Rattle.lot_sizing.specs.Problem.{AreNeeds, IsWithinLimits, Item, Problem, entry, item_at, item_count, no_item, per_unit}
-use Rattle.lot_sizing.specs.Bill.{AreTotals, AreWeights, Bill, GoesInto, GoesIntoOver, HasRanks, bill_of}
+use Rattle.lot_sizing.specs.Problem.{IsWithinLimits, Item, Problem, entry, item_at, item_count, no_item, per_unit}
+use Rattle.lot_sizing.specs.Bill.{AreTotals, Bill, GoesIntoOver, HasRanks, bill_of}
 use Rattle.lot_sizing.proofs.Sums.{sum_to-same}
 use Rattle.bill.specs.Lines.{AreLines, bill_of_lines, lines_of, units_in}
 use Rattle.bill.specs.Over.{HasAll, IsBoundFault, IsFirstOver, IsWithin, OfAll}
@@ -19,7 +19,7 @@ use Rattle.lot_draft.specs.Meaning.{HaveNeeds, item_of, need_of, problem_of}
 use Rattle.bill.specs.declared.explosion.BoundFault.{BoundFault}
 use Rattle.bill.specs.declared.explosion.BoundFault.TheVariants.{Over, Memory}
 use Rattle.lot_model.specs.Held.{IsOverFault}
-use Rattle.lot_model.specs.Meaning.{IsBounded, asked_of, there_of}
+use Rattle.lot_model.specs.Meaning.{AreSmallRows, asked_of, there_of}
 
 abbrev pub needs_in : Problem → List (List Need)
 needs_in m = map (λ a. a.needs) m.items
@@ -82,6 +82,14 @@ known_totals b asked there rank totals weights ranks some_total some_weight all 
     let h = all t.0 w.0 t.1 w.1 in
     let same : sum_to b.items (λ j. b.units i j * t.0 j) ≡ sum_to b.items (λ j. b.units i j * entry totals j) = sum_to-same b.items (λ j. b.units i j * t.0 j) (λ j. b.units i j * entry totals j) (λ j j_low j_high. ap (λ x. b.units i j * x) (sym (h.known j j_low j_high).in_all)) in
     (h.known i low high).in_all ∙ t.1 i low high ∙ ap (λ x. (asked i + x) - there i) same
+
+-- and so are weights, none past the bound
+pub known_small : (b : Bill) (asked there : ℕ → ℕ) (rank : ℕ → ℕ) (totals : List ℕ) (weights : List (List ℕ)) → HasRanks b rank → TotalsExist → WeightsExist → OfAll b asked there (λ total weight. HasAll b total weight totals weights) → AreSmallRows b.items weights
+known_small b asked there rank totals weights ranks some_total some_weight all i k low high k_low k_high =
+    let t = some_total b asked there rank ranks in
+    let w = some_weight b rank ranks in
+    let h = all t.0 w.0 t.1 w.1 in
+    omega (arith, (h.known i low high).each k k_low k_high, (h.within i low high).each k k_low k_high)
 
 pub all_within : (b : Bill) (asked there : ℕ → ℕ) (totals : List ℕ) (weights : List (List ℕ)) → OfAll b asked there (λ total weight. HasAll b total weight totals weights) → OfAll b asked there (λ total weight. (i : ℕ) → 1 ≤ i → i ≤ b.items → IsWithin b total weight i)
 all_within b asked there totals weights all total weight t w = (all total weight t w).within

@@ -1,10 +1,10 @@
 -- A model means one thing.
-use Rattle.std.proofs.Common.{◌≡◌, ◌≤◌, ◌<◌, ◌∙◌, ◌⊎◌, ⊎_elim, inl, inr, ℕ, suc, refl, sym, ap, subst, arith, Some, None}
+use Rattle.std.proofs.Common.{◌≡◌, ◌≤◌, ◌<◌, ◌∙◌, ⊎_elim, ℕ, sym, ap, arith, Some, None}
 use Rattle.std.specs.Prelude.{Result, Ok, Err, Option}
 use Rattle.std.proofs.lemmas.Bool.{cases_lt}
 use Rattle.lot_sizing.specs.Problem.{Problem}
-use Rattle.lot_sizing.specs.Bill.{Bill, HasRanks, bill_of}
-use Rattle.bill.specs.Over.{IsBelow, IsFirstOver, IsWithin, OfAll}
+use Rattle.lot_sizing.specs.Bill.{Bill, bill_of}
+use Rattle.bill.specs.Over.{IsFirstOver, IsWithin, OfAll}
 use Rattle.bill.specs.Sets.{IsFirstOnCycle}
 use Rattle.bill.proofs.Existing.{totals_exist, weights_exist}
 use Rattle.lot_draft.specs.Raw.{RawModel}

@@ -1,5 +1,5 @@
 -- What the steps from a draft to an instance hold.
-use Rattle.std.specs.Prelude.{◌≡◌, ℕ, ◌≤◌, ◌^◌, ◌*◌, Err, ⊤}
+use Rattle.std.specs.Prelude.{ℕ, ◌≤◌, ◌^◌, ◌*◌, ⊤}
 use Rattle.lot_sizing.specs.Problem.{Item, Problem, IsSeries}
 use Rattle.lot_sizing.specs.Bill.{bill_of}
 use Rattle.bill.specs.Over.{IsFirstOver, OfAll}

@@ -1,9 +1,9 @@
 -- What a model means: a problem, or the first rule that it breaks.
-use Rattle.std.specs.Prelude.{◌≡◌, ◌⊎◌, ℕ, ◌+◌, ◌≤◌, Some, None, Result, Ok, Err}
+use Rattle.std.specs.Prelude.{◌≡◌, ◌⊎◌, ℕ, ◌+◌, ◌≤◌, ◌^◌, Some, None, List, Result, Ok, Err}
 use Rattle.lot_sizing.specs.Sums.{sum_to}
 use Rattle.lot_sizing.specs.Problem.{Problem, demand, item_at, item_count}
 use Rattle.lot_sizing.specs.Bill.{HasRanks, bill_of}
-use Rattle.bill.specs.Over.{IsFirstOver, IsWithin, OfAll}
+use Rattle.bill.specs.Over.{HasAll, IsFirstOver, IsWithin, OfAll, row_entry}
 use Rattle.bill.specs.Sets.{IsFirstOnCycle}
 use Rattle.lot_draft.specs.Raw.{RawModel, raw_model}
 use Rattle.lot_draft.specs.Meaning.{problem_of}
@@ -42,6 +42,14 @@ IsPastBound p f = (i : ℕ) × OfAll (bill_of p) (asked_of p) (there_of p) (λ t
 -- all largest totals and weights are within the bound
 abbrev pub IsBounded : Problem → Type 0
 IsBounded p = OfAll (bill_of p) (asked_of p) (there_of p) (λ total weight. (i : ℕ) → 1 ≤ i → i ≤ item_count p → IsWithin (bill_of p) total weight i)
+
+-- lists of all largest totals and weights
+abbrev pub AreAllOf : Problem → List ℕ → List (List ℕ) → Type 0
+AreAllOf p totals weights = OfAll (bill_of p) (asked_of p) (there_of p) (λ total weight. HasAll (bill_of p) total weight totals weights)
+
+-- no weight is past the bound
+abbrev pub AreSmallRows : ℕ → List (List ℕ) → Type 0
+AreSmallRows n rows = (i k : ℕ) → 1 ≤ i → i ≤ n → 1 ≤ k → k ≤ n → row_entry rows i k ≤ 10 ^ 12
 
 -- the first rule that a model breaks, in this order: counts, names, lists, numbers and lines; cycles; backlog costs of components and crossed ends; totals and weights
 abbrev pub BreaksFirst : RawModel → ModelFault → Type 0

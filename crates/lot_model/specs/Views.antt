@@ -1,11 +1,11 @@
 -- The problem that the fields of an instance stand for, and what holds of it.
-use Rattle.std.specs.Prelude.{◌≡◌, ℕ, ◌≤◌, ◌^◌, length}
+use Rattle.std.specs.Prelude.{◌≡◌, ℕ, ◌-◌, ◌≤◌, ◌^◌, List, [], length, slice_index_or}
 use Rattle.std.specs.List.{sum_by}
 use Rattle.lot_sizing.specs.Problem.{Problem, entry, item_count, IsWithinLimits}
 use Rattle.lot_sizing.specs.Bill.{bill_of}
 use Rattle.lot_sizing.specs.Totals.{AreLargestTotals, IsRanking}
 use Rattle.bill.specs.Over.{IsWithin, OfAll}
-use Rattle.lot_model.specs.Meaning.{asked_of, there_of}
+use Rattle.lot_model.specs.Meaning.{AreAllOf, AreSmallRows, asked_of, there_of}
 use Rattle.lot_model.specs.declared.instance.Instance.TheInside.{Inside}
 
 -- the problem
@@ -20,9 +20,19 @@ pub record IsInstance (m : Problem) : Type 0 where
   pub totals : (total : ℕ → ℕ) × AreLargestTotals m total × ((i : ℕ) → total i ≤ 10 ^ 12)
   pub within : OfAll (bill_of m) (asked_of m) (there_of m) (λ total weight. (i : ℕ) → 1 ≤ i → i ≤ item_count m → IsWithin (bill_of m) total weight i)
 
--- and its largest totals are kept
-pub record IsKept (a : Inside) : Type 0 where
-  pub instance : IsInstance (problem_in a)
-  pub size : length a.explosion.totals ≡ item_count (problem_in a)
-  pub totals : AreLargestTotals (problem_in a) (entry a.explosion.totals)
-  pub small : (i : ℕ) → entry a.explosion.totals i ≤ 10 ^ 12
+-- and these are its largest totals, its weights and ranks of its items
+pub record AreKept (m : Problem) (total_list : List ℕ) (rows : List (List ℕ)) (rank_list : List ℕ) : Type 0 where
+  pub instance : IsInstance m
+  pub totals_size : length total_list ≡ item_count m
+  pub weights_size : length rows ≡ item_count m
+  pub row_sizes : (i : ℕ) → 1 ≤ i → i ≤ item_count m → length (slice_index_or rows (i - 1) []) ≡ item_count m
+  pub rows_small : AreSmallRows (item_count m) rows
+  pub all : AreAllOf m total_list rows
+  pub totals : AreLargestTotals m (entry total_list)
+  pub small : (i : ℕ) → entry total_list i ≤ 10 ^ 12
+  pub ranks_size : length rank_list ≡ item_count m
+  pub ranks_small : (i : ℕ) → entry rank_list i ≤ item_count m
+  pub ranks : IsRanking m (entry rank_list)
+
+abbrev pub IsKept : Inside → Type 0
+IsKept a = AreKept (problem_in a) a.explosion.totals a.explosion.weights a.ranks.items

@@ -2,7 +2,8 @@
 ghost use Rattle.std.specs.Prelude.{◌≡◌, ◌≤◌, ◌*◌, ◌^◌, ◌↔◌, ℕ, length, Ok, Some, None, MatchOption, IfOk, IfErr, IsNone, IsTrue, unwrap_or};
 ghost use Rattle.std.specs.List.{All};
 ghost use Rattle.lot_sizing.specs.Problem.{item_at, item_count, resource_at, resource_count, capacity, demand, unit_cost, setup_cost, hold_cost, backlog_cost, entry, IsName, IsUncoupled};
-ghost use Rattle.lot_sizing.specs.Totals.{AreLargestTotals};
+ghost use Rattle.lot_sizing.specs.Bill.{AreWeights, bill_of};
+ghost use Rattle.lot_sizing.specs.Totals.{AreLargestTotals, IsRanking};
 ghost use Rattle.lot_draft.specs.Raw.{raw_model};
 ghost use Rattle.lot_model.specs.Meaning.{IsRefused, Means};
 ghost use Rattle.lot_model.specs.Views.{IsInstance};
@@ -23,6 +24,7 @@ pub struct Instance {
     pub(crate) resources: Vec<ResourceData>,
     pub(crate) items: Vec<ItemData>,
     pub(crate) explosion: Explosion,
+    pub(crate) ranks: Vec<u32>,
 }
 
 impl Model for Instance {
@@ -247,6 +249,29 @@ impl Instance {
         ensures small { result ≤ 10 ^ 12 }
     {
         self.explosion.total(item)
+    }
+
+    /// The weight of an item in another: how many units of it one unit of the other takes over all paths
+    /// of the bill, with one of an item in itself.
+    pub fn weight(&self, item: u32, other: u32) -> u64
+        requires low { 1 ≤ item }
+        requires high { item ≤ item_count self.now }
+        requires other_low { 1 ≤ other }
+        requires other_high { other ≤ item_count self.now }
+        ensures value { (weight : ℕ → ℕ → ℕ) → AreWeights (bill_of self.now) weight → result ≡ weight item other }
+        ensures small { result ≤ 10 ^ 12 }
+        ensures instance { IsInstance self.now }
+    {
+        self.explosion.weight(item, other)
+    }
+
+    /// A rank for each item, above that of each item that it goes into.
+    pub fn ranks(&self) -> &[u32]
+        ensures size { length result.now ≡ item_count self.now }
+        ensures small { (i : ℕ) → entry result.now i ≤ item_count self.now }
+        ensures ranks { IsRanking self.now (entry result.now) }
+    {
+        &self.ranks
     }
 }
 

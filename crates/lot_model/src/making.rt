@@ -1,5 +1,5 @@
 // From a draft to an instance.
-ghost use Rattle.std.specs.Prelude.{◌≡◌, ◌≤◌, ◌^◌, ℕ, length, map, None, Ok, IfOk, IfErr};
+ghost use Rattle.std.specs.Prelude.{◌≡◌, ◌≤◌, ◌-◌, ◌^◌, ℕ, [], length, map, None, Ok, IfOk, IfErr, slice_index_or};
 ghost use Rattle.lot_sizing.specs.Bill.{bill_of, HasRanks};
 ghost use Rattle.lot_sizing.specs.Problem.{entry, item_count, IsWithinLimits};
 ghost use Rattle.lot_sizing.specs.Totals.{AreLargestTotals};
@@ -7,7 +7,7 @@ ghost use Rattle.bill.specs.Lines.{AreLines};
 ghost use Rattle.lot_draft.specs.Raw.{raw_model};
 ghost use Rattle.lot_draft.specs.Refusals.{later_fault, plain_fault};
 ghost use Rattle.lot_draft.specs.Meaning.{problem_of};
-ghost use Rattle.lot_model.specs.Meaning.{at_item, IsBounded, Means};
+ghost use Rattle.lot_model.specs.Meaning.{AreAllOf, AreSmallRows, at_item, IsBounded, Means};
 ghost use Rattle.lot_model.specs.declared.making.Unmade.TheVariants.{Refused};
 ghost use Rattle.lot_model.specs.Held.{problem_of_parts, IsUnmade};
 
@@ -84,7 +84,11 @@ fn totals(
     requires count { length ranks.now ≡ length lines.now }
     requires ranks { HasRanks (bill_of (problem_of (raw_model draft.now))) (entry ranks.now) }
     requires small { (i : ℕ) → entry ranks.now i ≤ length lines.now }
-    ensures size { IfOk result (λ found. length found.totals ≡ item_count (problem_of (raw_model draft.now))) }
+    ensures totals_size { IfOk result (λ found. length found.totals ≡ item_count (problem_of (raw_model draft.now))) }
+    ensures weights_size { IfOk result (λ found. length found.weights ≡ item_count (problem_of (raw_model draft.now))) }
+    ensures row_sizes { IfOk result (λ found. (i : ℕ) → 1 ≤ i → i ≤ item_count (problem_of (raw_model draft.now)) → length (slice_index_or found.weights (i - 1) []) ≡ item_count (problem_of (raw_model draft.now))) }
+    ensures rows_small { IfOk result (λ found. AreSmallRows (item_count (problem_of (raw_model draft.now))) found.weights) }
+    ensures all { IfOk result (λ found. AreAllOf (problem_of (raw_model draft.now)) found.totals found.weights) }
     ensures totals { IfOk result (λ found. AreLargestTotals (problem_of (raw_model draft.now)) (entry found.totals)) }
     ensures small { IfOk result (λ found. (i : ℕ) → entry found.totals i ≤ 10 ^ 12) }
     ensures bounded { IfOk result (λ _. IsBounded (problem_of (raw_model draft.now))) }
@@ -117,5 +121,6 @@ pub fn instance(alloc: Global, draft: &Draft) -> Result<Instance, Unmade>
         resources: parts.resources,
         items: parts.items,
         explosion,
+        ranks,
     })
 }

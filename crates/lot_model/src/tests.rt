@@ -115,6 +115,18 @@ fn an_instance_has_the_stocks_of_its_draft(rt: HostRuntime) -> Result<(), Fail> 
 }
 
 #[test]
+fn an_instance_has_the_weights_and_ranks_of_its_bill(rt: HostRuntime) -> Result<(), Fail> {
+    let instance = parent_and_component(rt.alloc())?;
+    assert_eq!(rt; instance.items(), 2);
+    assert_eq!(rt; (instance.weight(1, 1), instance.weight(1, 2)), (1, 0));
+    assert_eq!(rt; (instance.weight(2, 1), instance.weight(2, 2)), (2, 1));
+    let ranks = instance.ranks();
+    assert_eq!(rt; ranks.len(), 2);
+    assert!(rt; ranks[0] < ranks[1]);
+    Ok(())
+}
+
+#[test]
 fn an_instance_has_the_lines_of_its_draft(rt: HostRuntime) -> Result<(), Fail> {
     let instance = parent_and_component(rt.alloc())?;
     assert_eq!(rt; instance.items(), 2);

@@ -1,5 +1,5 @@
 // The bill of an instance, and its largest totals and weights.
-ghost use Rattle.std.specs.Prelude.{◌≡◌, ◌≤◌, ◌+◌, ◌^◌, ℕ, length, map, IfOk, IfErr};
+ghost use Rattle.std.specs.Prelude.{◌≡◌, ◌≤◌, ◌+◌, ◌-◌, ◌^◌, ℕ, [], length, map, IfOk, IfErr, slice_index_or};
 ghost use Rattle.lot_sizing.specs.Sums.{sum_to};
 ghost use Rattle.lot_sizing.specs.Bill.{HasRanks};
 ghost use Rattle.lot_sizing.specs.Problem.{entry, AllAtMost};
@@ -11,7 +11,7 @@ ghost use Rattle.std.specs.List.{All};
 ghost use Rattle.lot_sizing.specs.Problem.{IsWithinLimits};
 ghost use Rattle.lot_sizing.specs.Bill.{bill_of};
 ghost use Rattle.lot_sizing.specs.Totals.{AreLargestTotals};
-ghost use Rattle.lot_model.specs.Meaning.{IsBounded};
+ghost use Rattle.lot_model.specs.Meaning.{AreAllOf, AreSmallRows, IsBounded};
 ghost use Rattle.lot_model.specs.Held.{problem_of_parts, IsAsked, IsOverFault};
 
 use crate::DraftItem;
@@ -83,7 +83,11 @@ pub fn explosion(
     requires count { length ranks.now ≡ length lines.now }
     requires ranks { HasRanks (bill_of (problem_of_parts parts.now)) (entry ranks.now) }
     requires small { (i : ℕ) → entry ranks.now i ≤ length lines.now }
-    ensures size { IfOk result (λ found. length found.totals ≡ length parts.now.items.items) }
+    ensures totals_size { IfOk result (λ found. length found.totals ≡ length parts.now.items.items) }
+    ensures weights_size { IfOk result (λ found. length found.weights ≡ length parts.now.items.items) }
+    ensures row_sizes { IfOk result (λ found. (i : ℕ) → 1 ≤ i → i ≤ length parts.now.items.items → length (slice_index_or found.weights (i - 1) []) ≡ length parts.now.items.items) }
+    ensures rows_small { IfOk result (λ found. AreSmallRows (length parts.now.items.items) found.weights) }
+    ensures all { IfOk result (λ found. AreAllOf (problem_of_parts parts.now) found.totals found.weights) }
     ensures totals { IfOk result (λ found. AreLargestTotals (problem_of_parts parts.now) (entry found.totals)) }
     ensures small { IfOk result (λ found. (i : ℕ) → entry found.totals i ≤ 10 ^ 12) }
     ensures bounded { IfOk result (λ _. IsBounded (problem_of_parts parts.now)) }

@@ -30,7 +30,7 @@ asked_none : (a : Asked) → 1 ≤ a.periods → asked_to a 0 ≡ 0
 asked_none a h = omega (arith, end_later a 0 (λ same. omega (arith, same, h)))
 
 -- the net demands up to a period
-net_so_far : (a : Asked) → 1 ≤ a.periods → (t : ℕ) → t ≤ a.periods → sum_to t (net_in a) ≡ needed_to a t
+pub net_so_far : (a : Asked) → 1 ≤ a.periods → (t : ℕ) → t ≤ a.periods → sum_to t (net_in a) ≡ needed_to a t
 net_so_far a some zero h = omega (arith, asked_none a some)
 net_so_far a some (suc t) h =
     let e : suc t - 1 ≡ t = omega arith in

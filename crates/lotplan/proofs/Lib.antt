@@ -1,1 +1,4 @@
+pub mod Outputs
+pub mod Planned
+pub mod Judged
 pub mod Explained

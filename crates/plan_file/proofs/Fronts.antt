@@ -1,12 +1,12 @@
 -- What holds of the first records holds of all.
-use Rattle.std.proofs.Common.{◌≡◌, ◌≢◌, ◌≤◌, ◌<◌, ◌+◌, ◌-◌, ◌*◌, ◌∙◌, ◌⊎◌, ⊎_elim, inl, inr, ℕ, zero, suc, List, [], ◌∷◌, take, length, slice_index_or, refl, sym, ap, subst, arith, IsTrue}
+use Rattle.std.proofs.Common.{◌≡◌, ◌≢◌, ◌≤◌, ◌<◌, ◌+◌, ◌-◌, ◌*◌, ⊎_elim, inl, inr, ℕ, zero, suc, List, [], ◌∷◌, take, length, slice_index_or, refl, sym, subst, arith, IsTrue}
 use Rattle.std.proofs.Math.Nat.{mul-le-mul_right}
 use Rattle.std.proofs.lemmas.Bool.{cases_lt}
 use Rattle.lot_sizing.specs.Problem.{Problem, item_count}
 use Rattle.lot_sizing.specs.Plan.{EachCell, Plan}
-use Rattle.plan_rules.specs.Order.{HoldsBefore, IsFirst}
+use Rattle.plan_rules.specs.Order.{IsFirst}
 use Rattle.plan_file.specs.Records.{AreNumbersOf, HasHeader, HasNumbers, IsGood, IsPlanOf, IsRead, Record, is_header, is_row, number_of, record_at}
-use Rattle.plan_file.specs.Faults.{HasMore, IsFirstBad, IsPlanFault, IsRecordFault, IsRowsFault}
+use Rattle.plan_file.specs.Faults.{IsCellFault, IsFirstBad, IsPlanFault, IsRecordFault, IsRowsFault}
 use Rattle.plan_file.specs.declared.fault.PlanFault.{PlanFault}
 use Rattle.plan_file.specs.declared.fault.PlanFault.TheVariants as fault
 
@@ -74,10 +74,6 @@ first_all m n rs all fr size i t first = record {
   broken = λ good. first.broken (good_front m n rs all fr size i t first.row_low first.row_high first.column_low first.column_high good);
   before = λ j u low high u_low u_high earlier. good_all m n rs all fr size j u low high u_low u_high (first.before j u low high u_low u_high earlier);
 }
-
--- a cell's fault among the first records
-abbrev pub IsCellFault : Problem → List Record → PlanFault → Type 0
-IsCellFault m rs f = (i t : ℕ) × IsFirst (item_count m) m.periods (IsGood m rs) i t × IsRecordFault m rs i t f
 
 cell_all : (m : Problem) (n : ℕ) (rs all : List Record) → IsFront n rs all → n ≡ item_count m * m.periods + 2 → (f : PlanFault) → IsCellFault m rs f → IsCellFault m all f
 cell_all m n rs all fr size f (i, t, first, fault) =

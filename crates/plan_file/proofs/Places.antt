@@ -1,17 +1,13 @@
 -- Where the record of an item and a period stands.
-use Rattle.std.proofs.Common.{◌≡◌, ◌≤◌, ◌<◌, ◌+◌, ◌-◌, ◌*◌, ◌∙◌, ℕ, zero, suc, List, [], ◌∷◌, map, length, slice_index_or, refl, sym, ap, subst, arith, IsTrue, false}
-use Rattle.std.proofs.lemmas.List.{length-map}
+use Rattle.std.proofs.Common.{◌≡◌, ◌≤◌, ◌<◌, ◌+◌, ◌-◌, ◌*◌, ◌∙◌, ℕ, List, [], map, length, slice_index_or, sym, ap, subst, arith, IsTrue, false}
+use Rattle.std.proofs.lemmas.List.{get_or_default, length-map}
+use Rattle.std.proofs.Math.ListN.{get_or-map}
 use Rattle.csv.specs.Records.{Row, fields_of}
 use Rattle.lot_sizing.specs.Problem.{Problem}
 use Rattle.lot_sizing.specs.Plan.{Plan}
 use Rattle.plan_file.specs.Records.{AreNumbersOf, IsGood, IsNumber, Record, field, is_row, number_of, record_at}
-use Rattle.plan_file.specs.Numbers.{AreHere, ArePut, HasNumbersIn, IsPutFrom}
+use Rattle.plan_file.specs.Numbers.{ArePut, HasNumbersIn, IsPutFrom}
 use Rattle.plan_file.specs.declared.reading.Numbers.{Numbers}
-
-at_map : {A B : Type 0} (f : A → B) (xs : List A) (k : ℕ) (x : A) (d : B) → k < length xs → x ≡ slice_index_or xs k x → slice_index_or (map f xs) k d ≡ f x
-at_map f [] k x d h is = absurd (omega (arith, h))
-at_map f (y ∷ ys) zero x d h is = ap f (sym is)
-at_map f (y ∷ ys) (suc k) x d h is = at_map f ys k x d (omega (arith, h)) is
 
 -- the record of an item and a period, and its number
 pub record IsHere (m : Problem) (rs : List Record) (i t n : ℕ) (r : Record) : Type 0 where
@@ -25,7 +21,7 @@ here m rows i t periods n row size is low high found =
     record {
       number = number;
       there = omega (arith, number, high, length-map rows fields_of);
-      same = ap (record_at (map fields_of rows)) (sym number) ∙ at_map fields_of rows n row [] high found;
+      same = ap (record_at (map fields_of rows)) (sym number) ∙ get_or_default (map fields_of rows) n [] (fields_of row) (omega (arith, high, length-map rows fields_of)) ∙ get_or-map fields_of rows n row ∙ ap fields_of (sym found);
     }
 
 pub not_row : (m : Problem) (i t : ℕ) (r : Record) → is_row m i t r ≡ false → IsTrue (is_row m i t r) → ⊥

@@ -1,10 +1,10 @@
 -- A plan that is written is read again.
-use Rattle.std.proofs.Common.{◌≡◌, ◌≤◌, ◌<◌, ◌+◌, ◌-◌, ◌*◌, ◌^◌, ◌∙◌, ℕ, zero, suc, List, [], ◌∷◌, ◌++◌, codes, decimal, map, length, slice_index_or, refl, ap, sym, subst, arith, true, ⊎_elim, append_assoc, append-nil, IsTrue}
+use Rattle.std.proofs.Common.{◌≡◌, ◌≤◌, ◌+◌, ◌-◌, ◌*◌, ◌^◌, ◌∙◌, ℕ, zero, suc, List, [], ◌∷◌, ◌++◌, decimal, map, length, slice_index_or, refl, ap, sym, subst, arith, true, ⊎_elim, append_assoc, append-nil, IsTrue}
 use Rattle.std.specs.Str.{bytes_eq}
 use Rattle.std.proofs.Math.Nat.{mul-le-mul_right}
 use Rattle.std.specs.Prelude.{◌==◌}
 use Rattle.std.proofs.lemmas.Bool.{cases_eq, cases_lt}
-use Rattle.std.proofs.lemmas.List.{map-append, length-append}
+use Rattle.std.proofs.lemmas.List.{get_or-append-add, get_or_append_left, map-append, length-append}
 use Rattle.csv.specs.Records.{field_at}
 use Rattle.csv.specs.Reading.{default_config, records, strip_bom}
 use Rattle.csv.specs.Writing.{default_writer, fields_text, is_blank, read_back, row_text}
@@ -91,24 +91,15 @@ lists_size : {A : Type 0} (n T : ℕ) (g : ℕ → List A) → ((k : ℕ) → le
 lists_size zero T g each = omega arith
 lists_size (suc n) T g each = omega (arith, length-append (lists_to n g) (g (suc n)), lists_size n T g each, each (suc n))
 
-at_left : {A : Type 0} (xs ys : List A) (k : ℕ) (d : A) → k < length xs → slice_index_or (xs ++ ys) k d ≡ slice_index_or xs k d
-at_left [] ys k d h = absurd (omega (arith, h))
-at_left (x ∷ xs) ys zero d h = refl
-at_left (x ∷ xs) ys (suc k) d h = at_left xs ys k d (omega (arith, h))
-
-at_right : {A : Type 0} (xs ys : List A) (k : ℕ) (d : A) → slice_index_or (xs ++ ys) (length xs + k) d ≡ slice_index_or ys k d
-at_right [] ys k d = let e : 0 + k ≡ k = omega arith in ap (λ j. slice_index_or ys j d) e
-at_right (x ∷ xs) ys k d = let e : suc (length xs) + k ≡ suc (length xs + k) = omega arith in ap (λ j. slice_index_or (x ∷ (xs ++ ys)) j d) e ∙ at_right xs ys k d
-
 list_at : {A : Type 0} (n t : ℕ) (f : ℕ → A) (d : A) → 1 ≤ t → t ≤ n → slice_index_or (list_to n f) (t - 1) d ≡ f t
 list_at zero t f d low high = absurd (omega (arith, low, high))
 list_at (suc n) t f d low high =
     ⊎_elim
-    (λ before. at_left (list_to n f) (f (suc n) ∷ []) (t - 1) d (omega (arith, before, low, list_size n f)) ∙ list_at n t f d low (omega (arith, before)))
+    (λ before. get_or_append_left (list_to n f) (f (suc n) ∷ []) d (t - 1) (omega (arith, before, low, list_size n f)) ∙ list_at n t f d low (omega (arith, before)))
     (λ no.
     let e : t ≡ suc n = omega (arith, no, high) in
     let place : t - 1 ≡ length (list_to n f) + 0 = omega (arith, e, list_size n f) in
-    ap (λ k. slice_index_or (list_to n f ++ (f (suc n) ∷ [])) k d) place ∙ at_right (list_to n f) (f (suc n) ∷ []) 0 d ∙ ap f (sym e))
+    ap (λ k. slice_index_or (list_to n f ++ (f (suc n) ∷ [])) k d) place ∙ get_or-append-add (list_to n f) (f (suc n) ∷ []) 0 d ∙ ap f (sym e))
     (cases_lt t (suc n))
 
 lists_at : {A : Type 0} (n T i t : ℕ) (g : ℕ → ℕ → A) (d : A) → 1 ≤ i → i ≤ n → 1 ≤ t → t ≤ T → slice_index_or (lists_to n (λ k. list_to T (g k))) ((i - 1) * T + (t - 1)) d ≡ g i t
@@ -120,12 +111,12 @@ lists_at (suc n) T i t g d low high t_low t_high =
     (λ before.
     let e : i ≡ i - 1 + 1 = omega (arith, low) in
     let rows : (i - 1 + 1) * T ≤ n * T = mul-le-mul_right T (omega (arith, before, e)) in
-    at_left all (list_to T (g (suc n))) ((i - 1) * T + (t - 1)) d (omega (arith, size, rows, t_low, t_high)) ∙ lists_at n T i t g d low (omega (arith, before)) t_low t_high)
+    get_or_append_left all (list_to T (g (suc n))) d ((i - 1) * T + (t - 1)) (omega (arith, size, rows, t_low, t_high)) ∙ lists_at n T i t g d low (omega (arith, before)) t_low t_high)
     (λ no.
     let e : i ≡ suc n = omega (arith, no, high) in
     let j : i - 1 ≡ n = omega (arith, e) in
     let place : (i - 1) * T + (t - 1) ≡ length all + (t - 1) = omega (arith, size, ap (λ k. k * T) j) in
-    ap (λ k. slice_index_or (all ++ list_to T (g (suc n))) k d) place ∙ at_right all (list_to T (g (suc n))) (t - 1) d ∙ list_at T t (g (suc n)) d t_low t_high ∙ ap (λ k. g k t) (sym e))
+    ap (λ k. slice_index_or (all ++ list_to T (g (suc n))) k d) place ∙ get_or-append-add all (list_to T (g (suc n))) (t - 1) d ∙ list_at T t (g (suc n)) d t_low t_high ∙ ap (λ k. g k t) (sym e))
     (cases_lt i (suc n))
 
 record_is : (m : Problem) (p : Plan) (i t : ℕ) → 1 ≤ i → i ≤ item_count m → 1 ≤ t → t ≤ m.periods → record_at (plan_records m p) (number_of m i t) ≡ record_of m p i t

@@ -1,7 +1,7 @@
 -- Why the records of a plan file mean no plan.
 use Rattle.std.specs.Prelude.{◌≡◌, ◌≢◌, ◌⊎◌, ℕ, ◌+◌, ◌*◌, ◌≤◌, ◌<◌, IsTrue, List, length, ⊤}
 use Rattle.lot_sizing.specs.Problem.{Problem, item_count}
-use Rattle.lot_sizing.specs.Plan.{EachCell, Plan}
+use Rattle.lot_sizing.specs.Plan.{EachCell}
 use Rattle.plan_rules.specs.Order.{IsFirst}
 use Rattle.plan_file.specs.Records.{HasHeader, IsGood, IsNumber, Record, field, is_row, number_of, record_at}
 use Rattle.plan_file.specs.declared.fault.PlanFault.{PlanFault}
@@ -23,9 +23,13 @@ IsRecordFault m rs i t (fault.Number n c) = (n ≡ number_of m i t) × (number_o
 IsRecordFault m rs i t fault.Memory = ⊤
 
 -- the fault of the first record that isn't good
+abbrev pub IsCellFault : Problem → List Record → PlanFault → Type 0
+IsCellFault m rs f = (i t : ℕ) × IsFirst (item_count m) m.periods (IsGood m rs) i t × IsRecordFault m rs i t f
+
+-- where memory isn't the cause
 abbrev pub IsRowsFault : Problem → List Record → PlanFault → Type 0
 IsRowsFault m rs fault.Memory = ⊤
-IsRowsFault m rs f = (i t : ℕ) × IsFirst (item_count m) m.periods (IsGood m rs) i t × IsRecordFault m rs i t f
+IsRowsFault m rs f = IsCellFault m rs f
 
 -- more records follow the last
 pub record HasMore (m : Problem) (rs : List Record) : Type 0 where

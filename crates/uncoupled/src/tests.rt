@@ -3,7 +3,7 @@ use lot_model::{Draft, DraftItem, Instance, is_uncoupled};
 use std::alloc::{AllocError, Global};
 use std::test::Fail;
 
-// An item with demand 4 and 6, setup costs 100 and 20 and hold cost 1.
+// An item that is asked for 4 and 6, with setup costs 100 and 20 and hold cost 1.
 fn item(alloc: Global, name: &str, opening: i64) -> Result<DraftItem, AllocError> {
     Ok(DraftItem {
         name: String::from_str(alloc, name)?,

@@ -1,4 +1,4 @@
-use Rattle.std.proofs.Common.{◌≡◌, ◌∙◌, ◌≤◌, ◌+◌, ◌-◌, ◌∷◌, [], ◌++◌, ℕ, List, Option, Some, None, IfSome, sym, arith, take, length}
+use Rattle.std.proofs.Common.{◌≡◌, ◌∙◌, ◌≤◌, ◌+◌, ◌-◌, ◌∷◌, [], ◌++◌, ℕ, List, Option, Some, None, IfSome, arith, take}
 use Rattle.std.proofs.lemmas.List.{take_all}
 use Rattle.lot_sizing.specs.Problem.{IsSeries, item_at, backlog_price}
 use Rattle.echelon.proofs.Nets.{take_next}

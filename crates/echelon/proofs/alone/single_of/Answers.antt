@@ -1,5 +1,5 @@
-use Rattle.std.proofs.Common.{◌≡◌, ◌∙◌, refl, sym, ap, subst, arith}
-use Rattle.lot_sizing.specs.Single.{IsWithinBounds, Single}
+use Rattle.std.proofs.Common.{◌≡◌, ◌∙◌, refl, sym, subst, arith}
+use Rattle.lot_sizing.specs.Single.{IsWithinBounds}
 use Rattle.echelon.specs.Views.{single_in, single_of_item}
 use Rattle.echelon.specs.declared.single.SingleItem.{SingleItem}
 use Rattle.echelon.proofs.Singles.{asked_small, net_is, within_bounds}

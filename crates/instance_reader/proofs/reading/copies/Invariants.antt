@@ -1,6 +1,5 @@
-use Rattle.std.proofs.Common.{◌≡◌, ◌≤◌}
-use Rattle.instance_reader.specs.Reading.{copies}
+use Rattle.std.proofs.Common.{◌≡◌, ◌≤◌, replicate}
 use Rattle.instance_reader.proofs.reading.copies.Given as goal
 
 abbrev pub invariant-loop-period : goal.invariant-loop-period
-invariant-loop-period l = (l.list.items ≡ copies l._period l.number) × (l._period ≤ l.periods)
+invariant-loop-period l = (l.list.items ≡ replicate l._period l.number) × (l._period ≤ l.periods)

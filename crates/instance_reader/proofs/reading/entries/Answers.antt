@@ -1,10 +1,10 @@
-use Rattle.std.proofs.Common.{◌≡◌, ◌+◌, ◌++◌, ◌∷◌, [], ◌∙◌, ℕ, Ok, rules, sym, ap, subst, arith}
+use Rattle.std.proofs.Common.{◌≡◌, ◌+◌, ◌∙◌, Ok, rules, sym, ap, subst, arith}
 use mir.Val.{SFits}
 use mir.Syntax.{w64}
 use mir.Facts.{to_z-of_z}
 use Rattle.toml.specs.View.{view}
 use Rattle.instance_reader.specs.Reading.{entry}
-use Rattle.instance_reader.proofs.Lists.{IsSoFar, all_read, more_so_far, none_so_far, stopped}
+use Rattle.instance_reader.proofs.Lists.{IsSoFar, all_read, more_so_far, none_so_far}
 use Rattle.instance_reader.proofs.reading.entries.Goals as goal
 
 pub loop-value-init : goal.loop-value-init

@@ -1,4 +1,4 @@
-use Rattle.std.proofs.Common.{◌≡◌, ◌+◌, ◌∙◌, ℕ, Ok, map, rules, sym, ap, subst, arith}
+use Rattle.std.proofs.Common.{◌≡◌, ◌+◌, ◌∙◌, Ok, map, rules, sym, ap, subst, arith}
 use Rattle.toml.specs.View.{items_view, view}
 use Rattle.lot_draft.specs.Raw.{raw_use}
 use Rattle.lot_draft.specs.declared.fault.Place.TheVariants.{Item}

@@ -1,5 +1,4 @@
-use Rattle.std.proofs.Common.{◌≡◌, inl, inr, sym, refl, subst, length, map}
-use Rattle.lot_sizing.specs.Bill.{bill_of}
+use Rattle.std.proofs.Common.{inl, inr, sym, refl, subst, map}
 use Rattle.bill.specs.Lines.{bill_of_lines}
 use Rattle.bill.specs.Sets.{IsCycleFault, IsFirstOnCycle}
 use Rattle.bill.specs.declared.ranking.CycleFault.TheVariants.{Cycle}

@@ -1,6 +1,4 @@
-use Rattle.std.proofs.Common.{◌≡◌, inl, inr, sym, refl, subst}
-use Rattle.bill.specs.Over.{IsFirstOver, OfAll}
-use Rattle.lot_sizing.specs.Bill.{bill_of}
+use Rattle.std.proofs.Common.{inr, sym, refl, subst}
 use Rattle.lot_draft.specs.Raw.{raw_model}
 use Rattle.lot_draft.specs.Meaning.{problem_of}
 use Rattle.lot_sizing.specs.Problem.{entry}

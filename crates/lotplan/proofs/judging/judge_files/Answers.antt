@@ -1,6 +1,6 @@
 use Rattle.lotplan.specs.Held.{meant_by}
 use Rattle.lotplan.specs.Run.{Shelved, shelved}
-use Rattle.lotplan.proofs.Explained.{says_judged, says_stopped}
+use Rattle.lotplan.proofs.Judged.{says_judged, says_stopped}
 use Rattle.lotplan.proofs.judging.judge_files.Given.{Over}
 use Rattle.lotplan.proofs.judging.judge_files.Goals as goal
 

@@ -1,5 +1,5 @@
 use Rattle.lotplan.specs.Run.{Shelved, shelved}
-use Rattle.lotplan.proofs.Explained.{says_plan}
+use Rattle.lotplan.proofs.Planned.{says_plan}
 use Rattle.lotplan.proofs.planner.plan_files.Given.{Over}
 use Rattle.lotplan.proofs.planner.plan_files.Goals as goal
 

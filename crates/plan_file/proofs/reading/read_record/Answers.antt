@@ -1,4 +1,4 @@
-use Rattle.std.proofs.Common.{◌≡◌, ◌+◌, ◌-◌, ◌*◌, ◌∙◌, refl, sym, subst, arith, IsTrue, map}
+use Rattle.std.proofs.Common.{◌+◌, ◌-◌, ◌*◌, ◌∙◌, refl, sym, subst, IsTrue, map}
 use Rattle.csv.specs.Records.{fields_of}
 use Rattle.plan_rules.specs.Held.{plan_of}
 use Rattle.plan_file.specs.Records.{is_row}

@@ -1,4 +1,4 @@
-use Rattle.std.proofs.Common.{◌≡◌, ◌<◌, ◌++◌, ◌∙◌, ◌-◌, ⊎_elim, ap, sym, subst, arith, append_assoc, string_bytes}
+use Rattle.std.proofs.Common.{◌≡◌, ◌++◌, ◌∙◌, ◌-◌, ⊎_elim, ap, sym, subst, arith, append_assoc, string_bytes}
 use Rattle.std.proofs.lemmas.Bool.{cases_lt}
 use Rattle.lot_sizing.specs.Texts.{join_to, plan_record}
 use Rattle.lot_sizing.proofs.Texts.{join_to_more}

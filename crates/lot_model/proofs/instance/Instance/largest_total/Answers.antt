@@ -1,4 +1,4 @@
-use Rattle.std.proofs.Common.{◌≡◌, subst}
+use Rattle.std.proofs.Common.{subst}
 use Rattle.lot_sizing.specs.Problem.{entry}
 use Rattle.lot_sizing.specs.Totals.{AreLargestTotals}
 use Rattle.lot_model.proofs.instance.Instance.largest_total.Goals as goal

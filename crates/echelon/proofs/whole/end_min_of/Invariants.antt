@@ -1,0 +1,8 @@
+use Rattle.std.proofs.Common.{◌-◌, ◌*◌}
+use Rattle.lot_sizing.specs.Problem.{item_at}
+use Rattle.echelon.specs.Weights.{weight_in}
+use Rattle.echelon.proofs.Wholes.{IsSumTo}
+use Rattle.echelon.proofs.whole.end_min_of.Given as goal
+
+abbrev pub invariant-loop-other : goal.invariant-loop-other
+invariant-loop-other l = IsSumTo (λ k. weight_in l.explosion l.item k * (item_at l.instance k).end_min) (l.other - 1) l.sum
