@@ -32,8 +32,8 @@ rows_more m i rows row low is r = record {
   each = λ j j_low j_high. ⊎_elim
       (λ before. subst (IsRow m j (item_count m)) (sym (get_or_append_left rows (row ∷ []) [] (j - 1) (omega (arith, before, j_low, r.size)))) (r.each j j_low (omega (arith, before))))
       (λ no.
-        let e : i ≡ j = omega (arith, no, j_high, low) in
-        subst (IsRow m j (item_count m)) (sym (get_or_push rows row [] (j - 1) (omega (arith, no, j_high, r.size, low)))) (subst (λ k. IsRow m k (item_count m) row) e is))
+      let e : i ≡ j = omega (arith, no, j_high, low) in
+      subst (IsRow m j (item_count m)) (sym (get_or_push rows row [] (j - 1) (omega (arith, no, j_high, r.size, low)))) (subst (λ k. IsRow m k (item_count m) row) e is))
       (cases_lt j i);
 }
 

@@ -92,9 +92,9 @@ ordered m rank order ranks small o = record {
   once = λ n k n_less k_less same. ⊎_elim
       (λ less. absurd (no_same (rank (placed order n)) (placed order n) (placed order k) same (subst (λ x. IsBefore (rank (placed order n)) (placed order n) (rank x) (placed order k)) (sym same) (o.rising n k less k_less))))
       (λ no. ⊎_elim
-        (λ less. absurd (no_same (rank (placed order k)) (placed order k) (placed order n) (sym same) (subst (λ x. IsBefore (rank (placed order k)) (placed order k) (rank x) (placed order n)) same (o.rising k n less n_less))))
-        (λ no2. omega (arith, no, no2))
-        (cases_lt k n))
+      (λ less. absurd (no_same (rank (placed order k)) (placed order k) (placed order n) (sym same) (subst (λ x. IsBefore (rank (placed order k)) (placed order k) (rank x) (placed order n)) same (o.rising k n less n_less))))
+      (λ no2. omega (arith, no, no2))
+      (cases_lt k n))
       (cases_lt n k);
   before = λ n k n_less k_less goes.
       let i = placed order k in
@@ -102,8 +102,8 @@ ordered m rank order ranks small o = record {
       let lower : rank j < rank i = ranks i j (o.items_exist k k_less).0 (o.items_exist k k_less).1 (o.items_exist n n_less).0 (o.items_exist n n_less).1 goes in
       ⊎_elim (λ less. less)
       (λ no. ⊎_elim
-        (λ less. absurd (no_lower (rank i) i (rank j) j (o.rising k n less n_less) lower))
-        (λ no2. let e : n ≡ k = omega (arith, no, no2) in absurd (omega (arith, lower, ap (λ x. rank (placed order x)) e)))
-        (cases_lt k n))
+      (λ less. absurd (no_lower (rank i) i (rank j) j (o.rising k n less n_less) lower))
+      (λ no2. let e : n ≡ k = omega (arith, no, no2) in absurd (omega (arith, lower, ap (λ x. rank (placed order x)) e)))
+      (cases_lt k n))
       (cases_lt n k);
 }

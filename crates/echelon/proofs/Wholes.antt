@@ -32,8 +32,8 @@ backs_more m i x list low is b = record {
   each = λ j j_low j_high. ⊎_elim
       (λ before. subst (λ y. IsTrue y ↔ HasBack m j) (sym (get_or_append_left list (x ∷ []) false (j - 1) (omega (arith, before, j_low, b.size)))) (b.each j j_low (omega (arith, before))))
       (λ no.
-        let e : i ≡ j = omega (arith, no, j_high, low) in
-        subst (λ y. IsTrue y ↔ HasBack m j) (sym (get_or_push list x false (j - 1) (omega (arith, no, j_high, b.size, low)))) (subst (λ k. IsTrue x ↔ HasBack m k) e is))
+      let e : i ≡ j = omega (arith, no, j_high, low) in
+      subst (λ y. IsTrue y ↔ HasBack m j) (sym (get_or_push list x false (j - 1) (omega (arith, no, j_high, b.size, low)))) (subst (λ k. IsTrue x ↔ HasBack m k) e is))
       (cases_lt j i);
 }
 
@@ -53,8 +53,8 @@ pub echelon_within : (m : Problem) (weight : ℕ → ℕ → ℕ) (i : ℕ) (e :
 echelon_within m weight i e within small is =
     let a = asked_in_echelon m weight i in
     let each : (t : ℕ) → 1 ≤ t → t ≤ m.periods → entry e.demand.items t ≤ 40 * 10 ^ 21 = λ t low high.
-        let one = in_echelon_small m weight i (λ k. demand m k t) within small (λ k k_low k_high. demand_small m within k t k_low k_high low high) in
-        omega (arith, is.demand.each t low high, one, within.items) in
+    let one = in_echelon_small m weight i (λ k. demand m k t) within small (λ k k_low k_high. demand_small m within k t k_low k_high low high) in
+    omega (arith, is.demand.each t low high, one, within.items) in
     let demands = sum_to-bound m.periods (40 * 10 ^ 21) (entry e.demand.items) each in
     let opening = in_echelon_small m weight i (λ k. (item_at m k).opening) within small (λ k low high. (within.each_item k low high).opening) in
     let end_min = in_echelon_small m weight i (λ k. (item_at m k).end_min) within small (λ k low high. (within.each_item k low high).end_min) in

@@ -12,8 +12,8 @@ loop-item-preserved c =
     let b = c.args.rank in
     let j = c.loop-item.item in
     elim c.if-ranks-item.branch [
-      then-ranks-item+in_ok-push w ↦ subst (λ o. IsOrderedTo rank n b (j + 1) o.items) (sym w.order-is) (subst (IsOrderedTo rank n b (j + 1)) (sym w.in_ok-push.ensures.items) (put rank n b j c.loop-item.order.items c.loop-item.auto.item (omega (arith, c.loop-item-test.true)) w.if-ranks-item.true c.loop-item.invariant))
-    | else-ranks-item w ↦ subst (λ o. IsOrderedTo rank n b (j + 1) o.items) (sym w.order-is) (pass rank n b j c.loop-item.order.items w.if-ranks-item.false c.loop-item.invariant)
+      | then-ranks-item+in_ok-push w ↦ subst (λ o. IsOrderedTo rank n b (j + 1) o.items) (sym w.order-is) (subst (IsOrderedTo rank n b (j + 1)) (sym w.in_ok-push.ensures.items) (put rank n b j c.loop-item.order.items c.loop-item.auto.item (omega (arith, c.loop-item-test.true)) w.if-ranks-item.true c.loop-item.invariant))
+      | else-ranks-item w ↦ subst (λ o. IsOrderedTo rank n b (j + 1) o.items) (sym w.order-is) (pass rank n b j c.loop-item.order.items w.if-ranks-item.false c.loop-item.invariant)
     ]
 
 pub returns : goal.returns
