@@ -1,0 +1,35 @@
+-- The columns of the linear model, their order, and their values at a plan.
+use Rattle.std.specs.Prelude.{ℕ, ◌+◌, ◌*◌, ◌^◌, ◌≤◌, ◌<◌, IsSome}
+use Rattle.lot_sizing.specs.Problem.{Problem, item_at, item_count}
+use Rattle.lot_sizing.specs.Plan.{Plan}
+use Rattle.lin_rows.specs.declared.column.Column.{Column}
+use Rattle.lin_rows.specs.declared.column.Column.TheVariants.{X, Y, S, R}
+
+-- what a plan has of a column
+abbrev pub value_in : Plan → Column → ℕ
+value_in p (X i t) = p.make i t
+value_in p (Y i t) = p.setup i t
+value_in p (S i t) = p.stock i t
+value_in p (R i t) = p.backlog i t
+
+-- an item and a period of a problem
+abbrev pub IsCell : Problem → ℕ → ℕ → Type 0
+IsCell m i t = (1 ≤ i) × (i ≤ item_count m) × (1 ≤ t) × (t ≤ m.periods)
+
+-- the problem has the column: a backlog is free where the item has a cost of it and the period isn't the last
+abbrev pub IsColumn : Problem → Column → Type 0
+IsColumn m (X i t) = IsCell m i t
+IsColumn m (Y i t) = IsCell m i t
+IsColumn m (S i t) = IsCell m i t
+IsColumn m (R i t) = IsCell m i t × (t < m.periods) × IsSome (item_at m i).backlog_cost
+
+-- by kind, then by item, then by period, both of which have 32 bits
+abbrev pub place_of : ℕ → ℕ → ℕ → ℕ
+place_of kind i t = kind * 2 ^ 64 + i * 2 ^ 32 + t
+
+-- the place of a column in the order of columns
+abbrev pub order_of : Column → ℕ
+order_of (X i t) = place_of 0 i t
+order_of (Y i t) = place_of 1 i t
+order_of (S i t) = place_of 2 i t
+order_of (R i t) = place_of 3 i t

@@ -1,0 +1,5 @@
+pub mod Columns
+pub mod Rows
+pub mod Held
+pub mod Base
+pub mod Made

@@ -1,0 +1,22 @@
+//! The linear model of an instance: its columns, its rows, and sums of rows.
+//!
+//! A `Column` is what a plan has of an item in a period: units made (`X`), a setup (`Y`), the stock at
+//! the end of the period (`S`) and the backlog there (`R`). A `Row` says that a sum of multiples of
+//! columns is at least its right side, or equal to it. `base_row` gives the rows that the rules of plans
+//! make, by their names; each holds at every feasible plan. `Sums` adds multiples of rows, column by
+//! column, as a proof by multipliers needs it.
+//!
+//! Contracts see a row as a `LinRow` and speak of it by the values of columns, at a plan or at a point
+//! with a common denominator.
+#![tactic(auto)]
+
+mod base;
+mod column;
+mod row;
+
+pub use base::{RowFault, RowName, base_row};
+pub use column::Column;
+pub use row::{Row, Term};
+
+#[cfg(test)]
+mod tests;
