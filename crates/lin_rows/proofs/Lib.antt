@@ -1,3 +1,5 @@
 pub mod Terms
 pub mod Holding
 pub mod Columns
+pub mod Cells
+pub mod Coefficients

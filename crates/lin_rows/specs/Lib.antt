@@ -3,3 +3,4 @@ pub mod Rows
 pub mod Held
 pub mod Base
 pub mod Made
+pub mod Sums

@@ -10,13 +10,16 @@
 //! with a common denominator.
 #![tactic(auto)]
 
+mod adding;
 mod base;
 mod column;
 mod row;
+mod sums;
 
 pub use base::{RowFault, RowName, base_row};
 pub use column::Column;
 pub use row::{Row, Term};
+pub use sums::{SumFault, Sums};
 
 #[cfg(test)]
 mod tests;

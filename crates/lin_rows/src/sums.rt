@@ -1,0 +1,232 @@
+// Sums of rows, column by column.
+ghost use Rattle.std.specs.Prelude.{◌≡◌, ◌≤◌, ◌<◌, ◌^◌, ◌↔◌, ◌*ℤ◌, IfOk, IsTrue, Ok, Err};
+ghost use Rattle.lot_sizing.specs.Problem.{item_count};
+ghost use Rattle.lin_rows.specs.Columns.{IsColumn};
+ghost use Rattle.lin_rows.specs.Rows.{AreTerms};
+ghost use Rattle.std.specs.Prelude.{◌-◌, ◌+◌, ◌*◌};
+ghost use Rattle.lin_rows.specs.Sums.{AddsRow, AddsTerm, AreWithin, HasRoom, HasRoomFor, IsTotal, IsWithin, PassesWith, SameShape, cell_of, is_within, item_of, kind_of, no_total, period_of, total_of, with_more};
+ghost use Rattle.lin_rows.specs.declared.column.Column.{Column};
+ghost use Rattle.lin_rows.specs.declared.sums.SumFault.TheVariants.{Passed128};
+
+use crate::{Column, Row, Term, adding};
+use lot_model::Instance;
+use std::alloc::{AllocError, Global};
+use std::marker::Model;
+
+// The greatest amount, and one more.
+const LIMIT: u128 = 170_141_183_460_469_231_731_687_303_715_884_105_728;
+
+/// What has been added up of one column, or of the right sides.
+#[derive(Clone, Copy, Debug, PartialEq, Eq)]
+pub struct Total {
+    /// The sum.
+    pub sum: i128,
+    /// The sum of the absolute values of all that was added.
+    pub amount: u128,
+}
+
+/// Why a row was not added: the absolute values that are added up of a column, or of the right sides,
+/// would reach 2^127.
+#[derive(Clone, Copy, Debug, PartialEq, Eq)]
+pub enum SumFault {
+    /// An amount would reach 2^127.
+    Passed128,
+}
+
+/// Sums of multiples of rows: of each column and of the right sides.
+#[derive(Debug, Drop)]
+pub struct Sums {
+    items: u32,
+    periods: u32,
+    cells: Vec<Total>,
+    right: Total,
+}
+
+impl Model for Sums {
+    ghost use Rattle.lin_rows.specs.Sums.{AreSums, Summed, sums_in};
+
+    ghost Value = { Summed };
+
+    ghost view = { sums_in };
+
+    ghost invariant = { AreSums };
+}
+
+// The place of a column's kind.
+fn kind(column: Column) -> usize
+    ensures value { result ≡ kind_of column }
+    ensures small { result ≤ 3 }
+{
+    match column {
+        Column::X { .. } => 0,
+        Column::Y { .. } => 1,
+        Column::S { .. } => 2,
+        Column::R { .. } => 3,
+    }
+}
+
+// The item of a column.
+fn item(column: Column) -> u32
+    ensures { result ≡ item_of column }
+{
+    match column {
+        Column::X { item, .. }
+        | Column::Y { item, .. }
+        | Column::S { item, .. }
+        | Column::R { item, .. } => item,
+    }
+}
+
+// The period of a column.
+fn period(column: Column) -> u32
+    ensures { result ≡ period_of column }
+{
+    match column {
+        Column::X { period, .. }
+        | Column::Y { period, .. }
+        | Column::S { period, .. }
+        | Column::R { period, .. } => period,
+    }
+}
+
+// Whether a column is one of so many items and periods.
+fn is_within(items: u32, periods: u32, column: Column) -> bool
+    ensures { result ≡ is_within items periods column }
+{
+    let (item, period) = (item(column), period(column));
+    item >= 1 && item <= items && (period >= 1 && period <= periods)
+}
+
+// Whether a multiple can be added.
+fn has_room(total: Total, times: i128, more: i128) -> bool
+    requires small { total.amount < 2 ^ 127 }
+    ensures { IsTrue result ↔ HasRoom total (times *ℤ more) }
+{
+    match times.unsigned_abs().checked_mul(more.unsigned_abs()) {
+        Some(product) => product < LIMIT - total.amount,
+        None => false,
+    }
+}
+
+// A total with a multiple added.
+fn with_more(total: Total, times: i128, more: i128) -> Total
+    requires total { IsTotal total }
+    requires room { HasRoom total (times *ℤ more) }
+    ensures value { result ≡ with_more total (times *ℤ more) }
+    ensures total { IsTotal result }
+{
+    let product = times * more;
+    Total {
+        sum: total.sum + product,
+        amount: total.amount + product.unsigned_abs(),
+    }
+}
+
+impl Sums {
+    /// Sums of nothing, for an instance's columns. The error is want of memory.
+    pub fn new(alloc: Global, instance: &Instance) -> Result<Sums, AllocError>
+        ensures items { IfOk result (λ sums. sums.items ≡ item_count instance.now) }
+        ensures periods { IfOk result (λ sums. sums.periods ≡ instance.now.periods) }
+        ensures columns { IfOk result (λ sums. (c : Column) → total_of sums c ≡ no_total) }
+        ensures right { IfOk result (λ sums. sums.right ≡ no_total) }
+    {
+        let items = instance.items();
+        let periods = instance.periods();
+        let none = Total { sum: 0, amount: 0 };
+        let mut cells = Vec::new(alloc);
+        cells.resize(4 * items as usize * periods as usize, none)?;
+        Ok(Sums {
+            items,
+            periods,
+            cells,
+            right: none,
+        })
+    }
+
+    // Where the total of a column stands.
+    fn cell(&self, column: Column) -> usize
+        requires within { IsWithin self.now.items self.now.periods column }
+        ensures value { result ≡ cell_of self.now.items self.now.periods column }
+    {
+        let row = kind(column) * self.items as usize + (item(column) - 1) as usize;
+        row * self.periods as usize + (period(column) - 1) as usize
+    }
+
+    // What has been added up of a column.
+    fn total(&self, column: Column) -> Total
+        ensures value { result ≡ total_of self.now column }
+        ensures total { IsTotal result }
+    {
+        if is_within(self.items, self.periods, column) {
+            self.cells[self.cell(column)]
+        } else {
+            Total { sum: 0, amount: 0 }
+        }
+    }
+
+    // Whether a multiple of a term can be added.
+    pub(crate) fn has_room_for_term(&self, term: Term, times: i128) -> bool
+        ensures { IsTrue result ↔ HasRoom (total_of self.now term.column) (times *ℤ term.times) }
+    {
+        has_room(self.total(term.column), times, term.times)
+    }
+
+    // Whether a multiple of a right side can be added.
+    pub(crate) fn has_room_for_right(&self, right: i128, times: i128) -> bool
+        ensures value { IsTrue result ↔ HasRoom self.now.right (times *ℤ right) }
+        ensures small { (c : Column) → (total_of self.now c).amount < 2 ^ 127 }
+    {
+        has_room(self.right, times, right)
+    }
+
+    // Adds a multiple of a term.
+    pub(crate) fn add_term(&mut self, term: Term, times: i128)
+        requires within { IsWithin self.old.items self.old.periods term.column }
+        requires room { HasRoom (total_of self.old term.column) (times *ℤ term.times) }
+        ensures adds { AddsTerm self.old self.new term times }
+        ensures shape { SameShape self.old self.new }
+        ensures right { self.new.right ≡ self.old.right }
+    {
+        let place = self.cell(term.column);
+        let more = with_more(self.total(term.column), times, term.times);
+        self.cells[place] = more;
+    }
+
+    // Adds a multiple of a right side.
+    pub(crate) fn add_right(&mut self, right: i128, times: i128)
+        requires room { HasRoom self.old.right (times *ℤ right) }
+        ensures right { self.new.right ≡ with_more self.old.right (times *ℤ right) }
+        ensures shape { SameShape self.old self.new }
+        ensures columns { (c : Column) → total_of self.new c ≡ total_of self.old c }
+    {
+        self.right = with_more(self.right, times, right);
+    }
+
+    /// Adds a multiple of a row, whose columns are those of the sums. `Passed128` comes exactly where the
+    /// absolute values of all that was ever added to one column, or to the right side, this multiple with
+    /// them, reach 2^127; the sums are then as they were. It takes no memory, and time in the length of
+    /// the row.
+    pub fn add_times(&mut self, row: &Row, times: i128) -> Result<(), SumFault>
+        requires within { AreWithin self.old row.now.terms }
+        ensures added { IfOk result (λ _. AddsRow self.old self.new row.now times) }
+        ensures room { IfOk result (λ _. HasRoomFor self.old row.now times) }
+        ensures passed { result ≡ Err Passed128 → PassesWith self.old row.now times }
+        ensures kept { result ≡ Err Passed128 → self.new ≡ self.old }
+    {
+        adding::add_times(self, row, times)
+    }
+
+    /// The sum of a column; 0 for one that isn't there.
+    pub fn column(&self, column: Column) -> i128
+        ensures { result ≡ (total_of self.now column).sum }
+    {
+        self.total(column).sum
+    }
+
+    /// The sum of the right sides.
+    pub fn right(&self) -> i128
+        ensures { result ≡ self.now.right.sum }
+    {
+        self.right.sum
+    }
+}
