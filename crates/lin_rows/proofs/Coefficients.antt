@@ -1,17 +1,17 @@
 -- How many times a row takes a column, term by term.
-use Rattle.std.proofs.Common.{◌≡◌, ◌≤◌, ◌<◌, ◌+◌, ◌-◌, ◌*◌, ◌^◌, ◌∙◌, ◌⊎◌, ⊎_elim, inl, inr, ℕ, zero, suc, refl, sym, ap, subst, arith, Bool, true, false, List, [], ◌∷◌, ◌++◌, length, slice_index_or, take}
-use Rattle.std.specs.Prelude.{ℤ, pos, ◌+ℤ◌, ◌*ℤ◌, unsigned_abs, if◌then◌else◌}
+use Rattle.std.proofs.Common.{◌≡◌, ◌≤◌, ◌<◌, ◌+◌, ◌^◌, ◌∙◌, ⊎_elim, inl, ℕ, zero, suc, refl, sym, ap, subst, arith, true, false, List, [], ◌∷◌, ◌++◌, length, slice_index_or, take}
+use Rattle.std.specs.Prelude.{ℤ, pos, ◌+ℤ◌, ◌*ℤ◌, if◌then◌else◌}
 use Rattle.std.specs.List.{All}
 use Rattle.std.proofs.lemmas.List.Elements.{All-append}
 use Rattle.std.proofs.lemmas.List.{get_or_default, take_more}
-use Rattle.algebra.proofs.Integers.{add_assoc, add_zero, mul_add, mul_zero, zero_add}
+use Rattle.algebra.proofs.Integers.{add_assoc, add_zero, mul_zero, zero_add}
 use Rattle.lin_rows.specs.declared.column.Column.{Column}
 use Rattle.lin_rows.specs.declared.column.Column.TheVariants.{X, Y, S, R}
 use Rattle.lin_rows.specs.declared.row.Term.{Term}
 use Rattle.lin_rows.specs.declared.sums.Total.{Total}
 use Rattle.lin_rows.specs.Columns.{order_of, place_of}
 use Rattle.lin_rows.specs.Rows.{AreTerms, LinRow}
-use Rattle.lin_rows.specs.Sums.{AddsTerm, AddsTerms, EachHasRoom, HasRoom, LacksRoom, PassesWith, Summed, coefficient, item_of, kind_of, no_total, period_of, same_column, total_of, with_more}
+use Rattle.lin_rows.specs.Sums.{AddsTerm, AddsTerms, EachHasRoom, HasRoom, LacksRoom, PassesWith, Summed, coefficient, item_of, kind_of, period_of, same_column, total_of, with_more}
 use Rattle.lin_rows.proofs.Terms.{all_one}
 use Rattle.lin_rows.proofs.Cells.{same_parts, same_self, total_same, true_or_false}
 
@@ -87,7 +87,7 @@ no_more n = omega arith
 pub with_none : (a : Total) (times : ℤ) → with_more a (times *ℤ pos 0) ≡ a
 with_none a times = ap (with_more a) (mul_zero times) ∙ ap (λ z. total_with z (a.amount + 0)) (add_zero a.sum) ∙ ap (total_with a.sum) (no_more a.amount)
 
-pub taken_one : (ts : List Term) (k : ℕ) (a : Term) → k < length ts → a ≡ slice_index_or ts k a → take (k + 1) ts ≡ take k ts ++ a ∷ []
+taken_one : (ts : List Term) (k : ℕ) (a : Term) → k < length ts → a ≡ slice_index_or ts k a → take (k + 1) ts ≡ take k ts ++ a ∷ []
 taken_one ts k a less is = take_more ts k a less ∙ ap (λ x. take k ts ++ x ∷ []) (sym is)
 
 -- one more term is added
@@ -130,8 +130,8 @@ passes_by s row ts times same h (k, a, less, is, lacks) =
     let rising : AreTerms 0 ts = subst (AreTerms 0) (sym same) h in
     inl (a.column, λ room. lacks (subst (λ z. HasRoom (total_of s a.column) (times *ℤ z)) (ap (λ xs. coefficient xs a.column) (sym same) ∙ own_coefficient ts 0 k a rising less is) room))
 
--- one more term has room
-pub room_more : (s : Summed) (ts : List Term) (k : ℕ) (a : Term) (times : ℤ) → k < length ts → a ≡ slice_index_or ts k a → EachHasRoom s (take k ts) times → HasRoom (total_of s a.column) (times *ℤ a.times) → EachHasRoom s (take (k + 1) ts) times
-room_more s ts k a times less is each room =
-    let P : Term → Type 0 = λ b. HasRoom (total_of s b.column) (times *ℤ b.times) in
-    subst (All P) (sym (taken_one ts k a less is)) (All-append P (take k ts) (a ∷ []) each (all_one P a room))
+-- one more term is like the first ones
+pub all_more : (P : Term → Type 0) (ts : List Term) (k : ℕ) → k < length ts → All P (take k ts) → P (slice_index_or ts k no_term) → All P (take (k + 1) ts)
+all_more P ts k less each here =
+    let a = slice_index_or ts k no_term in
+    subst (All P) (sym (taken_one ts k a less (term_read ts k less))) (All-append P (take k ts) (a ∷ []) each (all_one P a here))

@@ -2,7 +2,7 @@
 use Rattle.std.proofs.Common.{◌≡◌, ◌≢◌, ◌≤◌, ◌<◌, ◌+◌, ◌-◌, ◌*◌, ◌∙◌, ◌⊎◌, ⊎_elim, inl, inr, ℕ, zero, suc, refl, sym, ap, subst, arith, Bool, true, false, List, [], ◌∷◌, ◌++◌}
 use Rattle.std.specs.Prelude.{◌&&◌, nat_le, nat_lt, if◌then◌else◌, Option, Some, None, IsNone, is_some, ℤ, pos, negsuc, ◌+ℤ◌, ◌-ℤ◌, ◌*ℤ◌, neg_ℤ, ◌≤ℤ◌}
 use Rattle.std.proofs.lemmas.Bool.{cases_eq, cases_lt}
-use Rattle.algebra.proofs.Rings.{int_ring, con, ◌⊕◌, ◌⊖◌, ◌⊗◌, ◌⊜◌, ring1, ring3, ring5}
+use Rattle.algebra.proofs.Rings.{int_ring, con, ◌⊕◌, ◌⊖◌, ◌⊗◌, ◌⊜◌, ring5}
 use Rattle.algebra.proofs.Integers.{add_zero, minus_one, mul_one, mul_zero, neg_mul, one_mul}
 use Rattle.algebra.proofs.Order.{linear}
 use Rattle.lot_sizing.specs.Sums.{sum_to}

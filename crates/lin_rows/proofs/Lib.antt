@@ -3,3 +3,4 @@ pub mod Holding
 pub mod Columns
 pub mod Cells
 pub mod Coefficients
+pub mod Ranks

@@ -1,5 +1,5 @@
 -- The rows that the rules of plans make.
-use Rattle.std.specs.Prelude.{◌≡◌, ℕ, zero, suc, ◌+◌, ◌-◌, ◌≤◌, Bool, true, false, ◌&&◌, nat_le, nat_lt, is_some, ℤ, pos, negsuc, ◌-ℤ◌, neg_ℤ, List, [], ◌∷◌, ◌++◌, if◌then◌else◌, ⊤}
+use Rattle.std.specs.Prelude.{◌≡◌, ℕ, zero, suc, ◌-◌, ◌≤◌, Bool, true, false, ◌&&◌, nat_le, nat_lt, is_some, ℤ, pos, negsuc, ◌-ℤ◌, neg_ℤ, List, [], ◌∷◌, ◌++◌, if◌then◌else◌}
 use Rattle.std.specs.List.{filter}
 use Rattle.lot_sizing.specs.Problem.{Problem, item_at, item_count, resource_count, demand, capacity, per_unit, unit_time, setup_time}
 use Rattle.lot_sizing.specs.Bill.{one_if_same}

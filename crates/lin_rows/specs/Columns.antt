@@ -1,5 +1,6 @@
 -- The columns of the linear model, their order, and their values at a plan.
-use Rattle.std.specs.Prelude.{ℕ, ◌+◌, ◌*◌, ◌^◌, ◌≤◌, ◌<◌, IsSome}
+use Rattle.std.specs.Prelude.{ℕ, ◌+◌, ◌-◌, ◌*◌, ◌^◌, ◌≤◌, ◌<◌, IsSome, is_some, if◌then◌else◌}
+use Rattle.lot_sizing.specs.Sums.{sum_to}
 use Rattle.lot_sizing.specs.Problem.{Problem, item_at, item_count}
 use Rattle.lot_sizing.specs.Plan.{Plan}
 use Rattle.lin_rows.specs.declared.column.Column.{Column}
@@ -33,3 +34,34 @@ order_of (X i t) = place_of 0 i t
 order_of (Y i t) = place_of 1 i t
 order_of (S i t) = place_of 2 i t
 order_of (R i t) = place_of 3 i t
+
+-- 1 where the item has a backlog cost
+abbrev pub owes : Problem → ℕ → ℕ
+owes m i = if is_some (item_at m i).backlog_cost then 1 else 0
+
+-- the columns of units, setups and stocks: one of each kind for each item and period
+abbrev pub cell_count : Problem → ℕ
+cell_count m = item_count m * m.periods
+
+-- how many backlogs of the first items are columns
+abbrev pub owing_count : Problem → ℕ → ℕ
+owing_count m n = sum_to n (owes m) * (m.periods - 1)
+
+-- how many columns there are
+abbrev pub column_count : Problem → ℕ
+column_count m = 3 * cell_count m + owing_count m (item_count m)
+
+-- which item and period, counted from 1
+abbrev pub cell_number : Problem → ℕ → ℕ → ℕ
+cell_number m i t = (i - 1) * m.periods + t
+
+-- the number of a column: how many there are up to it
+abbrev pub number_of : Problem → Column → ℕ
+number_of m (X i t) = cell_number m i t
+number_of m (Y i t) = cell_count m + cell_number m i t
+number_of m (S i t) = 2 * cell_count m + cell_number m i t
+number_of m (R i t) = 3 * cell_count m + owing_count m (i - 1) + t
+
+-- a column that comes earlier has a smaller number
+abbrev pub NumbersRise : Problem → Column → Type 0
+NumbersRise m c = (d : Column) → IsColumn m c → IsColumn m d → order_of d < order_of c → number_of m d < number_of m c

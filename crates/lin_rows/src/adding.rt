@@ -1,5 +1,5 @@
 // Adding a row to sums, term by term.
-ghost use Rattle.std.specs.Prelude.{◌≡◌, ℕ, IfOk, Err, true, false};
+ghost use Rattle.std.specs.Prelude.{◌≡◌, ◌↔◌, ℕ, IfOk, IsTrue, Err, true, false};
 ghost use Rattle.lin_rows.specs.Rows.{AreTerms};
 ghost use Rattle.lin_rows.specs.Sums.{AddsRow, AddsTerms, AreWithin, EachHasRoom, HasRoomFor, LacksRoom, PassesWith, SameShape};
 ghost use Rattle.lin_rows.specs.declared.column.Column.{Column};
@@ -7,6 +7,18 @@ ghost use Rattle.lin_rows.specs.declared.sums.SumFault.TheVariants.{Passed128};
 
 use crate::sums::{SumFault, Sums};
 use crate::{Row, Term};
+
+// Whether all columns of some terms are those of the sums.
+pub(crate) fn has_columns(sums: &Sums, terms: &[Term]) -> bool
+    ensures { IsTrue result ↔ AreWithin sums.now terms.now }
+{
+    for place in 0..terms.len() {
+        if !sums.has_column(terms[place].column) {
+            return false;
+        }
+    }
+    true
+}
 
 // Whether a multiple of each term can be added.
 fn has_room(sums: &Sums, terms: &[Term], times: i128) -> bool

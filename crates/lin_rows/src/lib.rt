@@ -13,11 +13,13 @@
 mod adding;
 mod base;
 mod column;
+mod numbers;
 mod row;
 mod sums;
 
 pub use base::{RowFault, RowName, base_row};
 pub use column::Column;
+pub use numbers::{column_count, column_number};
 pub use row::{Row, Term};
 pub use sums::{SumFault, Sums};
 

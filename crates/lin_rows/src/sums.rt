@@ -164,6 +164,20 @@ impl Sums {
         }
     }
 
+    // Whether a column is one of those of the sums.
+    pub(crate) fn has_column(&self, column: Column) -> bool
+        ensures { IsTrue result ↔ IsWithin self.now.items self.now.periods column }
+    {
+        is_within(self.items, self.periods, column)
+    }
+
+    /// Whether all columns of a row are those of the sums, as `add_times` asks. It takes no memory.
+    pub fn has_columns(&self, row: &Row) -> bool
+        ensures { IsTrue result ↔ AreWithin self.now row.now.terms }
+    {
+        adding::has_columns(self, row.terms())
+    }
+
     // Whether a multiple of a term can be added.
     pub(crate) fn has_room_for_term(&self, term: Term, times: i128) -> bool
         ensures { IsTrue result ↔ HasRoom (total_of self.now term.column) (times *ℤ term.times) }

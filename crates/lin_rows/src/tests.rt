@@ -1,13 +1,15 @@
-use crate::{Column, Row, RowFault, RowName, base_row};
+use crate::{
+    Column, Row, RowFault, RowName, SumFault, Sums, Term, base_row, column_count, column_number,
+};
 use lot_model::{Draft, DraftItem, DraftNeed, DraftResource, DraftUse, Instance};
 use std::alloc::{AllocError, Global};
 use std::test::Fail;
 
 // An item over two periods.
-fn item(alloc: Global, name: &str, demand: [i64; 2]) -> Result<DraftItem, AllocError> {
+fn item(alloc: Global, name: &str, first: i64, second: i64) -> Result<DraftItem, AllocError> {
     Ok(DraftItem {
         name: String::from_str(alloc, name)?,
-        demand: demand.to_vec(alloc)?,
+        demand: vec![in alloc; first, second]?,
         unit_cost: vec![in alloc; 0i64, 0i64]?,
         setup_cost: vec![in alloc; 10i64, 10i64]?,
         hold_cost: vec![in alloc; 1i64, 1i64]?,
@@ -18,4 +20,227 @@ fn item(alloc: Global, name: &str, demand: [i64; 2]) -> Result<DraftItem, AllocE
         needs: Vec::new(alloc),
         uses: Vec::new(alloc),
     })
+}
+
+// One item that takes a unit of time for each unit and each setup, on a resource with 6 in each period.
+fn shop(alloc: Global) -> Result<Instance, Fail> {
+    let mut only = item(alloc, "A", 2, 8)?;
+    only.uses.push(DraftUse {
+        resource: String::from_str(alloc, "m")?,
+        unit: 1,
+        setup: 1,
+    })?;
+    let resource = DraftResource {
+        name: String::from_str(alloc, "m")?,
+        capacity: vec![in alloc; 6i64, 6i64]?,
+    };
+    let draft = Draft {
+        periods: 2,
+        resources: vec![in alloc; resource]?,
+        items: vec![in alloc; only]?,
+    };
+    Ok(Instance::from_draft(alloc, draft).ok().ok_or("refused")?)
+}
+
+// A table that takes two legs and may be late, with one in stock at first.
+fn tables(alloc: Global) -> Result<Instance, Fail> {
+    let mut items = Vec::with_capacity(alloc, 2)?;
+    let mut table = item(alloc, "table", 3, 5)?;
+    table.opening = 1;
+    table.backlog_cost = Some(vec![in alloc; 1i64, 1i64]?);
+    table.needs.push(DraftNeed {
+        item: String::from_str(alloc, "leg")?,
+        quantity: 2,
+    })?;
+    items.push(table)?;
+    items.push(item(alloc, "leg", 0, 0)?)?;
+    let draft = Draft {
+        periods: 2,
+        resources: Vec::new(alloc),
+        items,
+    };
+    Ok(Instance::from_draft(alloc, draft).ok().ok_or("refused")?)
+}
+
+fn row(alloc: Global, instance: &Instance, name: RowName) -> Result<Row, Fail> {
+    Ok(base_row(alloc, instance, name).ok().ok_or("no such row")?)
+}
+
+fn x(item: u32, period: u32, times: i128) -> Term {
+    let column = Column::X { item, period };
+    Term { column, times }
+}
+
+fn y(item: u32, period: u32, times: i128) -> Term {
+    let column = Column::Y { item, period };
+    Term { column, times }
+}
+
+fn s(item: u32, period: u32, times: i128) -> Term {
+    let column = Column::S { item, period };
+    Term { column, times }
+}
+
+fn r(item: u32, period: u32, times: i128) -> Term {
+    let column = Column::R { item, period };
+    Term { column, times }
+}
+
+#[test]
+fn balances(rt: HostRuntime) -> Result<(), Fail> {
+    let alloc = rt.alloc();
+    let instance = shop(alloc)?;
+    let first = row(alloc, &instance, RowName::Balance(1, 1))?;
+    assert!(rt; first.terms() == &[x(1, 1, 1), s(1, 1, -1)][..]);
+    assert_eq!(rt; (first.right(), first.is_equal()), (2, true));
+    let second = row(alloc, &instance, RowName::Balance(1, 2))?;
+    assert!(rt; second.terms() == &[x(1, 2, 1), s(1, 1, 1), s(1, 2, -1)][..]);
+    assert_eq!(rt; (second.right(), second.is_equal()), (8, true));
+    Ok(())
+}
+
+#[test]
+fn balances_with_components_and_backlog(rt: HostRuntime) -> Result<(), Fail> {
+    let alloc = rt.alloc();
+    let instance = tables(alloc)?;
+    let first = row(alloc, &instance, RowName::Balance(1, 1))?;
+    assert!(rt; first.terms() == &[x(1, 1, 1), s(1, 1, -1), r(1, 1, 1)][..]);
+    assert_eq!(rt; first.right(), 2);
+    let last = row(alloc, &instance, RowName::Balance(1, 2))?;
+    assert!(rt; last.terms() == &[x(1, 2, 1), s(1, 1, 1), s(1, 2, -1), r(1, 1, -1)][..]);
+    let legs = row(alloc, &instance, RowName::Balance(2, 2))?;
+    assert!(rt; legs.terms() == &[x(1, 2, -2), x(2, 2, 1), s(2, 1, 1), s(2, 2, -1)][..]);
+    assert_eq!(rt; legs.right(), 0);
+    Ok(())
+}
+
+#[test]
+fn inequalities(rt: HostRuntime) -> Result<(), Fail> {
+    let alloc = rt.alloc();
+    let instance = shop(alloc)?;
+    let link = row(alloc, &instance, RowName::Link(1, 2))?;
+    assert!(rt; link.terms() == &[x(1, 2, -1), y(1, 2, 10)][..]);
+    assert_eq!(rt; (link.right(), link.is_equal()), (0, false));
+    let capacity = row(alloc, &instance, RowName::Capacity(1, 1))?;
+    assert!(rt; capacity.terms() == &[x(1, 1, -1), y(1, 1, -1)][..]);
+    assert_eq!(rt; capacity.right(), -6);
+    let least = row(alloc, &instance, RowName::EndMin(1))?;
+    assert!(rt; least.terms() == &[s(1, 2, 1)][..]);
+    let largest = row(alloc, &instance, RowName::EndMax(1))?;
+    assert!(rt; largest.terms() == &[s(1, 2, -1)][..]);
+    let top = row(alloc, &instance, RowName::Top(1, 1))?;
+    assert!(rt; top.terms() == &[y(1, 1, -1)][..]);
+    assert_eq!(rt; (least.right(), largest.right(), top.right()), (0, 0, -1));
+    Ok(())
+}
+
+#[test]
+fn rows_that_do_not_exist(rt: HostRuntime) -> Result<(), Fail> {
+    let alloc = rt.alloc();
+    let instance = shop(alloc)?;
+    for name in [
+        RowName::Balance(1, 3),
+        RowName::Balance(2, 1),
+        RowName::Link(0, 1),
+        RowName::Capacity(2, 1),
+        RowName::EndMin(2),
+        RowName::EndMax(0),
+        RowName::Top(1, 0),
+        RowName::Path(1),
+        RowName::Cut(1),
+    ] {
+        match base_row(alloc, &instance, name) {
+            Ok(_) => return Err("a row that the model doesn't have".into()),
+            Err(fault) => assert_eq!(rt; fault, RowFault::NoSuchRow),
+        }
+    }
+    Ok(())
+}
+
+#[test]
+fn numbers_of_columns(rt: HostRuntime) -> Result<(), Fail> {
+    let alloc = rt.alloc();
+    let instance = tables(alloc)?;
+    assert_eq!(rt; column_count(&instance), 13);
+    for (term, number) in [
+        (x(1, 1, 1), Some(1u32)),
+        (x(2, 2, 1), Some(4)),
+        (y(1, 1, 1), Some(5)),
+        (s(2, 2, 1), Some(12)),
+        (r(1, 1, 1), Some(13)),
+        (r(1, 2, 1), None),
+        (r(2, 1, 1), None),
+        (x(3, 1, 1), None),
+        (y(1, 3, 1), None),
+        (s(0, 1, 1), None),
+    ] {
+        assert_eq!(rt; column_number(&instance, term.column), number);
+    }
+    Ok(())
+}
+
+// Adds a multiple of a row of an instance to sums.
+fn add(
+    alloc: Global,
+    instance: &Instance,
+    sums: &mut Sums,
+    name: RowName,
+    times: i128,
+) -> Result<bool, Fail> {
+    let row = row(alloc, instance, name)?;
+    if !sums.has_columns(&row) {
+        return Err("columns that aren't there".into());
+    }
+    match sums.add_times(&row, times) {
+        Ok(()) => Ok(true),
+        Err(SumFault::Passed128) => Ok(false),
+    }
+}
+
+#[test]
+fn sums_of_rows(rt: HostRuntime) -> Result<(), Fail> {
+    let alloc = rt.alloc();
+    let instance = shop(alloc)?;
+    let mut sums = Sums::new(alloc, &instance)?;
+    for name in [
+        RowName::Link(1, 2),
+        RowName::Balance(1, 2),
+        RowName::Capacity(1, 1),
+        RowName::Balance(1, 1),
+    ] {
+        assert!(rt; add(alloc, &instance, &mut sums, name, 1)?);
+    }
+    for term in [
+        x(1, 1, 0),
+        x(1, 2, 0),
+        y(1, 1, -1),
+        y(1, 2, 10),
+        s(1, 1, 0),
+        s(1, 2, -1),
+        r(1, 1, 0),
+        x(2, 1, 0),
+    ] {
+        assert_eq!(rt; sums.column(term.column), term.times);
+    }
+    assert_eq!(rt; sums.right(), 4);
+    assert!(rt; add(alloc, &instance, &mut sums, RowName::Balance(1, 1), -8)?);
+    assert_eq!(rt; sums.right(), -12);
+    Ok(())
+}
+
+#[test]
+fn sums_that_pass_128_bits(rt: HostRuntime) -> Result<(), Fail> {
+    let alloc = rt.alloc();
+    let instance = shop(alloc)?;
+    let mut sums = Sums::new(alloc, &instance)?;
+    let half = 1i128 << 126;
+    let column = Column::Y { item: 1, period: 1 };
+    assert!(rt; add(alloc, &instance, &mut sums, RowName::Top(1, 1), half)?);
+    assert!(rt; !add(alloc, &instance, &mut sums, RowName::Top(1, 1), -half)?);
+    assert_eq!(rt; (sums.column(column), sums.right()), (-half, -half));
+    assert!(rt; add(alloc, &instance, &mut sums, RowName::Top(1, 1), 1 - half)?);
+    assert_eq!(rt; (sums.column(column), sums.right()), (-1, -1));
+    assert!(rt; !add(alloc, &instance, &mut sums, RowName::Link(1, 2), half)?);
+    assert!(rt; !add(alloc, &instance, &mut sums, RowName::Link(1, 2), i128::MIN)?);
+    Ok(())
 }

@@ -1,4 +1,4 @@
-use Rattle.std.proofs.Common.{◌≡◌, ◌+◌, ◌∙◌, sym, ap, arith, take, length, slice_index_or}
+use Rattle.std.proofs.Common.{◌≡◌, ◌∙◌, take, slice_index_or}
 use mir.Facts.{to_z-of_z}
 use mir.Val.{to_z, of_z}
 use mir.Syntax.{w128}

@@ -1,4 +1,4 @@
-use Rattle.std.proofs.Common.{◌≡◌, ◌^◌, ◌*◌, ◌∙◌, rules, ℕ, sym, subst}
+use Rattle.std.proofs.Common.{◌≡◌, ◌^◌, ◌*◌, ◌∙◌, rules, sym, subst}
 use Rattle.std.specs.List.{All}
 use Rattle.std.proofs.lemmas.List.Elements.{All-filter}
 use mir.Facts.{to_z-of_z}
@@ -6,7 +6,7 @@ use mir.Val.{SFits}
 use mir.Syntax.{w128}
 use Rattle.lin_rows.specs.Columns.{IsColumn}
 use Rattle.lin_rows.specs.Rows.{AreTerms, HoldsIn}
-use Rattle.lin_rows.specs.Base.{HasRow, all_terms, is_equality, is_some_term, right_side, row_of, some_terms}
+use Rattle.lin_rows.specs.Base.{HasRow, all_terms, is_equality, is_some_term, right_side, some_terms}
 use Rattle.lin_rows.proofs.Terms.{are_terms, same_row}
 use Rattle.lin_rows.proofs.Columns.{base_exists, base_rise}
 use Rattle.lin_rows.proofs.Holding.{row_holds}

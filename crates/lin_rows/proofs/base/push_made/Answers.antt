@@ -1,9 +1,8 @@
-use Rattle.std.proofs.Common.{◌≡◌, ◌+◌, ◌-◌, ◌∙◌, ◌∷◌, [], rules, ap, sym, subst, arith}
+use Rattle.std.proofs.Common.{◌≡◌, ◌-◌, ◌∷◌, [], rules, subst, arith}
 use Rattle.lot_sizing.specs.Problem.{item_count}
 use Rattle.lin_rows.specs.Base.{term, made_term, terms_to}
 use Rattle.lin_rows.specs.Made.{PutTerms}
 use Rattle.lin_rows.specs.declared.column.Column.TheVariants.{X}
-use Rattle.std.specs.Prelude.{pos, neg_ℤ}
 use mir.Facts.{to_z-of_z}
 use mir.Val.{SFits}
 use mir.Syntax.{w128}

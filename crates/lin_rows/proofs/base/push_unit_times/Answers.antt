@@ -1,4 +1,4 @@
-use Rattle.std.proofs.Common.{◌≡◌, ◌+◌, ◌-◌, ◌∙◌, ◌∷◌, [], rules, ap, sym, subst, arith}
+use Rattle.std.proofs.Common.{◌≡◌, ◌-◌, ◌∙◌, ◌∷◌, [], rules, ap, subst, arith}
 use Rattle.lot_sizing.specs.Problem.{item_count}
 use Rattle.lin_rows.specs.Base.{term, unit_term, terms_to}
 use Rattle.lin_rows.specs.Made.{PutTerms}

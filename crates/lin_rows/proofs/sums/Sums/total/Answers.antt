@@ -1,4 +1,4 @@
-use Rattle.std.proofs.Common.{◌≡◌, ◌∙◌, refl, sym, ap, subst, arith}
+use Rattle.std.proofs.Common.{◌∙◌, refl, sym, ap, subst}
 use Rattle.lin_rows.specs.Sums.{IsTotal, cell_of, sums_in, total_of}
 use Rattle.lin_rows.proofs.Cells.{is_in, place_small, read_total}
 use Rattle.lin_rows.proofs.sums.Sums.total.Goals as goal
