@@ -1,15 +1,10 @@
 -- What the parts of a run say of the whole, and what the whole says of its status.
-use Rattle.std.proofs.Common.{◌≡◌, ◌≢◌, ◌≤◌, ◌<◌, ◌∙◌, ◌⊎◌, ⊎_elim, ◌++◌, ℕ, List, [], true, false, Option, Some, None, IsTrue, length, inl, inr, refl, sym, ap, subst, arith, rules}
-use Rattle.std.specs.Prelude.{Result, Ok, Err, IfOk}
-use Rattle.std.specs.declared.alloc.AllocError.{AllocError}
-use Rattle.lot_io.specs.Outside.{Files, AppendsSome}
-use Rattle.lot_sizing.specs.Problem.{Problem}
-use Rattle.plan_rules.specs.declared.broken.Broken.{Broken}
-use Rattle.plan_file.specs.declared.fault.PlanFault.{PlanFault}
+use Rattle.std.proofs.Common.{◌≡◌, ◌≢◌, ◌∙◌, ◌⊎◌, ⊎_elim, ◌++◌, ℕ, List, [], Option, Some, None, IsTrue, inl, inr, refl, ap, subst, arith, rules}
+use Rattle.lot_io.specs.Outside.{AppendsSome}
 use Rattle.lotplan.specs.declared.answer.Said.{Said}
 use Rattle.lotplan.specs.Command.{Asked, version, planning, judging, command_of}
-use Rattle.lotplan.specs.Answer.{Answer, named, optimal, infeasible, feasible, no_plan, broken, no_command, refused, not_built, missing, unread, unwritten, too_long, no_memory, line_of, status_of}
-use Rattle.lotplan.specs.Run.{Shelved, Printed, Explains, PlanExplains, WriteExplains, HoldsCoupled, HoldsImpossible, HoldsProblem, Prints, PrintsSaid, Says, SaysSome, IsRun, HadNoFault, PlansBest, FindsNoPlan, CannotPlan, AreBroken, AreFeasible, AreNoPlan, CallFor, FileCallsFor, FindsFault, FindsFeasible, IsTooLong, JudgeCallsFor, JudgeExplains, JudgeFilesExplain, OfFile, PlanCallsFor, ReadExplains, file_limit}
+use Rattle.lotplan.specs.Answer.{Answer, no_memory, status_of}
+use Rattle.lotplan.specs.Run.{Shelved, Printed, Explains, Prints, PrintsSaid, Says, SaysSome, IsRun, HadNoFault, PlansBest, FindsNoPlan, CannotPlan, CallFor, FindsFault, FindsFeasible}
 use Rattle.lotplan.proofs.Outputs.{not_there}
 use Rattle.lotplan.proofs.Planned.{called_at, coupled_at, impossible_at, optimal_at, unchanged_at}
 use Rattle.lotplan.proofs.Judged.{fault_at, feasible_at, judged_at, judged_same, no_fault_at, no_judged}

@@ -1,15 +1,12 @@
 -- What the planning of a model leaves, by the status.
-use Rattle.std.proofs.Common.{◌≡◌, ◌≢◌, ◌≤◌, ◌<◌, ◌∙◌, ◌⊎◌, ⊎_elim, ◌++◌, ℕ, List, [], true, false, Option, Some, None, IsTrue, length, inl, inr, refl, sym, ap, subst, arith, rules}
+use Rattle.std.proofs.Common.{◌≡◌, ◌≢◌, ◌∙◌, ◌⊎◌, ◌++◌, ℕ, List, Option, Some, IsTrue, inl, inr, sym, ap, subst, arith}
 use Rattle.std.specs.Prelude.{Result, Ok, Err, IfOk}
 use Rattle.std.specs.declared.alloc.AllocError.{AllocError}
-use Rattle.lot_io.specs.Outside.{Files, AppendsSome}
+use Rattle.lot_io.specs.Outside.{Files}
 use Rattle.lot_sizing.specs.Problem.{Problem}
-use Rattle.plan_rules.specs.declared.broken.Broken.{Broken}
-use Rattle.plan_file.specs.declared.fault.PlanFault.{PlanFault}
 use Rattle.lotplan.specs.declared.answer.Said.{Said}
-use Rattle.lotplan.specs.Command.{Asked, version, planning, judging, command_of}
 use Rattle.lotplan.specs.Answer.{Answer, named, optimal, infeasible, feasible, no_plan, broken, no_command, refused, not_built, missing, unread, unwritten, too_long, no_memory, line_of, status_of}
-use Rattle.lotplan.specs.Run.{Shelved, Printed, Explains, PlanExplains, WriteExplains, HoldsCoupled, HoldsImpossible, HoldsProblem, Prints, PrintsSaid, Says, SaysSome, IsRun, HadNoFault, PlansBest, FindsNoPlan, CannotPlan, AreBroken, AreFeasible, AreNoPlan, CallFor, FileCallsFor, FindsFault, FindsFeasible, IsTooLong, JudgeCallsFor, JudgeExplains, JudgeFilesExplain, OfFile, PlanCallsFor, ReadExplains, file_limit}
+use Rattle.lotplan.specs.Run.{Shelved, Printed, PlanExplains, WriteExplains, HoldsCoupled, HoldsImpossible, HoldsProblem, Prints, SaysSome, HadNoFault, PlansBest, FileCallsFor}
 use Rattle.lotplan.proofs.Outputs.{line_there, not_there}
 
 -- what planning a model's problem leaves, planning the model leaves

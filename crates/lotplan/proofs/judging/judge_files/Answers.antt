@@ -4,13 +4,13 @@ use Rattle.lotplan.proofs.Judged.{says_judged, says_stopped}
 use Rattle.lotplan.proofs.judging.judge_files.Given.{Over}
 use Rattle.lotplan.proofs.judging.judge_files.Goals as goal
 
-abbrev old : (g : Over) → goal.After-drop-instance-inside-in-Ok-3 g → Shelved
+abbrev old : (g : Over) → goal.After-drop-instance-inside-in-Ok-4 g → Shelved
 old g c = let s = c.args.shelf.now in let shelf = g.S.Shelf in shelved (shelf.told s) (shelf.file s) (shelf.faults s) (shelf.write_faults s) (shelf.misses s) (shelf.given s)
 
-abbrev mid : (g : Over) → goal.After-drop-instance-inside-in-Ok-3 g → Shelved
+abbrev mid : (g : Over) → goal.After-drop-instance-inside-in-Ok-4 g → Shelved
 mid g c = let s = c.read_model.new.shelf in let shelf = g.S.Shelf in shelved (shelf.told s) (shelf.file s) (shelf.faults s) (shelf.write_faults s) (shelf.misses s) (shelf.given s)
 
-abbrev new : (g : Over) → goal.After-drop-instance-inside-in-Ok-3 g → Shelved
+abbrev new : (g : Over) → goal.After-drop-instance-inside-in-Ok-4 g → Shelved
 new g c = let s = c.judge_plan.new.shelf in let shelf = g.S.Shelf in shelved (shelf.told s) (shelf.file s) (shelf.faults s) (shelf.write_faults s) (shelf.misses s) (shelf.given s)
 
 pub returns-in-Ok-clause-said : goal.returns-in-Ok-clause-said
