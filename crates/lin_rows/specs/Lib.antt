@@ -4,3 +4,4 @@ pub mod Held
 pub mod Base
 pub mod Made
 pub mod Sums
+pub mod Texts

@@ -1,5 +1,5 @@
 // The rows that the rules of plans make, by their names.
-ghost use Rattle.std.specs.Prelude.{◌≡◌, ◌≢◌, ◌≤◌, ◌-◌, ◌*◌, ◌^◌, ◌++◌, ◌∷◌, [], ◌↔◌, ℕ, length, pos, ◌-ℤ◌, neg_ℤ, IfOk, IfErr, IsTrue};
+ghost use Rattle.std.specs.Prelude.{◌≡◌, ◌≢◌, ◌≤◌, ◌-◌, ◌*◌, ◌^◌, ◌++◌, ◌∷◌, [], ◌↔◌, ℕ, length, Some, pos, ◌-ℤ◌, neg_ℤ, IfOk, IfErr, IsTrue};
 ghost use Rattle.std.specs.List.{All};
 ghost use Rattle.lot_sizing.specs.Problem.{item_count, resource_count, per_unit, unit_time, setup_time};
 ghost use Rattle.lot_sizing.specs.Plan.{Plan, IsFeasible};
@@ -10,6 +10,7 @@ ghost use Rattle.lin_rows.specs.Columns.{IsCell, IsColumn};
 ghost use Rattle.lin_rows.specs.Rows.{HoldsIn};
 ghost use Rattle.lin_rows.specs.declared.base.RowFault.TheVariants.{NoSuchRow};
 ghost use Rattle.lin_rows.specs.Base.{HasRow, IsBaseRow, all_terms, is_equality, is_owing, made_term, owing_terms, right_side, setup_term, some_terms, stock_terms, term, terms_to, unit_term};
+ghost use Rattle.lin_rows.specs.Texts.{name_text};
 ghost use Rattle.lin_rows.specs.Made.{AreTermsOf, PutTerms};
 ghost use Rattle.lin_rows.specs.declared.base.RowName.TheVariants.{Balance, Capacity, Link};
 
@@ -17,6 +18,7 @@ use crate::{Column, Row, Term};
 use lot_model::Instance;
 use lot_sizing::totals_are_bounded;
 use std::alloc::{AllocError, Global};
+use std::fmt;
 
 /// The name of a row. Items, resources and periods are counted from 1.
 #[derive(Clone, Copy, Debug, PartialEq, Eq)]
@@ -37,6 +39,23 @@ pub enum RowName {
     Path(u32),
     /// A cut of a certificate.
     Cut(u32),
+}
+
+impl fmt::Display for RowName {
+    ghost output = { λ name. Some (name_text name) };
+
+    fn fmt<W: fmt::Write>(&self, f: &mut fmt::Formatter<W>) -> fmt::Result {
+        match self {
+            RowName::Balance(item, period) => write!(f, "balance {item} {period}"),
+            RowName::Link(item, period) => write!(f, "link {item} {period}"),
+            RowName::Capacity(resource, period) => write!(f, "capacity {resource} {period}"),
+            RowName::EndMin(item) => write!(f, "endmin {item}"),
+            RowName::EndMax(item) => write!(f, "endmax {item}"),
+            RowName::Top(item, period) => write!(f, "top {item} {period}"),
+            RowName::Path(number) => write!(f, "path {number}"),
+            RowName::Cut(number) => write!(f, "cut {number}"),
+        }
+    }
 }
 
 /// Why there is no row.

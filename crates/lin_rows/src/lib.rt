@@ -6,6 +6,8 @@
 //! make, by their names; each holds at every feasible plan. `Sums` adds multiples of rows, column by
 //! column, as a proof by multipliers needs it.
 //!
+//! `Prices` and `Potentials` are the lists that cuts of an item are made of.
+//!
 //! Contracts see a row as a `LinRow` and speak of it by the values of columns, at a plan or at a point
 //! with a common denominator.
 #![tactic(auto)]
@@ -14,12 +16,14 @@ mod adding;
 mod base;
 mod column;
 mod numbers;
+mod prices;
 mod row;
 mod sums;
 
 pub use base::{RowFault, RowName, base_row};
 pub use column::Column;
 pub use numbers::{column_count, column_number};
+pub use prices::{Potentials, Prices};
 pub use row::{Row, Term};
 pub use sums::{SumFault, Sums};
 

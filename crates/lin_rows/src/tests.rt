@@ -244,3 +244,35 @@ fn sums_that_pass_128_bits(rt: HostRuntime) -> Result<(), Fail> {
     assert!(rt; !add(alloc, &instance, &mut sums, RowName::Link(1, 2), i128::MIN)?);
     Ok(())
 }
+
+#[test]
+fn texts_of_columns_and_names(rt: HostRuntime) -> Result<(), Fail> {
+    let alloc = rt.alloc();
+    for (column, text) in [
+        (Column::X { item: 1, period: 2 }, "x 1 2"),
+        (Column::Y { item: 3, period: 4 }, "y 3 4"),
+        (Column::S { item: 5, period: 6 }, "s 5 6"),
+        (
+            Column::R {
+                item: 40,
+                period: 60,
+            },
+            "r 40 60",
+        ),
+    ] {
+        assert_eq!(rt; format!(in alloc; "{column}")?.as_str(), text);
+    }
+    for (name, text) in [
+        (RowName::Balance(1, 2), "balance 1 2"),
+        (RowName::Link(1, 2), "link 1 2"),
+        (RowName::Capacity(1, 2), "capacity 1 2"),
+        (RowName::EndMin(7), "endmin 7"),
+        (RowName::EndMax(7), "endmax 7"),
+        (RowName::Top(1, 2), "top 1 2"),
+        (RowName::Path(10), "path 10"),
+        (RowName::Cut(1), "cut 1"),
+    ] {
+        assert_eq!(rt; format!(in alloc; "{name}")?.as_str(), text);
+    }
+    Ok(())
+}
