@@ -1,6 +1,6 @@
 -- Texts that are put one after the other.
 use Rattle.std.proofs.Common.{◌≡◌, ◌<◌, ◌+◌, ◌∙◌, ℕ, refl, sym, ap, List, [], ◌∷◌, ◌++◌, append_assoc, append-nil, length, slice_index_or, take}
-use Rattle.std.proofs.lemmas.List.{take_more}
+use Rattle.std.proofs.lemmas.List.{length-append, take_more}
 use Rattle.certificate.specs.declared.tree.Part.{Part}
 use Rattle.certificate.specs.declared.tree.Cut.{Cut}
 use Rattle.lin_rows.specs.declared.base.RowName.TheVariants.{Balance}
@@ -67,3 +67,7 @@ certificate_joined h c k cuts tree e =
     let rest : lines_text (cuts ++ (tree ++ (e ∷ []))) ≡ lines_text cuts ++ (lines_text tree ++ lines_text (e ∷ [])) = lines_append cuts (tree ++ (e ∷ [])) ∙ ap (λ t. lines_text cuts ++ t) (lines_append tree (e ∷ [])) in
     six_joined (lines_text (h ∷ [])) (lines_text (c ∷ [])) (lines_text (k ∷ [])) (lines_text cuts) (lines_text tree) (lines_text (e ∷ []))
     ∙ one_line h _ ∙ ap (λ t. line_text h ++ t) (one_line c _ ∙ ap (λ t. line_text c ++ t) (one_line k _ ∙ ap (λ t. line_text k ++ t) (sym rest)))
+
+-- how long the text is with one more element
+pub length_more : {A : Type 0} (f : A → List ℕ) (xs : List A) (k : ℕ) (d : A) → k < length xs → length (joined f (take (k + 1) xs)) ≡ length (joined f (take k xs)) + length (f (slice_index_or xs k d))
+length_more f xs k d less = ap length (joined_more f xs k d less) ∙ length-append (joined f (take k xs)) (f (slice_index_or xs k d))

@@ -1,5 +1,5 @@
 -- The text of a certificate, line by line.
-use Rattle.std.specs.Prelude.{ℕ, Bool, true, false, List, [], ◌∷◌, ◌++◌, length, map, codes}
+use Rattle.std.specs.Prelude.{ℕ, ℤ, Bool, true, false, List, [], ◌∷◌, ◌++◌, length, map, codes}
 use Rattle.std.specs.Fmt.{signed_decimal}
 use Rattle.lin_rows.specs.declared.column.Column.{Column}
 use Rattle.lin_rows.specs.declared.prices.Prices.{Prices}
@@ -69,21 +69,30 @@ block_head item = codes "block" ++ (one_text item ++ codes " f")
 abbrev pub block_line : ℕ → Potentials → List ℕ
 block_line item a = block_head item ++ (list_text a.setup.items ++ (codes " g" ++ (list_text a.unit.items ++ (codes " h" ++ (list_text a.hold.items ++ (codes " b" ++ (list_text a.back.items ++ (codes " p" ++ list_text a.steps.items))))))))
 
+abbrev pub round_line : ℕ → ℕ → List ℕ
+round_line divisor count = codes "round" ++ (one_text divisor ++ one_text count)
+
 -- a cut, and its parts
 abbrev pub cut_lines : Cut → Lines
 cut_lines (cut.Ls item last chosen) = ls_line item last chosen.items ∷ []
 cut_lines (cut.Price item prices) = price_line item prices ∷ []
 cut_lines (cut.Block item potentials) = block_line item potentials ∷ []
-cut_lines (cut.Round divisor parts) = (codes "round" ++ (one_text divisor ++ one_text (length parts.items))) ∷ part_lines parts.items
+cut_lines (cut.Round divisor parts) = round_line divisor (length parts.items) ∷ part_lines parts.items
 
 -- all cuts in their order
 abbrev pub all_cut_lines : List Cut → Lines
 all_cut_lines [] = []
 all_cut_lines (c ∷ cs) = cut_lines c ++ all_cut_lines cs
 
+abbrev pub linear_line : ℤ → ℕ → List ℕ
+linear_line den count = codes "linear " ++ (signed_decimal den ++ one_text count)
+
+abbrev pub farkas_line : ℕ → List ℕ
+farkas_line count = codes "farkas" ++ one_text count
+
 abbrev pub leaf_lines : Leaf → Lines
-leaf_lines (leaf.Linear den parts) = (codes "linear " ++ (signed_decimal den ++ one_text (length parts.items))) ∷ part_lines parts.items
-leaf_lines (leaf.Farkas parts) = (codes "farkas" ++ one_text (length parts.items)) ∷ part_lines parts.items
+leaf_lines (leaf.Linear den parts) = linear_line den (length parts.items) ∷ part_lines parts.items
+leaf_lines (leaf.Farkas parts) = farkas_line (length parts.items) ∷ part_lines parts.items
 leaf_lines leaf.Point = codes "point" ∷ []
 
 abbrev pub branch_line : Column → ℕ → List ℕ

@@ -20,7 +20,7 @@ pub fn longest(tree: &Tree) -> u64
     ensures { result ≡ min (longest tree.now) (2 ^ 64 - 1) }
 {
     match tree {
-        Tree::Branch { low, high, .. } => { longest(low).max(longest(high)).saturating_add(1) }
+        Tree::Branch { low, high, .. } => longest(low).max(longest(high)).saturating_add(1),
         Tree::Leaf(_) => 0,
     }
 }

@@ -7,10 +7,13 @@
 #![tactic(auto)]
 
 mod counts;
+mod lengths;
+mod limits;
 mod tree;
 mod writing;
 
 pub use counts::{longest, nodes};
+pub use limits::is_writable;
 pub use tree::{Certificate, Claim, Cut, Leaf, Part, Tree};
 pub use writing::write_certificate;
 

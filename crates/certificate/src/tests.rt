@@ -1,4 +1,6 @@
-use crate::{Certificate, Claim, Cut, Leaf, Part, Tree, longest, nodes, write_certificate};
+use crate::{
+    Certificate, Claim, Cut, Leaf, Part, Tree, is_writable, longest, nodes, write_certificate,
+};
 use lin_rows::{Column, Potentials, Prices, RowName};
 use std::alloc::{AllocError, Global};
 use std::boxed::Box;
@@ -59,6 +61,7 @@ fn a_tree_of_branches(rt: HostRuntime) -> Result<(), Fail> {
         (nodes(&certificate.tree), longest(&certificate.tree)),
         (5, 2)
     );
+    assert!(rt; is_writable(&certificate));
     let text = "lotcert 1\nclaim optimal 23\ncuts 0\nbranch y 1 1 0\nfarkas 3\npart link 1 1 1\n\
         part path 1 10\npart balance 1 1 1\nbranch y 1 2 0\nfarkas 5\npart link 1 2 1\n\
         part path 2 10\npart balance 1 2 1\npart capacity 1 1 1\npart balance 1 1 1\n\
@@ -109,6 +112,7 @@ fn cuts_of_all_kinds(rt: HostRuntime) -> Result<(), Fail> {
         (nodes(&certificate.tree), longest(&certificate.tree)),
         (1, 0)
     );
+    assert!(rt; is_writable(&certificate));
     let text = "lotcert 1\nclaim infeasible\ncuts 4\nls 1 2 01\nround 10 2\n\
         part balance 1 1 -8\npart cut 1 41\nblock 1 f 100 20 g 0 0 h 1 1 b 2 2 p 28 28\n\
         price 3 w 25 1 g h 1 b 0 0\npoint\nend\n";
@@ -128,8 +132,103 @@ fn a_bound(rt: HostRuntime) -> Result<(), Fail> {
             parts: Vec::new(alloc),
         }),
     };
+    assert!(rt; is_writable(&certificate));
     let text = "lotcert 1\nclaim bound 20\ncuts 0\nlinear 8 0\nend\n";
     let bytes = write_certificate(alloc, &certificate)?;
     assert!(rt; bytes.as_slice() == text.as_bytes());
+    Ok(())
+}
+
+// A certificate of one leaf and one cut.
+fn small(
+    alloc: Global,
+    claim: Claim,
+    cut: Cut,
+    den: i128,
+    times: i128,
+) -> Result<Certificate, AllocError> {
+    let mut cuts = Vec::with_capacity(alloc, 1)?;
+    cuts.push(cut)?;
+    Ok(Certificate {
+        claim,
+        cuts,
+        tree: Tree::Leaf(Leaf::Linear {
+            den,
+            parts: vec![in alloc; part(RowName::Cut(1), times)]?,
+        }),
+    })
+}
+
+fn round(alloc: Global, divisor: u64) -> Cut {
+    Cut::Round {
+        divisor,
+        parts: Vec::new(alloc),
+    }
+}
+
+#[test]
+fn limits_of_numbers(rt: HostRuntime) -> Result<(), Fail> {
+    let alloc = rt.alloc();
+    let most = u128::MAX / 2;
+    let tens = 1_000_000_000_000_000_000u64;
+    for (claim, divisor, den, times, writable) in [
+        (Claim::Optimal(most), tens, 1i128, i128::MAX, true),
+        (Claim::Bound(most), 1, i128::MAX, -i128::MAX, true),
+        (Claim::Optimal(most + 1), 1, 1, 1, false),
+        (Claim::Bound(most + 1), 1, 1, 1, false),
+        (Claim::Infeasible, 0, 1, 1, false),
+        (Claim::Infeasible, tens + 1, 1, 1, false),
+        (Claim::Infeasible, 1, 0, 1, false),
+        (Claim::Infeasible, 1, -1, 1, false),
+        (Claim::Infeasible, 1, 1, i128::MIN, false),
+    ] {
+        let certificate = small(alloc, claim, round(alloc, divisor), den, times)?;
+        assert_eq!(rt; is_writable(&certificate), writable);
+    }
+    Ok(())
+}
+
+#[test]
+fn limits_of_lines(rt: HostRuntime) -> Result<(), Fail> {
+    let alloc = rt.alloc();
+    // "ls 1 16374 " and a digit for each period: 16,384 bytes where there are 16,373.
+    for (last, bits, writable) in [
+        (16_373u32, 16_373usize, true),
+        (16_374, 16_374, false),
+        (2, 3, false),
+        (0, 0, false),
+    ] {
+        let cut = Cut::Ls {
+            item: 1,
+            last,
+            chosen: vec![in alloc; true; bits]?,
+        };
+        let certificate = small(alloc, Claim::Infeasible, cut, 1, 1)?;
+        assert_eq!(rt; is_writable(&certificate), writable);
+    }
+    Ok(())
+}
+
+#[test]
+fn limits_of_paths(rt: HostRuntime) -> Result<(), Fail> {
+    let alloc = rt.alloc();
+    let mut tree = Tree::Leaf(Leaf::Point);
+    for _ in 0..2000 {
+        tree = branch(alloc, 1, Tree::Leaf(Leaf::Point), tree)?;
+    }
+    let certificate = Certificate {
+        claim: Claim::Infeasible,
+        cuts: Vec::new(alloc),
+        tree,
+    };
+    assert_eq!(rt;
+        (nodes(&certificate.tree), longest(&certificate.tree)),
+        (4001, 2000)
+    );
+    assert!(rt; is_writable(&certificate));
+    let Certificate { claim, cuts, tree } = certificate;
+    let tree = branch(alloc, 1, tree, Tree::Leaf(Leaf::Point))?;
+    let deep = Certificate { claim, cuts, tree };
+    assert!(rt; !is_writable(&deep));
     Ok(())
 }
