@@ -1,3 +1,4 @@
 pub mod Joins
 pub mod Digits
 pub mod Shorts
+pub mod Numerals

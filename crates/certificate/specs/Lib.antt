@@ -1,3 +1,4 @@
 pub mod Counts
 pub mod Text
 pub mod Limits
+pub mod Head

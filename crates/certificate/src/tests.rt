@@ -1,5 +1,6 @@
 use crate::{
-    Certificate, Claim, Cut, Leaf, Part, Tree, is_writable, longest, nodes, write_certificate,
+    Certificate, Claim, Cut, HeadLine, Leaf, Part, Tree, is_writable, longest, nodes, read_head,
+    write_certificate,
 };
 use lin_rows::{Column, Potentials, Prices, RowName};
 use std::alloc::{AllocError, Global};
@@ -230,5 +231,52 @@ fn limits_of_paths(rt: HostRuntime) -> Result<(), Fail> {
     let tree = branch(alloc, 1, tree, Tree::Leaf(Leaf::Point))?;
     let deep = Certificate { claim, cuts, tree };
     assert!(rt; !is_writable(&deep));
+    Ok(())
+}
+
+#[test]
+fn first_lines(rt: HostRuntime) -> Result<(), Fail> {
+    let most = u128::MAX / 2;
+    for (place, line, head) in [
+        (1u32, "lotcert 1", Some(HeadLine::Mark)),
+        (1, "lotcert 2", None),
+        (1, "lotcert 1 ", None),
+        (1, "claim infeasible", None),
+        (
+            2,
+            "claim infeasible",
+            Some(HeadLine::Claim(Claim::Infeasible)),
+        ),
+        (
+            2,
+            "claim optimal 23",
+            Some(HeadLine::Claim(Claim::Optimal(23))),
+        ),
+        (2, "claim bound 0", Some(HeadLine::Claim(Claim::Bound(0)))),
+        (
+            2,
+            "claim bound 170141183460469231731687303715884105727",
+            Some(HeadLine::Claim(Claim::Bound(most))),
+        ),
+        (
+            2,
+            "claim bound 170141183460469231731687303715884105728",
+            None,
+        ),
+        (2, "claim optimal 023", None),
+        (2, "claim optimal ", None),
+        (2, "claim optimal -1", None),
+        (2, "claim  optimal 1", None),
+        (2, "", None),
+        (3, "cuts 0", Some(HeadLine::Cuts(0))),
+        (3, "cuts 20000", Some(HeadLine::Cuts(20_000))),
+        (3, "cuts 20001", None),
+        (3, "cuts 1 ", None),
+    ] {
+        if place < 1 || place > 3 {
+            return Err("no such line".into());
+        }
+        assert!(rt; read_head(place, line.as_bytes()) == head);
+    }
     Ok(())
 }
