@@ -4,3 +4,4 @@ pub mod Places
 pub mod Fronts
 pub mod Plain
 pub mod Written
+pub mod Meanings

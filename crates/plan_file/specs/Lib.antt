@@ -3,3 +3,4 @@ pub mod Faults
 pub mod Numbers
 pub mod Texts
 pub mod Written
+pub mod Laws

@@ -5,11 +5,13 @@
 #![tactic(auto)]
 
 mod fault;
+mod laws;
 mod reading;
 mod records;
 mod writing;
 
 pub use fault::PlanFault;
+pub use laws::records_mean_one_thing;
 pub use reading::read_plan;
 pub use writing::write_plan;
 

@@ -1,0 +1,24 @@
+-- What the records of a plan file mean is one thing.
+use Rattle.std.specs.Prelude.{◌≡◌, ◌≢◌, ℕ, List}
+use Rattle.lot_sizing.specs.Problem.{Problem}
+use Rattle.lot_sizing.specs.Plan.{Plan, EachCell}
+use Rattle.plan_file.specs.Records.{IsPlanOf, Record}
+use Rattle.plan_file.specs.Faults.{IsPlanFault}
+use Rattle.plan_file.specs.declared.fault.PlanFault.{PlanFault}
+use Rattle.plan_file.specs.declared.fault.PlanFault.TheVariants.{Memory}
+
+-- two plans have the same numbers for an item and a period
+pub record HaveSame (p q : Plan) (i t : ℕ) : Type 0 where
+  pub make : p.make i t ≡ q.make i t
+  pub setup : p.setup i t ≡ q.setup i t
+  pub stock : p.stock i t ≡ q.stock i t
+  pub backlog : p.backlog i t ≡ q.backlog i t
+
+-- one plan, or one fault where memory isn't the cause
+pub record MeanOneThing (m : Problem) (rs : List Record) : Type 0 where
+  pub one_plan : (p q : Plan) → IsPlanOf m rs p → IsPlanOf m rs q → EachCell m (HaveSame p q)
+  pub plan_or_fault : (p : Plan) (f : PlanFault) → IsPlanOf m rs p → IsPlanFault m rs f → f ≡ Memory
+  pub one_fault : (f g : PlanFault) → f ≢ Memory → g ≢ Memory → IsPlanFault m rs f → IsPlanFault m rs g → f ≡ g
+
+abbrev pub RecordsMeanOneThing : Type 0
+RecordsMeanOneThing = (m : Problem) (rs : List Record) → MeanOneThing m rs
