@@ -2,3 +2,8 @@ pub mod Joins
 pub mod Digits
 pub mod Shorts
 pub mod Numerals
+pub mod Splits
+pub mod Runs
+pub mod Stands
+pub mod Spelled
+pub mod Meant

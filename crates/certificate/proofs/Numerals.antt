@@ -14,7 +14,7 @@ use Rattle.lot_io.specs.declared.digits.NumberFault.TheVariants.{NotDigits, Lead
 use Rattle.std.specs.Prelude.{◌↔◌, IsErrOf, Err}
 
 -- a digit by its place
-digit_read : (t : List ℕ) (k : ℕ) → AllDigits 10 t → k < length t → (digit_value (slice_index_or t k 0) + 48 ≡ slice_index_or t k 0) × (digit_value (slice_index_or t k 0) < 10)
+pub digit_read : (t : List ℕ) (k : ℕ) → AllDigits 10 t → k < length t → (digit_value (slice_index_or t k 0) + 48 ≡ slice_index_or t k 0) × (digit_value (slice_index_or t k 0) < 10)
 digit_read t k all less =
     let at = digit_at t k all less in
     let value = digit_value_digit (slice_index_or t k 0) at in

@@ -21,10 +21,10 @@ pub enum HeadLine {
 }
 
 // The greatest amount.
-const MOST: u128 = 170_141_183_460_469_231_731_687_303_715_884_105_727;
+pub(crate) const MOST: u128 = 170_141_183_460_469_231_731_687_303_715_884_105_727;
 
 // The number at the end of a line, if this stands before it and it is at most that.
-fn number_after(line: &[u8], before: &[u8], most: u128) -> Option<u128>
+pub(crate) fn number_after(line: &[u8], before: &[u8], most: u128) -> Option<u128>
     ensures some { IfSome result (λ n. (line.now ≡ before.now ++ decimal n) × (n ≤ most)) }
     ensures none { IsNone result → (n : ℕ) → n ≤ most → line.now ≡ before.now ++ decimal n → ⊥ }
 {

@@ -1,0 +1,157 @@
+-- Each line has its words, and they its text.
+use Rattle.std.proofs.Common.{◌≡◌, ◌<◌, ◌≤◌, ◌^◌, ◌∙◌, ℕ, refl, rules, sym, ap, List, [], ◌∷◌, ◌++◌, append_assoc, append-nil, arith, codes, decimal, map}
+use Rattle.std.specs.Fmt.{signed_decimal}
+use Rattle.std.specs.List.{All}
+use Rattle.lin_rows.specs.declared.column.Column.{Column}
+use Rattle.lin_rows.specs.declared.column.Column.TheVariants.{X, Y, S, R}
+use Rattle.lin_rows.specs.declared.base.RowName.{RowName}
+use Rattle.lin_rows.specs.declared.base.RowName.TheVariants.{Balance, Link, Capacity, EndMin, EndMax, Top, Path, Cut as CutRow}
+use Rattle.lin_rows.specs.Texts.{column_text, name_text, one_text, two_text}
+use Rattle.certificate.specs.declared.tree.Cut.{Cut}
+use Rattle.certificate.specs.declared.tree.Cut.TheVariants as cut
+use Rattle.certificate.specs.declared.line.CertLine.{CertLine}
+use Rattle.certificate.specs.declared.line.CertLine.TheVariants as line
+use Rattle.certificate.specs.Text.{Lines, bits_text, list_text}
+use Rattle.certificate.specs.Line.{IsSmallColumn, IsSmallCut, IsSmallLine, IsSmallName, cut_line, later_line}
+use Rattle.certificate.specs.Words.{AreWords, HasNoSpace, block_words, branch_words, column_words, farkas_words, linear_words, list_words, ls_words, name_words, one_words, part_words, price_words, round_words, two_words, word_text, words_text}
+use Rattle.certificate.proofs.Joins.{joined_append}
+use Rattle.certificate.proofs.Splits.{words_append}
+use Rattle.certificate.proofs.Stands.{bits_plain, decimal_plain, list_last, list_part, numbers_plain, signed_plain}
+
+abbrev pub words_of_cut : Cut → Lines
+words_of_cut (cut.Ls item last chosen) = ls_words item last chosen.items
+words_of_cut (cut.Price item a) = price_words item a.price.items a.unit.items a.hold.items a.back.items
+words_of_cut (cut.Block item a) = block_words item a.setup.items a.unit.items a.hold.items a.back.items a.steps.items
+words_of_cut (cut.Round divisor parts) = []
+
+-- the words of a line
+abbrev pub words_of : CertLine → Lines
+words_of (line.Cut c) = words_of_cut c
+words_of (line.Round divisor parts) = round_words divisor parts
+words_of (line.Part part) = part_words part.row part.times
+words_of (line.Branch column at) = branch_words column at
+words_of (line.Linear den parts) = linear_words den parts
+words_of (line.Farkas parts) = farkas_words parts
+words_of line.Point = codes "point" ∷ []
+words_of line.End = codes "end" ∷ []
+
+one_spelled : (word : List ℕ) (a : ℕ) → words_text (one_words word a) ≡ word_text word ++ one_text a
+one_spelled word a = ap (λ t. word_text word ++ t) (append-nil (one_text a))
+
+two_spelled : (word : List ℕ) (a b : ℕ) → words_text (two_words word a b) ≡ word_text word ++ two_text a b
+two_spelled word a b = ap (λ t. word_text word ++ (one_text a ++ t)) (append-nil (one_text b))
+
+name_spelled : (row : RowName) → words_text (name_words row) ≡ 32 ∷ name_text row
+name_spelled (Balance i t) = two_spelled (codes "balance") i t
+name_spelled (Link i t) = two_spelled (codes "link") i t
+name_spelled (Capacity k t) = two_spelled (codes "capacity") k t
+name_spelled (EndMin i) = one_spelled (codes "endmin") i
+name_spelled (EndMax i) = one_spelled (codes "endmax") i
+name_spelled (Top i t) = two_spelled (codes "top") i t
+name_spelled (Path n) = one_spelled (codes "path") n
+name_spelled (CutRow n) = one_spelled (codes "cut") n
+
+column_spelled : (column : Column) → words_text (column_words column) ≡ 32 ∷ column_text column
+column_spelled (X i t) = two_spelled (codes "x") i t
+column_spelled (Y i t) = two_spelled (codes "y") i t
+column_spelled (S i t) = two_spelled (codes "s") i t
+column_spelled (R i t) = two_spelled (codes "r") i t
+
+-- a word, the words of a name or a column, and one more
+around : (first : List ℕ) (mid : Lines) (text last : List ℕ) → words_text mid ≡ 32 ∷ text → words_text (first ∷ (mid ++ last ∷ [])) ≡ word_text first ++ ((32 ∷ text) ++ word_text last)
+around first mid text last e =
+    ap (λ t. word_text first ++ t) (joined_append word_text mid (last ∷ []) ∙ ap (λ t. t ++ words_text (last ∷ [])) e ∙ ap (λ t. (32 ∷ text) ++ t) (append-nil (word_text last)))
+
+price_spelled : (item : ℕ) (xs bs cs ds : List ℕ) → words_text (price_words item xs bs cs ds) ≡ word_text (codes "price") ++ (one_text item ++ (codes " w" ++ (list_text xs ++ (codes " g" ++ (list_text bs ++ (codes " h" ++ (list_text cs ++ (codes " b" ++ list_text ds))))))))
+price_spelled item xs bs cs ds =
+    ap (λ t. word_text (codes "price") ++ (one_text item ++ t))
+    (list_part (codes "w") xs _ ∙ ap (λ t. codes " w" ++ (list_text xs ++ t))
+    (list_part (codes "g") bs _ ∙ ap (λ t. codes " g" ++ (list_text bs ++ t))
+    (list_part (codes "h") cs _ ∙ ap (λ t. codes " h" ++ (list_text cs ++ t)) (list_last (codes "b") ds))))
+
+block_spelled : (item : ℕ) (xs bs cs ds es : List ℕ) → words_text (block_words item xs bs cs ds es) ≡ word_text (codes "block") ++ (one_text item ++ (codes " f" ++ (list_text xs ++ (codes " g" ++ (list_text bs ++ (codes " h" ++ (list_text cs ++ (codes " b" ++ (list_text ds ++ (codes " p" ++ list_text es))))))))))
+block_spelled item xs bs cs ds es =
+    ap (λ t. word_text (codes "block") ++ (one_text item ++ t))
+    (list_part (codes "f") xs _ ∙ ap (λ t. codes " f" ++ (list_text xs ++ t))
+    (list_part (codes "g") bs _ ∙ ap (λ t. codes " g" ++ (list_text bs ++ t))
+    (list_part (codes "h") cs _ ∙ ap (λ t. codes " h" ++ (list_text cs ++ t))
+    (list_part (codes "b") ds _ ∙ ap (λ t. codes " b" ++ (list_text ds ++ t)) (list_last (codes "p") es)))))
+
+cut_spelled : (c : Cut) → IsSmallCut c → words_text (words_of_cut c) ≡ 32 ∷ cut_line c
+cut_spelled (cut.Ls item last chosen) small = ap (λ t. word_text (codes "ls") ++ (one_text item ++ (one_text last ++ t))) (append-nil (word_text (bits_text chosen.items)))
+cut_spelled (cut.Price item a) small = price_spelled item a.price.items a.unit.items a.hold.items a.back.items ∙ ap (λ t. word_text (codes "price") ++ t) (sym (append_assoc (one_text item) (codes " w") _))
+cut_spelled (cut.Block item a) small = block_spelled item a.setup.items a.unit.items a.hold.items a.back.items a.steps.items ∙ ap (λ t. word_text (codes "block") ++ t) (sym (append_assoc (one_text item) (codes " f") _))
+cut_spelled (cut.Round divisor parts) small = absurd small
+
+pub spelled : (l : CertLine) → IsSmallLine l → words_text (words_of l) ≡ 32 ∷ later_line l
+spelled (line.Cut c) small = cut_spelled c small
+spelled (line.Round divisor parts) small = two_spelled (codes "round") divisor parts
+spelled (line.Part part) small = around (codes "part") (name_words part.row) (name_text part.row) (signed_decimal part.times) (name_spelled part.row)
+spelled (line.Branch column at) small = around (codes "branch") (column_words column) (column_text column) (decimal at) (column_spelled column)
+spelled (line.Linear den parts) small = ap (λ t. word_text (codes "linear") ++ (word_text (signed_decimal den) ++ t)) (append-nil (one_text parts))
+spelled (line.Farkas parts) small = one_spelled (codes "farkas") parts
+spelled line.Point small = refl
+spelled line.End small = refl
+
+one_plain : (word : List ℕ) (a : ℕ) → HasNoSpace word → a < 10 ^ 64 → AreWords (one_words word a)
+one_plain word a w small = (w, (decimal_plain a small, tt))
+
+two_plain : (word : List ℕ) (a b : ℕ) → HasNoSpace word → a < 10 ^ 64 → b < 10 ^ 64 → AreWords (two_words word a b)
+two_plain word a b w first second = (w, (decimal_plain a first, (decimal_plain b second, tt)))
+
+name_plain : (row : RowName) → IsSmallName row → AreWords (name_words row)
+name_plain (Balance i t) small = two_plain (codes "balance") i t (search rules) (omega (arith, small.0)) (omega (arith, small.1))
+name_plain (Link i t) small = two_plain (codes "link") i t (search rules) (omega (arith, small.0)) (omega (arith, small.1))
+name_plain (Capacity k t) small = two_plain (codes "capacity") k t (search rules) (omega (arith, small.0)) (omega (arith, small.1))
+name_plain (EndMin i) small = one_plain (codes "endmin") i (search rules) (omega (arith, small))
+name_plain (EndMax i) small = one_plain (codes "endmax") i (search rules) (omega (arith, small))
+name_plain (Top i t) small = two_plain (codes "top") i t (search rules) (omega (arith, small.0)) (omega (arith, small.1))
+name_plain (Path n) small = one_plain (codes "path") n (search rules) (omega (arith, small))
+name_plain (CutRow n) small = one_plain (codes "cut") n (search rules) (omega (arith, small))
+
+column_plain : (column : Column) → IsSmallColumn column → AreWords (column_words column)
+column_plain (X i t) small = two_plain (codes "x") i t (search rules) (omega (arith, small.0)) (omega (arith, small.1))
+column_plain (Y i t) small = two_plain (codes "y") i t (search rules) (omega (arith, small.0)) (omega (arith, small.1))
+column_plain (S i t) small = two_plain (codes "s") i t (search rules) (omega (arith, small.0)) (omega (arith, small.1))
+column_plain (R i t) small = two_plain (codes "r") i t (search rules) (omega (arith, small.0)) (omega (arith, small.1))
+
+list_plain : (letter xs : List ℕ) (rest : Lines) (limit : ℕ) → limit ≤ 10 ^ 64 → HasNoSpace letter → All (λ x. x < limit) xs → AreWords rest → AreWords (list_words letter xs ++ rest)
+list_plain letter xs rest limit wide l a r = (l, words_append (map decimal xs) rest (numbers_plain xs limit wide a) r)
+
+last_plain : (letter xs : List ℕ) (limit : ℕ) → limit ≤ 10 ^ 64 → HasNoSpace letter → All (λ x. x < limit) xs → AreWords (list_words letter xs)
+last_plain letter xs limit wide l a = (l, numbers_plain xs limit wide a)
+
+cut_plain : (c : Cut) → IsSmallCut c → AreWords (words_of_cut c)
+cut_plain (cut.Ls item last chosen) small = (search rules, (decimal_plain item (omega (arith, small.0)), (decimal_plain last (omega (arith, small.2)), (bits_plain chosen.items, tt))))
+cut_plain (cut.Price item a) small = (
+  search rules,
+  (
+    decimal_plain item (omega (arith, small.0)),
+    list_plain (codes "w") a.price.items _ (2 ^ 64) (omega arith) (search rules) small.1.0
+        (list_plain (codes "g") a.unit.items _ (2 ^ 64) (omega arith) (search rules) small.1.1
+        (list_plain (codes "h") a.hold.items _ (2 ^ 64) (omega arith) (search rules) small.1.2
+        (last_plain (codes "b") a.back.items (2 ^ 64) (omega arith) (search rules) small.1.3))),
+  ),
+)
+cut_plain (cut.Block item a) small = (
+  search rules,
+  (
+    decimal_plain item (omega (arith, small.0)),
+    list_plain (codes "f") a.setup.items _ (2 ^ 64) (omega arith) (search rules) small.1.0
+        (list_plain (codes "g") a.unit.items _ (2 ^ 64) (omega arith) (search rules) small.1.1
+        (list_plain (codes "h") a.hold.items _ (2 ^ 64) (omega arith) (search rules) small.1.2
+        (list_plain (codes "b") a.back.items _ (2 ^ 64) (omega arith) (search rules) small.1.3
+        (last_plain (codes "p") a.steps.items (2 ^ 127) (omega arith) (search rules) small.1.4)))),
+  ),
+)
+cut_plain (cut.Round divisor parts) small = absurd small
+
+pub plain : (l : CertLine) → IsSmallLine l → AreWords (words_of l)
+plain (line.Cut c) small = cut_plain c small
+plain (line.Round divisor parts) small = two_plain (codes "round") divisor parts (search rules) (omega (arith, small.1)) (omega (arith, small.2))
+plain (line.Part part) small = (search rules, words_append (name_words part.row) (signed_decimal part.times ∷ []) (name_plain part.row small.0) (signed_plain part.times (omega (arith, small.1)), tt))
+plain (line.Branch column at) small = (search rules, words_append (column_words column) (decimal at ∷ []) (column_plain column small.0) (decimal_plain at (omega (arith, small.1)), tt))
+plain (line.Linear den parts) small = (search rules, (signed_plain den (omega (arith, small.1)), (decimal_plain parts (omega (arith, small.2)), tt)))
+plain (line.Farkas parts) small = one_plain (codes "farkas") parts (search rules) (omega (arith, small))
+plain line.Point small = (search rules, tt)
+plain line.End small = (search rules, tt)

@@ -1,0 +1,79 @@
+-- The words of a line, one by one or as a list.
+use Rattle.std.proofs.Common.{◌≡◌, ◌≢◌, ◌<◌, ◌≤◌, ◌+◌, ◌^◌, ◌∙◌, ℕ, zero, suc, refl, sym, ap, subst, List, [], ◌∷◌, ◌++◌, append_assoc, append-nil, arith, decimal, length, map, slice_index_or, true, false, Bool}
+use Rattle.std.specs.Prelude.{ℤ, pos, negsuc, unsigned_abs}
+use Rattle.std.specs.Fmt.{signed_decimal}
+use Rattle.std.specs.List.{All}
+use Rattle.std.proofs.lemmas.Fmt.{decimal_is_IsNumeral_wide}
+use Rattle.std.proofs.lemmas.List.Elements.{All-head, All-tail}
+use Rattle.std.proofs.lemmas.Str.{digit_value_digit}
+use Rattle.std.proofs.lemmas.Str.Parse.{digit_at}
+use Rattle.std.proofs.lemmas.List.{ext_get_or, get_or-append-add, length-append}
+use Rattle.certificate.specs.Text.{Lines, bits_text, list_text}
+use Rattle.certificate.specs.Words.{AreWords, HasNoSpace, HasWords, StandFrom, list_words, word_at, word_text, words_text}
+
+stand_read : (ws vs : Lines) (p k : ℕ) → k < length vs → StandFrom ws p vs → word_at ws (p + k) ≡ word_at vs k
+stand_read ws [] p k less s = absurd (omega (arith, less))
+stand_read ws (v ∷ vs) p zero less s = subst (λ j. word_at ws j ≡ v) (omega arith) s.0
+stand_read ws (v ∷ vs) p (suc k) less s = subst (λ j. word_at ws j ≡ word_at vs k) (omega arith) (stand_read ws vs (p + 1) k (omega (arith, less)) s.1)
+
+pub same_lines : (ws vs : Lines) → HasWords ws vs → ws ≡ vs
+same_lines ws vs h = ext_get_or [] ws vs h.0 (λ k less. subst (λ j. word_at ws j ≡ word_at vs k) (omega arith) (stand_read ws vs 0 k (omega (arith, less, h.0)) h.1))
+
+-- words stand after those before them
+stand_after : (us vs : Lines) → StandFrom (us ++ vs) (length us) vs
+stand_after us [] = tt
+stand_after us (v ∷ vs) = (
+  subst (λ j. word_at (us ++ v ∷ vs) j ≡ v) (omega arith) (get_or-append-add us (v ∷ vs) 0 []),
+  subst (λ ws. StandFrom ws (length us + 1) vs) (append_assoc us (v ∷ []) vs) (subst (λ j. StandFrom ((us ++ v ∷ []) ++ vs) j vs) (length-append us (v ∷ [])) (stand_after (us ++ v ∷ []) vs)),
+)
+
+pub stand_whole : (vs : Lines) → HasWords vs vs
+stand_whole vs = (refl, stand_after [] vs)
+
+pub stand_join : (ws us vs : Lines) (p : ℕ) → StandFrom ws p us → StandFrom ws (p + length us) vs → StandFrom ws p (us ++ vs)
+stand_join ws [] vs p a b = subst (λ j. StandFrom ws j vs) (omega arith) b
+stand_join ws (u ∷ us) vs p a b = (a.0, stand_join ws us vs (p + 1) a.1 (subst (λ j. StandFrom ws j vs) (omega arith) b))
+
+pub stand_split : (ws us vs : Lines) (p : ℕ) → StandFrom ws p (us ++ vs) → StandFrom ws p us × StandFrom ws (p + length us) vs
+stand_split ws [] vs p s = (tt, subst (λ j. StandFrom ws j vs) (omega arith) s)
+stand_split ws (u ∷ us) vs p s =
+    let (low, high) = stand_split ws us vs (p + 1) s.1 in
+    ((s.0, low), subst (λ j. StandFrom ws j vs) (omega arith) high)
+
+-- the text of a list of numbers after its letter
+numbers_text : (xs : List ℕ) (rest : Lines) → words_text (map decimal xs ++ rest) ≡ list_text xs ++ words_text rest
+numbers_text [] rest = refl
+numbers_text (x ∷ xs) rest = ap (λ t. word_text (decimal x) ++ t) (numbers_text xs rest) ∙ sym (append_assoc (word_text (decimal x)) (list_text xs) (words_text rest))
+
+pub list_part : (letter xs : List ℕ) (rest : Lines) → words_text (list_words letter xs ++ rest) ≡ word_text letter ++ (list_text xs ++ words_text rest)
+list_part letter xs rest = ap (λ t. word_text letter ++ t) (numbers_text xs rest)
+
+pub list_last : (letter xs : List ℕ) → words_text (list_words letter xs) ≡ word_text letter ++ list_text xs
+list_last letter xs = ap words_text (sym (append-nil (list_words letter xs))) ∙ list_part letter xs [] ∙ ap (λ t. word_text letter ++ t) (append-nil (list_text xs))
+
+far : (b : ℕ) → 33 ≤ b → b ≢ 32
+far b low e = omega (arith, low, e)
+
+plain_of : (t : List ℕ) → ((k : ℕ) → k < length t → 33 ≤ slice_index_or t k 0) → HasNoSpace t
+plain_of [] all = tt
+plain_of (b ∷ t) all = (far b (all 0 (omega arith)), plain_of t (λ k less. all (suc k) (omega (arith, less))))
+
+-- a number has no space in it
+pub decimal_plain : (n : ℕ) → n < 10 ^ 64 → HasNoSpace (decimal n)
+decimal_plain n small =
+    let digits = (decimal_is_IsNumeral_wide n small).0.1 in
+    plain_of (decimal n) (λ k less. omega (arith, digit_value_digit (slice_index_or (decimal n) k 0) (digit_at (decimal n) k digits less)))
+
+pub signed_plain : (z : ℤ) → unsigned_abs z < 10 ^ 64 → HasNoSpace (signed_decimal z)
+signed_plain (pos n) small = decimal_plain n small
+signed_plain (negsuc n) small = (far 45 (omega arith), decimal_plain (suc n) small)
+
+pub bits_plain : (bits : List Bool) → HasNoSpace (bits_text bits)
+bits_plain [] = tt
+bits_plain (true ∷ bits) = (far 49 (omega arith), bits_plain bits)
+bits_plain (false ∷ bits) = (far 48 (omega arith), bits_plain bits)
+
+-- numbers are words
+pub numbers_plain : (xs : List ℕ) (limit : ℕ) → limit ≤ 10 ^ 64 → All (λ x. x < limit) xs → AreWords (map decimal xs)
+numbers_plain [] limit wide a = tt
+numbers_plain (x ∷ xs) limit wide a = (decimal_plain x (omega (arith, wide, All-head (λ n. n < limit) x xs a)), numbers_plain xs limit wide (All-tail (λ n. n < limit) x xs a))
