@@ -9,12 +9,12 @@ use Rattle.certificate.specs.declared.line.CertLine.{CertLine}
 use Rattle.certificate.specs.declared.line.CertLine.TheVariants as line
 use Rattle.certificate.specs.Text.{Lines}
 use Rattle.certificate.specs.Line.{IsSmallCut, IsSmallLine, later_line}
-use Rattle.certificate.specs.Words.{HasNoNumber, IsBlock, IsFour, IsListFrom, IsSplit, StandFrom, block_words, list_words, price_words, word_at, words_text}
+use Rattle.certificate.specs.Words.{HasNoNumber, IsBlock, IsFour, IsListFrom, IsSplit, StandFrom, word_at, words_text}
 use Rattle.certificate.specs.Forms.{IsCutOf, IsLineOf}
 use Rattle.certificate.proofs.Numerals.{digit_read}
-use Rattle.certificate.proofs.Splits.{not_empty, same_words}
-use Rattle.certificate.proofs.Stands.{same_lines, stand_join, stand_split, stand_whole}
-use Rattle.certificate.proofs.Spelled.{plain, spelled, words_of, words_of_cut}
+use Rattle.certificate.proofs.Splits.{tail, not_empty, same_words}
+use Rattle.certificate.proofs.Stands.{list_words, same_lines, stand_join, stand_split, stand_whole}
+use Rattle.certificate.proofs.Spelled.{block_words, price_words, plain, spelled, words_of, words_of_cut}
 
 list_length : (letter xs : List ℕ) (rest : Lines) → length (list_words letter xs ++ rest) ≡ 1 + length xs + length rest
 list_length letter xs rest = omega (arith, length-append (map decimal xs) rest, length-map xs decimal)
@@ -158,10 +158,6 @@ line_form (line.Linear den parts) small = (stand_whole (words_of (line.Linear de
 line_form (line.Farkas parts) small = (stand_whole (words_of (line.Farkas parts)), small)
 line_form line.Point small = stand_whole (words_of line.Point)
 line_form line.End small = stand_whole (words_of line.End)
-
-abbrev tail : List ℕ → List ℕ
-tail [] = []
-tail (x ∷ xs) = xs
 
 -- what the words say is what the bytes say
 pub line_read : (bytes : List ℕ) (ws : Lines) (l : CertLine) → IsSplit bytes ws → IsLineOf ws l → (bytes ≡ later_line l) × IsSmallLine l

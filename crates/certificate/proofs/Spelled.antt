@@ -13,10 +13,17 @@ use Rattle.certificate.specs.declared.line.CertLine.{CertLine}
 use Rattle.certificate.specs.declared.line.CertLine.TheVariants as line
 use Rattle.certificate.specs.Text.{Lines, bits_text, list_text}
 use Rattle.certificate.specs.Line.{IsSmallColumn, IsSmallCut, IsSmallLine, IsSmallName, cut_line, later_line}
-use Rattle.certificate.specs.Words.{AreWords, HasNoSpace, block_words, branch_words, column_words, farkas_words, linear_words, list_words, ls_words, name_words, one_words, part_words, price_words, round_words, two_words, word_text, words_text}
+use Rattle.certificate.specs.Words.{AreWords, HasNoSpace, branch_words, column_words, farkas_words, linear_words, ls_words, name_words, one_words, part_words, round_words, two_words, word_text, words_text}
 use Rattle.certificate.proofs.Joins.{joined_append}
 use Rattle.certificate.proofs.Splits.{words_append}
-use Rattle.certificate.proofs.Stands.{bits_plain, decimal_plain, list_last, list_part, numbers_plain, signed_plain}
+use Rattle.certificate.proofs.Stands.{bits_plain, decimal_plain, list_last, list_part, list_words, numbers_plain, signed_plain}
+
+-- the words of the lines that end in lists
+abbrev pub price_words : ℕ → List ℕ → List ℕ → List ℕ → List ℕ → Lines
+price_words item xs bs cs ds = codes "price" ∷ decimal item ∷ (list_words (codes "w") xs ++ (list_words (codes "g") bs ++ (list_words (codes "h") cs ++ list_words (codes "b") ds)))
+
+abbrev pub block_words : ℕ → List ℕ → List ℕ → List ℕ → List ℕ → List ℕ → Lines
+block_words item xs bs cs ds es = codes "block" ∷ decimal item ∷ (list_words (codes "f") xs ++ (list_words (codes "g") bs ++ (list_words (codes "h") cs ++ (list_words (codes "b") ds ++ list_words (codes "p") es))))
 
 abbrev pub words_of_cut : Cut → Lines
 words_of_cut (cut.Ls item last chosen) = ls_words item last chosen.items

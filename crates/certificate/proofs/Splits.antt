@@ -22,7 +22,7 @@ abbrev head : List ℕ → ℕ
 head [] = 0
 head (x ∷ xs) = x
 
-abbrev tail : List ℕ → List ℕ
+abbrev pub tail : List ℕ → List ℕ
 tail [] = []
 tail (x ∷ xs) = xs
 

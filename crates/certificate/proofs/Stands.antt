@@ -9,7 +9,7 @@ use Rattle.std.proofs.lemmas.Str.{digit_value_digit}
 use Rattle.std.proofs.lemmas.Str.Parse.{digit_at}
 use Rattle.std.proofs.lemmas.List.{ext_get_or, get_or-append-add, length-append}
 use Rattle.certificate.specs.Text.{Lines, bits_text, list_text}
-use Rattle.certificate.specs.Words.{AreWords, HasNoSpace, HasWords, StandFrom, list_words, word_at, word_text, words_text}
+use Rattle.certificate.specs.Words.{AreWords, HasNoSpace, HasWords, StandFrom, word_at, word_text, words_text}
 
 stand_read : (ws vs : Lines) (p k : ℕ) → k < length vs → StandFrom ws p vs → word_at ws (p + k) ≡ word_at vs k
 stand_read ws [] p k less s = absurd (omega (arith, less))
@@ -39,6 +39,10 @@ stand_split ws [] vs p s = (tt, subst (λ j. StandFrom ws j vs) (omega arith) s)
 stand_split ws (u ∷ us) vs p s =
     let (low, high) = stand_split ws us vs (p + 1) s.1 in
     ((s.0, low), subst (λ j. StandFrom ws j vs) (omega arith) high)
+
+-- the numbers after a letter
+abbrev pub list_words : List ℕ → List ℕ → Lines
+list_words letter xs = letter ∷ map decimal xs
 
 -- the text of a list of numbers after its letter
 numbers_text : (xs : List ℕ) (rest : Lines) → words_text (map decimal xs ++ rest) ≡ list_text xs ++ words_text rest

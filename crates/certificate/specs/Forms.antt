@@ -9,6 +9,7 @@ use Rattle.certificate.specs.Limits.{IsSmallPart}
 use Rattle.certificate.specs.Line.{Is32, Is64, IsSmallColumn, IsSmallName}
 use Rattle.certificate.specs.Words.{HasWords, IsBlock, IsFour, branch_words, farkas_words, linear_words, ls_words, part_words, round_words}
 
+-- these are the words of a cut of one line
 abbrev pub IsCutOf : Lines → Cut → Type 0
 IsCutOf ws (cut.Ls item last chosen) = HasWords ws (ls_words item last chosen.items) × Is32 item × (1 ≤ last) × Is32 last × (length chosen.items ≡ last)
 IsCutOf ws (cut.Price item a) = IsFour ws (codes "price") (codes "w") item a.price.items a.unit.items a.hold.items a.back.items (length ws)

@@ -1,6 +1,5 @@
 -- The words of a line.
-use Rattle.std.specs.Prelude.{◌≡◌, ◌≢◌, ◌+◌, ◌^◌, ◌<◌, ◌++◌, ℕ, Bool, length, List, [], ◌∷◌, slice_index_or, ⊤}
-use Rattle.std.specs.Prelude.{codes, decimal, map, ℤ}
+use Rattle.std.specs.Prelude.{◌≡◌, ◌≢◌, ◌+◌, ◌^◌, ◌<◌, ◌++◌, ℕ, ℤ, Bool, List, [], ◌∷◌, codes, decimal, length, map, slice_index_or, ⊤}
 use Rattle.std.specs.List.{All}
 use Rattle.std.specs.Fmt.{signed_decimal}
 use Rattle.lin_rows.specs.declared.column.Column.{Column}
@@ -115,10 +114,6 @@ pub record IsListFrom (ws : Lines) (limit place : ℕ) (xs : List ℕ) : Type 0 
   pub small : All (λ x. x < limit) xs
   pub end : HasNoNumber ws limit (place + length xs)
 
--- the numbers after a letter
-abbrev pub list_words : List ℕ → List ℕ → Lines
-list_words letter xs = letter ∷ map decimal xs
-
 -- the start that `price` and `block` have in common: the item, and four lists
 pub record IsFour (ws : Lines) (word letter : List ℕ) (item : ℕ) (xs bs cs ds : List ℕ) (next : ℕ) : Type 0 where
   pub first : word_at ws 0 ≡ word
@@ -128,12 +123,6 @@ pub record IsFour (ws : Lines) (word letter : List ℕ) (item : ℕ) (xs bs cs d
   pub c : (word_at ws (4 + length xs + length bs) ≡ codes "h") × IsListFrom ws (2 ^ 64) (5 + length xs + length bs) cs
   pub d : (word_at ws (5 + length xs + length bs + length cs) ≡ codes "b") × IsListFrom ws (2 ^ 64) (6 + length xs + length bs + length cs) ds
   pub end : next ≡ 6 + length xs + length bs + length cs + length ds
-
-abbrev pub price_words : ℕ → List ℕ → List ℕ → List ℕ → List ℕ → Lines
-price_words item xs bs cs ds = codes "price" ∷ decimal item ∷ (list_words (codes "w") xs ++ (list_words (codes "g") bs ++ (list_words (codes "h") cs ++ list_words (codes "b") ds)))
-
-abbrev pub block_words : ℕ → List ℕ → List ℕ → List ℕ → List ℕ → List ℕ → Lines
-block_words item xs bs cs ds es = codes "block" ∷ decimal item ∷ (list_words (codes "f") xs ++ (list_words (codes "g") bs ++ (list_words (codes "h") cs ++ (list_words (codes "b") ds ++ list_words (codes "p") es))))
 
 -- the words of a `block` line
 pub record IsBlock (ws : Lines) (item : ℕ) (xs bs cs ds es : List ℕ) : Type 0 where
