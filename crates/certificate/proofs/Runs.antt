@@ -1,13 +1,13 @@
 -- Lists in a line are read word by word.
 use Rattle.std.proofs.Common.{◌≡◌, ◌≢◌, ◌<◌, ◌≤◌, ◌+◌, ◌^◌, ◌∙◌, ℕ, zero, suc, refl, sym, ap, subst, List, [], ◌∷◌, ◌++◌, Bool, Global, Vec, arith, codes, decimal, length, map, slice_index_or, take, true, false}
 use Rattle.std.specs.Prelude.{Option, None, Some, IfSome, IsNone}
-use Rattle.std.specs.List.{All}
+use Rattle.std.specs.List.{All, flat_map}
 use Rattle.std.proofs.lemmas.List.{length-append, length-map, map-append, take_more}
 use Rattle.std.proofs.lemmas.List.Elements.{All-head, All-nil, All-push, All-tail}
-use Rattle.certificate.specs.Text.{Lines, bit_text, bits_text, joined}
+use Rattle.certificate.specs.Text.{Lines, bit_text, bits_text}
 use Rattle.certificate.specs.Words.{HasNoNumber, IsFour, IsListFrom, StandFrom, word_at}
 use Rattle.certificate.proofs.Splits.{no_word, not_empty, same_number, words_in}
-use Rattle.certificate.proofs.Joins.{joined_append}
+use Rattle.std.proofs.lemmas.Grind.{flat_map-append}
 
 -- the numbers that were read before a place
 pub record IsListTo (ws : Lines) (limit from k : ℕ) (xs : List ℕ) : Type 0 where
@@ -49,9 +49,9 @@ bits_none t = refl
 
 pub bits_more : (t : List ℕ) (k : ℕ) (bits : List Bool) (bit : Bool) → k < length t → codes_of bit (slice_index_or t k 0) → take k t ≡ bits_text bits → take (k + 1) t ≡ bits_text (bits ++ bit ∷ [])
 bits_more t k bits bit less is same =
-    take_more t k 0 less ∙ ap (λ xs. xs ++ slice_index_or t k 0 ∷ []) same ∙ ap (λ xs. bits_text bits ++ xs) (one bit (slice_index_or t k 0) is) ∙ sym (joined_append bit_text bits (bit ∷ []))
+    take_more t k 0 less ∙ ap (λ xs. xs ++ slice_index_or t k 0 ∷ []) same ∙ ap (λ xs. bits_text bits ++ xs) (one bit (slice_index_or t k 0) is) ∙ sym (flat_map-append bit_text bits (bit ∷ []))
   where
-    one : (bit : Bool) (b : ℕ) → codes_of bit b → b ∷ [] ≡ joined bit_text (bit ∷ [])
+    one : (bit : Bool) (b : ℕ) → codes_of bit b → b ∷ [] ≡ flat_map bit_text (bit ∷ [])
     one true b e = ap (λ x. x ∷ []) e
     one false b e = ap (λ x. x ∷ []) e
 

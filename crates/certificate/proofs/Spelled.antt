@@ -14,7 +14,7 @@ use Rattle.certificate.specs.declared.line.CertLine.TheVariants as line
 use Rattle.certificate.specs.Text.{Lines, bits_text, list_text}
 use Rattle.certificate.specs.Line.{IsSmallColumn, IsSmallCut, IsSmallLine, IsSmallName, cut_line, later_line}
 use Rattle.certificate.specs.Words.{AreWords, HasNoSpace, branch_words, column_words, farkas_words, linear_words, ls_words, name_words, one_words, part_words, round_words, two_words, word_text, words_text}
-use Rattle.certificate.proofs.Joins.{joined_append}
+use Rattle.std.proofs.lemmas.Grind.{flat_map-append}
 use Rattle.certificate.proofs.Splits.{words_append}
 use Rattle.certificate.proofs.Stands.{bits_plain, decimal_plain, list_last, list_part, list_words, numbers_plain, signed_plain}
 
@@ -67,7 +67,7 @@ column_spelled (R i t) = two_spelled (codes "r") i t
 -- a word, the words of a name or a column, and one more
 around : (first : List ℕ) (mid : Lines) (text last : List ℕ) → words_text mid ≡ 32 ∷ text → words_text (first ∷ (mid ++ last ∷ [])) ≡ word_text first ++ ((32 ∷ text) ++ word_text last)
 around first mid text last e =
-    ap (λ t. word_text first ++ t) (joined_append word_text mid (last ∷ []) ∙ ap (λ t. t ++ words_text (last ∷ [])) e ∙ ap (λ t. (32 ∷ text) ++ t) (append-nil (word_text last)))
+    ap (λ t. word_text first ++ t) (flat_map-append word_text mid (last ∷ []) ∙ ap (λ t. t ++ words_text (last ∷ [])) e ∙ ap (λ t. (32 ∷ text) ++ t) (append-nil (word_text last)))
 
 price_spelled : (item : ℕ) (xs bs cs ds : List ℕ) → words_text (price_words item xs bs cs ds) ≡ word_text (codes "price") ++ (one_text item ++ (codes " w" ++ (list_text xs ++ (codes " g" ++ (list_text bs ++ (codes " h" ++ (list_text cs ++ (codes " b" ++ list_text ds))))))))
 price_spelled item xs bs cs ds =

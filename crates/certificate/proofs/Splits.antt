@@ -8,7 +8,7 @@ use Rattle.std.proofs.lemmas.Fmt.{decimal_is_IsNumeral_wide}
 use Rattle.std.proofs.lemmas.List.{get_or_default, get_or_past, length-map, map-append, take_all, take_more}
 use Rattle.certificate.specs.Text.{Lines}
 use Rattle.certificate.specs.Words.{AreWords, HasNoSpace, IsSplit, word_at, word_text, words_text}
-use Rattle.certificate.proofs.Joins.{joined_append}
+use Rattle.std.proofs.lemmas.Grind.{flat_map-append}
 
 pub no_space_append : (xs ys : List ℕ) → HasNoSpace xs → HasNoSpace ys → HasNoSpace (xs ++ ys)
 no_space_append [] ys a b = b
@@ -57,7 +57,7 @@ split_none line = record { text = refl; words = tt; plain = tt }
 pub split_space : (line : List ℕ) (k b : ℕ) (ws : Lines) (word : List ℕ) → k < length line → b ≡ slice_index_or line k 0 → b ≡ 32 → IsSplitTo line k ws word → IsSplitTo line (k + 1) (ws ++ word ∷ []) []
 split_space line k b ws word less is space s = record {
   text = ap (λ xs. 32 ∷ xs) (take_more line k 0 less) ∙ ap (λ xs. xs ++ slice_index_or line k 0 ∷ []) s.text ∙ ap (λ x. (words_text ws ++ word_text word) ++ x ∷ []) (sym is ∙ space)
-      ∙ ap (λ t. t ++ 32 ∷ []) (ap (λ t. words_text ws ++ t) (sym (append-nil (word_text word))) ∙ sym (joined_append word_text ws (word ∷ [])));
+      ∙ ap (λ t. t ++ 32 ∷ []) (ap (λ t. words_text ws ++ t) (sym (append-nil (word_text word))) ∙ sym (flat_map-append word_text ws (word ∷ [])));
   words = words_append ws (word ∷ []) s.words (s.plain, tt);
   plain = tt;
 }
@@ -86,7 +86,7 @@ word_pushed ws v = sym (map-append (λ w. w.items) ws (v ∷ []))
 
 pub split_end : (line : List ℕ) (ws : Lines) (word : List ℕ) → IsSplitTo line (length line) ws word → IsSplit line (ws ++ word ∷ [])
 split_end line ws word s = record {
-  text = ap (λ xs. 32 ∷ xs) (sym (take_all (length line) line (omega arith))) ∙ s.text ∙ ap (λ t. words_text ws ++ t) (sym (append-nil (word_text word))) ∙ sym (joined_append word_text ws (word ∷ []));
+  text = ap (λ xs. 32 ∷ xs) (sym (take_all (length line) line (omega arith))) ∙ s.text ∙ ap (λ t. words_text ws ++ t) (sym (append-nil (word_text word))) ∙ sym (flat_map-append word_text ws (word ∷ []));
   words = words_append ws (word ∷ []) s.words (s.plain, tt);
 }
 

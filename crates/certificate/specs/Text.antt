@@ -1,6 +1,7 @@
 -- The text of a certificate, line by line.
 use Rattle.std.specs.Prelude.{ℕ, ℤ, Bool, true, false, List, [], ◌∷◌, ◌++◌, length, map, codes}
 use Rattle.std.specs.Fmt.{signed_decimal}
+use Rattle.std.specs.List.{flat_map}
 use Rattle.lin_rows.specs.declared.column.Column.{Column}
 use Rattle.lin_rows.specs.declared.prices.Prices.{Prices}
 use Rattle.lin_rows.specs.declared.prices.Potentials.{Potentials}
@@ -20,28 +21,23 @@ use Rattle.certificate.specs.declared.tree.Certificate.{Certificate}
 abbrev pub Lines : Type 0
 Lines = List (List ℕ)
 
--- the texts of the elements of a list, one after the other
-abbrev pub joined : {A : Type 0} → (A → List ℕ) → List A → List ℕ
-joined f [] = []
-joined f (x ∷ xs) = f x ++ joined f xs
-
 -- a line with its line feed
 abbrev pub line_text : List ℕ → List ℕ
 line_text line = line ++ codes "\n"
 
 abbrev pub lines_text : Lines → List ℕ
-lines_text lines = joined line_text lines
+lines_text lines = flat_map line_text lines
 
 -- numbers, each after a space
 abbrev pub list_text : List ℕ → List ℕ
-list_text xs = joined one_text xs
+list_text xs = flat_map one_text xs
 
 abbrev pub bit_text : Bool → List ℕ
 bit_text true = codes "1"
 bit_text false = codes "0"
 
 abbrev pub bits_text : List Bool → List ℕ
-bits_text bits = joined bit_text bits
+bits_text bits = flat_map bit_text bits
 
 abbrev pub claim_line : Claim → List ℕ
 claim_line (claim.Optimal cost) = codes "claim optimal" ++ one_text cost

@@ -1,19 +1,19 @@
 -- The words of a line.
 use Rattle.std.specs.Prelude.{◌≡◌, ◌≢◌, ◌+◌, ◌^◌, ◌<◌, ◌++◌, ℕ, ℤ, Bool, List, [], ◌∷◌, codes, decimal, length, map, slice_index_or, ⊤}
-use Rattle.std.specs.List.{All}
+use Rattle.std.specs.List.{All, flat_map}
 use Rattle.std.specs.Fmt.{signed_decimal}
 use Rattle.lin_rows.specs.declared.column.Column.{Column}
 use Rattle.lin_rows.specs.declared.column.Column.TheVariants.{X, Y, S, R}
 use Rattle.lin_rows.specs.declared.base.RowName.{RowName}
 use Rattle.lin_rows.specs.declared.base.RowName.TheVariants.{Balance, Link, Capacity, EndMin, EndMax, Top, Path, Cut}
-use Rattle.certificate.specs.Text.{Lines, bits_text, joined}
+use Rattle.certificate.specs.Text.{Lines, bits_text}
 
 -- a word after a space
 abbrev pub word_text : List ℕ → List ℕ
 word_text word = 32 ∷ word
 
 abbrev pub words_text : Lines → List ℕ
-words_text words = joined word_text words
+words_text words = flat_map word_text words
 
 -- no byte is a space
 abbrev pub HasNoSpace : List ℕ → Type 0

@@ -1,6 +1,6 @@
 use Rattle.std.proofs.Common.{◌++◌, ◌∙◌, ap, string_bytes}
 use Rattle.std.proofs.lemmas.List.{take_all}
-use Rattle.certificate.specs.Text.{joined}
+use Rattle.std.specs.List.{flat_map}
 use Rattle.certificate.proofs.Joins.{cut_text, cuts_text, grows}
 use Rattle.certificate.proofs.writing.add_cuts.Goals as goal
 
@@ -10,4 +10,4 @@ loop-cut-preserved c =
     (c.in_ok-add_cut.ensures ∙ ap (λ x. string_bytes c.loop-cut.text ++ cut_text x) c.cut-item.is)
 
 pub returns : goal.returns
-returns c = c.loop-cut.invariant ∙ ap (λ cs. string_bytes c.args.text.now ++ joined cut_text cs) (take_all c.loop-cut.cut-index c.args.cuts.now c.loop-cut-test.false) ∙ ap (λ t. string_bytes c.args.text.now ++ t) (cuts_text c.args.cuts.now)
+returns c = c.loop-cut.invariant ∙ ap (λ cs. string_bytes c.args.text.now ++ flat_map cut_text cs) (take_all c.loop-cut.cut-index c.args.cuts.now c.loop-cut-test.false) ∙ ap (λ t. string_bytes c.args.text.now ++ t) (cuts_text c.args.cuts.now)
