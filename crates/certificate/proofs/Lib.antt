@@ -7,3 +7,9 @@ pub mod Runs
 pub mod Stands
 pub mod Spelled
 pub mod Meant
+pub mod Feeds
+pub mod Heads
+pub mod Needed
+pub mod Wholes
+pub mod Alike
+pub mod Single

@@ -13,8 +13,8 @@ use Rattle.certificate.specs.Words.{HasNoNumber, IsBlock, IsFour, IsListFrom, Is
 use Rattle.certificate.specs.Forms.{IsCutOf, IsLineOf}
 use Rattle.certificate.proofs.Numerals.{digit_read}
 use Rattle.certificate.proofs.Splits.{tail, not_empty, same_words}
-use Rattle.certificate.proofs.Stands.{list_words, same_lines, stand_join, stand_split, stand_whole}
-use Rattle.certificate.proofs.Spelled.{block_words, price_words, plain, spelled, words_of, words_of_cut}
+use Rattle.certificate.proofs.Stands.{list_words, same_lines, stand_join, stand_split, stand_whole, visible_words}
+use Rattle.certificate.proofs.Spelled.{block_words, price_words, spelled, visible, words_of, words_of_cut}
 
 list_length : (letter xs : List ℕ) (rest : Lines) → length (list_words letter xs ++ rest) ≡ 1 + length xs + length rest
 list_length letter xs rest = omega (arith, length-append (map decimal xs) rest, length-map xs decimal)
@@ -143,7 +143,7 @@ line_words ws (line.Farkas parts) h = (same_lines ws _ h.0, h.1)
 line_words ws line.Point h = (same_lines ws _ h, tt)
 line_words ws line.End h = (same_lines ws _ h, tt)
 
-cut_form : (c : Cut) → IsSmallCut c → IsCutOf (words_of_cut c) c
+pub cut_form : (c : Cut) → IsSmallCut c → IsCutOf (words_of_cut c) c
 cut_form (cut.Ls item last chosen) small = (stand_whole (words_of_cut (cut.Ls item last chosen)), small.0, small.1, small.2, small.3)
 cut_form (cut.Price item a) small = price_form item a.price.items a.unit.items a.hold.items a.back.items small.0 small.1.0 small.1.1 small.1.2 small.1.3
 cut_form (cut.Block item a) small = block_form item a.setup.items a.unit.items a.hold.items a.back.items a.steps.items small.0 small.1.0 small.1.1 small.1.2 small.1.3 small.1.4
@@ -167,5 +167,5 @@ line_read bytes ws l split h =
 
 pub line_written : (bytes : List ℕ) (ws : Lines) (l : CertLine) → IsSplit bytes ws → bytes ≡ later_line l → IsSmallLine l → IsLineOf ws l
 line_written bytes ws l split same small =
-    let words : ws ≡ words_of l = same_words ws (words_of l) split.words (plain l small) (sym split.text ∙ ap (λ t. 32 ∷ t) same ∙ sym (spelled l small)) in
+    let words : ws ≡ words_of l = same_words ws (words_of l) split.words (visible_words (words_of l) (visible l small)) (sym split.text ∙ ap (λ t. 32 ∷ t) same ∙ sym (spelled l small)) in
     subst (λ vs. IsLineOf vs l) (sym words) (line_form l small)

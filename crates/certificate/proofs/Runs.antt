@@ -113,11 +113,17 @@ moved ws limit j k xs e l = subst (λ i. IsListFrom ws limit i xs) e l
 pub nothing : {A : Type 0} (r : Option A) → r ≡ None → IsNone r
 nothing r e = subst IsNone (sym e) refl
 
--- two starts end at one place
-pub same_four : (ws : Lines) (word letter : List ℕ) (item jtem next mext : ℕ) (xs bs cs ds as' bs' cs' ds' : List ℕ) → IsFour ws word letter item xs bs cs ds next → IsFour ws word letter jtem as' bs' cs' ds' mext → next ≡ mext
-same_four ws word letter item jtem next mext xs bs cs ds a b c d f g =
+-- two starts have the same lists
+pub same_lists : (ws : Lines) (word letter : List ℕ) (item jtem next mext : ℕ) (xs bs cs ds as' bs' cs' ds' : List ℕ) → IsFour ws word letter item xs bs cs ds next → IsFour ws word letter jtem as' bs' cs' ds' mext → (xs ≡ as') × (bs ≡ bs') × (cs ≡ cs') × (ds ≡ ds')
+same_lists ws word letter item jtem next mext xs bs cs ds a b c d f g =
     let same = same_from ws (2 ^ 64) 3 xs a (omega arith) f.a.1 g.a.1 in
     let two = same_from ws (2 ^ 64) (4 + length a) bs b (omega arith) (subst (λ l. IsListFrom ws (2 ^ 64) (4 + length l) bs) same f.b.1) g.b.1 in
     let three = same_from ws (2 ^ 64) (5 + length a + length b) cs c (omega arith) (subst (λ l. IsListFrom ws (2 ^ 64) (5 + length a + length l) cs) two (subst (λ l. IsListFrom ws (2 ^ 64) (5 + length l + length bs) cs) same f.c.1)) g.c.1 in
     let four = same_from ws (2 ^ 64) (6 + length a + length b + length c) ds d (omega arith) (subst (λ l. IsListFrom ws (2 ^ 64) (6 + length a + length b + length l) ds) three (subst (λ l. IsListFrom ws (2 ^ 64) (6 + length a + length l + length cs) ds) two (subst (λ l. IsListFrom ws (2 ^ 64) (6 + length l + length bs + length cs) ds) same f.d.1))) g.d.1 in
-    omega (arith, f.end, g.end, ap length same, ap length two, ap length three, ap length four)
+    (same, two, three, four)
+
+-- and end at one place
+pub same_four : (ws : Lines) (word letter : List ℕ) (item jtem next mext : ℕ) (xs bs cs ds as' bs' cs' ds' : List ℕ) → IsFour ws word letter item xs bs cs ds next → IsFour ws word letter jtem as' bs' cs' ds' mext → next ≡ mext
+same_four ws word letter item jtem next mext xs bs cs ds a b c d f g =
+    let (one, two, three, four) = same_lists ws word letter item jtem next mext xs bs cs ds a b c d f g in
+    omega (arith, f.end, g.end, ap length one, ap length two, ap length three, ap length four)

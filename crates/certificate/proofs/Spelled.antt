@@ -13,10 +13,9 @@ use Rattle.certificate.specs.declared.line.CertLine.{CertLine}
 use Rattle.certificate.specs.declared.line.CertLine.TheVariants as line
 use Rattle.certificate.specs.Text.{Lines, bits_text, list_text}
 use Rattle.certificate.specs.Line.{IsSmallColumn, IsSmallCut, IsSmallLine, IsSmallName, cut_line, later_line}
-use Rattle.certificate.specs.Words.{AreWords, HasNoSpace, branch_words, column_words, farkas_words, linear_words, ls_words, name_words, one_words, part_words, round_words, two_words, word_text, words_text}
+use Rattle.certificate.specs.Words.{branch_words, column_words, farkas_words, linear_words, ls_words, name_words, one_words, part_words, round_words, two_words, word_text, words_text}
 use Rattle.std.proofs.lemmas.Grind.{flat_map-append}
-use Rattle.certificate.proofs.Splits.{words_append}
-use Rattle.certificate.proofs.Stands.{bits_plain, decimal_plain, list_last, list_part, list_words, numbers_plain, signed_plain}
+use Rattle.certificate.proofs.Stands.{AreVisible, IsVisible, bits_visible, decimal_visible, list_last, list_part, list_words, numbers_visible, signed_visible, visible_append}
 
 -- the words of the lines that end in lists
 abbrev pub price_words : ℕ → List ℕ → List ℕ → List ℕ → List ℕ → Lines
@@ -100,65 +99,66 @@ spelled (line.Farkas parts) small = one_spelled (codes "farkas") parts
 spelled line.Point small = refl
 spelled line.End small = refl
 
-one_plain : (word : List ℕ) (a : ℕ) → HasNoSpace word → a < 10 ^ 64 → AreWords (one_words word a)
-one_plain word a w small = (w, (decimal_plain a small, tt))
+one_visible : (word : List ℕ) (a : ℕ) → IsVisible word → a < 10 ^ 64 → AreVisible (one_words word a)
+one_visible word a w small = (w, (decimal_visible a small, tt))
 
-two_plain : (word : List ℕ) (a b : ℕ) → HasNoSpace word → a < 10 ^ 64 → b < 10 ^ 64 → AreWords (two_words word a b)
-two_plain word a b w first second = (w, (decimal_plain a first, (decimal_plain b second, tt)))
+two_visible : (word : List ℕ) (a b : ℕ) → IsVisible word → a < 10 ^ 64 → b < 10 ^ 64 → AreVisible (two_words word a b)
+two_visible word a b w first second = (w, (decimal_visible a first, (decimal_visible b second, tt)))
 
-name_plain : (row : RowName) → IsSmallName row → AreWords (name_words row)
-name_plain (Balance i t) small = two_plain (codes "balance") i t (search rules) (omega (arith, small.0)) (omega (arith, small.1))
-name_plain (Link i t) small = two_plain (codes "link") i t (search rules) (omega (arith, small.0)) (omega (arith, small.1))
-name_plain (Capacity k t) small = two_plain (codes "capacity") k t (search rules) (omega (arith, small.0)) (omega (arith, small.1))
-name_plain (EndMin i) small = one_plain (codes "endmin") i (search rules) (omega (arith, small))
-name_plain (EndMax i) small = one_plain (codes "endmax") i (search rules) (omega (arith, small))
-name_plain (Top i t) small = two_plain (codes "top") i t (search rules) (omega (arith, small.0)) (omega (arith, small.1))
-name_plain (Path n) small = one_plain (codes "path") n (search rules) (omega (arith, small))
-name_plain (CutRow n) small = one_plain (codes "cut") n (search rules) (omega (arith, small))
+name_visible : (row : RowName) → IsSmallName row → AreVisible (name_words row)
+name_visible (Balance i t) small = two_visible (codes "balance") i t (search rules) (omega (arith, small.0)) (omega (arith, small.1))
+name_visible (Link i t) small = two_visible (codes "link") i t (search rules) (omega (arith, small.0)) (omega (arith, small.1))
+name_visible (Capacity k t) small = two_visible (codes "capacity") k t (search rules) (omega (arith, small.0)) (omega (arith, small.1))
+name_visible (EndMin i) small = one_visible (codes "endmin") i (search rules) (omega (arith, small))
+name_visible (EndMax i) small = one_visible (codes "endmax") i (search rules) (omega (arith, small))
+name_visible (Top i t) small = two_visible (codes "top") i t (search rules) (omega (arith, small.0)) (omega (arith, small.1))
+name_visible (Path n) small = one_visible (codes "path") n (search rules) (omega (arith, small))
+name_visible (CutRow n) small = one_visible (codes "cut") n (search rules) (omega (arith, small))
 
-column_plain : (column : Column) → IsSmallColumn column → AreWords (column_words column)
-column_plain (X i t) small = two_plain (codes "x") i t (search rules) (omega (arith, small.0)) (omega (arith, small.1))
-column_plain (Y i t) small = two_plain (codes "y") i t (search rules) (omega (arith, small.0)) (omega (arith, small.1))
-column_plain (S i t) small = two_plain (codes "s") i t (search rules) (omega (arith, small.0)) (omega (arith, small.1))
-column_plain (R i t) small = two_plain (codes "r") i t (search rules) (omega (arith, small.0)) (omega (arith, small.1))
+column_visible : (column : Column) → IsSmallColumn column → AreVisible (column_words column)
+column_visible (X i t) small = two_visible (codes "x") i t (search rules) (omega (arith, small.0)) (omega (arith, small.1))
+column_visible (Y i t) small = two_visible (codes "y") i t (search rules) (omega (arith, small.0)) (omega (arith, small.1))
+column_visible (S i t) small = two_visible (codes "s") i t (search rules) (omega (arith, small.0)) (omega (arith, small.1))
+column_visible (R i t) small = two_visible (codes "r") i t (search rules) (omega (arith, small.0)) (omega (arith, small.1))
 
-list_plain : (letter xs : List ℕ) (rest : Lines) (limit : ℕ) → limit ≤ 10 ^ 64 → HasNoSpace letter → All (λ x. x < limit) xs → AreWords rest → AreWords (list_words letter xs ++ rest)
-list_plain letter xs rest limit wide l a r = (l, words_append (map decimal xs) rest (numbers_plain xs limit wide a) r)
+list_visible : (letter xs : List ℕ) (rest : Lines) (limit : ℕ) → limit ≤ 10 ^ 64 → IsVisible letter → All (λ x. x < limit) xs → AreVisible rest → AreVisible (list_words letter xs ++ rest)
+list_visible letter xs rest limit wide l a r = (l, visible_append (map decimal xs) rest (numbers_visible xs limit wide a) r)
 
-last_plain : (letter xs : List ℕ) (limit : ℕ) → limit ≤ 10 ^ 64 → HasNoSpace letter → All (λ x. x < limit) xs → AreWords (list_words letter xs)
-last_plain letter xs limit wide l a = (l, numbers_plain xs limit wide a)
+last_visible : (letter xs : List ℕ) (limit : ℕ) → limit ≤ 10 ^ 64 → IsVisible letter → All (λ x. x < limit) xs → AreVisible (list_words letter xs)
+last_visible letter xs limit wide l a = (l, numbers_visible xs limit wide a)
 
-cut_plain : (c : Cut) → IsSmallCut c → AreWords (words_of_cut c)
-cut_plain (cut.Ls item last chosen) small = (search rules, (decimal_plain item (omega (arith, small.0)), (decimal_plain last (omega (arith, small.2)), (bits_plain chosen.items, tt))))
-cut_plain (cut.Price item a) small = (
+cut_visible : (c : Cut) → IsSmallCut c → AreVisible (words_of_cut c)
+cut_visible (cut.Ls item last chosen) small = (search rules, (decimal_visible item (omega (arith, small.0)), (decimal_visible last (omega (arith, small.2)), (bits_visible chosen.items, tt))))
+cut_visible (cut.Price item a) small = (
   search rules,
   (
-    decimal_plain item (omega (arith, small.0)),
-    list_plain (codes "w") a.price.items _ (2 ^ 64) (omega arith) (search rules) small.1.0
-        (list_plain (codes "g") a.unit.items _ (2 ^ 64) (omega arith) (search rules) small.1.1
-        (list_plain (codes "h") a.hold.items _ (2 ^ 64) (omega arith) (search rules) small.1.2
-        (last_plain (codes "b") a.back.items (2 ^ 64) (omega arith) (search rules) small.1.3))),
+    decimal_visible item (omega (arith, small.0)),
+    list_visible (codes "w") a.price.items _ (2 ^ 64) (omega arith) (search rules) small.1.0
+        (list_visible (codes "g") a.unit.items _ (2 ^ 64) (omega arith) (search rules) small.1.1
+        (list_visible (codes "h") a.hold.items _ (2 ^ 64) (omega arith) (search rules) small.1.2
+        (last_visible (codes "b") a.back.items (2 ^ 64) (omega arith) (search rules) small.1.3))),
   ),
 )
-cut_plain (cut.Block item a) small = (
+cut_visible (cut.Block item a) small = (
   search rules,
   (
-    decimal_plain item (omega (arith, small.0)),
-    list_plain (codes "f") a.setup.items _ (2 ^ 64) (omega arith) (search rules) small.1.0
-        (list_plain (codes "g") a.unit.items _ (2 ^ 64) (omega arith) (search rules) small.1.1
-        (list_plain (codes "h") a.hold.items _ (2 ^ 64) (omega arith) (search rules) small.1.2
-        (list_plain (codes "b") a.back.items _ (2 ^ 64) (omega arith) (search rules) small.1.3
-        (last_plain (codes "p") a.steps.items (2 ^ 127) (omega arith) (search rules) small.1.4)))),
+    decimal_visible item (omega (arith, small.0)),
+    list_visible (codes "f") a.setup.items _ (2 ^ 64) (omega arith) (search rules) small.1.0
+        (list_visible (codes "g") a.unit.items _ (2 ^ 64) (omega arith) (search rules) small.1.1
+        (list_visible (codes "h") a.hold.items _ (2 ^ 64) (omega arith) (search rules) small.1.2
+        (list_visible (codes "b") a.back.items _ (2 ^ 64) (omega arith) (search rules) small.1.3
+        (last_visible (codes "p") a.steps.items (2 ^ 127) (omega arith) (search rules) small.1.4)))),
   ),
 )
-cut_plain (cut.Round divisor parts) small = absurd small
+cut_visible (cut.Round divisor parts) small = absurd small
 
-pub plain : (l : CertLine) → IsSmallLine l → AreWords (words_of l)
-plain (line.Cut c) small = cut_plain c small
-plain (line.Round divisor parts) small = two_plain (codes "round") divisor parts (search rules) (omega (arith, small.1)) (omega (arith, small.2))
-plain (line.Part part) small = (search rules, words_append (name_words part.row) (signed_decimal part.times ∷ []) (name_plain part.row small.0) (signed_plain part.times (omega (arith, small.1)), tt))
-plain (line.Branch column at) small = (search rules, words_append (column_words column) (decimal at ∷ []) (column_plain column small.0) (decimal_plain at (omega (arith, small.1)), tt))
-plain (line.Linear den parts) small = (search rules, (signed_plain den (omega (arith, small.1)), (decimal_plain parts (omega (arith, small.2)), tt)))
-plain (line.Farkas parts) small = one_plain (codes "farkas") parts (search rules) (omega (arith, small))
-plain line.Point small = (search rules, tt)
-plain line.End small = (search rules, tt)
+-- no word has a space or a byte before it
+pub visible : (l : CertLine) → IsSmallLine l → AreVisible (words_of l)
+visible (line.Cut c) small = cut_visible c small
+visible (line.Round divisor parts) small = two_visible (codes "round") divisor parts (search rules) (omega (arith, small.1)) (omega (arith, small.2))
+visible (line.Part part) small = (search rules, visible_append (name_words part.row) (signed_decimal part.times ∷ []) (name_visible part.row small.0) (signed_visible part.times (omega (arith, small.1)), tt))
+visible (line.Branch column at) small = (search rules, visible_append (column_words column) (decimal at ∷ []) (column_visible column small.0) (decimal_visible at (omega (arith, small.1)), tt))
+visible (line.Linear den parts) small = (search rules, (signed_visible den (omega (arith, small.1)), (decimal_visible parts (omega (arith, small.2)), tt)))
+visible (line.Farkas parts) small = one_visible (codes "farkas") parts (search rules) (omega (arith, small))
+visible line.Point small = (search rules, tt)
+visible line.End small = (search rules, tt)

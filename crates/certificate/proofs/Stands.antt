@@ -1,6 +1,6 @@
 -- The words of a line, one by one or as a list.
-use Rattle.std.proofs.Common.{◌≡◌, ◌≢◌, ◌<◌, ◌≤◌, ◌+◌, ◌^◌, ◌∙◌, ℕ, zero, suc, refl, sym, ap, subst, List, [], ◌∷◌, ◌++◌, append_assoc, append-nil, arith, decimal, length, map, slice_index_or, true, false, Bool}
-use Rattle.std.specs.Prelude.{ℤ, pos, negsuc, unsigned_abs}
+use Rattle.std.proofs.Common.{◌≡◌, ◌<◌, ◌≤◌, ◌+◌, ◌^◌, ◌∙◌, ℕ, zero, suc, refl, sym, ap, subst, List, [], ◌∷◌, ◌++◌, append_assoc, append-nil, arith, decimal, length, map, slice_index_or, true, false, Bool}
+use Rattle.std.specs.Prelude.{ℤ, pos, negsuc, unsigned_abs, ⊤}
 use Rattle.std.specs.Fmt.{signed_decimal}
 use Rattle.std.specs.List.{All}
 use Rattle.std.proofs.lemmas.Fmt.{decimal_is_IsNumeral_wide}
@@ -55,29 +55,46 @@ list_part letter xs rest = ap (λ t. word_text letter ++ t) (numbers_text xs res
 pub list_last : (letter xs : List ℕ) → words_text (list_words letter xs) ≡ word_text letter ++ list_text xs
 list_last letter xs = ap words_text (sym (append-nil (list_words letter xs))) ∙ list_part letter xs [] ∙ ap (λ t. word_text letter ++ t) (append-nil (list_text xs))
 
-far : (b : ℕ) → 33 ≤ b → b ≢ 32
-far b low e = omega (arith, low, e)
+-- no byte is a space or comes before it
+abbrev pub IsVisible : List ℕ → Type 0
+IsVisible [] = ⊤
+IsVisible (b ∷ rest) = (33 ≤ b) × IsVisible rest
 
-plain_of : (t : List ℕ) → ((k : ℕ) → k < length t → 33 ≤ slice_index_or t k 0) → HasNoSpace t
-plain_of [] all = tt
-plain_of (b ∷ t) all = (far b (all 0 (omega arith)), plain_of t (λ k less. all (suc k) (omega (arith, less))))
+abbrev pub AreVisible : Lines → Type 0
+AreVisible [] = ⊤
+AreVisible (w ∷ rest) = IsVisible w × AreVisible rest
 
--- a number has no space in it
-pub decimal_plain : (n : ℕ) → n < 10 ^ 64 → HasNoSpace (decimal n)
-decimal_plain n small =
+pub visible_append : (ws vs : Lines) → AreVisible ws → AreVisible vs → AreVisible (ws ++ vs)
+visible_append [] vs a b = b
+visible_append (w ∷ ws) vs a b = (a.0, visible_append ws vs a.1 b)
+
+no_space : (w : List ℕ) → IsVisible w → HasNoSpace w
+no_space [] a = tt
+no_space (b ∷ w) a = (λ e. omega (arith, a.0, e), no_space w a.1)
+
+pub visible_words : (ws : Lines) → AreVisible ws → AreWords ws
+visible_words [] a = tt
+visible_words (w ∷ ws) a = (no_space w a.0, visible_words ws a.1)
+
+visible_of : (t : List ℕ) → ((k : ℕ) → k < length t → 33 ≤ slice_index_or t k 0) → IsVisible t
+visible_of [] all = tt
+visible_of (b ∷ t) all = (all 0 (omega arith), visible_of t (λ k less. all (suc k) (omega (arith, less))))
+
+-- so is a number
+pub decimal_visible : (n : ℕ) → n < 10 ^ 64 → IsVisible (decimal n)
+decimal_visible n small =
     let digits = (decimal_is_IsNumeral_wide n small).0.1 in
-    plain_of (decimal n) (λ k less. omega (arith, digit_value_digit (slice_index_or (decimal n) k 0) (digit_at (decimal n) k digits less)))
+    visible_of (decimal n) (λ k less. omega (arith, digit_value_digit (slice_index_or (decimal n) k 0) (digit_at (decimal n) k digits less)))
 
-pub signed_plain : (z : ℤ) → unsigned_abs z < 10 ^ 64 → HasNoSpace (signed_decimal z)
-signed_plain (pos n) small = decimal_plain n small
-signed_plain (negsuc n) small = (far 45 (omega arith), decimal_plain (suc n) small)
+pub signed_visible : (z : ℤ) → unsigned_abs z < 10 ^ 64 → IsVisible (signed_decimal z)
+signed_visible (pos n) small = decimal_visible n small
+signed_visible (negsuc n) small = (omega arith, decimal_visible (suc n) small)
 
-pub bits_plain : (bits : List Bool) → HasNoSpace (bits_text bits)
-bits_plain [] = tt
-bits_plain (true ∷ bits) = (far 49 (omega arith), bits_plain bits)
-bits_plain (false ∷ bits) = (far 48 (omega arith), bits_plain bits)
+pub bits_visible : (bits : List Bool) → IsVisible (bits_text bits)
+bits_visible [] = tt
+bits_visible (true ∷ bits) = (omega arith, bits_visible bits)
+bits_visible (false ∷ bits) = (omega arith, bits_visible bits)
 
--- numbers are words
-pub numbers_plain : (xs : List ℕ) (limit : ℕ) → limit ≤ 10 ^ 64 → All (λ x. x < limit) xs → AreWords (map decimal xs)
-numbers_plain [] limit wide a = tt
-numbers_plain (x ∷ xs) limit wide a = (decimal_plain x (omega (arith, wide, All-head (λ n. n < limit) x xs a)), numbers_plain xs limit wide (All-tail (λ n. n < limit) x xs a))
+pub numbers_visible : (xs : List ℕ) (limit : ℕ) → limit ≤ 10 ^ 64 → All (λ x. x < limit) xs → AreVisible (map decimal xs)
+numbers_visible [] limit wide a = tt
+numbers_visible (x ∷ xs) limit wide a = (decimal_visible x (omega (arith, wide, All-head (λ n. n < limit) x xs a)), numbers_visible xs limit wide (All-tail (λ n. n < limit) x xs a))

@@ -5,3 +5,9 @@ pub mod Head
 pub mod Line
 pub mod Words
 pub mod Forms
+pub mod Values
+pub mod Needs
+pub mod Faults
+pub mod Rest
+pub mod Nodes
+pub mod Laws

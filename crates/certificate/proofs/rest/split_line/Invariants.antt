@@ -1,0 +1,6 @@
+use Rattle.std.proofs.Common.{take}
+use Rattle.certificate.specs.Rest.{HasNoFeed}
+use Rattle.certificate.proofs.rest.split_line.Given as goal
+
+abbrev pub invariant-loop-at : goal.invariant-loop-at
+invariant-loop-at l = HasNoFeed (take l.at l.text)

@@ -1,0 +1,58 @@
+// Lines of a text, one after the other.
+ghost use Rattle.std.specs.Prelude.{◌≡◌, ◌≢◌, ◌≤◌, ◌<◌, ◌+◌, ◌++◌, ◌^◌, [], IfErr, IfOk, IfSome, IsNone, List, OnOk, length};
+ghost use Rattle.certificate.specs.Text.{line_text};
+ghost use Rattle.certificate.specs.Line.{IsLine, later_line};
+ghost use Rattle.certificate.specs.Values.{value_text};
+ghost use Rattle.certificate.specs.Needs.{IsStop, Need};
+ghost use Rattle.certificate.specs.Rest.{HasNoFeed};
+
+use crate::{CertLine, CertTextFault, LineFault, read_line};
+use std::alloc::Global;
+
+// What is left of a text, and the number of its first line.
+#[derive(Debug, Drop)]
+pub struct Rest<'a> {
+    pub text: &'a [u8],
+    pub line: u64,
+}
+
+// The bytes before the first line feed, and those after it.
+pub fn split_line(text: &[u8]) -> Option<(&[u8], &[u8])>
+    ensures some { IfSome result (λ p. text.now ≡ line_text p.0.now ++ p.1.now) }
+    ensures plain { IfSome result (λ p. HasNoFeed p.0.now) }
+    ensures none { IsNone result → HasNoFeed text.now }
+{
+    for (at, byte) in text.iter().enumerate() {
+        if *byte == b'\n' {
+            return Some((&text[..at], &text[at + 1..]));
+        }
+    }
+    None
+}
+
+// The value of the next line.
+pub fn next_line(alloc: Global, rest: &mut Rest) -> Result<CertLine, CertTextFault>
+    requires room { rest.old.line + length rest.old.text.now < 2 ^ 64 }
+    ensures line { IfOk result (λ l. IsLine (later_line l) l) }
+    ensures text { IfOk result (λ l. rest.old.text.now ≡ value_text l ++ rest.new.text.now) }
+    ensures number { OnOk result (rest.new.line ≡ rest.old.line + 1) }
+    ensures room { OnOk result (rest.new.line + length rest.new.text.now ≤ rest.old.line + length rest.old.text.now) }
+    ensures refused { IfErr result (λ f. (needs : List Need) → (rest.old.text.now ≡ [] → needs ≢ []) → IsStop needs rest.old.text.now rest.old.line f) }
+{
+    let number = rest.line;
+    if rest.text.is_empty() {
+        return Err(CertTextFault::Shape(number));
+    }
+    let Some((line, text)) = split_line(rest.text) else {
+        return Err(CertTextFault::Line(number));
+    };
+    match read_line(alloc, line) {
+        Ok(value) => {
+            rest.text = text;
+            rest.line = number + 1;
+            Ok(value)
+        }
+        Err(LineFault::NoForm) => Err(CertTextFault::Line(number)),
+        Err(LineFault::Memory) => Err(CertTextFault::Memory),
+    }
+}
