@@ -52,6 +52,7 @@ impl Frac {
     pub fn den(self) -> i128
         ensures value { result ≡ self.den }
         ensures positive { pos 0 <ℤ result }
+        ensures small { IsSmall result }
     {
         self.den
     }

@@ -1,0 +1,10 @@
+pub mod Numbers
+pub mod Pivots
+pub mod Keeps
+pub mod Ends
+pub mod Cells
+pub mod Starts
+pub mod Steps
+pub mod Small
+pub mod Single
+pub mod Wholes

@@ -1,0 +1,10 @@
+pub mod Program
+pub mod Dictionary
+pub mod Run
+pub mod Held
+pub mod Steps
+pub mod Starts
+pub mod Outcomes
+pub mod Meaning
+pub mod Laws
+pub mod Leaves

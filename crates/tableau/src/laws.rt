@@ -1,0 +1,23 @@
+// Laws of runs.
+ghost use Rattle.tableau.specs.Laws.{RunsAreOne, SmallNumbersFit, StopsExactly};
+ghost use Rattle.tableau.specs.Leaves.{AllLeavesProve};
+
+/// A run is never `Passed` while the numerators and denominators of all cells are below 2^31.
+pub fn small_numbers_fit()
+    ensures { SmallNumbersFit }
+{}
+
+/// No two dictionaries come after the same number of pivots.
+pub fn runs_are_one()
+    ensures { RunsAreOne }
+{}
+
+/// Where a run has made all its pivots and would make another, its outcome is `Stopped` and no other.
+pub fn stops_exactly()
+    ensures { StopsExactly }
+{}
+
+/// Multipliers times their least common denominator, which are whole, prove what the multipliers prove.
+pub fn leaves_prove()
+    ensures { AllLeavesProve }
+{}

@@ -1,0 +1,34 @@
+//! The dual simplex over exact fractions: linear programs, and outcomes that multipliers prove.
+//!
+//! A program asks for numbers of at least 0, one for each column, that meet every row, "the sum of the terms is at
+//! least the right side", and cost least; costs are at least 0. Rows are made of `LpTerm`s and `LpRow`s. `is_program`
+//! is exactly whether costs and rows can be given to `Lp::new`, `Lp::cells` says how large its dictionary is, and
+//! `Lp::solve` makes at most so many pivots.
+//!
+//! An `Outcome` can be believed without the run. `Least` has a point that meets all rows, and multipliers of at least
+//! 0 whose sums over each column are at most its cost; both give `value`, so no point costs less. `Empty` has
+//! multipliers of at least 0 whose sums over each column are at most 0 and whose sum of right sides is positive, so no
+//! point meets all rows. The clause `certain` of `Lp::solve` says so.
+//!
+//! And it is that of the run by the least-index rule in fractions of any size, which the clause `outcome` says: `Stopped`
+//! where the run would make one more pivot than it may, `Passed` where a ratio or a cell of the next pivot doesn't fit 128
+//! bits. What a run comes to is laid down: two runs of one length end alike (`runs_are_one`), a run that could go on has
+//! `Stopped` as its only outcome (`stops_exactly`), and none has `Passed` while numerators and denominators are
+//! below 2^31 (`small_numbers_fit`). Multipliers times their least common denominator are whole and prove the same
+//! (`leaves_prove`).
+#![tactic(auto)]
+
+mod laws;
+mod outcome;
+mod program;
+mod solve;
+mod start;
+mod step;
+mod tableau;
+
+pub use laws::{leaves_prove, runs_are_one, small_numbers_fit, stops_exactly};
+pub use outcome::Outcome;
+pub use program::{Lp, LpRow, LpTerm, is_program};
+
+#[cfg(test)]
+mod tests;
