@@ -2,3 +2,4 @@ pub mod Outputs
 pub mod Planned
 pub mod Judged
 pub mod Explained
+pub mod Statuses

@@ -3,3 +3,4 @@ pub mod Answer
 pub mod Run
 pub mod Held
 pub mod Stops
+pub mod Laws

@@ -12,9 +12,11 @@ ghost use Rattle.lotplan.specs.Run.{printed, Prints};
 mod answer;
 mod command;
 mod judging;
+mod laws;
 mod planner;
 mod run;
 
+pub use laws::statuses_are_one;
 use lot_io::{DiskShelf, Sink, StdSink};
 pub use run::run;
 use std::io::ErrorKind;

@@ -1,0 +1,136 @@
+-- The words and the files call for one status.
+use Rattle.std.proofs.Common.{◌≡◌, ◌⊎◌, ◌≤◌, ◌∙◌, ⊎_elim, ℕ, sym, subst, arith, List, Option, Some, None}
+use Rattle.std.specs.Prelude.{Ok, Err}
+use Rattle.plan_rules.specs.declared.broken.Broken.{Broken}
+use Rattle.plan_file.specs.declared.fault.PlanFault.{PlanFault}
+use Rattle.lot_sizing.specs.Problem.{Problem}
+use Rattle.lot_sizing.specs.Plan.{IsFeasible, Plan}
+use Rattle.lot_sizing.proofs.Same.{SamePlan, feasible_same}
+use Rattle.lot_io.specs.Outside.{Files}
+use Rattle.lot_draft.specs.declared.fault.ModelFault.{ModelFault}
+use Rattle.lot_draft.proofs.Limits.{plain}
+use Rattle.instance_reader.specs.Model.{BytesMean}
+use Rattle.instance_reader.proofs.Meanings.{bytes_one}
+use Rattle.plan_file.specs.Records.{IsPlanOf, records_of}
+use Rattle.plan_file.proofs.Meanings.{means_one}
+use Rattle.lotplan.specs.Command.{Asked, version, planning, judging}
+use Rattle.lotplan.specs.Run.{AreBroken, AreFeasible, AreNoPlan, BytesCallFor, CallFor, FileCallsFor, JudgeCallsFor, PlanCallsFor, ProblemCallsFor}
+
+problem_one : (m : Problem) (s t : ℕ) → ProblemCallsFor m s → ProblemCallsFor m t → s ≡ t
+problem_one m s t a b = ⊎_elim
+    (λ x. ⊎_elim (λ y. kinds x.1 y.1) (λ y. absurd (y.0 x.0)) b)
+    (λ x. ⊎_elim (λ y. absurd (x.0 y.0)) (λ y. x.1 ∙ sym y.1) b)
+    a
+  where
+    kinds : ((s ≡ 0) × (p : Plan) × IsFeasible m p) ⊎ ((s ≡ 1) × ((p : Plan) → IsFeasible m p → ⊥)) → ((t ≡ 0) × (p : Plan) × IsFeasible m p) ⊎ ((t ≡ 1) × ((p : Plan) → IsFeasible m p → ⊥)) → s ≡ t
+    kinds c d = ⊎_elim
+        (λ x. ⊎_elim (λ y. x.0 ∙ sym y.0) (λ y. let (is, p, feasible) = x in absurd (y.1 p feasible)) d)
+        (λ x. ⊎_elim (λ y. let (is, p, feasible) = y in absurd (x.1 p feasible)) (λ y. x.0 ∙ sym y.0) d)
+        c
+
+-- no bytes mean two problems, or a problem and a fault
+one_problem : (bytes : List ℕ) (m n : Problem) → BytesMean bytes (Ok m) → BytesMean bytes (Ok n) → m ≡ n
+one_problem bytes m n a b = let same = bytes_one bytes (Ok m) (Ok n) a b in cc same
+
+no_fault : (bytes : List ℕ) (m : Problem) (f : ModelFault) → BytesMean bytes (Ok m) → BytesMean bytes (Err f) → ⊥
+no_fault bytes m f a b = let same = bytes_one bytes (Ok m) (Err f) a b in cc same
+
+bytes_call : (bytes : List ℕ) (s t : ℕ) → BytesCallFor bytes s → BytesCallFor bytes t → s ≡ t
+bytes_call bytes s t a b = ⊎_elim
+    (λ x. let (m, means, calls) = x in ⊎_elim
+    (λ y. let (n, also, other) = y in problem_one m s t calls (subst (λ k. ProblemCallsFor k t) (one_problem bytes n m also means) other))
+    (λ y. let (f, also, is) = y in absurd (no_fault bytes m f means also))
+    b)
+    (λ x. let (f, means, is) = x in ⊎_elim
+    (λ y. let (n, also, other) = y in absurd (no_fault bytes n f also means))
+    (λ y. let (g, also, other) = y in is ∙ sym other)
+    b)
+    a
+
+file_call : (file : Option (List ℕ)) (s t : ℕ) → FileCallsFor file s → FileCallsFor file t → s ≡ t
+file_call None s t a b = a ∙ sym b
+file_call (Some bytes) s t a b = ⊎_elim
+    (λ x. ⊎_elim (λ y. x.1 ∙ sym y.1) (λ y. absurd (omega (arith, x.0, y.0))) b)
+    (λ x. ⊎_elim (λ y. absurd (omega (arith, x.0, y.0))) (λ y. bytes_call bytes s t x.1 y.1) b)
+    a
+
+-- a problem that bytes mean has a period
+has_period : (bytes : List ℕ) (m : Problem) → BytesMean bytes (Ok m) → 1 ≤ m.periods
+has_period bytes m means = ⊎_elim
+    (λ none. absurd (let is = none.1 in cc is))
+    (λ some.
+    let (t, is, problem) = some in
+    let (same, rules) = problem.means in
+    subst (λ p. 1 ≤ p.periods) (sym same) (plain problem.model rules.plain).counted.periods.low)
+    means
+
+module _ (m : Problem) (some : 1 ≤ m.periods) (bytes : List ℕ) where
+  same_plan : (p q : Plan) → IsPlanOf m (records_of bytes) p → IsPlanOf m (records_of bytes) q → SamePlan m p q
+  same_plan p q a b =
+      let same = (means_one m (records_of bytes)).one_plan p q a b in
+      record {
+        make = λ i t low high t_low t_high. (same i t low high t_low t_high).make;
+        setup = λ i t low high t_low t_high. (same i t low high t_low t_high).setup;
+        stock = λ i t low high t_low t_high. (same i t low high t_low t_high).stock;
+        backlog = λ i t low high t_low t_high. (same i t low high t_low t_high).backlog;
+      }
+
+  apart : (p q : Plan) → IsPlanOf m (records_of bytes) p → IsPlanOf m (records_of bytes) q → IsFeasible m p → (IsFeasible m q → ⊥) → ⊥
+  apart p q a b feasible not = not (feasible_same m p q some (same_plan p q a b) feasible)
+
+  -- a feasible plan, one that breaks a rule, or none
+  abbrev PlanKind : ℕ → Type 0
+  PlanKind u = ((amount : ℕ) × AreFeasible m bytes amount × (u ≡ 0)) ⊎ (((rule : Broken) × AreBroken m bytes rule × (u ≡ 3)) ⊎ ((fault : PlanFault) × AreNoPlan m bytes fault × (u ≡ 3)))
+
+  plan_call : (s t : ℕ) → PlanKind s → PlanKind t → s ≡ t
+  plan_call s t a b = ⊎_elim
+      (λ x. let (amount, holds, is) = x in ⊎_elim
+      (λ y. let (other, also, too) = y in is ∙ sym too)
+      (λ y. absurd (⊎_elim
+      (λ z. let (rule, broken, too) = z in apart holds.plan broken.plan holds.is broken.is holds.feasible broken.infeasible)
+      (λ z. let (fault, none, too) = z in none.cause ((means_one m (records_of bytes)).plan_or_fault holds.plan fault holds.is none.is))
+      y))
+      b)
+      (λ x. ⊎_elim
+      (λ y. let (amount, holds, is) = y in absurd (⊎_elim
+      (λ z. let (rule, broken, too) = z in apart holds.plan broken.plan holds.is broken.is holds.feasible broken.infeasible)
+      (λ z. let (fault, none, too) = z in none.cause ((means_one m (records_of bytes)).plan_or_fault holds.plan fault holds.is none.is))
+      x))
+      (λ y. three s x ∙ sym (three t y))
+      b)
+      a
+    where
+      three : (u : ℕ) → ((rule : Broken) × AreBroken m bytes rule × (u ≡ 3)) ⊎ ((fault : PlanFault) × AreNoPlan m bytes fault × (u ≡ 3)) → u ≡ 3
+      three u x = ⊎_elim (λ z. let (rule, broken, is) = z in is) (λ z. let (fault, none, is) = z in is) x
+
+plan_file_call : (m : Problem) → 1 ≤ m.periods → (file : Option (List ℕ)) (s t : ℕ) → PlanCallsFor m file s → PlanCallsFor m file t → s ≡ t
+plan_file_call m some None s t a b = a ∙ sym b
+plan_file_call m some (Some bytes) s t a b = ⊎_elim
+    (λ x. ⊎_elim (λ y. x.1 ∙ sym y.1) (λ y. absurd (omega (arith, x.0, y.0))) b)
+    (λ x. ⊎_elim (λ y. absurd (omega (arith, x.0, y.0))) (λ y. plan_call m some bytes s t x.1 y.1) b)
+    a
+
+judge_call : (file plan : Option (List ℕ)) (s t : ℕ) → JudgeCallsFor file plan s → JudgeCallsFor file plan t → s ≡ t
+judge_call None plan s t a b = a ∙ sym b
+judge_call (Some bytes) plan s t a b = ⊎_elim
+    (λ x. ⊎_elim (λ y. x.1 ∙ sym y.1) (λ y. absurd (omega (arith, x.0, y.0))) b)
+    (λ x. ⊎_elim (λ y. absurd (omega (arith, x.0, y.0))) (λ y. means x.1 y.1) b)
+    a
+  where
+    means : ((fault : ModelFault) × BytesMean bytes (Err fault) × (s ≡ 5)) ⊎ ((m : Problem) × BytesMean bytes (Ok m) × PlanCallsFor m plan s) → ((fault : ModelFault) × BytesMean bytes (Err fault) × (t ≡ 5)) ⊎ ((m : Problem) × BytesMean bytes (Ok m) × PlanCallsFor m plan t) → s ≡ t
+    means c d = ⊎_elim
+        (λ x. let (f, reads, is) = x in ⊎_elim
+        (λ y. let (g, also, other) = y in is ∙ sym other)
+        (λ y. let (n, also, other) = y in absurd (no_fault bytes n f also reads))
+        d)
+        (λ x. let (m, reads, calls) = x in ⊎_elim
+        (λ y. let (f, also, is) = y in absurd (no_fault bytes m f reads also))
+        (λ y. let (n, also, other) = y in plan_file_call m (has_period bytes m reads) plan s t calls (subst (λ k. PlanCallsFor k plan t) (one_problem bytes n m also reads) other))
+        d)
+        c
+
+pub call_one : (asked : Option Asked) (file : Files) (s t : ℕ) → CallFor asked file s → CallFor asked file t → s ≡ t
+call_one None file s t a b = a ∙ sym b
+call_one (Some version) file s t a b = a ∙ sym b
+call_one (Some (planning m p c)) file s t a b = file_call (file m) s t a b
+call_one (Some (judging m p)) file s t a b = judge_call (file m) (file p) s t a b
