@@ -1,19 +1,22 @@
 -- A run by the least-index rule ends in one way.
-use Rattle.std.proofs.Common.{◌≡◌, ◌≢◌, ◌≤◌, ◌<◌, ◌+◌, ◌-◌, ◌-ℤ◌, ◌∙◌, ⊎_elim, ℕ, zero, suc, sym, ap, subst, arith}
-use Rattle.std.proofs.lemmas.Bool.{cases_eq}
-use Rattle.rational.specs.Rational.{inv_ℚ, neg_ℚ, ◌*ℚ◌, ◌-ℚ◌, ◌≤ℚ◌}
+use Rattle.std.proofs.Common.{◌≡◌, ◌≢◌, ◌≤◌, ◌<◌, ◌+◌, ◌-◌, ◌-ℤ◌, ◌∙◌, ⊎_elim, ℕ, zero, suc, sym, ap, subst, arith, List, length}
+use Rattle.std.proofs.lemmas.Bool.{cases_eq, cases_lt}
+use Rattle.std.proofs.lemmas.List.{ext_get_or}
+use Rattle.std.specs.Prelude.{pos, if◌then◌else◌, ◌==◌}
+use Rattle.algebra.proofs.Sums.{sum-same}
+use Rattle.rational.specs.Rational.{ℚ, whole, inv_ℚ, neg_ℚ, ◌*ℚ◌, ◌-ℚ◌, ◌≤ℚ◌}
 use Rattle.rational.proofs.Rationals as Q
 use Rattle.rational.proofs.Rationals.{rational_ring}
 use Rattle.frac128.specs.Limits.{divided_ℚ, Fits, SumFits}
 use Rattle.tableau.specs.declared.outcome.Outcome.{Outcome}
 use Rattle.tableau.specs.declared.outcome.Outcome.TheVariants as outcome
-use Rattle.tableau.specs.Program.{Program}
-use Rattle.tableau.specs.Dictionary.{Dictionary, IsPivoted, IsStart, basic_at, cell, factor_at, height, nonbasic_at, width}
+use Rattle.tableau.specs.Program.{Program, column_count, row_count, sum_ℚ, zero_ℚ}
+use Rattle.tableau.specs.Dictionary.{Dictionary, IsPivoted, IsStart, basic_at, cell, factor_at, height, nonbasic_at, slack_of, width}
 use Rattle.tableau.specs.Run.{IsCandidate, IsEntering, IsFittingStep, IsLast, IsLeaving, IsNegative, IsPositive, IsStep, OtherFits, RowFits, Runs, UpdateFits, ratio_at}
-use Rattle.tableau.specs.Meaning.{HasNames}
+use Rattle.tableau.specs.Meaning.{HasNames, coefficient_at, opposite_at, value_at}
 use Rattle.tableau.specs.Steps.{HasNoneTo}
-use Rattle.tableau.specs.Outcomes.{GoesOn, IsOutcome, IsRefused}
-use Rattle.tableau.specs.Laws.{IsAlike}
+use Rattle.tableau.specs.Outcomes.{GoesOn, IsEmptyOf, IsLeastOf, IsOutcome, IsReached, IsRefused, number_at}
+use Rattle.tableau.specs.Laws.{IsAlike, IsSameOutcome}
 use Rattle.tableau.proofs.Steps.{run_is}
 
 -- ---- alike dictionaries
@@ -248,3 +251,148 @@ stops p pivots d run on (outcome.Passed pivot row column) is =
     let (e, before, refused) = rest in
     let (f, g, other, step) = prefix p made pivots d (omega (arith, next, few)) run in
     absurd (refused_stays p e f g (run_is p made e before).names (runs_alike p made e f before other) row column refused step)
+
+-- ---- one outcome
+-- no fitting step is made from here
+abbrev Ends : Dictionary → Type 0
+Ends d = (e f : Dictionary) → IsAlike d e → IsStep IsFittingStep e f → ⊥
+
+standing_ends : (d : Dictionary) → StandsStill d → Ends d
+standing_ends d still e f a step = stays d e a still (step_goes_on e f step)
+
+ends_first : (p : Program) (n m : ℕ) (d e : Dictionary) → Runs IsFittingStep p n d → Ends d → Runs IsFittingStep p m e → n < m → ⊥
+ends_first p n m d e run end other less =
+    let (f, g, before, step) = prefix p n m e less other in
+    end f g (runs_alike p n d f run before) step
+
+one_end : (p : Program) (n m : ℕ) (d e : Dictionary) → Runs IsFittingStep p n d → Ends d → Runs IsFittingStep p m e → Ends e → n ≡ m
+one_end p n m d e run end other also = ⊎_elim
+    (λ same. same)
+    (λ apart. absurd (⊎_elim
+    (λ less. ends_first p n m d e run end other less)
+    (λ more. ends_first p m n e d other also run (omega (arith, more, apart)))
+    (cases_lt n m)))
+    (cases_eq n m)
+
+alike_ends : (p : Program) (n m : ℕ) (d e : Dictionary) → Runs IsFittingStep p n d → Ends d → Runs IsFittingStep p m e → Ends e → IsAlike d e
+alike_ends p n m d e run end other also = runs_alike p n d e run (subst (λ k. Runs IsFittingStep p k e) (sym (one_end p n m d e run end other also)) other)
+
+module _ (d e : Dictionary) (a : IsAlike d e) where
+  value_alike : (v : ℕ) → value_at d v ≡ value_at e v
+  value_alike v =
+      sum-same rational_ring (height d) (λ i. if basic_at d i == v then cell d i 0 else zero_ℚ) (λ i. if basic_at e i == v then cell e i 0 else zero_ℚ) (λ i high. ap (λ n. if n == v then cell d i 0 else zero_ℚ) (sym (a.basics i high)) ∙ ap (λ x. if basic_at e i == v then x else zero_ℚ) (sym (a.cells i 0 high a.some)))
+      ∙ ap (λ n. sum_ℚ n (λ i. if basic_at e i == v then cell e i 0 else zero_ℚ)) (sym a.rows)
+
+  coefficient_alike : (i v : ℕ) → i < height d → coefficient_at d i v ≡ coefficient_at e i v
+  coefficient_alike i v i_high =
+      sum-same rational_ring (width d) (λ t. if nonbasic_at d t == v then cell d i t else zero_ℚ) (λ t. if nonbasic_at e t == v then cell e i t else zero_ℚ) (λ t high. ap (λ n. if n == v then cell d i t else zero_ℚ) (sym (a.nonbasics t high)) ∙ ap (λ x. if nonbasic_at e t == v then x else zero_ℚ) (sym (a.cells i t i_high high)))
+      ∙ ap (λ n. sum_ℚ n (λ t. if nonbasic_at e t == v then cell e i t else zero_ℚ)) (sym a.columns)
+
+  opposite_alike : (i v : ℕ) → i < height d → opposite_at d i v ≡ opposite_at e i v
+  opposite_alike i v high = ap (λ n. (if n == v then whole (pos 1) else zero_ℚ) -ℚ coefficient_at d i v) (sym (a.basics i high)) ∙ ap (λ x. (if basic_at e i == v then whole (pos 1) else zero_ℚ) -ℚ x) (coefficient_alike i v high)
+
+same_lists : (n : ℕ) (xs ys : List ℚ) → length xs ≡ n → length ys ≡ n → ((k : ℕ) → k < n → number_at xs k ≡ number_at ys k) → xs ≡ ys
+same_lists n xs ys a b each = ext_get_or zero_ℚ xs ys (a ∙ sym b) (λ k less. each k (omega (arith, less, a)))
+
+-- the row that leaves a refused dictionary has a candidate
+refused_candidate : (d : Dictionary) (row column : ℕ) (r : IsRefused d row column) → (t : ℕ) × IsCandidate d r.pivot_row t
+refused_candidate d row column r = ⊎_elim
+    (λ ratio. let (t, refused, number, place) = ratio in (t, refused.candidate))
+    (λ update. (update.pivot_column, update.entering.candidate))
+    r.which
+
+refused_goes_on : (d : Dictionary) (row column : ℕ) → IsRefused d row column → GoesOn d
+refused_goes_on d row column r =
+    let (t, candidate) = refused_candidate d row column r in
+    record { row = r.pivot_row; leaving = r.leaving; column = t; candidate = candidate }
+
+refused_ends : (p : Program) (n : ℕ) (d : Dictionary) (row column : ℕ) → Runs IsFittingStep p n d → IsRefused d row column → Ends d
+refused_ends p n d row column run r e f a step = refused_stays p d e f (run_is p n d run).names a row column r step
+
+module _ (p : Program) (pivots : ℕ) where
+  least_least : (d e : Dictionary) (xs ys us ws : List ℚ) (x u : ℚ) → IsReached p pivots d → IsReached p pivots e → IsLeastOf p d xs ys x → IsLeastOf p e us ws u → (xs ≡ us) × (ys ≡ ws) × (x ≡ u)
+  least_least d e xs ys us ws x u r s a b =
+      let alike : IsAlike d e = alike_ends p r.made s.made d e r.run (standing_ends d (last_stands d a.last)) s.run (standing_ends e (last_stands e b.last)) in (
+        same_lists (column_count p) xs us a.columns b.columns (λ c high. a.point c high ∙ value_alike d e alike (c + 1) ∙ sym (b.point c high)),
+        same_lists (row_count p) ys ws a.rows b.rows (λ k high. a.multipliers k high ∙ coefficient_alike d e alike 0 (slack_of p k) (omega (arith, (run_is p r.made d r.run).names.rows)) ∙ sym (b.multipliers k high)),
+        a.value ∙ sym (alike.cells 0 0 (omega (arith, (run_is p r.made d r.run).names.rows)) alike.some) ∙ sym b.value,
+      )
+
+  empty_still : (d : Dictionary) (ys : List ℚ) → IsReached p pivots d → IsEmptyOf p d ys → StandsStill d
+  empty_still d ys r a = empty_stands p d (run_is p r.made d r.run).names a.row a.leaving a.none
+
+  empty_empty : (d e : Dictionary) (ys ws : List ℚ) → IsReached p pivots d → IsReached p pivots e → IsEmptyOf p d ys → IsEmptyOf p e ws → ys ≡ ws
+  empty_empty d e ys ws r s a b =
+      let alike : IsAlike d e = alike_ends p r.made s.made d e r.run (standing_ends d (empty_still d ys r a)) s.run (standing_ends e (empty_still e ws s b)) in
+      let row : a.row ≡ b.row = one_leaving p d (run_is p r.made d r.run).names a.row b.row a.leaving (leaving_alike d e alike b.row b.leaving) in
+      same_lists (row_count p) ys ws a.rows b.rows (λ k high. a.multipliers k high ∙ opposite_alike d e alike a.row (slack_of p k) a.leaving.high ∙ ap (λ i. opposite_at e i (slack_of p k)) row ∙ sym (b.multipliers k high))
+
+  least_empty : (d e : Dictionary) (ys : List ℚ) → IsReached p pivots d → IsReached p pivots e → IsLast d → IsEmptyOf p e ys → ⊥
+  least_empty d e ys r s last b =
+      let alike : IsAlike d e = alike_ends p r.made s.made d e r.run (standing_ends d (last_stands d last)) s.run (standing_ends e (empty_still e ys s b)) in
+      let l : IsLeaving d b.row = leaving_alike d e alike b.row b.leaving in
+      l.negative (last b.row l.low l.high)
+
+  still_refused : (n m : ℕ) (d e : Dictionary) (row column : ℕ) → Runs IsFittingStep p n d → StandsStill d → Runs IsFittingStep p m e → IsRefused e row column → ⊥
+  still_refused n m d e row column run still other r =
+      stays d e (alike_ends p n m d e run (standing_ends d still) other (refused_ends p m e row column other r)) still (refused_goes_on e row column r)
+
+  refused_refused : (n m : ℕ) (d e : Dictionary) (row column r c : ℕ) → Runs IsFittingStep p n d → IsRefused d row column → Runs IsFittingStep p m e → IsRefused e r c → n ≡ m
+  refused_refused n m d e row column r c run a other b = one_end p n m d e run (refused_ends p n d row column run a) other (refused_ends p m e r c other b)
+
+stopped_other : (p : Program) (pivots made : ℕ) (end : Outcome) → IsOutcome p pivots (outcome.Stopped made) → IsOutcome p pivots end → (end ≢ outcome.Stopped pivots) → ⊥
+stopped_other p pivots made end x y other =
+    let (same, rest) = x in
+    let (d, run, on) = rest in
+    other (stops p pivots d run on end y)
+
+pub outcome_one : (p : Program) (pivots : ℕ) (a b : Outcome) → IsOutcome p pivots a → IsOutcome p pivots b → IsSameOutcome a b
+outcome_one p pivots (outcome.Least point multipliers value) (outcome.Least others more cost) x y =
+    let (d, r, a) = x in
+    let (e, s, b) = y in
+    least_least p pivots d e point.items multipliers.items others.items more.items value cost r s a b
+outcome_one p pivots (outcome.Least point multipliers value) (outcome.Empty more) x y =
+    let (d, r, a) = x in
+    let (e, s, b) = y in
+    least_empty p pivots d e more.items r s a.last b
+outcome_one p pivots (outcome.Least point multipliers value) (outcome.Passed pivot row column) x y =
+    let (d, r, a) = x in
+    let (made, next, few, rest) = y in
+    let (e, run, refused) = rest in
+    still_refused p pivots r.made made d e row column r.run (last_stands d a.last) run refused
+outcome_one p pivots (outcome.Empty more) (outcome.Least point multipliers value) x y =
+    let (d, r, a) = x in
+    let (e, s, b) = y in
+    least_empty p pivots e d more.items s r b.last a
+outcome_one p pivots (outcome.Empty multipliers) (outcome.Empty more) x y =
+    let (d, r, a) = x in
+    let (e, s, b) = y in
+    empty_empty p pivots d e multipliers.items more.items r s a b
+outcome_one p pivots (outcome.Empty more) (outcome.Passed pivot row column) x y =
+    let (d, r, a) = x in
+    let (made, next, few, rest) = y in
+    let (e, run, refused) = rest in
+    still_refused p pivots r.made made d e row column r.run (empty_still p pivots d more.items r a) run refused
+outcome_one p pivots (outcome.Passed pivot row column) (outcome.Least point multipliers value) x y =
+    let (d, r, a) = y in
+    let (made, next, few, rest) = x in
+    let (e, run, refused) = rest in
+    still_refused p pivots r.made made d e row column r.run (last_stands d a.last) run refused
+outcome_one p pivots (outcome.Passed pivot row column) (outcome.Empty more) x y =
+    let (d, r, a) = y in
+    let (made, next, few, rest) = x in
+    let (e, run, refused) = rest in
+    still_refused p pivots r.made made d e row column r.run (empty_still p pivots d more.items r a) run refused
+outcome_one p pivots (outcome.Passed pivot row column) (outcome.Passed other r c) x y =
+    let (n, next, few, rest) = x in
+    let (d, run, refused) = rest in
+    let (m, after, less, more) = y in
+    let (e, also, too) = more in
+    next ∙ ap (λ k. k + 1) (refused_refused p pivots n m d e row column r c run refused also too) ∙ sym after
+outcome_one p pivots (outcome.Stopped made) (outcome.Stopped done) x y = x.0 ∙ sym y.0
+outcome_one p pivots (outcome.Stopped made) (outcome.Least point multipliers value) x y = stopped_other p pivots made (outcome.Least point multipliers value) x y (λ e. cc e)
+outcome_one p pivots (outcome.Stopped made) (outcome.Empty more) x y = stopped_other p pivots made (outcome.Empty more) x y (λ e. cc e)
+outcome_one p pivots (outcome.Stopped made) (outcome.Passed pivot row column) x y = stopped_other p pivots made (outcome.Passed pivot row column) x y (λ e. cc e)
+outcome_one p pivots (outcome.Least point multipliers value) (outcome.Stopped made) x y = stopped_other p pivots made (outcome.Least point multipliers value) y x (λ e. cc e)
+outcome_one p pivots (outcome.Empty more) (outcome.Stopped made) x y = stopped_other p pivots made (outcome.Empty more) y x (λ e. cc e)
+outcome_one p pivots (outcome.Passed pivot row column) (outcome.Stopped made) x y = stopped_other p pivots made (outcome.Passed pivot row column) y x (λ e. cc e)

@@ -36,3 +36,15 @@ RunsAreOne = (p : Program) (n : ℕ) (d e : Dictionary) → Runs IsFittingStep p
 -- where so many pivots have been made and the run goes on, no other outcome is that of the run
 abbrev pub StopsExactly : Type 0
 StopsExactly = (p : Program) (pivots : ℕ) (d : Dictionary) → Runs IsFittingStep p pivots d → GoesOn d → (end : Outcome) → IsOutcome p pivots end → end ≡ outcome.Stopped pivots
+
+-- the same outcome; of two refusals the pivot is the same
+abbrev pub IsSameOutcome : Outcome → Outcome → Type 0
+IsSameOutcome (outcome.Least point multipliers value) (outcome.Least others more cost) = (point.items ≡ others.items) × (multipliers.items ≡ more.items) × (value ≡ cost)
+IsSameOutcome (outcome.Empty multipliers) (outcome.Empty more) = multipliers.items ≡ more.items
+IsSameOutcome (outcome.Stopped made) (outcome.Stopped done) = made ≡ done
+IsSameOutcome (outcome.Passed pivot row column) (outcome.Passed other r c) = pivot ≡ other
+IsSameOutcome _ _ = ⊥
+
+-- a run has one outcome
+abbrev pub OutcomesAreOne : Type 0
+OutcomesAreOne = (p : Program) (pivots : ℕ) (a b : Outcome) → IsOutcome p pivots a → IsOutcome p pivots b → IsSameOutcome a b

@@ -1,5 +1,5 @@
 // Laws of runs.
-ghost use Rattle.tableau.specs.Laws.{RunsAreOne, SmallNumbersFit, StopsExactly};
+ghost use Rattle.tableau.specs.Laws.{OutcomesAreOne, RunsAreOne, SmallNumbersFit, StopsExactly};
 ghost use Rattle.tableau.specs.Leaves.{AllLeavesProve};
 
 /// A run is never `Passed` while the numerators and denominators of all cells are below 2^31.
@@ -15,6 +15,11 @@ pub fn runs_are_one()
 /// Where a run has made all its pivots and would make another, its outcome is `Stopped` and no other.
 pub fn stops_exactly()
     ensures { StopsExactly }
+{}
+
+/// A run has one outcome: the same point, multipliers and value, or the pivot before which something didn't fit.
+pub fn outcomes_are_one()
+    ensures { OutcomesAreOne }
 {}
 
 /// Multipliers times their least common denominator, which are whole, prove what the multipliers prove.

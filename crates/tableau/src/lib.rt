@@ -12,10 +12,10 @@
 //!
 //! And it is that of the run by the least-index rule in fractions of any size, which the clause `outcome` says: `Stopped`
 //! where the run would make one more pivot than it may, `Passed` where a ratio or a cell of the next pivot doesn't fit 128
-//! bits. What a run comes to is laid down: two runs of one length end alike (`runs_are_one`), a run that could go on has
-//! `Stopped` as its only outcome (`stops_exactly`), and none has `Passed` while numerators and denominators are
-//! below 2^31 (`small_numbers_fit`). Multipliers times their least common denominator are whole and prove the same
-//! (`leaves_prove`).
+//! bits. What a run comes to is laid down: two runs of one length end alike (`runs_are_one`), a run has one outcome
+//! (`outcomes_are_one`), which is `Stopped` where it could go on (`stops_exactly`), and none has `Passed` while numerators
+//! and denominators are below 2^31 (`small_numbers_fit`). Multipliers times their least common denominator are whole and
+//! prove the same (`leaves_prove`).
 #![tactic(auto)]
 
 mod laws;
@@ -26,7 +26,7 @@ mod start;
 mod step;
 mod tableau;
 
-pub use laws::{leaves_prove, runs_are_one, small_numbers_fit, stops_exactly};
+pub use laws::{leaves_prove, outcomes_are_one, runs_are_one, small_numbers_fit, stops_exactly};
 pub use outcome::Outcome;
 pub use program::{Lp, LpRow, LpTerm, is_program};
 
