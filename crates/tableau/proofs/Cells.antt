@@ -16,7 +16,8 @@ use Rattle.tableau.proofs.Numbers.{inv_opposite, not_opposite_zero, whole_fits}
 use Rattle.tableau.specs.Program.{zero_ℚ}
 use Rattle.tableau.specs.Dictionary.{Dictionary, IsPivoted, basic_at, cell, factor_at, height, nonbasic_at, width}
 use Rattle.tableau.specs.Run.{IsCandidate, IsEntering, IsNegative, OtherFits, RatioFits, RowFits, ratio_at}
-use Rattle.tableau.specs.Steps.{AreExchanged, AreRowsTo, CellFits, GoesBefore, HasNoNegativeTo, HasNoneTo, HasSameNames, IsBestOrNone, IsBestTo, IsBetter, IsDivided, IsDividedTo, IsLower, IsLowestOrNone, IsLowestTo, IsRowTo, IsRowUpdated, IsSet, RatiosFitTo, UpdatesFit}
+use Rattle.tableau.specs.Steps.{AreExchanged, CellFits, GoesBefore, HasNoneTo, HasSameNames, IsBetter, IsDivided, IsLower, IsRowUpdated, IsSet, RatiosFitTo, UpdatesFit}
+use Rattle.tableau.proofs.Loops.{AreRowsTo, HasNoNegativeTo, IsBestOrNone, IsBestTo, IsDividedTo, IsLowestOrNone, IsLowestTo, IsRowTo}
 
 -- ---- a cell that is set
 pub set_is : (b n : List ℕ) (cs : List ℚ) (i t : ℕ) (x : ℚ) → i < length b → t < length n → length cs ≡ length b * length n → IsSet (record { basic = b; nonbasic = n; cells = cs }) i t x (record { basic = b; nonbasic = n; cells = slice_set cs (i * length n + t) x })

@@ -16,8 +16,9 @@ use Rattle.algebra.proofs.Sums.{sum-same, sum-first}
 use Rattle.tableau.specs.Program.{Program, column_count, cost_at, entry_at, right_at, row_count, sum_ℚ, zero_ℚ}
 use Rattle.tableau.specs.Dictionary.{Dictionary, IsPivoted, IsStart, Meets, Solves, basic_at, cell, cost_of, factor_at, height, nonbasic_at, width}
 use Rattle.tableau.specs.Run.{IsCandidate, IsPositive, Rule, Runs, ratio_at}
-use Rattle.tableau.specs.Meaning.{HasNames, IsDictionaryOf, IsDual, KeepsDual, SaysTheSame}
+use Rattle.tableau.specs.Meaning.{HasNames, IsDictionaryOf, IsDual, SaysTheSame}
 use Rattle.tableau.proofs.Pivots.{Turn, solves_back, solves_on}
+use Rattle.tableau.specs.Laws.{AreKept}
 
 -- ---- positive numbers
 pub is_positive : (x : ℚ) → (x ≤ℚ zero_ℚ) ⊎ IsPositive x
@@ -203,8 +204,21 @@ module _ (p : Program) (d e : Dictionary) (k j : ℕ) (old : IsDictionaryOf p d)
     pivot_keeps = record { names = new_names; same = new_same; dual = new_dual }
 
 -- ---- a run
+-- a rule that takes a column of positive coefficient and least ratio
+pub record KeepsDual (rule : Rule) : Type 0 where
+  pub row_low : (d : Dictionary) (k j : ℕ) → rule d k j → 1 ≤ k
+  pub row_high : (d : Dictionary) (k j : ℕ) → rule d k j → k < height d
+  pub candidate : (d : Dictionary) (k j : ℕ) → rule d k j → IsCandidate d k j
+  pub least : (d : Dictionary) (k j : ℕ) → rule d k j → (t : ℕ) → IsCandidate d k t → ratio_at d k j ≤ℚ ratio_at d k t
+
 pub runs_keep : (rule : Rule) → KeepsDual rule → (p : Program) (n : ℕ) (d : Dictionary) → Runs rule p n d → IsDictionaryOf p d
 runs_keep rule keeps p zero d run = start_is p d run
 runs_keep rule keeps p (suc n) e run =
     let (d, so_far, step) = run in
     pivot_keeps p d e step.row step.column (runs_keep rule keeps p n d so_far) step.pivoted (keeps.row_low d step.row step.column step.chosen) (keeps.row_high d step.row step.column step.chosen) (keeps.candidate d step.row step.column step.chosen) (keeps.least d step.row step.column step.chosen)
+
+pub kept : (p : Program) → AreKept p
+kept p = record {
+  start = λ d start. start_is p d start;
+  pivot = λ d e k j is by. pivot_keeps p d e k j is by.pivoted by.low by.high by.candidate by.least;
+}

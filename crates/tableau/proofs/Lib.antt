@@ -1,3 +1,4 @@
+pub mod Loops
 pub mod Numbers
 pub mod Pivots
 pub mod Keeps

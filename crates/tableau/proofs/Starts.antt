@@ -12,8 +12,9 @@ use Rattle.tableau.specs.declared.program.LpTerm.{LpTerm}
 use Rattle.tableau.specs.Program.{AreRows, AreTerms, Inequality, IsRow, Program, column_count, cost_at, empty_row, entry_at, right_at, row_at, row_count, times_of, zero_ℚ}
 use Rattle.tableau.specs.Dictionary.{Dictionary, IsStart, cell, height, width}
 use Rattle.tableau.specs.Steps.{IsSet}
-use Rattle.tableau.specs.Starts.{HasCosts, HasRow, HasTermsTo, IsBlank, IsStartTo}
+use Rattle.tableau.specs.Starts.{HasCosts, HasRow, IsBlank}
 use Rattle.tableau.proofs.Cells.{names_then, same_sizes}
+use Rattle.tableau.proofs.Loops.{HasTermsTo, IsStartTo}
 
 -- ---- terms
 if_same_z : (a b : ℕ) (x y : ℤ) → a ≡ b → (if a == b then x else y) ≡ x

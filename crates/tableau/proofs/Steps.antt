@@ -13,14 +13,16 @@ use Rattle.algebra.proofs.Rings.{con, ◌⊖◌, ◌⊜◌, ring1}
 use Rattle.tableau.specs.Program.{Program, column_count, cost_at, entry_at, right_at, row_count, sum_ℚ, zero_ℚ}
 use Rattle.tableau.specs.Dictionary.{Dictionary, basic_at, cell, height, nonbasic_at, slack_of, width}
 use Rattle.tableau.specs.Run.{IsFittingStep, IsLast, IsLeaving, IsPositive, IsStep, Runs}
-use Rattle.tableau.specs.Meaning.{AreBest, AreEmpty, IsDictionaryOf, KeepsDual, coefficient_at, column_sum, opposite_at, right_sum, value_at}
+use Rattle.tableau.specs.Meaning.{AreBest, AreEmpty, IsDictionaryOf, coefficient_at, column_sum, opposite_at, right_sum, value_at}
+use Rattle.tableau.proofs.Keeps.{KeepsDual}
 use Rattle.tableau.specs.Steps.{HasNoneTo, HasSameNames}
 use Rattle.tableau.specs.declared.outcome.Outcome.{Outcome}
 use Rattle.tableau.specs.declared.outcome.Outcome.TheVariants as outcome
 use Rattle.std.specs.Prelude.{Result, Ok, Err, IfOk}
-use Rattle.tableau.specs.Outcomes.{AreApart, AreOpposite, AreValues, ArePut, GivesEmpty, GivesLeast, IsCertain, IsNowhere, IsOutcome, IsPutIn, IsEmptyOf, IsLeastOf, IsReached, number_at, row_number}
+use Rattle.tableau.specs.Outcomes.{AreApart, AreValues, GivesEmpty, GivesLeast, IsCertain, IsNowhere, IsOutcome, IsPutIn, IsEmptyOf, IsLeastOf, IsReached, number_at, row_number}
 use Rattle.tableau.proofs.Keeps.{is_positive, runs_keep}
 use Rattle.tableau.proofs.Ends.{last_is_best, row_is_empty}
+use Rattle.tableau.proofs.Loops.{AreOpposite, ArePut}
 
 pub same_row_number : (d e : Dictionary) (i : ℕ) → HasSameNames d e → row_number e i ≡ row_number d i
 same_row_number d e i names = ap (λ bs. if i == 0 then 0 else slice_index_or bs i 0) names.basics

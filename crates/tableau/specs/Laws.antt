@@ -1,9 +1,10 @@
 -- Laws of runs.
 use Rattle.std.specs.Prelude.{◌≡◌, ◌≤◌, ◌<◌, ◌^◌, ℕ, unsigned_abs}
-use Rattle.rational.specs.Rational.{ℚ}
-use Rattle.tableau.specs.Dictionary.{Dictionary, basic_at, cell, height, nonbasic_at, width}
+use Rattle.rational.specs.Rational.{ℚ, ◌≤ℚ◌}
+use Rattle.tableau.specs.Dictionary.{Dictionary, IsPivoted, IsStart, basic_at, cell, height, nonbasic_at, width}
 use Rattle.tableau.specs.Program.{Program}
-use Rattle.tableau.specs.Run.{IsFittingStep, Runs}
+use Rattle.tableau.specs.Run.{IsCandidate, IsFittingStep, Runs, ratio_at}
+use Rattle.tableau.specs.Meaning.{IsDictionaryOf}
 use Rattle.tableau.specs.declared.outcome.Outcome.{Outcome}
 use Rattle.tableau.specs.declared.outcome.Outcome.TheVariants as outcome
 use Rattle.tableau.specs.Outcomes.{GoesOn, IsOutcome, IsRefused}
@@ -48,3 +49,19 @@ IsSameOutcome _ _ = ⊥
 -- a run has one outcome
 abbrev pub OutcomesAreOne : Type 0
 OutcomesAreOne = (p : Program) (pivots : ℕ) (a b : Outcome) → IsOutcome p pivots a → IsOutcome p pivots b → IsSameOutcome a b
+
+-- a pivot of a row that isn't the cost's in a column of positive coefficient and least ratio
+pub record IsDualPivot (d : Dictionary) (k j : ℕ) (e : Dictionary) : Type 0 where
+  pub low : 1 ≤ k
+  pub high : k < height d
+  pub candidate : IsCandidate d k j
+  pub least : (t : ℕ) → IsCandidate d k t → ratio_at d k j ≤ℚ ratio_at d k t
+  pub pivoted : IsPivoted d k j e
+
+-- the first dictionary says what its program says and has no negative reduced cost, and such pivots keep that, by whatever rule they are chosen
+pub record AreKept (p : Program) : Type 0 where
+  pub start : (d : Dictionary) → IsStart p d → IsDictionaryOf p d
+  pub pivot : (d e : Dictionary) (k j : ℕ) → IsDictionaryOf p d → IsDualPivot d k j e → IsDictionaryOf p e
+
+abbrev pub DictionariesAreKept : Type 0
+DictionariesAreKept = (p : Program) → AreKept p

@@ -3,7 +3,7 @@ use Rattle.std.specs.Prelude.{◌≡◌, ◌≢◌, ◌≤◌, ◌<◌, ◌+◌,
 use Rattle.rational.specs.Rational.{ℚ, whole, ◌*ℚ◌, ◌-ℚ◌, ◌≤ℚ◌}
 use Rattle.tableau.specs.Program.{Program, column_count, cost_at, entry_at, right_at, row_count, sum_ℚ, zero_ℚ}
 use Rattle.tableau.specs.Dictionary.{Dictionary, Meets, Solves, basic_at, cell, cost_of, height, nonbasic_at, width}
-use Rattle.tableau.specs.Run.{IsCandidate, IsPositive, Rule, ratio_at}
+use Rattle.tableau.specs.Run.{IsPositive}
 
 -- ---- the invariant, whatever the rule
 -- each variable has one place; the cost is basic in row 0, and the constants stand in column 0
@@ -34,18 +34,7 @@ pub record IsDictionaryOf (p : Program) (d : Dictionary) : Type 0 where
   pub same : SaysTheSame p d
   pub dual : IsDual d
 
--- a rule that takes a column of positive coefficient and least ratio
-pub record KeepsDual (rule : Rule) : Type 0 where
-  pub row_low : (d : Dictionary) (k j : ℕ) → rule d k j → 1 ≤ k
-  pub row_high : (d : Dictionary) (k j : ℕ) → rule d k j → k < height d
-  pub candidate : (d : Dictionary) (k j : ℕ) → rule d k j → IsCandidate d k j
-  pub least : (d : Dictionary) (k j : ℕ) → rule d k j → (t : ℕ) → IsCandidate d k t → ratio_at d k j ≤ℚ ratio_at d k t
-
 -- ---- what the end of a run says
--- the constant of a row
-abbrev pub constant_at : Dictionary → ℕ → ℚ
-constant_at d i = cell d i 0
-
 -- the value of a variable where the nonbasic ones are 0
 abbrev pub value_at : Dictionary → ℕ → ℚ
 value_at d v = sum_ℚ (height d) (λ i. if basic_at d i == v then cell d i 0 else zero_ℚ)

@@ -1,11 +1,11 @@
 -- How steps and runs end.
 use Rattle.std.specs.Prelude.{◌≡◌, ◌≢◌, ◌⊎◌, ◌≤◌, ◌<◌, ◌+◌, ℕ, List, length, slice_index_or, if◌then◌else◌, ◌==◌, ⊤}
-use Rattle.rational.specs.Rational.{ℚ, ◌-ℚ◌}
+use Rattle.rational.specs.Rational.{ℚ}
 use Rattle.tableau.specs.declared.step.Step.{Step}
 use Rattle.tableau.specs.declared.step.Step.TheVariants.{Last, Empty, Pivoted, Refused}
 use Rattle.tableau.specs.declared.outcome.Outcome.{Outcome}
 use Rattle.tableau.specs.declared.outcome.Outcome.TheVariants as outcome
-use Rattle.tableau.specs.Program.{Program, column_count, row_count, sum_ℚ, zero_ℚ}
+use Rattle.tableau.specs.Program.{Program, column_count, row_count, zero_ℚ}
 use Rattle.tableau.specs.Dictionary.{Dictionary, basic_at, cell, height, nonbasic_at, slack_of, width}
 use Rattle.tableau.specs.Run.{IsCandidate, IsEntering, IsFittingStep, IsLast, IsLeaving, IsStep, Runs, UpdateFits}
 use Rattle.tableau.specs.Meaning.{AreBest, AreEmpty, coefficient_at, opposite_at, value_at}
@@ -96,11 +96,6 @@ pub record AreValues (value : ℕ → ℚ) (first count : ℕ) (xs : List ℚ) :
   pub size : length xs ≡ count
   pub each : (k : ℕ) → k < count → number_at xs k ≡ value (first + k)
 
--- the values that the first names put in their places
-pub record ArePut (f : ℕ → ℕ) (g : ℕ → ℚ) (first count to : ℕ) (xs : List ℚ) : Type 0 where
-  pub size : length xs ≡ count
-  pub each : (k : ℕ) → k < count → number_at xs k ≡ sum_ℚ to (λ i. if f i == first + k then g i else zero_ℚ)
-
 -- the value of a number is put in its place, if it has one
 pub record IsPutIn (first number : ℕ) (x : ℚ) (xs ys : List ℚ) : Type 0 where
   pub size : length ys ≡ length xs
@@ -109,12 +104,6 @@ pub record IsPutIn (first number : ℕ) (x : ℚ) (xs ys : List ℚ) : Type 0 wh
 -- a row's variable has no column
 abbrev pub IsNowhere : Dictionary → ℕ → Type 0
 IsNowhere d i = (t : ℕ) → t < width d → nonbasic_at d t ≢ basic_at d i
-
--- coefficients before a place have changed their sign
-pub record AreOpposite (d : Dictionary) (i first count to : ℕ) (xs : List ℚ) : Type 0 where
-  pub size : length xs ≡ count
-  pub before : (k : ℕ) → k < to → k < count → number_at xs k ≡ zero_ℚ -ℚ coefficient_at d i (first + k)
-  pub after : (k : ℕ) → to ≤ k → k < count → number_at xs k ≡ coefficient_at d i (first + k)
 
 abbrev pub GivesLeast : Dictionary → ℕ → ℕ → Outcome → Type 0
 GivesLeast d columns rows (outcome.Least point multipliers value) = AreValues (value_at d) 1 columns point.items × AreValues (coefficient_at d 0) (columns + 1) rows multipliers.items × (value ≡ cell d 0 0)

@@ -1,7 +1,7 @@
 -- How the first dictionary is made.
-use Rattle.std.specs.Prelude.{◌≡◌, ◌≢◌, ◌≤◌, ◌<◌, ◌+◌, ℕ, List, length, slice_index_or, take}
+use Rattle.std.specs.Prelude.{◌≡◌, ◌≢◌, ◌≤◌, ◌<◌, ◌+◌, ℕ, List, length, slice_index_or}
 use Rattle.rational.specs.Rational.{whole, neg_ℚ}
-use Rattle.tableau.specs.Program.{Inequality, Program, column_count, cost_at, entry_at, right_at, row_count, times_of, zero_ℚ}
+use Rattle.tableau.specs.Program.{Inequality, Program, column_count, cost_at, row_count, times_of, zero_ℚ}
 use Rattle.tableau.specs.Dictionary.{Dictionary, basic_at, cell, cost_of, height, nonbasic_at, slack_of, width}
 use Rattle.tableau.specs.Steps.{HasSameNames}
 
@@ -33,23 +33,3 @@ pub record HasRow (row : Inequality) (i : ℕ) (d e : Dictionary) : Type 0 where
   pub constant : cell e i 0 ≡ neg_ℚ (whole row.right)
   pub entries : (t : ℕ) → 1 ≤ t → t < width d → cell e i t ≡ whole (times_of row.terms t)
   pub others : (h t : ℕ) → h ≢ i → h < height d → t < width d → cell e h t ≡ cell d h t
-
--- the first terms of a row have been put in
-pub record HasTermsTo (row : Inequality) (i : ℕ) (to : ℕ) (d e : Dictionary) : Type 0 where
-  pub names : HasSameNames d e
-  pub constant : cell e i 0 ≡ neg_ℚ (whole row.right)
-  pub entries : (t : ℕ) → 1 ≤ t → t < width d → cell e i t ≡ whole (times_of (take to row.terms) t)
-  pub others : (h t : ℕ) → h ≢ i → h < height d → t < width d → cell e h t ≡ cell d h t
-
--- the rows before one have been put in, and the costs
-pub record IsStartTo (p : Program) (to : ℕ) (d : Dictionary) : Type 0 where
-  pub rows : height d ≡ row_count p + 1
-  pub columns : width d ≡ column_count p + 1
-  pub first : basic_at d 0 ≡ cost_of p
-  pub slacks : (k : ℕ) → k < row_count p → basic_at d (k + 1) ≡ slack_of p k
-  pub names : (t : ℕ) → t < width d → nonbasic_at d t ≡ t
-  pub value : cell d 0 0 ≡ zero_ℚ
-  pub costs : (c : ℕ) → c < column_count p → cell d 0 (c + 1) ≡ cost_at p c
-  pub constants : (k : ℕ) → k < to → k < row_count p → cell d (k + 1) 0 ≡ neg_ℚ (right_at p k)
-  pub entries : (k c : ℕ) → k < to → k < row_count p → c < column_count p → cell d (k + 1) (c + 1) ≡ entry_at p k c
-  pub zero : (k t : ℕ) → to ≤ k → k < row_count p → t < width d → cell d (k + 1) t ≡ zero_ℚ

@@ -6,40 +6,19 @@ use Rattle.tableau.specs.Program.{zero_ℚ}
 use Rattle.tableau.specs.Dictionary.{Dictionary, basic_at, cell, factor_at, height, nonbasic_at, width}
 use Rattle.tableau.specs.Run.{IsCandidate, IsNegative, OtherFits, RatioFits, RowFits, UpdateFits, ratio_at}
 
--- ---- the search for the leaving row, before a row; 0 stands for none
-pub record IsLowestTo (d : Dictionary) (to k : ℕ) : Type 0 where
-  pub low : 1 ≤ k
-  pub high : k < height d
-  pub negative : IsNegative (cell d k 0)
-  pub least : (i : ℕ) → 1 ≤ i → i < to → IsNegative (cell d i 0) → basic_at d k ≤ basic_at d i
-
-abbrev pub HasNoNegativeTo : Dictionary → ℕ → Type 0
-HasNoNegativeTo d to = (i : ℕ) → 1 ≤ i → i < to → zero_ℚ ≤ℚ cell d i 0
-
-abbrev pub IsLowestOrNone : Dictionary → ℕ → ℕ → Type 0
-IsLowestOrNone d to k = ((k ≡ 0) × HasNoNegativeTo d to) ⊎ IsLowestTo d to k
-
+-- ---- the search for the leaving row; 0 stands for none
 -- of a row and the best before it the one that leaves
 abbrev pub IsLower : Dictionary → ℕ → ℕ → ℕ → Type 0
 IsLower d best i k =
     ((k ≡ i) × IsNegative (cell d i 0) × (best ≢ 0 → basic_at d i ≤ basic_at d best))
     ⊎ ((k ≡ best) × (IsNegative (cell d i 0) → (best ≢ 0) × (basic_at d best ≤ basic_at d i)) × (best ≡ 0 → zero_ℚ ≤ℚ cell d i 0))
 
--- ---- the search for the entering column, before a column; 0 stands for none
+-- ---- the search for the entering column; 0 stands for none
 abbrev pub HasNoneTo : Dictionary → ℕ → ℕ → Type 0
 HasNoneTo d k to = (t : ℕ) → t < to → IsCandidate d k t → ⊥
 
 abbrev pub RatiosFitTo : Dictionary → ℕ → ℕ → Type 0
 RatiosFitTo d k to = (t : ℕ) → t < to → IsCandidate d k t → RatioFits d k t
-
-pub record IsBestTo (d : Dictionary) (k to j : ℕ) (x : ℚ) : Type 0 where
-  pub candidate : IsCandidate d k j
-  pub ratio : x ≡ ratio_at d k j
-  pub least : (t : ℕ) → t < to → IsCandidate d k t → x ≤ℚ ratio_at d k t
-  pub ties : (t : ℕ) → t < to → IsCandidate d k t → x ≡ ratio_at d k t → nonbasic_at d j ≤ nonbasic_at d t
-
-abbrev pub IsBestOrNone : Dictionary → ℕ → ℕ → ℕ → ℚ → Type 0
-IsBestOrNone d k to j x = ((j ≡ 0) × HasNoneTo d k to) ⊎ IsBestTo d k to j x
 
 -- a column of this ratio goes before the best so far
 abbrev pub GoesBefore : Dictionary → ℕ → ℚ → ℕ → ℚ → Type 0
@@ -73,14 +52,6 @@ pub record CellFits (d : Dictionary) (k i t : ℕ) (factor : ℚ) : Type 0 where
   pub product : cell d k t ≢ zero_ℚ → Fits (factor *ℚ cell d k t)
   pub difference : cell d k t ≢ zero_ℚ → SumFits ◌-ℤ◌ (cell d i t) (factor *ℚ cell d k t)
 
--- a row has been updated before a column; the pivot column comes last
-pub record IsRowTo (d : Dictionary) (k j i : ℕ) (factor : ℚ) (to : ℕ) (e : Dictionary) : Type 0 where
-  pub names : HasSameNames d e
-  pub others : (h u : ℕ) → h < height d → u < width d → h ≢ i → cell e h u ≡ cell d h u
-  pub before : (u : ℕ) → u < to → u < width d → u ≢ j → cell e i u ≡ cell d i u -ℚ factor *ℚ cell d k u
-  pub fits : (u : ℕ) → u < to → u < width d → u ≢ j → CellFits d k i u factor
-  pub after : (u : ℕ) → to ≤ u → u < width d → cell e i u ≡ cell d i u
-
 -- a row has been updated
 pub record IsRowUpdated (d : Dictionary) (k j i : ℕ) (e : Dictionary) : Type 0 where
   pub names : HasSameNames d e
@@ -88,23 +59,6 @@ pub record IsRowUpdated (d : Dictionary) (k j i : ℕ) (e : Dictionary) : Type 0
   pub cells : (u : ℕ) → u < width d → u ≢ j → cell e i u ≡ cell d i u -ℚ factor_at d k j i *ℚ cell d k u
   pub column : cell e i j ≡ factor_at d k j i
   pub fits : (u : ℕ) → u < width d → OtherFits d k j i u
-
--- the rows before one have been updated, the pivot row apart
-pub record AreRowsTo (d : Dictionary) (k j : ℕ) (to : ℕ) (e : Dictionary) : Type 0 where
-  pub names : HasSameNames d e
-  pub cells : (i u : ℕ) → i < to → i < height d → i ≢ k → u < width d → u ≢ j → cell e i u ≡ cell d i u -ℚ factor_at d k j i *ℚ cell d k u
-  pub column : (i : ℕ) → i < to → i < height d → i ≢ k → cell e i j ≡ factor_at d k j i
-  pub fits : (i u : ℕ) → i < to → i < height d → i ≢ k → u < width d → OtherFits d k j i u
-  pub after : (i u : ℕ) → to ≤ i → i < height d → u < width d → cell e i u ≡ cell d i u
-  pub pivot_row : (u : ℕ) → u < width d → cell e k u ≡ cell d k u
-
--- the pivot row has been multiplied before a column, but for the pivot column
-pub record IsDividedTo (d : Dictionary) (k j : ℕ) (factor : ℚ) (to : ℕ) (e : Dictionary) : Type 0 where
-  pub names : HasSameNames d e
-  pub others : (h u : ℕ) → h < height d → u < width d → h ≢ k → cell e h u ≡ cell d h u
-  pub cells : (u : ℕ) → u < to → u < width d → u ≢ j → cell e k u ≡ cell d k u *ℚ factor
-  pub fits : (u : ℕ) → u < to → u < width d → u ≢ j → cell d k u ≢ zero_ℚ → Fits (cell d k u *ℚ factor)
-  pub after : (u : ℕ) → to ≤ u → u < width d → cell e k u ≡ cell d k u
 
 -- the pivot row has been divided
 pub record IsDivided (d : Dictionary) (k j : ℕ) (e : Dictionary) : Type 0 where

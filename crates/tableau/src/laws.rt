@@ -1,6 +1,12 @@
 // Laws of runs.
-ghost use Rattle.tableau.specs.Laws.{OutcomesAreOne, RunsAreOne, SmallNumbersFit, StopsExactly};
+ghost use Rattle.tableau.specs.Laws.{DictionariesAreKept, OutcomesAreOne, RunsAreOne, SmallNumbersFit, StopsExactly};
 ghost use Rattle.tableau.specs.Leaves.{AllLeavesProve};
+
+/// Each dictionary says what its program says and has no negative reduced cost, by whatever rule pivots are chosen, if
+/// only they take a column of positive coefficient and least ratio.
+pub fn dictionaries_are_kept()
+    ensures { DictionariesAreKept }
+{}
 
 /// A run is never `Passed` while the numerators and denominators of all cells are below 2^31.
 pub fn small_numbers_fit()

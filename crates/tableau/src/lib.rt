@@ -15,7 +15,8 @@
 //! bits. What a run comes to is laid down: two runs of one length end alike (`runs_are_one`), a run has one outcome
 //! (`outcomes_are_one`), which is `Stopped` where it could go on (`stops_exactly`), and none has `Passed` while numerators
 //! and denominators are below 2^31 (`small_numbers_fit`). Multipliers times their least common denominator are whole and
-//! prove the same (`leaves_prove`).
+//! prove the same (`leaves_prove`). All of it rests on dictionaries that say what their program says, which pivots keep
+//! by whatever rule they are chosen (`dictionaries_are_kept`).
 #![tactic(auto)]
 
 mod laws;
@@ -26,7 +27,10 @@ mod start;
 mod step;
 mod tableau;
 
-pub use laws::{leaves_prove, outcomes_are_one, runs_are_one, small_numbers_fit, stops_exactly};
+pub use laws::{
+    dictionaries_are_kept, leaves_prove, outcomes_are_one, runs_are_one, small_numbers_fit,
+    stops_exactly,
+};
 pub use outcome::Outcome;
 pub use program::{Lp, LpRow, LpTerm, is_program};
 

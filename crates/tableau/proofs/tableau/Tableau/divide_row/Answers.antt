@@ -2,10 +2,10 @@ use Rattle.std.proofs.Common.{◌≡◌, ◌<◌, ◌+◌, ◌∙◌, arith, ref
 use Rattle.rational.specs.Rational.{inv_ℚ}
 use Rattle.frac128.specs.Limits.{Fits}
 use Rattle.tableau.specs.Dictionary.{cell, width}
-use Rattle.tableau.specs.Steps.{IsDividedTo}
 use Rattle.tableau.proofs.Cells.{corner_is, divided_end, divided_next, divided_refused, divided_skip, factor_divides}
 use Rattle.tableau.proofs.tableau.Tableau.divide_row.Goals.{else-column-pivot_column-via-then-column-pivot_column+else-not-multiply, else-column-pivot_column-via-else-column-pivot_column}
 use Rattle.tableau.proofs.tableau.Tableau.divide_row.Goals as goal
+use Rattle.tableau.proofs.Loops.{IsDividedTo}
 
 pub returns-in_default-clause-refused : goal.returns-in_default-clause-refused
 returns-in_default-clause-refused c =

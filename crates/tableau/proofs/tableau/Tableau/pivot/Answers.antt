@@ -1,9 +1,9 @@
 use Rattle.std.proofs.Common.{◌<◌, ◌≤◌, ◌+◌, arith, subst, sym}
 use Rattle.tableau.specs.Dictionary.{height}
-use Rattle.tableau.specs.Steps.{AreRowsTo}
 use Rattle.tableau.proofs.Cells.{is_pivoted, rows_next, rows_skip}
 use Rattle.tableau.proofs.tableau.Tableau.pivot.Goals.{then-other-row+in-Ok, else-other-row}
 use Rattle.tableau.proofs.tableau.Tableau.pivot.Goals as goal
+use Rattle.tableau.proofs.Loops.{AreRowsTo}
 
 pub loop-other-preserved : goal.loop-other-preserved
 loop-other-preserved c =

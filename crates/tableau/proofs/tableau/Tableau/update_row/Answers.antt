@@ -1,10 +1,10 @@
 use Rattle.std.proofs.Common.{◌<◌, ◌+◌, ◌∙◌, arith, refl, subst, sym}
 use Rattle.frac128.specs.Limits.{Fits}
 use Rattle.tableau.specs.Dictionary.{width}
-use Rattle.tableau.specs.Steps.{IsRowTo}
 use Rattle.tableau.proofs.Cells.{factor_is, row_end, row_next, row_refused, row_skip, row_stays}
 use Rattle.tableau.proofs.tableau.Tableau.update_row.Goals.{else-column-pivot_column-via-then-column-pivot_column+else-not-reduce, else-column-pivot_column-via-else-column-pivot_column}
 use Rattle.tableau.proofs.tableau.Tableau.update_row.Goals as goal
+use Rattle.tableau.proofs.Loops.{IsRowTo}
 
 pub returns-then-is_zero-clause-updated : goal.returns-then-is_zero-clause-updated
 returns-then-is_zero-clause-updated c = row_stays c.args.self.now c.args.pivot_row c.args.pivot_column c.args.row (sym c.cell-old.ensures ∙ c.if-is_zero.ensures.yes refl)

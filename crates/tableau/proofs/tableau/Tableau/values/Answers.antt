@@ -1,6 +1,6 @@
 use Rattle.std.proofs.Common.{◌<◌, arith, subst}
 use Rattle.tableau.specs.Dictionary.{basic_at, height}
-use Rattle.tableau.specs.Meaning.{constant_at}
+use Rattle.tableau.proofs.Loops.{constant_at}
 use Rattle.tableau.specs.Outcomes.{IsPutIn}
 use Rattle.tableau.proofs.Steps.{put_step}
 use Rattle.tableau.proofs.tableau.Tableau.values.Goals as goal
