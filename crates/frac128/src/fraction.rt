@@ -1,5 +1,5 @@
 // The fractions.
-ghost use Rattle.std.specs.Prelude.{◌≡◌, ◌≢◌, ◌<◌, ◌^◌, pos, ◌<ℤ◌, ◌+ℤ◌, ◌-ℤ◌};
+ghost use Rattle.std.specs.Prelude.{◌≡◌, ◌≢◌, ◌<◌, ◌/◌, ◌^◌, pos, ◌<ℤ◌, ◌+ℤ◌, ◌-ℤ◌};
 ghost use Rattle.std.specs.Option.{SomeIff};
 ghost use Rattle.rational.specs.Rational.{make, inv_ℚ, whole, ◌+ℚ◌, ◌-ℚ◌, ◌*ℚ◌, IsCeiling, IsOrder, cmp_ℚ};
 ghost use Rattle.frac128.specs.Limits.{divided_ℚ, quotient_ℚ, signed, Fits, IsSmall, SumFits};
@@ -18,8 +18,8 @@ const MOST: u128 = i128::MAX as u128;
 /// A fraction in lowest terms with a denominator above 0, both at most 2^127 - 1 in absolute value.
 #[derive(Clone, Copy, Debug)]
 pub struct Frac {
-    num: i128,
-    den: i128,
+    pub(crate) num: i128,
+    pub(crate) den: i128,
 }
 
 impl Model for Frac {
@@ -77,8 +77,8 @@ impl Frac {
         ensures { SomeIff result (Fits (make (signed negative num) (pos den))) (make (signed negative num) (pos den)) }
     {
         let shared = gcd(num, den);
-        let top = num / shared;
-        let bottom = den / shared;
+        let top = part(num, shared);
+        let bottom = part(den, shared);
         if top > MOST {
             return None;
         }
@@ -147,7 +147,7 @@ impl Frac {
     }
 
     // One by the number, which is not 0.
-    fn inverse(self) -> Frac
+    pub(crate) fn inverse(self) -> Frac
         requires { self ≢ whole (pos 0) }
         ensures { result ≡ inv_ℚ self }
     {
@@ -264,4 +264,15 @@ fn with_sign(negative: bool, number: u128) -> i128
     } else {
         number as i128
     }
+}
+
+// A number without a divisor of it, which is often 1.
+fn part(number: u128, shared: u128) -> u128
+    requires { 0 < shared }
+    ensures { result ≡ number / shared }
+{
+    if shared == 1 {
+        return number;
+    }
+    number / shared
 }

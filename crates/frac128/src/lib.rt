@@ -10,10 +10,14 @@
 
 mod divisor;
 mod fraction;
+pub mod plain;
+mod ratio;
+mod signs;
 mod steps;
 mod wide;
 
 pub use fraction::Frac;
+pub use ratio::Ratio;
 
 #[cfg(test)]
 mod tests;

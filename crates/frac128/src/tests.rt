@@ -1,4 +1,4 @@
-use crate::Frac;
+use crate::{Frac, plain};
 use std::cmp::Ordering;
 use std::test::Fail;
 
@@ -206,5 +206,90 @@ fn numbers_are_written(rt: HostRuntime) -> Result<(), Fail> {
     ] {
         assert!(rt; frac(num, den)?.to_string(alloc)?.as_str() == want);
     }
+    Ok(())
+}
+
+// The next of a row of numbers of 64 bits.
+fn draw(state: &mut u64) -> u64 {
+    *state = state
+        .wrapping_mul(6_364_136_223_846_793_005)
+        .wrapping_add(1_442_695_040_888_963_407);
+    *state ^ (*state >> 33)
+}
+
+// A number of at most so many bits twice over, above 0.
+fn drawn(state: &mut u64, most: u32) -> i128 {
+    let less = 64u32.wrapping_sub(most);
+    let (high, low) = (
+        draw(state).wrapping_shr(less),
+        draw(state).wrapping_shr(less),
+    );
+    (high as i128).wrapping_mul(low as i128).wrapping_add(1)
+}
+
+fn drawn_frac(state: &mut u64, top: u32, bottom: u32) -> Result<Frac, Fail> {
+    let (num, den) = (drawn(state, top), drawn(state, bottom));
+    frac(if num % 2 == 0 { num } else { -num }, den)
+}
+
+#[test]
+fn each_operation_is_its_plain_form(rt: HostRuntime) -> Result<(), Fail> {
+    let mut state = 20_261_127u64;
+    for round in 0..20_000u32 {
+        let x = drawn_frac(&mut state, round % 61 + 1, round % 31 + 1)?;
+        let y = drawn_frac(&mut state, round % 7 + 1, round % 59 + 1)?;
+        assert!(rt; parts(x.add(y)) == parts(plain::add(x, y)));
+        assert!(rt; parts(x.sub(y)) == parts(plain::sub(x, y)));
+        assert!(rt; parts(x.mul(y)) == parts(plain::mul(x, y)));
+        assert!(rt; parts(x.div(y)) == parts(plain::div(x, y)));
+        assert!(rt; x.ratio(y).is_some() == x.div(y).is_some());
+    }
+    Ok(())
+}
+
+#[test]
+fn whole_numbers_signs_and_opposites(rt: HostRuntime) -> Result<(), Fail> {
+    for (number, negative, positive) in [
+        (0, false, false),
+        (7, false, true),
+        (-7, true, false),
+        (MOST, false, true),
+        (-MOST, true, false),
+    ] {
+        let x = Frac::whole(number).ok_or("no fraction")?;
+        assert_eq!(rt; parts(Some(x)), Some((number, 1)));
+        assert_eq!(rt; parts(Some(-x)), Some((-number, 1)));
+        assert_eq!(rt; x.is_negative(), negative);
+        assert_eq!(rt; x.is_positive(), positive);
+        assert_eq!(rt; x.is_zero(), number == 0);
+    }
+    assert!(rt; Frac::whole(i128::MIN).is_none());
+    assert_eq!(rt; parts(Some(Frac::from(i64::MIN))), Some((-SIGN, 1)));
+    assert_eq!(rt; parts(Some(Frac::from(u64::MAX))), Some((WORD - 1, 1)));
+    assert_eq!(rt; parts(Some(-frac(3, 7)?)), Some((-3, 7)));
+    Ok(())
+}
+
+#[test]
+fn quotients_are_compared(rt: HostRuntime) -> Result<(), Fail> {
+    for (a, b, c, d, want) in [
+        (6, 4, 9, 6, Ordering::Equal),
+        (1, 3, 1, 2, Ordering::Less),
+        (-1, 3, -1, 2, Ordering::Greater),
+        // Their products don't fit, in lowest terms they do.
+        (MOST, 3, MOST, 2, Ordering::Less),
+        (MOST, MOST, 1, 1, Ordering::Equal),
+    ] {
+        let x = frac(a, 1)?.ratio(frac(b, 1)?).ok_or("no quotient")?;
+        let y = frac(c, 1)?.ratio(frac(d, 1)?).ok_or("no quotient")?;
+        assert_eq!(rt; x.compare(&y), want);
+        assert_eq!(rt; y.compare(&x), want.reverse());
+    }
+    let wide = frac(MOST, THIRD)?;
+    let same = wide.ratio(wide).ok_or("no quotient")?;
+    let one = frac(1, 1)?.ratio(frac(1, 1)?).ok_or("no quotient")?;
+    assert_eq!(rt; same.compare(&one), Ordering::Equal);
+    assert!(rt; frac(1, 2)?.ratio(frac(0, 1)?).is_none());
+    assert!(rt; frac(MOST, 1)?.ratio(frac(1, 2)?).is_none());
     Ok(())
 }

@@ -9,3 +9,7 @@ pub mod Steps
 pub mod Small
 pub mod Single
 pub mod Wholes
+pub mod Stepwise
+pub mod Duality
+pub mod More
+pub mod Skips

@@ -120,7 +120,7 @@ module _ (d e : Dictionary) (a : IsAlike d e) where
           (cases_eq t j)
 
 -- ---- one row leaves, and one column enters
-one_leaving : (p : Program) (d : Dictionary) → HasNames p d → (k h : ℕ) → IsLeaving d k → IsLeaving d h → k ≡ h
+pub one_leaving : (p : Program) (d : Dictionary) → HasNames p d → (k h : ℕ) → IsLeaving d k → IsLeaving d h → k ≡ h
 one_leaving p d names k h a b = names.rows_apart k h a.high b.high (omega (arith, a.least h b.low b.high b.negative, b.least k a.low a.high a.negative))
 
 one_entering : (p : Program) (d : Dictionary) → HasNames p d → (k j t : ℕ) → IsEntering d k j → IsEntering d k t → j ≡ t

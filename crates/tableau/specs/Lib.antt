@@ -8,3 +8,7 @@ pub mod Outcomes
 pub mod Meaning
 pub mod Laws
 pub mod Leaves
+pub mod Stepwise
+pub mod RunHeld
+pub mod PlainHeld
+pub mod Proves

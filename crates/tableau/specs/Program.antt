@@ -1,5 +1,5 @@
 -- Linear programs: the least cost of numbers of at least 0 under rows that bound sums of multiples from below.
-use Rattle.std.specs.Prelude.{◌≤◌, ◌<◌, ◌+◌, ◌-◌, ◌^◌, ℕ, ℤ, pos, ◌+ℤ◌, unsigned_abs, if◌then◌else◌, ◌==◌, List, [], ◌∷◌, length, slice_index_or, ⊤}
+use Rattle.std.specs.Prelude.{◌≤◌, ◌<◌, ◌+◌, ◌-◌, ◌^◌, ℕ, ℤ, pos, ◌+ℤ◌, unsigned_abs, if◌then◌else◌, ◌==◌, List, [], ◌∷◌, ◌++◌, length, slice_index_or, ⊤}
 use Rattle.rational.specs.Rational.{ℚ, whole, ◌+ℚ◌}
 use Rattle.algebra.specs.Sums.{sum_with}
 use Rattle.tableau.specs.declared.program.LpTerm.{LpTerm}
@@ -65,3 +65,7 @@ AreRows last (row ∷ rows) = IsRow last row × AreRows last rows
 pub record IsProgram (p : Program) : Type 0 where
   pub few : column_count p + row_count p < 2 ^ 32 - 1
   pub rows : AreRows (column_count p) p.rows
+
+-- with a further row after the others
+abbrev pub with_row : Program → Inequality → Program
+with_row p row = record { costs = p.costs; rows = p.rows ++ row ∷ [] }

@@ -1,5 +1,5 @@
 -- The steps by which a dictionary is searched and changed.
-use Rattle.std.specs.Prelude.{◌≡◌, ◌≢◌, ◌⊎◌, ◌≤◌, ◌<◌, ◌-ℤ◌, ℕ}
+use Rattle.std.specs.Prelude.{◌≡◌, ◌≢◌, ◌⊎◌, ◌≤◌, ◌<◌, ◌-ℤ◌, ℕ, List, length, slice_index_or}
 use Rattle.rational.specs.Rational.{ℚ, inv_ℚ, neg_ℚ, ◌*ℚ◌, ◌-ℚ◌, ◌≤ℚ◌}
 use Rattle.frac128.specs.Limits.{divided_ℚ, Fits, SumFits}
 use Rattle.tableau.specs.Program.{zero_ℚ}
@@ -80,3 +80,14 @@ pub record AreExchanged (d : Dictionary) (k j : ℕ) (e : Dictionary) : Type 0 w
 
 abbrev pub UpdatesFit : Dictionary → ℕ → ℕ → Type 0
 UpdatesFit d k j = (i t : ℕ) → i < height d → t < width d → UpdateFits d k j i t
+
+-- ---- the columns of a row that aren't 0
+-- from one column to before another a row has 0
+pub record IsSkip (d : Dictionary) (k from to : ℕ) : Type 0 where
+  pub low : from ≤ to
+  pub zero : (u : ℕ) → from ≤ u → u < to → u < width d → cell d k u ≡ zero_ℚ
+
+-- a list gives for each column, and for the end, the next one that may not be 0
+pub record AreSkips (d : Dictionary) (k : ℕ) (list : List ℕ) : Type 0 where
+  pub room : width d < length list
+  pub each : (t : ℕ) → t ≤ width d → IsSkip d k t (slice_index_or list t 0)

@@ -1,6 +1,7 @@
 // Laws of runs.
 ghost use Rattle.tableau.specs.Laws.{DictionariesAreKept, OutcomesAreOne, RunsAreOne, SmallNumbersFit, StopsExactly};
 ghost use Rattle.tableau.specs.Leaves.{AllLeavesProve};
+ghost use Rattle.tableau.specs.Proves.{AllOutcomesProve};
 
 /// Each dictionary says what its program says and has no negative reduced cost, by whatever rule pivots are chosen, if
 /// only they take a column of positive coefficient and least ratio.
@@ -31,4 +32,10 @@ pub fn outcomes_are_one()
 /// Multipliers times their least common denominator, which are whole, prove what the multipliers prove.
 pub fn leaves_prove()
     ensures { AllLeavesProve }
+{}
+
+/// No point that meets all rows costs less than the value that a point and multipliers give, and multipliers that leave
+/// no point leave none: weak duality.
+pub fn outcomes_prove()
+    ensures { AllOutcomesProve }
 {}

@@ -21,18 +21,21 @@
 
 mod laws;
 mod outcome;
+pub mod plain;
 mod program;
+mod run;
 mod solve;
 mod start;
 mod step;
 mod tableau;
 
 pub use laws::{
-    dictionaries_are_kept, leaves_prove, outcomes_are_one, runs_are_one, small_numbers_fit,
-    stops_exactly,
+    dictionaries_are_kept, leaves_prove, outcomes_are_one, outcomes_prove, runs_are_one,
+    small_numbers_fit, stops_exactly,
 };
 pub use outcome::Outcome;
 pub use program::{Lp, LpRow, LpTerm, is_program};
+pub use run::{Run, StepSays};
 
 #[cfg(test)]
 mod tests;

@@ -1,8 +1,9 @@
 // Linear programs.
-ghost use Rattle.std.specs.Prelude.{◌≡◌, ◌+◌, ◌*◌, ◌↔◌, IsTrue, map};
-ghost use Rattle.tableau.specs.Program.{AreRows, IsProgram, IsRow, column_count, row_count};
+ghost use Rattle.std.specs.Prelude.{◌≡◌, ◌<◌, ◌+◌, ◌*◌, ◌↔◌, IsTrue, OnErr, OnOk, map};
+ghost use Rattle.tableau.specs.Program.{AreRows, IsProgram, IsRow, column_count, row_count, with_row};
 ghost use Rattle.tableau.specs.Held.{inequality_of};
 
+use std::alloc::AllocError;
 use std::marker::Model;
 
 /// A multiple of a column. Columns are counted from 1.
@@ -85,6 +86,31 @@ impl Lp {
         ensures { result ≡ record { costs = costs.items; rows = map inequality_of rows.items } }
     {
         Lp { costs, rows }
+    }
+
+    /// Whether the program can take a further row, under the conditions of `Lp::new`.
+    pub fn takes(&self, row: &LpRow) -> bool
+        ensures { IsTrue result ↔ IsProgram (with_row self.now (inequality_of row.now)) }
+    {
+        self.costs.len() + self.rows.len() + 1 < 4_294_967_295 && is_row(self.costs.len(), row)
+    }
+
+    /// Adds a row after the others. The error is want of memory, and leaves the program as it was.
+    pub fn push(&mut self, row: LpRow) -> Result<(), AllocError>
+        requires { IsProgram (with_row self.old (inequality_of row)) }
+        ensures pushed { OnOk result (self.new ≡ with_row self.old (inequality_of row)) }
+        ensures kept { OnErr result (self.new ≡ self.old) }
+    {
+        self.rows.push(row)?;
+        Ok(())
+    }
+
+    /// How many variables the program has: its columns, and the slacks of its rows.
+    pub fn variables(&self) -> u32
+        ensures value { result ≡ column_count self.now + row_count self.now }
+        ensures few { result < 4294967295 }
+    {
+        (self.costs.len() + self.rows.len()) as u32
     }
 
     /// The cells of a dictionary of the program: one more than the rows, times one more than the columns.

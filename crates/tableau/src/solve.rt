@@ -6,9 +6,8 @@ ghost use Rattle.tableau.specs.Run.{IsLast};
 ghost use Rattle.tableau.specs.Meaning.{coefficient_at, opposite_at, value_at};
 ghost use Rattle.tableau.specs.Outcomes.{AreApart, AreValues, GivesEmpty, GivesLeast, IsCertain, IsNowhere, IsOutcome, IsPutIn};
 
-use crate::step::Step;
 use crate::tableau::{Tableau, opposite, whole};
-use crate::{Lp, Outcome};
+use crate::{Lp, Outcome, Run, StepSays};
 use frac128::Frac;
 use std::alloc::{AllocError, Global};
 
@@ -84,7 +83,12 @@ impl Tableau {
     }
 
     // What the last dictionary gives.
-    fn least(&self, alloc: Global, columns: usize, rows: usize) -> Result<Outcome, AllocError>
+    pub(crate) fn least(
+        &self,
+        alloc: Global,
+        columns: usize,
+        rows: usize,
+    ) -> Result<Outcome, AllocError>
         requires some { 1 ≤ height self.now }
         requires few { columns < 4294967296 }
         requires rows_apart { AreApart (height self.now) (basic_at self.now) }
@@ -101,7 +105,7 @@ impl Tableau {
     }
 
     // What a row that can't hold gives.
-    fn empty(
+    pub(crate) fn empty(
         &self,
         alloc: Global,
         row: usize,
@@ -131,15 +135,12 @@ impl Lp {
         ensures outcome { IfOk result (IsOutcome self.now pivots) }
         ensures certain { IfOk result (IsCertain self.now) }
     {
-        let columns = self.costs.len();
-        let rows = self.rows.len();
-        let mut tableau = Tableau::start(alloc, self)?;
+        let mut run = Run::start(alloc, self)?;
         for made in 0..pivots {
-            match tableau.step() {
-                Step::Last => return tableau.least(alloc, columns, rows),
-                Step::Empty(row) => return tableau.empty(alloc, row, columns, rows),
-                Step::Pivoted => {}
-                Step::Refused { row, column } => {
+            match run.step() {
+                StepSays::Moved => {}
+                StepSays::Ended => return run.finish(self, alloc),
+                StepSays::Passed { row, column } => {
                     return Ok(Outcome::Passed {
                         pivot: made + 1,
                         row,
@@ -148,15 +149,10 @@ impl Lp {
                 }
             }
         }
-        match tableau.leaving() {
-            Some(row) => {
-                if tableau.has_candidate(row) {
-                    Ok(Outcome::Stopped { pivots })
-                } else {
-                    tableau.empty(alloc, row, columns, rows)
-                }
-            }
-            None => tableau.least(alloc, columns, rows),
+        if run.has_ended() {
+            run.finish(self, alloc)
+        } else {
+            Ok(Outcome::Stopped { pivots })
         }
     }
 }

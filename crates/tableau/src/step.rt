@@ -1,7 +1,7 @@
 // One step of a run.
-ghost use Rattle.std.specs.Prelude.{◌≡◌, ◌<◌};
+ghost use Rattle.std.specs.Prelude.{◌≡◌, ◌<◌, length};
 ghost use Rattle.tableau.specs.Outcomes.{DoesStep, row_number};
-ghost use Rattle.tableau.specs.Dictionary.{height};
+ghost use Rattle.tableau.specs.Dictionary.{height, width};
 
 use crate::tableau::Tableau;
 
@@ -27,21 +27,26 @@ impl Tableau {
         if row == 0 { 0 } else { self.basic(row) }
     }
 
-    // One step by the least-index rule.
-    pub(crate) fn step(&mut self) -> Step
-        ensures { DoesStep self.old self.new result }
+    // One step by the least-index rule. The list has room for the columns to skip in a pivot.
+    pub(crate) fn step(&mut self, skips: &mut [usize]) -> Step
+        requires room { width self.old < length skips.old }
+        ensures step { DoesStep self.old self.new result }
+        ensures width { width self.new ≡ width self.old }
     {
         let Some(row) = self.leaving() else {
             return Step::Last;
         };
         match self.entering(row) {
-            Ok(Some(column)) => match self.pivot(row, column) {
-                Ok(()) => Step::Pivoted,
-                Err((other, refused)) => Step::Refused {
-                    row: self.row_number(other),
-                    column: self.nonbasic(refused),
-                },
-            },
+            Ok(Some(column)) => {
+                self.list_skips(row, skips);
+                match self.pivot(row, column, skips) {
+                    Ok(()) => Step::Pivoted,
+                    Err((other, refused)) => Step::Refused {
+                        row: self.row_number(other),
+                        column: self.nonbasic(refused),
+                    },
+                }
+            }
             Ok(None) => Step::Empty(row),
             Err(column) => Step::Refused {
                 row: 0,

@@ -1,13 +1,13 @@
 // Dictionaries and their pivots.
-ghost use Rattle.std.specs.Prelude.{◌≡◌, ◌≢◌, ◌≤◌, ◌<◌, ◌^◌, ℕ, unsigned_abs, false, ◌↔◌, IfErr, IfOk, IfSome, IsNone, IsTrue, OnOk};
+ghost use Rattle.std.specs.Prelude.{◌≡◌, ◌≢◌, ◌≤◌, ◌<◌, ◌+◌, ◌^◌, ℕ, unsigned_abs, false, ◌↔◌, IfErr, IfOk, IfSome, IsNone, IsTrue, length, OnOk};
 ghost use Rattle.rational.specs.Rational.{whole, neg_ℚ, ◌*ℚ◌, ◌-ℚ◌, ◌≤ℚ◌};
 ghost use Rattle.frac128.specs.Limits.{Fits, divided_ℚ};
 ghost use Rattle.tableau.specs.Program.{zero_ℚ};
 ghost use Rattle.tableau.specs.Dictionary.{IsPivoted, basic_at, cell, height, nonbasic_at, width};
 ghost use Rattle.tableau.specs.Run.{IsCandidate, IsEntering, IsLast, IsLeaving, IsNegative, IsPositive, OtherFits, RatioFits, RowFits, UpdateFits};
-ghost use Rattle.tableau.specs.Steps.{AreExchanged, CellFits, GoesBefore, HasNoneTo, HasSameNames, IsBetter, IsDivided, IsLower, IsRefusedRatio, IsRowUpdated, IsSet, RatiosFitTo, UpdatesFit};
+ghost use Rattle.tableau.specs.Steps.{AreExchanged, CellFits, GoesBefore, HasNoneTo, HasSameNames, IsBetter, IsDivided, IsLower, IsRefusedRatio, IsRowUpdated, IsSet, IsSkip, AreSkips, RatiosFitTo, UpdatesFit};
 
-use frac128::Frac;
+use frac128::{Frac, Ratio};
 use std::cmp::Ordering;
 use std::marker::Model;
 
@@ -36,14 +36,14 @@ pub(crate) fn whole(number: i128) -> Frac
     requires small { unsigned_abs number < 2 ^ 127 }
     ensures { result ≡ whole number }
 {
-    Frac::new(number, 1).unwrap()
+    Frac::whole(number).unwrap()
 }
 
 // The opposite of a number.
 pub(crate) fn opposite(number: Frac) -> Frac
     ensures { result ≡ zero_ℚ -ℚ number }
 {
-    Frac::new(-number.num(), number.den()).unwrap()
+    -number
 }
 
 // Whether a number is below 0.
@@ -171,10 +171,10 @@ impl Tableau {
     }
 
     // Whether a column goes before the best so far, 0 standing for none: by its ratio, and then by number.
-    fn goes_before(&self, column: usize, ratio: Frac, best: usize, least: Frac) -> bool
+    fn goes_before(&self, column: usize, ratio: &Ratio, best: usize, least: &Ratio) -> bool
         requires column { column < width self.now }
         requires best { best < width self.now }
-        ensures { IsTrue result ↔ GoesBefore self.now column ratio best least }
+        ensures { IsTrue result ↔ GoesBefore self.now column ratio.now best least.now }
     {
         if best == 0 {
             return true;
@@ -188,7 +188,7 @@ impl Tableau {
 
     // Of a column and the best before it, 0 standing for none, the one that enters, with its ratio; None where the
     // column's ratio doesn't fit.
-    fn better(&self, row: usize, best: usize, least: Frac, column: usize) -> Option<(usize, Frac)>
+    fn better(&self, row: usize, best: usize, least: Ratio, column: usize) -> Option<(usize, Ratio)>
         requires row { row < height self.now }
         requires best { best < width self.now }
         requires low { 1 ≤ column }
@@ -201,10 +201,10 @@ impl Tableau {
         if !is_positive(coefficient) {
             return Some((best, least));
         }
-        let Some(ratio) = self.cell(0, column).div(coefficient) else {
+        let Some(ratio) = self.cell(0, column).ratio(coefficient) else {
             return None;
         };
-        if self.goes_before(column, ratio, best, least) {
+        if self.goes_before(column, &ratio, best, &least) {
             return Some((column, ratio));
         }
         Some((best, least))
@@ -220,7 +220,7 @@ impl Tableau {
         ensures refused { IfErr result (IsRefusedRatio self.now row) }
     {
         let mut best = 0;
-        let mut least = whole(0);
+        let mut least = Ratio::from(whole(0));
         for column in 1..self.width() {
             match self.better(row, best, least, column) {
                 Some(found) => {
@@ -257,14 +257,48 @@ impl Tableau {
         true
     }
 
+    // The first column from one on that may not have 0 in a row, if it is known from the next one on.
+    fn skip(&self, row: usize, column: usize, next: usize) -> usize
+        requires row { row < height self.now }
+        requires column { column < width self.now }
+        requires next { IsSkip self.now row (column + 1) next }
+        ensures { IsSkip self.now row column result }
+    {
+        if is_zero(self.cell(row, column)) {
+            return next;
+        }
+        column
+    }
+
+    // Lists for each column of a row the first one from it on that doesn't have 0, and at the end the end.
+    pub(crate) fn list_skips(&self, row: usize, skips: &mut [usize])
+        requires row { row < height self.now }
+        requires room { width self.now < length skips.old }
+        ensures { AreSkips self.now row skips.new }
+    {
+        let width = self.width();
+        skips[width] = width;
+        for done in 0..width {
+            let column = width - 1 - done;
+            skips[column] = self.skip(row, column, skips[column + 1]);
+        }
+    }
+
     // Takes a multiple of the pivot row from another row, so that its cell in the pivot column becomes its factor;
-    // or the column whose cell doesn't fit. Cells that stay are passed over.
-    fn update_row(&mut self, pivot_row: usize, pivot_column: usize, row: usize) -> Result<(), usize>
+    // or the column whose cell doesn't fit. Columns with 0 in the pivot row are not visited.
+    fn update_row(
+        &mut self,
+        pivot_row: usize,
+        pivot_column: usize,
+        row: usize,
+        skips: &[usize],
+    ) -> Result<(), usize>
         requires pivot_row { pivot_row < height self.old }
         requires pivot_column { pivot_column < width self.old }
         requires row { row < height self.old }
         requires apart { row ≢ pivot_row }
         requires some { cell self.old pivot_row pivot_column ≢ zero_ℚ }
+        requires skips { AreSkips self.old pivot_row skips.now }
         ensures updated { OnOk result (IsRowUpdated self.old pivot_row pivot_column row self.new) }
         ensures refused { IfErr result (λ t. (t < width self.old) × (OtherFits self.old pivot_row pivot_column row t → ⊥)) }
         ensures names { HasSameNames self.old self.new }
@@ -276,10 +310,13 @@ impl Tableau {
         let Some(factor) = old.div(self.cell(pivot_row, pivot_column)) else {
             return Err(pivot_column);
         };
-        for column in 0..self.width() {
+        let width = self.width();
+        let mut column = skips[0];
+        while column < width {
             if column != pivot_column && !self.reduce(pivot_row, row, column, factor) {
                 return Err(column);
             }
+            column = skips[column + 1];
         }
         self.set(row, pivot_column, factor);
         Ok(())
@@ -340,10 +377,16 @@ impl Tableau {
 
     // The pivot of a row and a column, or the row and the column of the cell that doesn't fit: the other rows
     // first, in order, and each by columns.
-    pub(crate) fn pivot(&mut self, row: usize, column: usize) -> Result<(), (usize, usize)>
+    pub(crate) fn pivot(
+        &mut self,
+        row: usize,
+        column: usize,
+        skips: &[usize],
+    ) -> Result<(), (usize, usize)>
         requires row { row < height self.old }
         requires column { column < width self.old }
         requires some { cell self.old row column ≢ zero_ℚ }
+        requires skips { AreSkips self.old row skips.now }
         ensures pivoted { OnOk result (IsPivoted self.old row column self.new) }
         ensures fits { OnOk result (UpdatesFit self.old row column) }
         ensures refused { IfErr result (λ p. (p.0 < height self.old) × (p.1 < width self.old) × (UpdateFits self.old row column p.0 p.1 → ⊥)) }
@@ -351,7 +394,7 @@ impl Tableau {
     {
         for other in 0..self.height() {
             if other != row {
-                match self.update_row(row, column, other) {
+                match self.update_row(row, column, other, skips) {
                     Ok(()) => {}
                     Err(refused) => return Err((other, refused)),
                 }

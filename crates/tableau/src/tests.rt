@@ -1,7 +1,27 @@
-use crate::{Lp, LpRow, LpTerm, Outcome};
+use crate::{Lp, LpRow, LpTerm, Outcome, Run, StepSays, is_program, plain};
 use frac128::Frac;
 use std::alloc::{AllocError, Global};
 use std::test::Fail;
+
+// A row of these multiples of columns.
+fn row(alloc: Global, terms: &[(u32, i128)], right: i128) -> Result<LpRow, AllocError> {
+    let mut list = Vec::new(alloc);
+    for term in terms {
+        list.push(LpTerm {
+            column: term.0,
+            times: term.1,
+        })?;
+    }
+    Ok(LpRow { terms: list, right })
+}
+
+// The program of these costs and rows.
+fn program(costs: Vec<u64>, rows: Vec<LpRow>) -> Result<Lp, Fail> {
+    if !is_program(&costs, &rows) {
+        return Err("no program".into());
+    }
+    Ok(Lp::new(costs, rows))
+}
 
 // Whether these are the numbers of a list, each by its numerator and its denominator.
 fn are(list: &[Frac], numbers: &[(i128, i128)]) -> bool {
@@ -39,37 +59,13 @@ fn ends_at(
 #[test]
 fn two_columns_and_two_rows(rt: HostRuntime) -> Result<(), Fail> {
     let alloc = rt.alloc();
-    let lp = Lp::new(
+    let lp = program(
         vec![in alloc; 50u64, 100]?,
         vec![in alloc;
-            LpRow {
-                terms: vec![in alloc;
-                    LpTerm {
-                        column: 1,
-                        times: 7
-                    },
-                    LpTerm {
-                        column: 2,
-                        times: 2
-                    }
-                ]?,
-                right: 28
-            },
-            LpRow {
-                terms: vec![in alloc;
-                    LpTerm {
-                        column: 1,
-                        times: 2
-                    },
-                    LpTerm {
-                        column: 2,
-                        times: 12
-                    }
-                ]?,
-                right: 24
-            },
+            row(alloc, &[(1, 7), (2, 2)], 28)?,
+            row(alloc, &[(1, 2), (2, 12)], 24)?,
         ]?,
-    );
+    )?;
     assert_eq!(rt; lp.cells(), 9);
     assert!(rt;
         ends_at(
@@ -87,7 +83,7 @@ fn two_columns_and_two_rows(rt: HostRuntime) -> Result<(), Fail> {
 #[test]
 fn no_rows(rt: HostRuntime) -> Result<(), Fail> {
     let alloc = rt.alloc();
-    let lp = Lp::new(vec![in alloc; 3u64, 0]?, Vec::new(alloc));
+    let lp = program(vec![in alloc; 3u64, 0]?, Vec::new(alloc))?;
     assert_eq!(rt; lp.cells(), 3);
     assert!(rt; ends_at(alloc, &lp, 0, &[(0, 1), (0, 1)], &[], (0, 1))?);
     Ok(())
@@ -97,38 +93,14 @@ fn no_rows(rt: HostRuntime) -> Result<(), Fail> {
 #[test]
 fn rows_that_no_point_meets(rt: HostRuntime) -> Result<(), Fail> {
     let alloc = rt.alloc();
-    let lp = Lp::new(
+    let lp = program(
         vec![in alloc; 1u64, 1]?,
         vec![in alloc;
-            LpRow {
-                terms: vec![in alloc;
-                    LpTerm {
-                        column: 2,
-                        times: 1
-                    }
-                ]?,
-                right: 0
-            },
-            LpRow {
-                terms: vec![in alloc;
-                    LpTerm {
-                        column: 1,
-                        times: 2
-                    }
-                ]?,
-                right: 2
-            },
-            LpRow {
-                terms: vec![in alloc;
-                    LpTerm {
-                        column: 1,
-                        times: -3
-                    }
-                ]?,
-                right: 0
-            },
+            row(alloc, &[(2, 1)], 0)?,
+            row(alloc, &[(1, 2)], 2)?,
+            row(alloc, &[(1, -3)], 0)?,
         ]?,
-    );
+    )?;
     match lp.solve(alloc, 10)? {
         Outcome::Empty { multipliers } => {
             assert!(rt; are(&multipliers, &[(0, 1), (3, 2), (1, 1)]));
@@ -142,15 +114,7 @@ fn rows_that_no_point_meets(rt: HostRuntime) -> Result<(), Fail> {
 #[test]
 fn a_row_without_terms(rt: HostRuntime) -> Result<(), Fail> {
     let alloc = rt.alloc();
-    let lp = Lp::new(
-        vec![in alloc; 1u64]?,
-        vec![in alloc;
-            LpRow {
-                terms: Vec::new(alloc),
-                right: 1
-            },
-        ]?,
-    );
+    let lp = program(vec![in alloc; 1u64]?, vec![in alloc; row(alloc, &[], 1)?]?)?;
     match lp.solve(alloc, 0)? {
         Outcome::Empty { multipliers } => assert!(rt; are(&multipliers, &[(1, 1)])),
         _ => return Err("a point".into()),
@@ -162,54 +126,14 @@ fn a_row_without_terms(rt: HostRuntime) -> Result<(), Fail> {
 #[test]
 fn ties_go_by_number(rt: HostRuntime) -> Result<(), Fail> {
     let alloc = rt.alloc();
-    let lp = Lp::new(
+    let lp = program(
         vec![in alloc; 2u64, 1, 1]?,
         vec![in alloc;
-            LpRow {
-                terms: vec![in alloc;
-                    LpTerm {
-                        column: 1,
-                        times: 2
-                    },
-                    LpTerm {
-                        column: 2,
-                        times: 1
-                    },
-                    LpTerm {
-                        column: 3,
-                        times: 1
-                    }
-                ]?,
-                right: 3
-            },
-            LpRow {
-                terms: vec![in alloc;
-                    LpTerm {
-                        column: 1,
-                        times: 2
-                    },
-                    LpTerm {
-                        column: 2,
-                        times: 1
-                    },
-                    LpTerm {
-                        column: 3,
-                        times: 1
-                    }
-                ]?,
-                right: 3
-            },
-            LpRow {
-                terms: vec![in alloc;
-                    LpTerm {
-                        column: 3,
-                        times: -1
-                    }
-                ]?,
-                right: -1
-            },
+            row(alloc, &[(1, 2), (2, 1), (3, 1)], 3)?,
+            row(alloc, &[(1, 2), (2, 1), (3, 1)], 3)?,
+            row(alloc, &[(3, -1)], -1)?,
         ]?,
-    );
+    )?;
     assert!(rt;
         ends_at(
             alloc,
@@ -227,159 +151,23 @@ fn ties_go_by_number(rt: HostRuntime) -> Result<(), Fail> {
 #[test]
 fn a_model_of_two_periods(rt: HostRuntime) -> Result<(), Fail> {
     let alloc = rt.alloc();
-    let lp = Lp::new(
+    let lp = program(
         vec![in alloc; 0u64, 0, 10, 10, 1, 1]?,
         vec![in alloc;
-            LpRow {
-                terms: vec![in alloc;
-                    LpTerm {
-                        column: 1,
-                        times: 1
-                    },
-                    LpTerm {
-                        column: 5,
-                        times: -1
-                    }
-                ]?,
-                right: 2
-            },
-            LpRow {
-                terms: vec![in alloc;
-                    LpTerm {
-                        column: 1,
-                        times: -1
-                    },
-                    LpTerm {
-                        column: 5,
-                        times: 1
-                    }
-                ]?,
-                right: -2
-            },
-            LpRow {
-                terms: vec![in alloc;
-                    LpTerm {
-                        column: 2,
-                        times: 1
-                    },
-                    LpTerm {
-                        column: 5,
-                        times: 1
-                    },
-                    LpTerm {
-                        column: 6,
-                        times: -1
-                    }
-                ]?,
-                right: 8
-            },
-            LpRow {
-                terms: vec![in alloc;
-                    LpTerm {
-                        column: 2,
-                        times: -1
-                    },
-                    LpTerm {
-                        column: 5,
-                        times: -1
-                    },
-                    LpTerm {
-                        column: 6,
-                        times: 1
-                    }
-                ]?,
-                right: -8
-            },
-            LpRow {
-                terms: vec![in alloc;
-                    LpTerm {
-                        column: 1,
-                        times: -1
-                    },
-                    LpTerm {
-                        column: 3,
-                        times: 10
-                    }
-                ]?,
-                right: 0
-            },
-            LpRow {
-                terms: vec![in alloc;
-                    LpTerm {
-                        column: 2,
-                        times: -1
-                    },
-                    LpTerm {
-                        column: 4,
-                        times: 10
-                    }
-                ]?,
-                right: 0
-            },
-            LpRow {
-                terms: vec![in alloc;
-                    LpTerm {
-                        column: 1,
-                        times: -1
-                    },
-                    LpTerm {
-                        column: 3,
-                        times: -1
-                    }
-                ]?,
-                right: -6
-            },
-            LpRow {
-                terms: vec![in alloc;
-                    LpTerm {
-                        column: 2,
-                        times: -1
-                    },
-                    LpTerm {
-                        column: 4,
-                        times: -1
-                    }
-                ]?,
-                right: -6
-            },
-            LpRow {
-                terms: vec![in alloc;
-                    LpTerm {
-                        column: 6,
-                        times: 1
-                    }
-                ]?,
-                right: 0
-            },
-            LpRow {
-                terms: vec![in alloc;
-                    LpTerm {
-                        column: 6,
-                        times: -1
-                    }
-                ]?,
-                right: 0
-            },
-            LpRow {
-                terms: vec![in alloc;
-                    LpTerm {
-                        column: 3,
-                        times: -1
-                    }
-                ]?,
-                right: -1
-            },
-            LpRow {
-                terms: vec![in alloc;
-                    LpTerm {
-                        column: 4,
-                        times: -1
-                    }
-                ]?,
-                right: -1
-            },
+            row(alloc, &[(1, 1), (5, -1)], 2)?,
+            row(alloc, &[(1, -1), (5, 1)], -2)?,
+            row(alloc, &[(2, 1), (5, 1), (6, -1)], 8)?,
+            row(alloc, &[(2, -1), (5, -1), (6, 1)], -8)?,
+            row(alloc, &[(1, -1), (3, 10)], 0)?,
+            row(alloc, &[(2, -1), (4, 10)], 0)?,
+            row(alloc, &[(1, -1), (3, -1)], -6)?,
+            row(alloc, &[(2, -1), (4, -1)], -6)?,
+            row(alloc, &[(6, 1)], 0)?,
+            row(alloc, &[(6, -1)], 0)?,
+            row(alloc, &[(3, -1)], -1)?,
+            row(alloc, &[(4, -1)], -1)?,
         ]?,
-    );
+    )?;
     assert_eq!(rt; lp.cells(), 91);
     match lp.solve(alloc, 100)? {
         Outcome::Least { value, .. } => assert!(rt; are(&[value], &[(138, 11)])),
@@ -398,29 +186,10 @@ fn a_model_of_two_periods(rt: HostRuntime) -> Result<(), Fail> {
 #[test]
 fn runs_that_are_stopped(rt: HostRuntime) -> Result<(), Fail> {
     let alloc = rt.alloc();
-    let lp = Lp::new(
+    let lp = program(
         vec![in alloc; 1u64, 1]?,
-        vec![in alloc;
-            LpRow {
-                terms: vec![in alloc;
-                    LpTerm {
-                        column: 1,
-                        times: 1
-                    }
-                ]?,
-                right: 1
-            },
-            LpRow {
-                terms: vec![in alloc;
-                    LpTerm {
-                        column: 2,
-                        times: 1
-                    }
-                ]?,
-                right: 1
-            },
-        ]?,
-    );
+        vec![in alloc; row(alloc, &[(1, 1)], 1)?, row(alloc, &[(2, 1)], 1)?]?,
+    )?;
     for pivots in 0..4u32 {
         let stopped = match lp.solve(alloc, pivots)? {
             Outcome::Stopped { .. } => true,
@@ -435,42 +204,196 @@ fn runs_that_are_stopped(rt: HostRuntime) -> Result<(), Fail> {
 #[test]
 fn numbers_that_do_not_fit(rt: HostRuntime) -> Result<(), Fail> {
     let alloc = rt.alloc();
-    let lp = Lp::new(
+    let lp = program(
         vec![in alloc; 1u64, 18446744073709551615]?,
         vec![in alloc;
-            LpRow {
-                terms: vec![in alloc;
-                    LpTerm {
-                        column: 1,
-                        times: 1267650600228229401496703205376
-                    },
-                    LpTerm {
-                        column: 2,
-                        times: 2503155504993241601315571986085849
-                    }
-                ]?,
-                right: 1
-            },
-            LpRow {
-                terms: vec![in alloc;
-                    LpTerm {
-                        column: 1,
-                        times: 1
-                    },
-                    LpTerm {
-                        column: 2,
-                        times: 1
-                    }
-                ]?,
-                right: 1
-            },
+            row(
+                alloc,
+                &[
+                    (1, 1267650600228229401496703205376),
+                    (2, 2503155504993241601315571986085849)
+                ],
+                1
+            )?,
+            row(alloc, &[(1, 1), (2, 1)], 1)?,
         ]?,
-    );
+    )?;
     match lp.solve(alloc, 9)? {
         Outcome::Passed { pivot, row, column } => {
             assert!(rt; (pivot, row, column) == (1, 0, 2));
         }
         _ => return Err("all numbers fit".into()),
     }
+    Ok(())
+}
+
+// After a number that doesn't fit each step says the same.
+#[test]
+fn steps_after_a_refusal(rt: HostRuntime) -> Result<(), Fail> {
+    let alloc = rt.alloc();
+    let lp = program(
+        vec![in alloc; 1u64, 18446744073709551615]?,
+        vec![in alloc;
+            row(
+                alloc,
+                &[
+                    (1, 1267650600228229401496703205376),
+                    (2, 2503155504993241601315571986085849)
+                ],
+                1
+            )?,
+            row(alloc, &[(1, 1), (2, 1)], 1)?,
+        ]?,
+    )?;
+    let mut run = Run::start(alloc, &lp)?;
+    for _ in 0..3 {
+        match run.step() {
+            StepSays::Passed { row, column } => assert!(rt; (row, column) == (0, 2)),
+            _ => return Err("the step was made".into()),
+        }
+    }
+    Ok(())
+}
+
+#[test]
+fn a_row_is_added(rt: HostRuntime) -> Result<(), Fail> {
+    let alloc = rt.alloc();
+    let mut lp = program(
+        vec![in alloc; 50u64, 100]?,
+        vec![in alloc; row(alloc, &[(1, 7), (2, 2)], 28)?]?,
+    )?;
+    assert!(rt; !lp.takes(&row(alloc, &[(3, 1)], 0)?));
+    assert!(rt; !lp.takes(&row(alloc, &[(2, 1), (1, 1)], 0)?));
+    let more = row(alloc, &[(1, 2), (2, 12)], 24)?;
+    if !lp.takes(&more) {
+        return Err("no room".into());
+    }
+    lp.push(more)?;
+    assert_eq!(rt; lp.cells(), 9);
+    assert!(rt;
+        ends_at(
+            alloc,
+            &lp,
+            10,
+            &[(18, 5), (7, 5)],
+            &[(5, 1), (15, 2)],
+            (320, 1)
+        )?
+    );
+    Ok(())
+}
+
+// The next of a row of numbers below 2^16.
+fn draw(state: &mut u64) -> u64 {
+    *state = state
+        .wrapping_mul(6_364_136_223_846_793_005)
+        .wrapping_add(1_442_695_040_888_963_407);
+    *state >> 48
+}
+
+// A row over so many columns, some of them left out; numbers are multiples of one, or nearly.
+fn drawn_row(
+    alloc: Global,
+    state: &mut u64,
+    columns: u32,
+    unit: i128,
+) -> Result<LpRow, AllocError> {
+    let mut terms = Vec::new(alloc);
+    for column in 0..columns {
+        let times = (draw(state) % 7) as i128 - 3;
+        if times != 0 && draw(state) % 3 != 0 {
+            terms.push(LpTerm {
+                column: column.wrapping_add(1),
+                times: times
+                    .wrapping_mul(unit)
+                    .wrapping_add((draw(state) % 2) as i128),
+            })?;
+        }
+    }
+    let right = ((draw(state) % 12) as i128 - 4).wrapping_mul(unit);
+    Ok(LpRow { terms, right })
+}
+
+fn drawn_program(alloc: Global, state: &mut u64, size: u32, unit: i128) -> Result<Lp, Fail> {
+    let mut costs = Vec::new(alloc);
+    for _ in 0..size {
+        costs.push(draw(state))?;
+    }
+    let mut lp = program(costs, Vec::new(alloc))?;
+    for _ in 0..size {
+        let more = drawn_row(alloc, state, size, unit)?;
+        if !lp.takes(&more) {
+            return Err("no row".into());
+        }
+        lp.push(more)?;
+    }
+    Ok(lp)
+}
+
+fn same_numbers(one: &[Frac], other: &[Frac]) -> bool {
+    if one.len() != other.len() {
+        return false;
+    }
+    for (a, b) in one.iter().zip(other) {
+        if a != b {
+            return false;
+        }
+    }
+    true
+}
+
+// The kind of an outcome, by a number, if another is the same.
+fn kind_of(one: &Outcome, other: &Outcome) -> Option<u32> {
+    match (one, other) {
+        (
+            Outcome::Least {
+                point,
+                multipliers,
+                value,
+            },
+            Outcome::Least {
+                point: at,
+                multipliers: by,
+                value: cost,
+            },
+        ) => (same_numbers(point, at) && same_numbers(multipliers, by) && value == cost).then_some(
+            0,
+        ),
+        (Outcome::Empty { multipliers }, Outcome::Empty { multipliers: by }) => {
+            same_numbers(multipliers, by).then_some(1)
+        }
+        (Outcome::Stopped { pivots }, Outcome::Stopped { pivots: made }) => (pivots
+            == made).then_some(2),
+        (
+            Outcome::Passed { pivot, row, column },
+            Outcome::Passed {
+                pivot: made,
+                row: in_row,
+                column: in_column,
+            },
+        ) => (pivot == made && row == in_row && column == in_column).then_some(3),
+        _ => None,
+    }
+}
+
+// Random programs, each by the run and by the plain one; all four outcomes come.
+#[test]
+fn each_run_is_its_plain_form(rt: HostRuntime) -> Result<(), Fail> {
+    let alloc = rt.alloc();
+    let mut state = 20_261_127u64;
+    let mut seen = (0u32, 0u32, 0u32, 0u32);
+    for round in 0..1000u32 {
+        let unit = if round % 4 == 0 { 1_000_000_000_000 } else { 1 };
+        let lp = drawn_program(alloc, &mut state, round % 9 + 1, unit)?;
+        let most = round % 23;
+        match kind_of(&lp.solve(alloc, most)?, &plain::solve(&lp, alloc, most)?) {
+            Some(0) => seen.0 = seen.0.wrapping_add(1),
+            Some(1) => seen.1 = seen.1.wrapping_add(1),
+            Some(2) => seen.2 = seen.2.wrapping_add(1),
+            Some(_) => seen.3 = seen.3.wrapping_add(1),
+            None => return Err("another outcome".into()),
+        }
+    }
+    assert!(rt; seen.0 > 50 && seen.1 > 50 && seen.2 > 50 && seen.3 > 20);
     Ok(())
 }

@@ -11,8 +11,8 @@ small : (c : goal.After-gcd) → c.gcd.result < 2 ^ 127
 small c =
     let p = c.requires in
     let r = c.ranges.den in
-    let e : c.unsigned_abs-2.result ≡ unsigned_abs c.args.den = omega (arith, ints) in
-    let le : c.gcd.result ≤ c.unsigned_abs-2.result = le_of_dvd (omega (arith, ints)) c.gcd.ensures.1 in
+    let e : c.unsigned_abs.result ≡ unsigned_abs c.args.den = omega (arith, ints) in
+    let le : c.gcd.result ≤ c.unsigned_abs.result = le_of_dvd (omega (arith, ints)) c.gcd.ensures.1 in
     omega (arith, ints)
 
 pub overflow_cast-result : goal.overflow_cast-result
@@ -20,15 +20,15 @@ overflow_cast-result c = omega (arith, ints, small c)
 
 pub returns-clause-is : goal.returns-clause-is
 returns-clause-is c =
-    let n : c.unsigned_abs.result ≡ unsigned_abs c.args.num = omega (arith, ints) in
-    let d : c.unsigned_abs-2.result ≡ unsigned_abs c.args.den = omega (arith, ints) in
+    let n : c.unsigned_abs-top.result ≡ unsigned_abs c.args.num = omega (arith, ints) in
+    let d : c.unsigned_abs.result ≡ unsigned_abs c.args.den = omega (arith, ints) in
     rw (to_z_pos w128 c.gcd.result (small c), ← n, ← d) c.gcd.ensures
 
 pub returns-clause-positive : goal.returns-clause-positive
 returns-clause-positive c =
     let p = c.requires in
     let r = c.ranges.den in
-    let e : c.unsigned_abs-2.result ≡ unsigned_abs c.args.den = omega (arith, ints) in
+    let e : c.unsigned_abs.result ≡ unsigned_abs c.args.den = omega (arith, ints) in
     let some : 0 < c.gcd.result = pos_of_dvd_of_pos c.gcd.ensures.1 (omega (arith, ints)) in
     omega (arith, ints, small c)
 
@@ -36,8 +36,8 @@ pub returns-clause-most : goal.returns-clause-most
 returns-clause-most c =
     let p = c.requires in
     let r = c.ranges.den in
-    let e : c.unsigned_abs-2.result ≡ unsigned_abs c.args.den = omega (arith, ints) in
-    let le : c.gcd.result ≤ c.unsigned_abs-2.result = le_of_dvd (omega (arith, ints)) c.gcd.ensures.1 in
+    let e : c.unsigned_abs.result ≡ unsigned_abs c.args.den = omega (arith, ints) in
+    let le : c.gcd.result ≤ c.unsigned_abs.result = le_of_dvd (omega (arith, ints)) c.gcd.ensures.1 in
     omega (arith, ints, small c)
 
 pub returns-then-den-eq1-clause-is : goal.returns-then-den-eq1-clause-is
@@ -45,3 +45,9 @@ returns-then-den-eq1-clause-is c =
     let r = c.ranges.den in
     let e : c.args.den ≡ pos 1 = search (rules, c.if-den-eq1.true) in
     (one-dvd (unsigned_abs c.args.num), one-dvd (unsigned_abs c.args.den), λ d p q. subst (λ z. d ∣ unsigned_abs z) e q)
+
+pub returns-then-top-eq1-clause-is : goal.returns-then-top-eq1-clause-is
+returns-then-top-eq1-clause-is c =
+    let r = c.ranges.num in
+    let n : unsigned_abs c.args.num ≡ 1 = omega (arith, ints, c.if-top-eq1.true) in
+    rw n (one-dvd 1, one-dvd (unsigned_abs c.args.den), λ d p q. p)

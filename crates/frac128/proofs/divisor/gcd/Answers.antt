@@ -1,12 +1,8 @@
-use Rattle.std.proofs.Common.{arith}
-use Rattle.std.proofs.lemmas.Nat.Gcd.{IsGcd-from_zero, IsGcd-from_mod}
+use Rattle.std.proofs.lemmas.Nat.Gcd.{IsGcd-from_mod, IsGcd-swap}
 use Rattle.frac128.proofs.divisor.gcd.Goals as goal
 
-pub loop-y-preserved : goal.loop-y-preserved
-loop-y-preserved c g h = c.loop-y.invariant g (IsGcd-from_mod _ _ g h)
+pub returns-then-b : goal.returns-then-b
+returns-then-b c = IsGcd-from_mod _ _ _ (IsGcd-swap _ _ _ c.gcd_small-then-b.ensures)
 
-pub returns-then-y-eq0 : goal.returns-then-y-eq0
-returns-then-y-eq0 c = c.loop-y.invariant _ (IsGcd-from_zero _ _ (omega arith))
-
-pub returns : goal.returns
-returns c = c.loop-y.invariant _ (IsGcd-from_mod _ _ _ c.gcd_small-2.ensures)
+pub returns-then-a-2 : goal.returns-then-a-2
+returns-then-a-2 c = IsGcd-swap _ _ _ (IsGcd-from_mod _ _ _ c.gcd_small-then-a-2.ensures)

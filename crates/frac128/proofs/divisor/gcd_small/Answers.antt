@@ -1,12 +1,8 @@
-use Rattle.std.proofs.Common.{arith}
-use Rattle.std.proofs.lemmas.Nat.Gcd.{IsGcd-from_zero, IsGcd-from_mod}
+use Rattle.std.proofs.lemmas.Nat.Gcd.{IsGcd-from_mod, IsGcd-swap}
 use Rattle.frac128.proofs.divisor.gcd_small.Goals as goal
 
-pub loop-y-preserved : goal.loop-y-preserved
-loop-y-preserved c g h = c.loop-y.invariant g (IsGcd-from_mod _ _ g h)
+pub returns-else-rest-eq0 : goal.returns-else-rest-eq0
+returns-else-rest-eq0 c = IsGcd-from_mod _ _ _ (IsGcd-swap _ _ _ c.gcd_halved.ensures)
 
-pub returns-then-y-eq0 : goal.returns-then-y-eq0
-returns-then-y-eq0 c = c.loop-y.invariant _ (IsGcd-from_zero _ _ (omega arith))
-
-pub returns : goal.returns
-returns c = c.loop-y.invariant _ (IsGcd-from_mod _ _ _ c.gcd_short-2.ensures)
+pub returns-else-rest-eq0-2 : goal.returns-else-rest-eq0-2
+returns-else-rest-eq0-2 c = IsGcd-swap _ _ _ (IsGcd-from_mod _ _ _ c.gcd_halved-else-rest-eq0-2.ensures)

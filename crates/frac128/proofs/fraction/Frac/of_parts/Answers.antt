@@ -5,14 +5,14 @@ use native.Mathlib.Nat.{pos_of_dvd_of_pos}
 use Rattle.rational.specs.Rational.{make}
 use Rattle.frac128.specs.Limits.{signed}
 use Rattle.frac128.proofs.Multiples.{fits_parts, parts_fit}
-use Rattle.frac128.proofs.Signs.{parts_divided, signed_small, small_signed}
+use Rattle.frac128.proofs.Signed.{parts_divided, signed_small, small_signed}
 use Rattle.frac128.proofs.fraction.Frac.of_parts.Goals as goal
 
-pub nonzero_div-top : goal.nonzero_div-top
-nonzero_div-top c = pos_of_dvd_of_pos c.gcd-shared.ensures.1 c.requires
+pub part-top-requires : goal.part-top-requires
+part-top-requires c = pos_of_dvd_of_pos c.gcd-shared.ensures.1 c.requires
 
-pub nonzero_div-bottom : goal.nonzero_div-bottom
-nonzero_div-bottom c = pos_of_dvd_of_pos c.gcd-shared.ensures.1 c.requires
+pub part-bottom-requires : goal.part-bottom-requires
+part-bottom-requires c = pos_of_dvd_of_pos c.gcd-shared.ensures.1 c.requires
 
 pub returns-then-top-gt-MOST : goal.returns-then-top-gt-MOST
 returns-then-top-gt-MOST c = λ fits.
@@ -42,7 +42,7 @@ invariant_of-result c =
     let top : n / g < 2 ^ 127 = omega (arith, c.if-top-gt-MOST.false) in
     let bottom : d / g < 2 ^ 127 = omega (arith, c.if-bottom-gt-MOST.false) in
     let r = parts_divided c.args.negative n d g c.requires (pos_of_dvd_of_pos c.gcd-shared.ensures.1 c.requires) c.gcd-shared.ensures in
-    rw (to_z_pos w128 (d / g) bottom) (simp to_z-of_z (rw c.with_sign.ensures (r.0, small_signed c.args.negative (n / g) top)))
+    rw (c.part-bottom.ensures, to_z_pos w128 (d / g) bottom) (simp to_z-of_z (rw (c.with_sign.ensures, c.part-top.ensures) (r.0, small_signed c.args.negative (n / g) top)))
 
 pub returns : goal.returns
 returns c =
@@ -54,5 +54,5 @@ returns c =
     let bottom : d / g < 2 ^ 127 = omega (arith, c.if-bottom-gt-MOST.false) in
     let r = parts_divided c.args.negative n d g c.requires (pos_of_dvd_of_pos c.gcd-shared.ensures.1 c.requires) c.gcd-shared.ensures in (
       parts_fit (signed c.args.negative (n / g)) (pos (d / g)) (make (signed c.args.negative n) (pos d)) r.0 r.1 (small_signed c.args.negative (n / g) top) bottom,
-      rw (to_z_pos w128 (d / g) bottom) (simp to_z-of_z (rw c.with_sign.ensures r.1)),
+      rw (c.part-bottom.ensures, to_z_pos w128 (d / g) bottom) (simp to_z-of_z (rw (c.with_sign.ensures, c.part-top.ensures) r.1)),
     )

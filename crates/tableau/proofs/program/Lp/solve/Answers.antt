@@ -1,61 +1,24 @@
-use Rattle.std.proofs.Common.{ap, arith, refl, subst, sym}
-use Rattle.std.proofs.lemmas.List.{length-map}
-use Rattle.tableau.specs.Held.{inequality_of}
-use Rattle.tableau.specs.Program.{column_count, row_count}
-use Rattle.tableau.specs.Dictionary.{height, width}
-use Rattle.tableau.specs.Run.{IsLast, IsLeaving}
-use Rattle.tableau.specs.Steps.{HasNoneTo}
-use Rattle.tableau.specs.Outcomes.{GivesEmpty, GivesLeast, IsCertain, IsOutcome}
-use Rattle.tableau.proofs.Steps.{columns_are_apart, empty_given, if_ok, is_nowhere, least_given, rows_are_apart, run_more, same_dictionary}
+use Rattle.std.proofs.Common.{◌≡◌, arith, refl}
+use Rattle.tableau.proofs.Stepwise.{at_end, if_ended, known_end, known_on, moved_on, said_end}
 use Rattle.tableau.proofs.program.Lp.solve.Goals as goal
 
-pub least-requires-clause-rows_apart : goal.least-requires-clause-rows_apart
-least-requires-clause-rows_apart c = rows_are_apart c.args.self.now c.loop-made.made c.step.new.self (same_dictionary c.args.self.now c.loop-made.made c.loop-made.tableau c.step.new.self c.in-Last.ensures.1 c.loop-made.invariant)
+pub returns-in-Ended-clause-outcome : goal.returns-in-Ended-clause-outcome
+returns-in-Ended-clause-outcome c =
+    let end = said_end c.args.self.now c.loop-made.made c.loop-made.run c.step.new.self c.loop-made.invariant c.in-Ended.ensures in
+    if_ended c.args.self.now c.loop-made.made c.args.pivots c.finish.result (omega (arith, c.loop-made-test.true)) c.finish.ensures.outcome (c.finish.ensures.length c.loop-made.made end)
 
-pub least-requires-clause-columns_apart : goal.least-requires-clause-columns_apart
-least-requires-clause-columns_apart c = columns_are_apart c.args.self.now c.loop-made.made c.step.new.self (same_dictionary c.args.self.now c.loop-made.made c.loop-made.tableau c.step.new.self c.in-Last.ensures.1 c.loop-made.invariant)
+pub finish-requires-then-has_ended : goal.finish-requires-then-has_ended
+finish-requires-then-has_ended c = at_end c.args.self.now c.loop-made.made c.loop-made.run (known_end c.args.self.now c.loop-made.made c.loop-made.run c.loop-made.invariant c.if-has_ended.ensures)
 
-pub returns-in-Last-clause-outcome : goal.returns-in-Last-clause-outcome
-returns-in-Last-clause-outcome c = if_ok (GivesLeast c.step.new.self c.len-columns.result c.len-rows.result) (IsOutcome c.args.self.now c.args.pivots) c.least.result (λ o given. (least_given c.args.self.now c.args.pivots c.loop-made.made c.len-columns.result c.len-rows.result c.step.new.self o (same_dictionary c.args.self.now c.loop-made.made c.loop-made.tableau c.step.new.self c.in-Last.ensures.1 c.loop-made.invariant) (omega (arith, c.loop-made-test.true)) (subst IsLast (sym c.in-Last.ensures.1) c.in-Last.ensures.0) (omega (arith, c.len-columns.ensures, c.self.inside.costs.ok.0, ap column_count c.self.view_is)) (omega (arith, c.len-rows.ensures, c.self.inside.rows.ok.0, length-map c.self.inside.rows.items inequality_of, ap row_count c.self.view_is)) given).0) c.least.ensures
+pub returns-then-has_ended-clause-outcome : goal.returns-then-has_ended-clause-outcome
+returns-then-has_ended-clause-outcome c =
+    let end = known_end c.args.self.now c.loop-made.made c.loop-made.run c.loop-made.invariant c.if-has_ended.ensures in
+    if_ended c.args.self.now c.loop-made.made c.args.pivots c.finish-then-has_ended.result (omega (arith, c.loop-made.auto.made-end)) c.finish-then-has_ended.ensures.outcome (c.finish-then-has_ended.ensures.length c.loop-made.made end)
 
-pub returns-in-Last-clause-certain : goal.returns-in-Last-clause-certain
-returns-in-Last-clause-certain c = if_ok (GivesLeast c.step.new.self c.len-columns.result c.len-rows.result) (IsCertain c.args.self.now) c.least.result (λ o given. (least_given c.args.self.now c.args.pivots c.loop-made.made c.len-columns.result c.len-rows.result c.step.new.self o (same_dictionary c.args.self.now c.loop-made.made c.loop-made.tableau c.step.new.self c.in-Last.ensures.1 c.loop-made.invariant) (omega (arith, c.loop-made-test.true)) (subst IsLast (sym c.in-Last.ensures.1) c.in-Last.ensures.0) (omega (arith, c.len-columns.ensures, c.self.inside.costs.ok.0, ap column_count c.self.view_is)) (omega (arith, c.len-rows.ensures, c.self.inside.rows.ok.0, length-map c.self.inside.rows.items inequality_of, ap row_count c.self.view_is)) given).1) c.least.ensures
-
-pub empty-requires-clause-columns_apart : goal.empty-requires-clause-columns_apart
-empty-requires-clause-columns_apart c = columns_are_apart c.args.self.now c.loop-made.made c.step.new.self (same_dictionary c.args.self.now c.loop-made.made c.loop-made.tableau c.step.new.self c.in-Empty.ensures.2 c.loop-made.invariant)
-
-pub empty-requires-clause-own : goal.empty-requires-clause-own
-empty-requires-clause-own c = is_nowhere c.args.self.now c.loop-made.made c.in-Empty.row c.step.new.self (same_dictionary c.args.self.now c.loop-made.made c.loop-made.tableau c.step.new.self c.in-Empty.ensures.2 c.loop-made.invariant) (omega (arith, c.in-Empty.ensures.0.high, ap height c.in-Empty.ensures.2))
-
-pub returns-in-Empty-clause-outcome : goal.returns-in-Empty-clause-outcome
-returns-in-Empty-clause-outcome c = if_ok (GivesEmpty c.step.new.self c.in-Empty.row c.len-columns.result c.len-rows.result) (IsOutcome c.args.self.now c.args.pivots) c.empty.result (λ o given. (empty_given c.args.self.now c.args.pivots c.loop-made.made c.len-columns.result c.len-rows.result c.in-Empty.row c.step.new.self o (same_dictionary c.args.self.now c.loop-made.made c.loop-made.tableau c.step.new.self c.in-Empty.ensures.2 c.loop-made.invariant) (omega (arith, c.loop-made-test.true)) (subst (λ x. IsLeaving x c.in-Empty.row) (sym c.in-Empty.ensures.2) c.in-Empty.ensures.0) (subst (λ x. HasNoneTo x c.in-Empty.row (width x)) (sym c.in-Empty.ensures.2) c.in-Empty.ensures.1) (omega (arith, c.len-columns.ensures, c.self.inside.costs.ok.0, ap column_count c.self.view_is)) (omega (arith, c.len-rows.ensures, c.self.inside.rows.ok.0, length-map c.self.inside.rows.items inequality_of, ap row_count c.self.view_is)) given).0) c.empty.ensures
-
-pub returns-in-Empty-clause-certain : goal.returns-in-Empty-clause-certain
-returns-in-Empty-clause-certain c = if_ok (GivesEmpty c.step.new.self c.in-Empty.row c.len-columns.result c.len-rows.result) (IsCertain c.args.self.now) c.empty.result (λ o given. (empty_given c.args.self.now c.args.pivots c.loop-made.made c.len-columns.result c.len-rows.result c.in-Empty.row c.step.new.self o (same_dictionary c.args.self.now c.loop-made.made c.loop-made.tableau c.step.new.self c.in-Empty.ensures.2 c.loop-made.invariant) (omega (arith, c.loop-made-test.true)) (subst (λ x. IsLeaving x c.in-Empty.row) (sym c.in-Empty.ensures.2) c.in-Empty.ensures.0) (subst (λ x. HasNoneTo x c.in-Empty.row (width x)) (sym c.in-Empty.ensures.2) c.in-Empty.ensures.1) (omega (arith, c.len-columns.ensures, c.self.inside.costs.ok.0, ap column_count c.self.view_is)) (omega (arith, c.len-rows.ensures, c.self.inside.rows.ok.0, length-map c.self.inside.rows.items inequality_of, ap row_count c.self.view_is)) given).1) c.empty.ensures
+pub returns-else-has_ended-clause-outcome : goal.returns-else-has_ended-clause-outcome
+returns-else-has_ended-clause-outcome c =
+    let same : c.loop-made.made ≡ c.args.pivots = omega (arith, c.loop-made.auto.made-end, c.loop-made-test.false) in
+    (refl, known_on c.args.self.now c.loop-made.made c.args.pivots c.loop-made.run same c.loop-made.invariant c.if-has_ended.ensures)
 
 pub loop-made-preserved : goal.loop-made-preserved
-loop-made-preserved c = run_more c.args.self.now c.loop-made.made c.loop-made.tableau c.step.new.self c.loop-made.invariant c.in-Pivoted.ensures
-
-pub empty-requires-else-has_candidate-clause-columns_apart : goal.empty-requires-else-has_candidate-clause-columns_apart
-empty-requires-else-has_candidate-clause-columns_apart c = columns_are_apart c.args.self.now c.loop-made.made c.loop-made.tableau c.loop-made.invariant
-
-pub empty-requires-else-has_candidate-clause-own : goal.empty-requires-else-has_candidate-clause-own
-empty-requires-else-has_candidate-clause-own c = is_nowhere c.args.self.now c.loop-made.made c.in-Some.row c.loop-made.tableau c.loop-made.invariant c.in-Some.ensures.some.high
-
-pub returns-in-Some-clause-outcome : goal.returns-in-Some-clause-outcome
-returns-in-Some-clause-outcome c = if_ok (GivesEmpty c.loop-made.tableau c.in-Some.row c.len-columns.result c.len-rows.result) (IsOutcome c.args.self.now c.args.pivots) c.empty-else-has_candidate.result (λ o given. (empty_given c.args.self.now c.args.pivots c.loop-made.made c.len-columns.result c.len-rows.result c.in-Some.row c.loop-made.tableau o c.loop-made.invariant (omega (arith, c.loop-made.auto.made-end)) c.in-Some.ensures.some (λ t high candidate. c.if-has_candidate.ensures.none refl t candidate) (omega (arith, c.len-columns.ensures, c.self.inside.costs.ok.0, ap column_count c.self.view_is)) (omega (arith, c.len-rows.ensures, c.self.inside.rows.ok.0, length-map c.self.inside.rows.items inequality_of, ap row_count c.self.view_is)) given).0) c.empty-else-has_candidate.ensures
-
-pub returns-in-Some-clause-certain : goal.returns-in-Some-clause-certain
-returns-in-Some-clause-certain c = if_ok (GivesEmpty c.loop-made.tableau c.in-Some.row c.len-columns.result c.len-rows.result) (IsCertain c.args.self.now) c.empty-else-has_candidate.result (λ o given. (empty_given c.args.self.now c.args.pivots c.loop-made.made c.len-columns.result c.len-rows.result c.in-Some.row c.loop-made.tableau o c.loop-made.invariant (omega (arith, c.loop-made.auto.made-end)) c.in-Some.ensures.some (λ t high candidate. c.if-has_candidate.ensures.none refl t candidate) (omega (arith, c.len-columns.ensures, c.self.inside.costs.ok.0, ap column_count c.self.view_is)) (omega (arith, c.len-rows.ensures, c.self.inside.rows.ok.0, length-map c.self.inside.rows.items inequality_of, ap row_count c.self.view_is)) given).1) c.empty-else-has_candidate.ensures
-
-pub least-requires-in-None-clause-rows_apart : goal.least-requires-in-None-clause-rows_apart
-least-requires-in-None-clause-rows_apart c = rows_are_apart c.args.self.now c.loop-made.made c.loop-made.tableau c.loop-made.invariant
-
-pub least-requires-in-None-clause-columns_apart : goal.least-requires-in-None-clause-columns_apart
-least-requires-in-None-clause-columns_apart c = columns_are_apart c.args.self.now c.loop-made.made c.loop-made.tableau c.loop-made.invariant
-
-pub returns-clause-outcome : goal.returns-clause-outcome
-returns-clause-outcome c = if_ok (GivesLeast c.loop-made.tableau c.len-columns.result c.len-rows.result) (IsOutcome c.args.self.now c.args.pivots) c.least-in-None.result (λ o given. (least_given c.args.self.now c.args.pivots c.loop-made.made c.len-columns.result c.len-rows.result c.loop-made.tableau o c.loop-made.invariant (omega (arith, c.loop-made.auto.made-end)) (c.in-None.ensures.none refl) (omega (arith, c.len-columns.ensures, c.self.inside.costs.ok.0, ap column_count c.self.view_is)) (omega (arith, c.len-rows.ensures, c.self.inside.rows.ok.0, length-map c.self.inside.rows.items inequality_of, ap row_count c.self.view_is)) given).0) c.least-in-None.ensures
-
-pub returns-clause-certain : goal.returns-clause-certain
-returns-clause-certain c = if_ok (GivesLeast c.loop-made.tableau c.len-columns.result c.len-rows.result) (IsCertain c.args.self.now) c.least-in-None.result (λ o given. (least_given c.args.self.now c.args.pivots c.loop-made.made c.len-columns.result c.len-rows.result c.loop-made.tableau o c.loop-made.invariant (omega (arith, c.loop-made.auto.made-end)) (c.in-None.ensures.none refl) (omega (arith, c.len-columns.ensures, c.self.inside.costs.ok.0, ap column_count c.self.view_is)) (omega (arith, c.len-rows.ensures, c.self.inside.rows.ok.0, length-map c.self.inside.rows.items inequality_of, ap row_count c.self.view_is)) given).1) c.least-in-None.ensures
+loop-made-preserved c = moved_on c.args.self.now c.loop-made.made c.loop-made.run c.step.new.self c.loop-made.invariant c.in-Moved.ensures

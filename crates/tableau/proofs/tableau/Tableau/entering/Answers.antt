@@ -3,7 +3,7 @@ use Rattle.tableau.proofs.Cells.{best_enters, best_next, best_none, fit_next, fi
 use Rattle.tableau.proofs.tableau.Tableau.entering.Goals as goal
 
 pub loop-column-init : goal.loop-column-init
-loop-column-init c = (best_none c.args.self.now c.args.row c.whole-least.result, fit_none c.args.self.now c.args.row, omega (arith, c.width-column-end.ensures.value, c.width-column-end.ensures.some))
+loop-column-init c = (best_none c.args.self.now c.args.row c.from-least.result, fit_none c.args.self.now c.args.row, omega (arith, c.width-column-end.ensures.value, c.width-column-end.ensures.some))
 
 pub loop-column-preserved : goal.loop-column-preserved
 loop-column-preserved c = (

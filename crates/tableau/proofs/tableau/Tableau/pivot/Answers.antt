@@ -4,6 +4,7 @@ use Rattle.tableau.proofs.Cells.{is_pivoted, rows_next, rows_skip}
 use Rattle.tableau.proofs.tableau.Tableau.pivot.Goals.{then-other-row+in-Ok, else-other-row}
 use Rattle.tableau.proofs.tableau.Tableau.pivot.Goals as goal
 use Rattle.tableau.proofs.Loops.{AreRowsTo}
+use Rattle.tableau.proofs.Skips.{skips_kept}
 
 pub loop-other-preserved : goal.loop-other-preserved
 loop-other-preserved c =
@@ -19,3 +20,6 @@ returns-clause-pivoted c =
     let d = c.args.self.now in
     let all : height d ≤ c.loop-other.other = omega (arith, c.loop-other-test.false, c.height-other-end.ensures.value) in
     is_pivoted d c.loop-other.self c.divide_row.new.self c.exchange.new.self c.args.row c.args.column c.loop-other.other c.requires.row c.requires.column all c.loop-other.invariant c.in-Ok-divide_row.ensures.divided c.exchange.ensures
+
+pub update_row-requires-clause-skips : goal.update_row-requires-clause-skips
+update_row-requires-clause-skips c = skips_kept c.args.self.now c.loop-other.self c.args.row c.args.column c.loop-other.other c.args.skips.now c.loop-other.invariant c.requires.skips

@@ -1,7 +1,8 @@
-use Rattle.std.proofs.Common.{◌<◌, ◌+◌, ◌∙◌, arith, refl, subst, sym}
+use Rattle.std.proofs.Common.{◌<◌, ◌+◌, ◌∙◌, arith, refl, slice_index_or, subst, sym}
 use Rattle.frac128.specs.Limits.{Fits}
 use Rattle.tableau.specs.Dictionary.{width}
-use Rattle.tableau.proofs.Cells.{factor_is, row_end, row_next, row_refused, row_skip, row_stays}
+use Rattle.tableau.proofs.Cells.{factor_is, row_end, row_next, row_refused, row_skip, row_start, row_stays}
+use Rattle.tableau.proofs.Skips.{row_gap}
 use Rattle.tableau.proofs.tableau.Tableau.update_row.Goals.{else-column-pivot_column-via-then-column-pivot_column+else-not-reduce, else-column-pivot_column-via-else-column-pivot_column}
 use Rattle.tableau.proofs.tableau.Tableau.update_row.Goals as goal
 use Rattle.tableau.proofs.Loops.{IsRowTo}
@@ -9,20 +10,27 @@ use Rattle.tableau.proofs.Loops.{IsRowTo}
 pub returns-then-is_zero-clause-updated : goal.returns-then-is_zero-clause-updated
 returns-then-is_zero-clause-updated c = row_stays c.args.self.now c.args.pivot_row c.args.pivot_column c.args.row (sym c.cell-old.ensures ∙ c.if-is_zero.ensures.yes refl)
 
+pub loop-column-init : goal.loop-column-init
+loop-column-init c =
+    let d = c.args.self.now in
+    row_gap d d c.args.pivot_row c.args.pivot_column c.args.row 0 (slice_index_or c.args.skips.now 0 0) c.in-Some.factor (row_start d c.args.pivot_row c.args.pivot_column c.args.row c.in-Some.factor) (c.requires.skips.each 0 (omega arith))
+
 pub loop-column-preserved : goal.loop-column-preserved
 loop-column-preserved c =
     let d = c.args.self.now in
     let e = c.loop-column.self in
-    let high : c.loop-column.column < width d = omega (arith, c.loop-column-test.true, c.width-column-end.ensures.value) in
+    let high : c.loop-column.column < width d = omega (arith, c.loop-column-test.true, c.width-width.ensures.value) in
+    let to = slice_index_or c.args.skips.now (c.loop-column.column + 1) 0 in
+    let skip = c.requires.skips.each (c.loop-column.column + 1) (omega (arith, high)) in
     elim c.else-column-pivot_column.branch [
-      | else-column-pivot_column-via-then-column-pivot_column+else-not-reduce w ↦ subst (IsRowTo d c.args.pivot_row c.args.pivot_column c.args.row c.in-Some.factor (c.loop-column.column + 1)) (sym w.self-is) (row_next d e w.reduce.new.self c.args.pivot_row c.args.pivot_column c.args.row c.loop-column.column c.in-Some.factor c.requires.pivot_row c.requires.row high c.requires.apart w.if-column-pivot_column.true c.loop-column.invariant (w.if-not-reduce.ensures.done refl) (w.if-not-reduce.ensures.fits refl))
-      | else-column-pivot_column-via-else-column-pivot_column w ↦ subst (IsRowTo d c.args.pivot_row c.args.pivot_column c.args.row c.in-Some.factor (c.loop-column.column + 1)) (sym w.self-is) (row_skip d e c.args.pivot_row c.args.pivot_column c.args.row c.loop-column.column c.in-Some.factor w.if-column-pivot_column.false c.loop-column.invariant)
+      | else-column-pivot_column-via-then-column-pivot_column+else-not-reduce w ↦ subst (IsRowTo d c.args.pivot_row c.args.pivot_column c.args.row c.in-Some.factor to) (sym w.self-is) (row_gap d w.reduce.new.self c.args.pivot_row c.args.pivot_column c.args.row (c.loop-column.column + 1) to c.in-Some.factor (row_next d e w.reduce.new.self c.args.pivot_row c.args.pivot_column c.args.row c.loop-column.column c.in-Some.factor c.requires.pivot_row c.requires.row high c.requires.apart w.if-column-pivot_column.true c.loop-column.invariant (w.if-not-reduce.ensures.done refl) (w.if-not-reduce.ensures.fits refl)) skip)
+      | else-column-pivot_column-via-else-column-pivot_column w ↦ subst (IsRowTo d c.args.pivot_row c.args.pivot_column c.args.row c.in-Some.factor to) (sym w.self-is) (row_gap d e c.args.pivot_row c.args.pivot_column c.args.row (c.loop-column.column + 1) to c.in-Some.factor (row_skip d e c.args.pivot_row c.args.pivot_column c.args.row c.loop-column.column c.in-Some.factor w.if-column-pivot_column.false c.loop-column.invariant) skip)
     ]
 
 pub returns-then-not-reduce-clause-refused : goal.returns-then-not-reduce-clause-refused
 returns-then-not-reduce-clause-refused c =
     let d = c.args.self.now in
-    let high : c.loop-column.column < width d = omega (arith, c.loop-column-test.true, c.width-column-end.ensures.value) in
+    let high : c.loop-column.column < width d = omega (arith, c.loop-column-test.true, c.width-width.ensures.value) in
     let refused = c.if-not-reduce.ensures.refused refl in (
       high,
       λ fits. refused.1 (row_refused d c.loop-column.self c.args.pivot_row c.args.pivot_column c.args.row c.loop-column.column c.in-Some.factor c.requires.pivot_row high c.requires.apart c.if-column-pivot_column.true (factor_is d c.args.pivot_row c.args.pivot_column c.args.row c.in-Some.factor c.cell-old.result c.cell.result c.cell-old.ensures c.cell.ensures c.in-Some.ensures.1) (λ zero. c.if-is_zero.ensures.no refl (c.cell-old.ensures ∙ zero)) refused.0 c.loop-column.invariant fits),
@@ -31,4 +39,4 @@ returns-then-not-reduce-clause-refused c =
 pub returns-clause-updated : goal.returns-clause-updated
 returns-clause-updated c =
     let d = c.args.self.now in
-    row_end d c.loop-column.self c.set.new.self c.args.pivot_row c.args.pivot_column c.args.row c.loop-column.column c.in-Some.factor c.requires.row c.requires.pivot_column (omega (arith, c.loop-column-test.false, c.width-column-end.ensures.value)) (factor_is d c.args.pivot_row c.args.pivot_column c.args.row c.in-Some.factor c.cell-old.result c.cell.result c.cell-old.ensures c.cell.ensures c.in-Some.ensures.1) (subst Fits (sym c.in-Some.ensures.1) c.in-Some.ensures.0.1) c.loop-column.invariant c.set.ensures
+    row_end d c.loop-column.self c.set.new.self c.args.pivot_row c.args.pivot_column c.args.row c.loop-column.column c.in-Some.factor c.requires.row c.requires.pivot_column (omega (arith, c.loop-column-test.false, c.width-width.ensures.value)) (factor_is d c.args.pivot_row c.args.pivot_column c.args.row c.in-Some.factor c.cell-old.result c.cell.result c.cell-old.ensures c.cell.ensures c.in-Some.ensures.1) (subst Fits (sym c.in-Some.ensures.1) c.in-Some.ensures.0.1) c.loop-column.invariant c.set.ensures

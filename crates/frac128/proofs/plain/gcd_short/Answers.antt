@@ -1,6 +1,6 @@
 use Rattle.std.proofs.Common.{arith}
 use Rattle.std.proofs.lemmas.Nat.Gcd.{IsGcd-from_zero, IsGcd-from_mod}
-use Rattle.frac128.proofs.divisor.gcd_short.Goals as goal
+use Rattle.frac128.proofs.plain.gcd_short.Goals as goal
 
 pub loop-y-preserved : goal.loop-y-preserved
 loop-y-preserved c g h = c.loop-y.invariant g (IsGcd-from_mod _ _ g h)

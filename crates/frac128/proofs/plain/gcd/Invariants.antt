@@ -1,6 +1,6 @@
 use Rattle.std.proofs.Common.{ℕ}
 use Rattle.std.specs.Int.{IsGcd}
-use Rattle.frac128.proofs.divisor.gcd_short.Given as goal
+use Rattle.frac128.proofs.plain.gcd.Given as goal
 
 -- the divisor of the pair is that of the numbers
 abbrev pub invariant-loop-y : goal.invariant-loop-y

@@ -1,0 +1,22 @@
+use Rattle.std.proofs.Common.{◌*◌, ◌^◌, arith, rules, subst}
+use Rattle.std.specs.Int.{IsGcd, trailing_zeros, w64}
+use Rattle.std.proofs.lemmas.Nat.Gcd.{IsGcd-swap}
+use Rattle.frac128.proofs.Halves.{halved, odd_part}
+use Rattle.frac128.proofs.divisor.gcd_halved.Goals as goal
+
+pub gcd_odd-requires : goal.gcd_odd-requires
+gcd_odd-requires c = odd_part w64 c.args.a (omega (arith, c.requires.a)) (search rules)
+
+pub gcd_odd-requires-else-twos-others : goal.gcd_odd-requires-else-twos-others
+gcd_odd-requires-else-twos-others c = odd_part w64 c.args.b (omega (arith, c.requires.b)) (search rules)
+
+pub returns-then-twos-others : goal.returns-then-twos-others
+returns-then-twos-others c =
+    let h = halved w64 c.args.a c.args.b c.gcd_odd.result (omega (arith, c.requires.a)) (search rules) (omega (arith, c.requires.b)) (search rules) c.if-twos-others.true c.gcd_odd.ensures in
+    subst (λ z. IsGcd c.args.a c.args.b z) (omega (arith, h.fits)) h.is
+
+pub returns-else-twos-others : goal.returns-else-twos-others
+returns-else-twos-others c =
+    let g = c.gcd_odd-else-twos-others.result in
+    let h = halved w64 c.args.b c.args.a g (omega (arith, c.requires.b)) (search rules) (omega (arith, c.requires.a)) (search rules) (omega (arith, c.if-twos-others.false)) c.gcd_odd-else-twos-others.ensures in
+    subst (λ z. IsGcd c.args.a c.args.b z) (omega (arith, h.fits)) (IsGcd-swap c.args.b c.args.a (g * 2 ^ trailing_zeros w64 c.args.b) h.is)

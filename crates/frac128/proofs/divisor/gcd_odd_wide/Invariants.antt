@@ -1,0 +1,10 @@
+use Rattle.std.proofs.Common.{ℕ, ◌≡◌, ◌+◌, ◌%◌}
+use Rattle.std.specs.Int.{IsGcd}
+use Rattle.frac128.proofs.divisor.gcd_odd_wide.Given as goal
+
+-- the first number is odd, and the divisor of the pair is that of the numbers
+abbrev pub invariant-loop-y : goal.invariant-loop-y
+invariant-loop-y l = (l.x % 2 ≡ 1) × ((g : ℕ) → IsGcd l.x l.y g → IsGcd l.fn.odd l.fn.other g)
+
+abbrev pub decreases-loop-y : goal.decreases-loop-y
+decreases-loop-y l = l.x + l.y

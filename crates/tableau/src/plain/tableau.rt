@@ -1,0 +1,367 @@
+// Dictionaries and their pivots, the constants as column 0 among the cells.
+ghost use Rattle.std.specs.Prelude.{◌≡◌, ◌≢◌, ◌≤◌, ◌<◌, ◌^◌, ℕ, unsigned_abs, false, ◌↔◌, IfErr, IfOk, IfSome, IsNone, IsTrue, OnOk};
+ghost use Rattle.rational.specs.Rational.{whole, neg_ℚ, ◌*ℚ◌, ◌-ℚ◌, ◌≤ℚ◌};
+ghost use Rattle.frac128.specs.Limits.{Fits, divided_ℚ};
+ghost use Rattle.tableau.specs.Program.{zero_ℚ};
+ghost use Rattle.tableau.specs.Dictionary.{IsPivoted, basic_at, cell, height, nonbasic_at, width};
+ghost use Rattle.tableau.specs.Run.{IsCandidate, IsEntering, IsLast, IsLeaving, IsNegative, IsPositive, OtherFits, RatioFits, RowFits, UpdateFits};
+ghost use Rattle.tableau.specs.Steps.{AreExchanged, CellFits, GoesBefore, HasNoneTo, HasSameNames, IsBetter, IsDivided, IsLower, IsRefusedRatio, IsRowUpdated, IsSet, RatiosFitTo, UpdatesFit};
+
+use frac128::{Frac, plain};
+use std::cmp::Ordering;
+use std::marker::Model;
+
+// A dictionary: the numbers of the variables of rows and columns, and the cells row by row. Row 0 is the cost's,
+// and column 0 has the constants.
+#[derive(Debug, Drop)]
+pub struct Tableau {
+    pub(crate) basic: Vec<u32>,
+    pub(crate) nonbasic: Vec<u32>,
+    pub(crate) cells: Vec<Frac>,
+}
+
+impl Model for Tableau {
+    ghost use Rattle.tableau.specs.Dictionary.{Dictionary};
+    ghost use Rattle.tableau.specs.PlainHeld.{IsShapedInside, dictionary_in};
+
+    ghost Value = { Dictionary };
+
+    ghost view = { dictionary_in };
+
+    ghost invariant = { IsShapedInside };
+}
+
+// A whole number.
+pub(crate) fn whole(number: i128) -> Frac
+    requires small { unsigned_abs number < 2 ^ 127 }
+    ensures { result ≡ whole number }
+{
+    Frac::new(number, 1).unwrap()
+}
+
+// The opposite of a number.
+pub(crate) fn opposite(number: Frac) -> Frac
+    ensures { result ≡ zero_ℚ -ℚ number }
+{
+    Frac::new(-number.num(), number.den()).unwrap()
+}
+
+// Whether a number is below 0.
+fn is_negative(number: Frac) -> bool
+    ensures yes { IsTrue result → IsNegative number }
+    ensures no { result ≡ false → zero_ℚ ≤ℚ number }
+{
+    number.num() < 0
+}
+
+// Whether a number is above 0.
+fn is_positive(number: Frac) -> bool
+    ensures yes { IsTrue result → IsPositive number }
+    ensures no { result ≡ false → number ≤ℚ zero_ℚ }
+{
+    number.num() > 0
+}
+
+// Whether a number is 0.
+fn is_zero(number: Frac) -> bool
+    ensures yes { IsTrue result → number ≡ zero_ℚ }
+    ensures no { result ≡ false → number ≢ zero_ℚ }
+{
+    number.num() == 0
+}
+
+impl Tableau {
+    // The number of rows, the cost's among them.
+    pub(crate) fn height(&self) -> usize
+        ensures value { result ≡ height self.now }
+        ensures some { 1 ≤ result }
+    {
+        self.basic.len()
+    }
+
+    // The number of columns, that of the constants among them.
+    pub(crate) fn width(&self) -> usize
+        ensures value { result ≡ width self.now }
+        ensures some { 1 ≤ result }
+    {
+        self.nonbasic.len()
+    }
+
+    // The number of a row's variable.
+    pub(crate) fn basic(&self, row: usize) -> u32
+        requires row { row < height self.now }
+        ensures { result ≡ basic_at self.now row }
+    {
+        self.basic[row]
+    }
+
+    // The number of a column's variable.
+    pub(crate) fn nonbasic(&self, column: usize) -> u32
+        requires column { column < width self.now }
+        ensures { result ≡ nonbasic_at self.now column }
+    {
+        self.nonbasic[column]
+    }
+
+    pub(crate) fn cell(&self, row: usize, column: usize) -> Frac
+        requires row { row < height self.now }
+        requires column { column < width self.now }
+        ensures { result ≡ cell self.now row column }
+    {
+        self.cells[row * self.nonbasic.len() + column]
+    }
+
+    // The value of a row's variable where the nonbasic ones are 0.
+    pub(crate) fn constant(&self, row: usize) -> Frac
+        requires row { row < height self.now }
+        ensures { result ≡ cell self.now row 0 }
+    {
+        self.cells[row * self.nonbasic.len()]
+    }
+
+    pub(crate) fn set(&mut self, row: usize, column: usize, value: Frac)
+        requires row { row < height self.old }
+        requires column { column < width self.old }
+        ensures { IsSet self.old row column value self.new }
+    {
+        let width = self.nonbasic.len();
+        self.cells[row * width + column] = value;
+    }
+
+    // Of a row and the best before it, 0 standing for none, the one of the least-numbered variable of those with
+    // a negative value.
+    fn lower(&self, best: usize, row: usize) -> usize
+        requires best { best < height self.now }
+        requires row { row < height self.now }
+        ensures { IsLower self.now best row result }
+    {
+        if !is_negative(self.constant(row)) {
+            return best;
+        }
+        if best == 0 || self.basic(row) < self.basic(best) {
+            return row;
+        }
+        best
+    }
+
+    // The row of the least-numbered basic variable whose value is negative.
+    pub(crate) fn leaving(&self) -> Option<usize>
+        ensures some { IfSome result (IsLeaving self.now) }
+        ensures none { IsNone result → IsLast self.now }
+    {
+        let mut best = 0;
+        for row in 1..self.height() {
+            best = self.lower(best, row);
+        }
+        if best == 0 { None } else { Some(best) }
+    }
+
+    // Whether a variable has a positive coefficient in a row.
+    pub(crate) fn has_candidate(&self, row: usize) -> bool
+        requires row { row < height self.now }
+        ensures some { IsTrue result → (t : ℕ) × IsCandidate self.now row t }
+        ensures none { result ≡ false → (t : ℕ) → IsCandidate self.now row t → ⊥ }
+    {
+        for column in 1..self.width() {
+            if is_positive(self.cell(row, column)) {
+                return true;
+            }
+        }
+        false
+    }
+
+    // Whether a column goes before the best so far, 0 standing for none: by its ratio, and then by number.
+    fn goes_before(&self, column: usize, ratio: Frac, best: usize, least: Frac) -> bool
+        requires column { column < width self.now }
+        requires best { best < width self.now }
+        ensures { IsTrue result ↔ GoesBefore self.now column ratio best least }
+    {
+        if best == 0 {
+            return true;
+        }
+        match ratio.compare(least) {
+            Ordering::Less => true,
+            Ordering::Equal => self.nonbasic(column) < self.nonbasic(best),
+            Ordering::Greater => false,
+        }
+    }
+
+    // Of a column and the best before it, 0 standing for none, the one that enters, with its ratio; None where the
+    // column's ratio doesn't fit.
+    fn better(&self, row: usize, best: usize, least: Frac, column: usize) -> Option<(usize, Frac)>
+        requires row { row < height self.now }
+        requires best { best < width self.now }
+        requires low { 1 ≤ column }
+        requires column { column < width self.now }
+        ensures some { IfSome result (λ p. IsBetter self.now row best least column p.0 p.1) }
+        ensures high { IfSome result (λ p. p.0 < width self.now) }
+        ensures none { IsNone result → IsRefusedRatio self.now row column }
+    {
+        let coefficient = self.cell(row, column);
+        if !is_positive(coefficient) {
+            return Some((best, least));
+        }
+        let Some(ratio) = plain::div(self.cell(0, column), coefficient) else {
+            return None;
+        };
+        if self.goes_before(column, ratio, best, least) {
+            return Some((column, ratio));
+        }
+        Some((best, least))
+    }
+
+    // The column of least ratio of reduced cost to coefficient among the candidates of a row, by number where
+    // ratios are equal; or the column whose ratio doesn't fit.
+    pub(crate) fn entering(&self, row: usize) -> Result<Option<usize>, usize>
+        requires row { row < height self.now }
+        ensures column { IfOk result (λ found. IfSome found (IsEntering self.now row)) }
+        ensures fit { IfOk result (λ found. RatiosFitTo self.now row (width self.now)) }
+        ensures none { IfOk result (λ found. IsNone found → HasNoneTo self.now row (width self.now)) }
+        ensures refused { IfErr result (IsRefusedRatio self.now row) }
+    {
+        let mut best = 0;
+        let mut least = whole(0);
+        for column in 1..self.width() {
+            match self.better(row, best, least, column) {
+                Some(found) => {
+                    best = found.0;
+                    least = found.1;
+                }
+                None => return Err(column),
+            }
+        }
+        if best == 0 { Ok(None) } else { Ok(Some(best)) }
+    }
+
+    // Takes a multiple of a cell of the pivot row from that of another row, or is false where that doesn't fit.
+    fn reduce(&mut self, pivot_row: usize, row: usize, column: usize, factor: Frac) -> bool
+        requires pivot_row { pivot_row < height self.old }
+        requires row { row < height self.old }
+        requires column { column < width self.old }
+        ensures done { IsTrue result → IsSet self.old row column (cell self.old row column -ℚ factor *ℚ cell self.old pivot_row column) self.new }
+        ensures fits { IsTrue result → CellFits self.old pivot_row row column factor }
+        ensures refused { result ≡ false → (cell self.old pivot_row column ≢ zero_ℚ) × (CellFits self.old pivot_row row column factor → ⊥) }
+        ensures names { HasSameNames self.old self.new }
+    {
+        let source = self.cell(pivot_row, column);
+        if is_zero(source) {
+            return true;
+        }
+        let Some(product) = plain::mul(factor, source) else {
+            return false;
+        };
+        let Some(difference) = plain::sub(self.cell(row, column), product) else {
+            return false;
+        };
+        self.set(row, column, difference);
+        true
+    }
+
+    // Takes a multiple of the pivot row from another row, so that its cell in the pivot column becomes its factor;
+    // or the column whose cell doesn't fit. Cells that stay are passed over.
+    fn update_row(&mut self, pivot_row: usize, pivot_column: usize, row: usize) -> Result<(), usize>
+        requires pivot_row { pivot_row < height self.old }
+        requires pivot_column { pivot_column < width self.old }
+        requires row { row < height self.old }
+        requires apart { row ≢ pivot_row }
+        requires some { cell self.old pivot_row pivot_column ≢ zero_ℚ }
+        ensures updated { OnOk result (IsRowUpdated self.old pivot_row pivot_column row self.new) }
+        ensures refused { IfErr result (λ t. (t < width self.old) × (OtherFits self.old pivot_row pivot_column row t → ⊥)) }
+        ensures names { HasSameNames self.old self.new }
+    {
+        let old = self.cell(row, pivot_column);
+        if is_zero(old) {
+            return Ok(());
+        }
+        let Some(factor) = plain::div(old, self.cell(pivot_row, pivot_column)) else {
+            return Err(pivot_column);
+        };
+        for column in 0..self.width() {
+            if column != pivot_column && !self.reduce(pivot_row, row, column, factor) {
+                return Err(column);
+            }
+        }
+        self.set(row, pivot_column, factor);
+        Ok(())
+    }
+
+    // Multiplies a cell, or is false where that doesn't fit.
+    fn multiply(&mut self, row: usize, column: usize, factor: Frac) -> bool
+        requires row { row < height self.old }
+        requires column { column < width self.old }
+        ensures done { IsTrue result → IsSet self.old row column (cell self.old row column *ℚ factor) self.new }
+        ensures fits { IsTrue result → cell self.old row column ≢ zero_ℚ → Fits (cell self.old row column *ℚ factor) }
+        ensures refused { result ≡ false → (cell self.old row column ≢ zero_ℚ) × (Fits (cell self.old row column *ℚ factor) → ⊥) }
+        ensures names { HasSameNames self.old self.new }
+    {
+        let old = self.cell(row, column);
+        if is_zero(old) {
+            return true;
+        }
+        let Some(product) = plain::mul(old, factor) else {
+            return false;
+        };
+        self.set(row, column, product);
+        true
+    }
+
+    // Solves the pivot row for the entering variable; or the column whose cell doesn't fit.
+    fn divide_row(&mut self, pivot_row: usize, pivot_column: usize) -> Result<(), usize>
+        requires pivot_row { pivot_row < height self.old }
+        requires pivot_column { pivot_column < width self.old }
+        requires some { cell self.old pivot_row pivot_column ≢ zero_ℚ }
+        ensures divided { OnOk result (IsDivided self.old pivot_row pivot_column self.new) }
+        ensures refused { IfErr result (λ t. (t < width self.old) × (RowFits self.old pivot_row pivot_column t → ⊥)) }
+        ensures names { HasSameNames self.old self.new }
+    {
+        let Some(corner) = plain::div(whole(1), self.cell(pivot_row, pivot_column)) else {
+            return Err(pivot_column);
+        };
+        let factor = opposite(corner);
+        for column in 0..self.width() {
+            if column != pivot_column && !self.multiply(pivot_row, column, factor) {
+                return Err(column);
+            }
+        }
+        self.set(pivot_row, pivot_column, corner);
+        Ok(())
+    }
+
+    // Exchanges the variables of a row and a column.
+    fn exchange(&mut self, row: usize, column: usize)
+        requires row { row < height self.old }
+        requires column { column < width self.old }
+        ensures { AreExchanged self.old row column self.new }
+    {
+        let leaving = self.basic[row];
+        self.basic[row] = self.nonbasic[column];
+        self.nonbasic[column] = leaving;
+    }
+
+    // The pivot of a row and a column, or the row and the column of the cell that doesn't fit: the other rows
+    // first, in order, and each by columns.
+    pub(crate) fn pivot(&mut self, row: usize, column: usize) -> Result<(), (usize, usize)>
+        requires row { row < height self.old }
+        requires column { column < width self.old }
+        requires some { cell self.old row column ≢ zero_ℚ }
+        ensures pivoted { OnOk result (IsPivoted self.old row column self.new) }
+        ensures fits { OnOk result (UpdatesFit self.old row column) }
+        ensures refused { IfErr result (λ p. (p.0 < height self.old) × (p.1 < width self.old) × (UpdateFits self.old row column p.0 p.1 → ⊥)) }
+        ensures names { IfErr result (λ p. HasSameNames self.old self.new) }
+    {
+        for other in 0..self.height() {
+            if other != row {
+                match self.update_row(row, column, other) {
+                    Ok(()) => {}
+                    Err(refused) => return Err((other, refused)),
+                }
+            }
+        }
+        match self.divide_row(row, column) {
+            Ok(()) => {}
+            Err(refused) => return Err((row, refused)),
+        }
+        self.exchange(row, column);
+        Ok(())
+    }
+}
