@@ -4,3 +4,4 @@ pub mod Paths
 pub mod Kept
 pub mod Settling
 pub mod Existing
+pub mod Deciding

@@ -1,17 +1,16 @@
 -- Lines and paths of a bill.
-use Rattle.std.proofs.Common.{◌≡◌, ◌≢◌, ◌≤◌, ◌<◌, ◌-◌, ◌∙◌, ◌⊎◌, ⊎_elim, ℕ, zero, suc, sym, ap, arith, List, [], ◌∷◌, length, map, Bool, true, false, slice_index_or}
+use Rattle.std.proofs.Common.{◌≡◌, ◌≢◌, ◌≤◌, ◌<◌, ◌+◌, ◌-◌, ◌∙◌, ◌⊎◌, ⊎_elim, ℕ, zero, suc, sym, ap, arith, List, [], ◌∷◌, length, Bool, true, false, slice_index_or}
 use Rattle.std.specs.Prelude.{if◌then◌else◌, ◌==◌}
 use Rattle.std.specs.List.{All}
 use Rattle.std.proofs.lemmas.List.Sums.{sum_by-cons}
-use Rattle.std.proofs.Common.{Vec, Global}
-use Rattle.std.proofs.Math.ListN.{get_or-map}
-use Rattle.std.proofs.lemmas.List.{get_or_default, length-map}
-use Rattle.std.proofs.lemmas.Bool.{cases_eq, cases_Bool}
+use Rattle.std.proofs.lemmas.Bool.{cases_eq, cases_lt, cases_Bool}
+use Rattle.std.proofs.lemmas.List.{get_or_past}
+use Rattle.lot_sizing.specs.Problem.{entry}
 use Rattle.lot_sizing.specs.Sums.{sum_to}
 use Rattle.lot_sizing.proofs.Sums.{sum_to-le}
 use Rattle.lot_sizing.specs.declared.Need.{Need}
 use Rattle.lot_sizing.specs.Bill.{Bill, GoesIntoOver, GoesInto}
-use Rattle.bill.specs.Lines.{AreLines, IsLine, Names, bill_of_lines, line_at, lines_of, no_need, units_in}
+use Rattle.bill.specs.Lines.{IsLine, Names, bill_of_lines, line_at, lines_of, no_need, units_in}
 use Rattle.bill.specs.Sets.{AllGoInto, AreComponents, HasLinesOf, has, missing}
 
 same_taken : (need : Need) (i : ℕ) → need.item ≡ i → (if need.item == i then need.quantity else 0) ≡ need.quantity
@@ -45,13 +44,13 @@ takes_units items (need ∷ rest) i lines named =
     (cases_eq need.item i)
 
 -- what lines put into a set goes where their item goes
-pub sound_from : (lines : List (List Need)) (k : ℕ) (old new : List Bool) → AreLines lines → 1 ≤ k → k ≤ length lines → has old k ≡ true → ((i : ℕ) → 1 ≤ i → has new i ≡ true → (has old i ≡ true) ⊎ Names (lines_of lines k) i) → (j : ℕ) → AllGoInto (bill_of_lines lines) j old → AllGoInto (bill_of_lines lines) j new
+pub sound_from : (lines : List (List Need)) (k : ℕ) (old new : List Bool) → All (IsLine (length lines)) (lines_of lines k) → 1 ≤ k → k ≤ length lines → has old k ≡ true → ((i : ℕ) → 1 ≤ i → has new i ≡ true → (has old i ≡ true) ⊎ Names (lines_of lines k) i) → (j : ℕ) → AllGoInto (bill_of_lines lines) j old → AllGoInto (bill_of_lines lines) j new
 sound_from lines k old new are low high here only j all i i_low i_high some =
     ⊎_elim
     (λ before. all i i_low i_high before)
     (λ named.
     let path = all k low high here in
-    (suc path.0, (k, low, high, takes_units (length lines) (lines_of lines k) i (are.each k low high) named, path.1)))
+    (suc path.0, (k, low, high, takes_units (length lines) (lines_of lines k) i are named, path.1)))
     (only i i_low some)
 
 -- lines put all that they take into a set
@@ -61,11 +60,11 @@ closed_from lines k new named i low high some =
     sym (ap (has new) found.2) ∙ named found.0 found.1
 
 -- what the lines of an item put into the empty set goes into it
-pub first_from : (lines : List (List Need)) (j : ℕ) (old new : List Bool) → AreLines lines → 1 ≤ j → j ≤ length lines → ((i : ℕ) → has old i ≡ false) → ((i : ℕ) → 1 ≤ i → has new i ≡ true → (has old i ≡ true) ⊎ Names (lines_of lines j) i) → AllGoInto (bill_of_lines lines) j new
-first_from lines j old new are low high none only i i_low i_high some =
+pub first_from : (lines : List (List Need)) (j : ℕ) (old new : List Bool) → All (IsLine (length lines)) (lines_of lines j) → ((i : ℕ) → has old i ≡ false) → ((i : ℕ) → 1 ≤ i → has new i ≡ true → (has old i ≡ true) ⊎ Names (lines_of lines j) i) → AllGoInto (bill_of_lines lines) j new
+first_from lines j old new are none only i i_low i_high some =
     ⊎_elim
     (λ before. cc (before, none i))
-    (λ named. (zero, takes_units (length lines) (lines_of lines j) i (are.each j low high) named))
+    (λ named. (zero, takes_units (length lines) (lines_of lines j) i are named))
     (only i i_low some)
 
 -- a closed set has every item that goes into one
@@ -78,10 +77,6 @@ are_components b j set size sound first closed = record {
   size = size;
   each = λ i low high. (λ some. sound i low high some, λ goes. reached b j set first closed goes.0 i low high goes.1);
 }
-
--- the lines of an item, as they are read
-pub lines_read : (vs : List (Vec Need Global)) (i : ℕ) (v : Vec Need Global) (read : List Need) → 1 ≤ i → i ≤ length vs → v ≡ slice_index_or vs (i - 1) v → read ≡ v.items → read ≡ lines_of (map (λ w. w.items) vs) i
-lines_read vs i v read low high is same = same ∙ ap (λ w. w.items) is ∙ sym (get_or-map (λ w. w.items) vs (i - 1) v) ∙ get_or_default (map (λ w. w.items) vs) (i - 1) v.items [] (omega (arith, length-map vs (λ w. w.items), low, high))
 
 -- a path and one line more
 more_over : (b : Bill) (n x i j : ℕ) → 1 ≤ i → i ≤ b.items → 0 < b.units i j → GoesIntoOver b n x i → GoesIntoOver b (suc n) x j
@@ -121,3 +116,12 @@ fewer_others b i j ours theirs are_ours are_theirs no_cycle low high some =
     (λ no. omega (arith, ap flag no, flag_small (has ours k)))
     (cases_Bool (has theirs k)) in
     omega (arith, sum_less b.items f g i low high strict each, ap (λ n. sum_to n f) are_ours.size, ap (λ n. sum_to n g) are_theirs.size)
+
+-- each entry of a list is small where each of its items' entries is
+pub entries_small : (xs : List ℕ) (most : ℕ) → ((j : ℕ) → 1 ≤ j → j ≤ length xs → entry xs j ≤ most) → (i : ℕ) → entry xs i ≤ most
+entries_small xs most each i =
+    let e : i - 1 ≡ i - 1 + 1 - 1 = omega arith in
+    ⊎_elim
+    (λ less. omega (arith, ap (λ n. slice_index_or xs n 0) e, each (i - 1 + 1) (omega arith) (omega (arith, less))))
+    (λ past. omega (arith, get_or_past xs (i - 1) 0 (omega (arith, past))))
+    (cases_lt (i - 1) (length xs))

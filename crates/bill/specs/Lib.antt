@@ -1,4 +1,5 @@
 pub mod Lines
 pub mod Sets
 pub mod Over
+pub mod Steps
 pub mod Laws

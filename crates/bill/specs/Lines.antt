@@ -2,6 +2,7 @@
 use Rattle.std.specs.Prelude.{◌≡◌, ℕ, ◌-◌, ◌≤◌, ◌<◌, ◌==◌, if◌then◌else◌, List, [], length, slice_index_or}
 use Rattle.std.specs.List.{All, sum_by}
 use Rattle.lot_sizing.specs.declared.Need.{Need}
+use Rattle.lot_sizing.specs.declared.limits.TheConstants.{MAX_BILL_LINES, MAX_ITEMS, MAX_QUANTITY}
 use Rattle.lot_sizing.specs.Bill.{Bill}
 
 abbrev pub no_need : Need
@@ -21,19 +22,19 @@ units_in needs i = sum_by (λ need. if need.item == i then need.quantity else 0)
 abbrev pub bill_of_lines : List (List Need) → Bill
 bill_of_lines lines = record { items = length lines; units = λ i j. units_in (lines_of lines j) i }
 
--- a line names an item and takes at least one unit of it, and at most a million
+-- a line names an item and takes at least one unit of it, and not too many
 pub record IsLine (items : ℕ) (need : Need) : Type 0 where
   pub low : 1 ≤ need.item
   pub high : need.item ≤ items
   pub some : 1 ≤ need.quantity
-  pub few : need.quantity ≤ 1000000
+  pub few : need.quantity ≤ MAX_QUANTITY
 
 -- one of the lines is of this item
 abbrev pub Names : List Need → ℕ → Type 0
 Names needs i = (n : ℕ) × (n < length needs) × ((line_at needs n).item ≡ i)
 
--- at most 40 items with at most 400 lines each
+-- so many items, with so many lines each
 pub record AreLines (lines : List (List Need)) : Type 0 where
-  pub items : length lines ≤ 40
-  pub few : (j : ℕ) → 1 ≤ j → j ≤ length lines → length (lines_of lines j) ≤ 400
+  pub items : length lines ≤ MAX_ITEMS
+  pub few : (j : ℕ) → 1 ≤ j → j ≤ length lines → length (lines_of lines j) ≤ MAX_BILL_LINES
   pub each : (j : ℕ) → 1 ≤ j → j ≤ length lines → All (IsLine (length lines)) (lines_of lines j)

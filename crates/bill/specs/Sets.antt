@@ -1,9 +1,8 @@
 -- Sets of items as lists of truth values.
-use Rattle.std.specs.Prelude.{◌≡◌, ◌↔◌, ℕ, ◌-◌, ◌≤◌, ◌<◌, Bool, true, false, List, length, slice_index_or, [], ⊤, if◌then◌else◌}
+use Rattle.std.specs.Prelude.{◌≡◌, ◌↔◌, ℕ, ◌-◌, ◌≤◌, ◌<◌, Bool, true, false, List, length, slice_index_or, [], if◌then◌else◌}
 use Rattle.lot_sizing.specs.Sums.{sum_to}
 use Rattle.lot_sizing.specs.Bill.{Bill, GoesInto}
-use Rattle.bill.specs.declared.ranking.CycleFault.{CycleFault}
-use Rattle.bill.specs.declared.ranking.CycleFault.TheVariants.{Cycle, Memory}
+use Rattle.lot_sizing.specs.declared.limits.TheConstants.{MAX_ITEMS}
 
 -- the item is in the set
 abbrev pub has : List Bool → ℕ → Bool
@@ -46,12 +45,7 @@ pub record IsFirstOnCycle (b : Bill) (i : ℕ) : Type 0 where
   pub cycle : GoesInto b i i
   pub first : (j : ℕ) → 1 ≤ j → j < i → GoesInto b j j → ⊥
 
--- as many sets as each has places, at most 40
+-- as many sets as each has places
 pub record IsSquare (sets : List (List Bool)) : Type 0 where
-  pub small : length sets ≤ 40
+  pub small : length sets ≤ MAX_ITEMS
   pub each : (j : ℕ) → 1 ≤ j → j ≤ length sets → length (set_of sets j) ≡ length sets
-
--- the fault names the first item on a cycle, unless memory is the cause
-abbrev pub IsCycleFault : Bill → CycleFault → Type 0
-IsCycleFault b (Cycle i) = IsFirstOnCycle b i
-IsCycleFault b Memory = ⊤

@@ -1,16 +1,18 @@
 // Cycles of a bill, and the order of its items.
-ghost use Rattle.std.specs.Prelude.{◌≡◌, ◌≤◌, ◌↔◌, ℕ, length, map, IfErr, IfOk, IsTrue, MatchOption};
+ghost use Rattle.std.specs.Prelude.{◌≡◌, ◌≤◌, ◌↔◌, ℕ, length, IfErr, IfOk, IsTrue, MatchOption};
+ghost use Rattle.lot_sizing.specs.declared.limits.TheConstants.{MAX_ITEMS};
 ghost use Rattle.lot_sizing.specs.Bill.{Bill, GoesInto, HasRanks};
 ghost use Rattle.lot_sizing.specs.Problem.{entry};
-ghost use Rattle.bill.specs.Lines.{AreLines, bill_of_lines};
-ghost use Rattle.bill.specs.Sets.{HasNoCycle, IsCycleFault, IsFirstOnCycle, IsReachOf, IsSquare, has, missing, set_of};
+ghost use Rattle.bill.specs.Lines.{bill_of_lines};
+ghost use Rattle.bill.specs.Sets.{HasNoCycle, IsFirstOnCycle, IsReachOf, IsSquare, has, missing, set_of};
 
+use crate::BillLines;
 use crate::reach::components;
-use lot_sizing::Need;
 use std::alloc::{AllocError, Global};
 use std::marker::Model;
+use thiserror::Error;
 
-/// For each item the items that go into it, over any number of lines.
+// For each item the items that go into it, over any number of lines.
 #[derive(Drop)]
 pub struct Reach {
     sets: Vec<Vec<bool>>,
@@ -29,29 +31,27 @@ impl Model for Reach {
 }
 
 impl Reach {
-    /// The components of each item. It takes time in the number of items times that of the lines for
-    /// each line that a path can have. The error is want of memory.
-    pub fn of(alloc: Global, lines: &[Vec<Need>]) -> Result<Reach, AllocError>
-        requires lines { AreLines (map (λ v. v.items) lines.now) }
-        ensures { IfOk result (λ reach. IsReachOf (bill_of_lines (map (λ v. v.items) lines.now)) reach) }
+    // The components of each item.
+    fn of(alloc: Global, lines: &BillLines) -> Result<Reach, AllocError>
+        ensures { IfOk result (IsReachOf (bill_of_lines lines.now)) }
     {
-        let mut sets = Vec::with_capacity(alloc, lines.len())?;
-        for item in 1..lines.len() as u32 + 1 {
+        let mut sets = Vec::with_capacity(alloc, lines.items() as usize)?;
+        for item in 1..lines.items() + 1 {
             sets.push(components(alloc, lines, item)?)?;
         }
         Ok(Reach { sets })
     }
 
-    /// The number of items.
-    pub fn items(&self) -> u32
+    // The number of items.
+    fn items(&self) -> u32
         ensures value { result ≡ length self.now }
         ensures square { IsSquare self.now }
     {
         self.sets.len() as u32
     }
 
-    /// Whether an item goes into another, over one or more lines.
-    pub fn goes_into(&self, item: u32, other: u32) -> bool
+    // Whether an item goes into another, over one or more lines.
+    fn goes_into(&self, item: u32, other: u32) -> bool
         requires low { 1 ≤ item }
         requires high { item ≤ length self.now }
         requires other_low { 1 ≤ other }
@@ -63,8 +63,8 @@ impl Reach {
         set[(item - 1) as usize]
     }
 
-    /// The first item that is its own component, over one or more lines.
-    pub fn first_on_cycle(&self) -> Option<u32>
+    // The first item that is its own component, over one or more lines.
+    fn first_on_cycle(&self) -> Option<u32>
         ensures { (b : Bill) → IsReachOf b self.now → MatchOption result (HasNoCycle b) (IsFirstOnCycle b) }
     {
         for item in 1..self.items() + 1 {
@@ -91,55 +91,81 @@ impl Reach {
         count
     }
 
-    /// A rank for each item, above that of each item that it goes into, where no item is its own
-    /// component: how many items aren't its components. The error is want of memory.
-    pub fn ranks(&self, alloc: Global) -> Result<Vec<u32>, AllocError>
-        ensures size { IfOk result (λ ranks. length ranks.items ≡ length self.now) }
-        ensures small { IfOk result (λ ranks. (i : ℕ) → entry ranks.items i ≤ length self.now) }
-        ensures ranks { IfOk result (λ ranks. (b : Bill) → IsReachOf b self.now → HasNoCycle b → HasRanks b (entry ranks.items)) }
+    // How many items don't go into each item, in place of the numbers that are given.
+    fn all_others(&self, room: Vec<u32>) -> Vec<u32>
+        requires { length room.items ≡ length self.now }
+        ensures size { length result.items ≡ length self.now }
+        ensures each { (j : ℕ) → 1 ≤ j → j ≤ length self.now → entry result.items j ≡ missing (set_of self.now j) }
+        ensures small { (j : ℕ) → 1 ≤ j → j ≤ length self.now → entry result.items j ≤ length self.now }
     {
-        let mut ranks = Vec::with_capacity(alloc, self.sets.len())?;
+        let mut counts = room;
         for item in 1..self.items() + 1 {
-            ranks.push(self.others(item))?;
+            counts[(item - 1) as usize] = self.others(item);
         }
-        Ok(ranks)
+        counts
     }
 }
 
-/// Why the items of a bill have no ranks.
-#[derive(Clone, Copy, Debug, PartialEq, Eq)]
-pub enum CycleFault {
-    /// The item is its own component, over one or more lines, and no earlier item is.
-    Cycle(u32),
-    /// Memory ran out.
-    Memory,
+/// An item is its own component, over one or more lines, and no earlier item is.
+#[derive(Clone, Copy, Debug, PartialEq, Eq, Error)]
+#[error("item {item} is a component of itself")]
+pub struct CycleFault {
+    pub item: u32,
 }
 
-impl From<AllocError> for CycleFault {
-    ghost use Rattle.std.specs.Prelude.{◌≡◌};
-    ghost use Rattle.bill.specs.declared.ranking.CycleFault.TheVariants.{Memory};
+/// The components of each item over any number of lines, and room for ranks.
+#[derive(Drop)]
+pub struct Ranking {
+    reach: Reach,
+    room: Vec<u32>,
+}
 
-    ghost from_gives = { λ _ e. e ≡ Memory };
+impl Model for Ranking {
+    ghost use Rattle.std.specs.Prelude.{◌≡◌, List, Bool, length};
 
-    fn from(_: AllocError) -> CycleFault {
-        CycleFault::Memory
+    ghost Value = { List (List Bool) };
+
+    ghost view = { λ a. a.reach };
+
+    ghost invariant = { λ a. length a.room.items ≡ length a.reach };
+}
+
+impl Ranking {
+    /// The components of each item. Only this takes memory, and its one error is that there is none.
+    ///
+    /// It takes time in the number of items times that of the lines, for each line that a path can have.
+    pub fn of(alloc: Global, lines: &BillLines) -> Result<Ranking, AllocError>
+        ensures { IfOk result (IsReachOf (bill_of_lines lines.now)) }
+    {
+        let reach = Reach::of(alloc, lines)?;
+        let room = no_ranks(alloc, reach.items())?;
+        Ok(Ranking { reach, room })
+    }
+
+    /// A rank for each item, above that of each item that it goes into: how many items aren't its
+    /// components. Or the first item that is its own component. It takes no memory.
+    pub fn into_ranks(self) -> Result<Vec<u32>, CycleFault>
+        ensures size { IfOk result (λ ranks. length ranks.items ≡ length self) }
+        ensures small { IfOk result (λ ranks. (i : ℕ) → entry ranks.items i ≤ length self) }
+        ensures ranks { (b : Bill) → IsReachOf b self → IfOk result (λ ranks. HasRanks b (entry ranks.items)) }
+        ensures refused { (b : Bill) → IsReachOf b self → IfErr result (λ fault. IsFirstOnCycle b fault.item) }
+    {
+        let Ranking { reach, room } = self;
+        if let Some(item) = reach.first_on_cycle() {
+            return Err(CycleFault { item });
+        }
+        Ok(reach.all_others(room))
     }
 }
 
-/// A rank for each item, above that of each item that it goes into, or the first item that is its own
-/// component.
-///
-/// It takes time in the number of items times that of the lines, for each line that a path can have.
-pub fn ranks_of(alloc: Global, lines: &[Vec<Need>]) -> Result<Vec<u32>, CycleFault>
-    requires lines { AreLines (map (λ v. v.items) lines.now) }
-    ensures size { IfOk result (λ ranks. length ranks.items ≡ length lines.now) }
-    ensures small { IfOk result (λ ranks. (i : ℕ) → entry ranks.items i ≤ length lines.now) }
-    ensures ranks { IfOk result (λ ranks. HasRanks (bill_of_lines (map (λ v. v.items) lines.now)) (entry ranks.items)) }
-    ensures refused { IfErr result (IsCycleFault (bill_of_lines (map (λ v. v.items) lines.now))) }
+// Room for so many ranks.
+fn no_ranks(alloc: Global, items: u32) -> Result<Vec<u32>, AllocError>
+    requires { items ≤ MAX_ITEMS }
+    ensures { IfOk result (λ room. length room.items ≡ items) }
 {
-    let reach = Reach::of(alloc, lines)?;
-    match reach.first_on_cycle() {
-        Some(item) => Err(CycleFault::Cycle(item)),
-        None => Ok(reach.ranks(alloc)?),
+    let mut room = Vec::with_capacity(alloc, items as usize)?;
+    for _ in 0..items {
+        room.push(0u32)?;
     }
+    Ok(room)
 }

@@ -1,20 +1,13 @@
 -- Lines are the bytes between line feeds.
-use Rattle.std.proofs.Common.{◌≡◌, ◌≢◌, ◌≤◌, ◌<◌, ◌+◌, ◌∙◌, ℕ, refl, sym, ap, subst, arith, List, [], ◌∷◌, ◌++◌, length, slice_index_or, take, Bool, false}
+use Rattle.std.proofs.Common.{◌≡◌, ◌≢◌, ◌≤◌, ◌<◌, ◌+◌, ◌∙◌, ℕ, refl, sym, ap, subst, List, [], ◌∷◌, ◌++◌, length, slice_index_or, take, Bool, false}
 use Rattle.std.specs.Bool.{◌==◌}
 use Rattle.std.proofs.lemmas.List.{take_all, take_more}
-use Rattle.certificate.specs.declared.line.CertLine.{CertLine}
-use Rattle.certificate.specs.Text.{Lines, line_text}
-use Rattle.certificate.specs.Line.{IsLine, later_line}
-use Rattle.certificate.specs.Words.{words_text}
+use Rattle.cert_lines.specs.Shapes.{LineShape}
+use Rattle.cert_lines.specs.Text.{HasNoFeed, line_text}
+use Rattle.cert_lines.specs.Line.{IsLine, later_line}
 use Rattle.certificate.specs.Needs.{StartsWith}
-use Rattle.certificate.specs.Rest.{HasNoFeed}
-use Rattle.certificate.proofs.Splits.{tail}
-use Rattle.certificate.proofs.Stands.{AreVisible, IsVisible}
-use Rattle.certificate.proofs.Spelled.{spelled, visible, words_of}
-
-pub feed_append : (xs ys : List ℕ) → HasNoFeed xs → HasNoFeed ys → HasNoFeed (xs ++ ys)
-feed_append [] ys a b = b
-feed_append (x ∷ xs) ys a b = (a.0, feed_append xs ys a.1 b)
+use Rattle.cert_lines.proofs.Splits.{tail}
+use Rattle.cert_lines.proofs.Feeds.{feed_append, line_plain}
 
 -- one more byte
 pub feed_more : (t : List ℕ) (k : ℕ) → k < length t → slice_index_or t k 0 ≢ 10 → HasNoFeed (take k t) → HasNoFeed (take (k + 1) t)
@@ -22,22 +15,6 @@ feed_more t k less other h = subst HasNoFeed (sym (take_more t k 0 less)) (feed_
 
 pub feed_all : (t : List ℕ) (k : ℕ) → length t ≤ k → HasNoFeed (take k t) → HasNoFeed t
 feed_all t k past h = subst HasNoFeed (take_all k t past) h
-
--- a line has no line feed in it
-pub visible_plain : (w rest : List ℕ) → IsVisible w → HasNoFeed rest → HasNoFeed (w ++ rest)
-visible_plain [] rest a h = h
-visible_plain (b ∷ w) rest a h = (λ e. omega (arith, a.0, e), visible_plain w rest a.1 h)
-
-words_plain : (ws : Lines) → AreVisible ws → HasNoFeed (words_text ws)
-words_plain [] a = tt
-words_plain (w ∷ ws) a = (λ e. omega (arith, e), visible_plain w (words_text ws) a.0 (words_plain ws a.1))
-
-tail_plain : (t : List ℕ) → HasNoFeed t → HasNoFeed (tail t)
-tail_plain [] h = tt
-tail_plain (b ∷ t) h = h.1
-
-pub line_plain : (l : CertLine) → IsLine (later_line l) l → HasNoFeed (later_line l)
-line_plain l is = tail_plain (32 ∷ later_line l) (subst HasNoFeed (spelled l is.small) (words_plain (words_of l) (visible l is.small)))
 
 -- the first line of a text is one
 abbrev head : List ℕ → ℕ
@@ -59,14 +36,14 @@ no_line [] (y ∷ b) ys h k e = cc e
 no_line (x ∷ a) [] ys h k e = h.0 (ap head e)
 no_line (x ∷ a) (y ∷ b) ys h k e = no_line a b ys h.1 k.1 (ap tail e)
 
-pub no_start : (text : List ℕ) (l : CertLine) → HasNoFeed text → StartsWith text l → ⊥
-no_start text l plain s = no_line text (later_line l) s.rest plain (line_plain l s.line) s.text
+pub no_start : {version : ℕ} (text : List ℕ) (l : LineShape) → HasNoFeed text → StartsWith version text l → ⊥
+no_start {version = version} text l plain s = no_line text (later_line l) s.rest plain (line_plain l s.line.form) s.text
 
 -- a line without a form
-pub no_form : (text line rest : List ℕ) (l : CertLine) → text ≡ line_text line ++ rest → HasNoFeed line → (IsLine line l → ⊥) → StartsWith text l → ⊥
-no_form text line rest l is plain none s =
-    let (same, after) = same_line line (later_line l) rest s.rest plain (line_plain l s.line) (sym is ∙ s.text) in
-    none (subst (λ b. IsLine b l) (sym same) s.line)
+pub no_form : {version : ℕ} (text line rest : List ℕ) (l : LineShape) → text ≡ line_text line ++ rest → HasNoFeed line → (IsLine version line l → ⊥) → StartsWith version text l → ⊥
+no_form {version = version} text line rest l is plain none s =
+    let (same, after) = same_line line (later_line l) rest s.rest plain (line_plain l s.line.form) (sym is ∙ s.text) in
+    none (subst (λ b. IsLine version b l) (sym same) s.line)
 
 pub some_text : (text : List ℕ) (is : Bool) → is ≡ (length text == 0) → is ≡ false → text ≢ []
 some_text text is e some none = cc (sym some ∙ e ∙ ap (λ t. length t == 0) none)

@@ -1,31 +1,12 @@
--- The first three lines of a text.
-use Rattle.std.proofs.Common.{◌≡◌, ◌<◌, ◌^◌, ◌∙◌, ℕ, refl, rules, sym, ap, subst, arith, List, [], ◌∷◌, ◌++◌, append_assoc, append-nil, codes, decimal}
-use Rattle.lin_rows.specs.Texts.{one_text}
-use Rattle.certificate.specs.declared.tree.Claim.{Claim}
-use Rattle.certificate.specs.declared.tree.Claim.TheVariants as claim
-use Rattle.certificate.specs.declared.head.HeadLine.{HeadLine}
-use Rattle.certificate.specs.declared.head.HeadLine.TheVariants as head
-use Rattle.certificate.specs.Text.{claim_line, line_text}
-use Rattle.certificate.specs.Limits.{IsSmallClaim}
-use Rattle.certificate.specs.Head.{IsHead, head_line}
-use Rattle.certificate.specs.Faults.{IsHeadFault, StartsWithHead, head_text}
-use Rattle.certificate.specs.Rest.{HasNoFeed}
-use Rattle.certificate.proofs.Feeds.{feed_append, no_line, same_line, visible_plain}
-use Rattle.certificate.proofs.Stands.{decimal_visible}
-
-number_plain : (n : ℕ) → n < 10 ^ 64 → HasNoFeed (one_text n)
-number_plain n small = (λ e. omega (arith, e), subst HasNoFeed (append-nil (decimal n)) (visible_plain (decimal n) [] (decimal_visible n small) tt))
-
-claim_plain : (c : Claim) → IsSmallClaim c → HasNoFeed (claim_line c)
-claim_plain (claim.Optimal cost) small = feed_append (codes "claim optimal") (one_text cost) (search rules) (number_plain cost (omega (arith, small)))
-claim_plain claim.Infeasible small = search rules
-claim_plain (claim.Bound bound) small = feed_append (codes "claim bound") (one_text bound) (search rules) (number_plain bound (omega (arith, small)))
-
--- a line has no line feed in it
-pub head_plain : (n : ℕ) (h : HeadLine) → IsHead n (head_line h) h → HasNoFeed (head_line h)
-head_plain n head.Mark is = search rules
-head_plain n (head.Claim c) is = claim_plain c is.small
-head_plain n (head.Cuts count) is = feed_append (codes "cuts") (one_text count) (search rules) (number_plain count (omega (arith, is.small)))
+-- Why one of the first three lines is wrong.
+use Rattle.std.proofs.Common.{◌≡◌, ◌∙◌, ℕ, refl, sym, ap, subst, arith, List, [], ◌∷◌, ◌++◌, append_assoc, append-nil}
+use Rattle.cert_lines.specs.declared.head.HeadLine.{HeadLine}
+use Rattle.cert_lines.specs.Text.{HasNoFeed, line_text}
+use Rattle.cert_lines.specs.Head.{IsHead, head_line}
+use Rattle.certificate.specs.Text.{head_text}
+use Rattle.certificate.specs.Faults.{IsHeadFault, StartsWithHead}
+use Rattle.certificate.proofs.Feeds.{no_line, same_line}
+use Rattle.cert_lines.proofs.Heads.{head_plain}
 
 pub no_head : (n : ℕ) (text : List ℕ) (h : HeadLine) → HasNoFeed text → StartsWithHead n text h → ⊥
 no_head n text h plain s = no_line text (head_line h) s.rest plain (head_plain n h s.line) s.text

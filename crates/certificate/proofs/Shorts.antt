@@ -1,58 +1,58 @@
--- Lines that are short enough, put together.
-use Rattle.std.proofs.Common.{◌≡◌, ◌≤◌, ℕ, zero, suc, refl, sym, ap, subst, arith, Bool, true, false, codes, List, [], ◌∷◌, ◌++◌, length}
+-- Values that have lines, put together.
+use Rattle.std.proofs.Common.{◌≡◌, ◌≤◌, ℕ, zero, suc, refl, sym, subst, arith, List, [], ◌∷◌, ◌++◌}
+use Rattle.std.specs.Prelude.{map}
 use Rattle.std.specs.List.{All}
-use Rattle.certificate.specs.declared.tree.Part.{Part}
-use Rattle.certificate.specs.declared.tree.Cut.{Cut}
-use Rattle.certificate.specs.Text.{Lines, all_cut_lines, bits_text, cut_lines, part_line, part_lines}
-use Rattle.certificate.specs.Limits.{AreShort}
+use Rattle.cert_lines.specs.declared.parts.Part.{Part}
+use Rattle.cert_lines.specs.declared.parts.Cut.{Cut}
+use Rattle.cert_lines.specs.Shapes.{BlockCut, CutShape, EndLine, FarkasLeaf, LeafShape, LineShape, LinearLeaf, LsCut, PartLine, PointLeaf, PriceCut, RoundCut, cut_first, cut_shape, leaf_first}
+use Rattle.cert_lines.specs.Line.{HasForm, HasLine}
+use Rattle.certificate.specs.Values.{AreLines, Values, all_cut_values, cut_values, part_values}
 
-pub short_append : (xs ys : Lines) → AreShort xs → AreShort ys → AreShort (xs ++ ys)
-short_append [] ys a b = b
-short_append (x ∷ xs) ys a b = (a.0, short_append xs ys a.1 b)
+pub lines_join : (version : ℕ) (xs ys : Values) → AreLines version xs → AreLines version ys → AreLines version (xs ++ ys)
+lines_join version [] ys a b = b
+lines_join version (x ∷ xs) ys a b = (a.0, lines_join version xs ys a.1 b)
 
-pub short_first : (xs ys : Lines) → AreShort (xs ++ ys) → AreShort xs
-short_first [] ys a = tt
-short_first (x ∷ xs) ys a = (a.0, short_first xs ys a.1)
+pub lines_split : (version : ℕ) (xs ys : Values) → AreLines version (xs ++ ys) → AreLines version xs × AreLines version ys
+lines_split version [] ys a = (tt, a)
+lines_split version (x ∷ xs) ys a = let (low, high) = lines_split version xs ys a.1 in ((a.0, low), high)
 
-pub short_second : (xs ys : Lines) → AreShort (xs ++ ys) → AreShort ys
-short_second [] ys a = a
-short_second (x ∷ xs) ys a = short_second xs ys a.1
+pub end_line : {version : ℕ} → HasLine version EndLine
+end_line = record { text = refl; form = record { small = tt; short = omega arith }; known = tt }
 
-pub parts_short : (ps : List Part) → All (λ p. length (part_line p) ≤ 16384) ps → AreShort (part_lines ps)
-parts_short [] h = tt
-parts_short (p ∷ ps) h = (h zero p (omega arith), parts_short ps (λ k d less. h (suc k) d (omega (arith, less))))
+-- parts and cuts, one by one or as a list
+pub parts_join : {version : ℕ} (ps : List Part) → All (λ p. HasLine version (PartLine p)) ps → AreLines version (part_values ps)
+parts_join {version = version} [] h = tt
+parts_join {version = version} (p ∷ ps) h = (h zero p (omega arith), parts_join {version = version} ps (λ k d less. h (suc k) d (omega (arith, less))))
 
-pub short_parts : (ps : List Part) → AreShort (part_lines ps) → All (λ p. length (part_line p) ≤ 16384) ps
-short_parts [] h k d less = absurd (omega (arith, less))
-short_parts (p ∷ ps) h zero d less = h.0
-short_parts (p ∷ ps) h (suc k) d less = short_parts ps h.1 k d (omega (arith, less))
+pub parts_split : {version : ℕ} (ps : List Part) → AreLines version (part_values ps) → All (λ p. HasLine version (PartLine p)) ps
+parts_split {version = version} [] h k d less = absurd (omega (arith, less))
+parts_split {version = version} (p ∷ ps) h zero d less = h.0
+parts_split {version = version} (p ∷ ps) h (suc k) d less = parts_split {version = version} ps h.1 k d (omega (arith, less))
 
-pub cuts_short : (cs : List Cut) → All (λ c. AreShort (cut_lines c)) cs → AreShort (all_cut_lines cs)
-cuts_short [] h = tt
-cuts_short (c ∷ cs) h = short_append (cut_lines c) (all_cut_lines cs) (h zero c (omega arith)) (cuts_short cs (λ k d less. h (suc k) d (omega (arith, less))))
+pub cuts_join : {version : ℕ} (cs : List Cut) → All (λ c. AreLines version (cut_values (cut_shape c))) cs → AreLines version (all_cut_values (map cut_shape cs))
+cuts_join {version = version} [] h = tt
+cuts_join {version = version} (c ∷ cs) h = lines_join version (cut_values (cut_shape c)) (all_cut_values (map cut_shape cs)) (h zero c (omega arith)) (cuts_join {version = version} cs (λ k d less. h (suc k) d (omega (arith, less))))
 
-pub short_cuts : (cs : List Cut) → AreShort (all_cut_lines cs) → All (λ c. AreShort (cut_lines c)) cs
-short_cuts [] h k d less = absurd (omega (arith, less))
-short_cuts (c ∷ cs) h zero d less = short_first (cut_lines c) (all_cut_lines cs) h
-short_cuts (c ∷ cs) h (suc k) d less = short_cuts cs (short_second (cut_lines c) (all_cut_lines cs) h) k d (omega (arith, less))
-
-pub bits_length : (bs : List Bool) → length (bits_text bs) ≡ length bs
-bits_length [] = refl
-bits_length (true ∷ bs) = ap suc (bits_length bs)
-bits_length (false ∷ bs) = ap suc (bits_length bs)
+pub cuts_split : {version : ℕ} (cs : List Cut) → AreLines version (all_cut_values (map cut_shape cs)) → All (λ c. AreLines version (cut_values (cut_shape c))) cs
+cuts_split {version = version} [] h k d less = absurd (omega (arith, less))
+cuts_split {version = version} (c ∷ cs) h zero d less = (lines_split version (cut_values (cut_shape c)) (all_cut_values (map cut_shape cs)) h).0
+cuts_split {version = version} (c ∷ cs) h (suc k) d less = cuts_split {version = version} cs (lines_split version (cut_values (cut_shape c)) (all_cut_values (map cut_shape cs)) h).1 k d (omega (arith, less))
 
 -- the lines of a branch
-pub short_split : (lines : Lines) (line : List ℕ) (low high : Lines) → lines ≡ line ∷ (low ++ high) → AreShort lines → (length line ≤ 16384) × AreShort low × AreShort high
-short_split lines line low high is short = let s = subst AreShort is short in (s.0, short_first low high s.1, short_second low high s.1)
+pub branch_split : {version : ℕ} (lines : Values) (l : LineShape) (low high : Values) → lines ≡ l ∷ (low ++ high) → AreLines version lines → HasLine version l × AreLines version low × AreLines version high
+branch_split {version = version} lines l low high is are = let s = subst (AreLines version) is are in let (a, b) = lines_split version low high s.1 in (s.0, a, b)
 
-pub short_join : (lines : Lines) (line : List ℕ) (low high : Lines) → lines ≡ line ∷ (low ++ high) → length line ≤ 16384 → AreShort low → AreShort high → AreShort lines
-short_join lines line low high is line_short low_short high_short = subst AreShort (sym is) (line_short, short_append low high low_short high_short)
+pub branch_join : {version : ℕ} (lines : Values) (l : LineShape) (low high : Values) → lines ≡ l ∷ (low ++ high) → HasLine version l → AreLines version low → AreLines version high → AreLines version lines
+branch_join {version = version} lines l low high is first a b = subst (AreLines version) (sym is) (first, lines_join version low high a b)
 
--- the lines of a certificate
-pub certificate_short : (claim count : List ℕ) (cuts tree : Lines) → (length claim ≤ 16384) × (length count ≤ 16384) → AreShort cuts → AreShort tree → AreShort (codes "lotcert 1" ∷ (claim ∷ (count ∷ (cuts ++ (tree ++ codes "end" ∷ [])))))
-certificate_short claim count cuts tree head cuts_are tree_is = (omega arith, (head.0, (head.1, short_append cuts (tree ++ codes "end" ∷ []) cuts_are (short_append tree (codes "end" ∷ []) tree_is (omega arith, tt)))))
+-- the first line of a cut or a leaf is known to each version
+pub cut_line : {version : ℕ} (c : CutShape) → HasForm (cut_first c) → HasLine version (cut_first c)
+cut_line (LsCut item last chosen) form = record { text = refl; form = form; known = tt }
+cut_line (PriceCut item lists) form = record { text = refl; form = form; known = tt }
+cut_line (BlockCut item lists) form = record { text = refl; form = form; known = tt }
+cut_line (RoundCut divisor parts) form = record { text = refl; form = form; known = tt }
 
-pub short_certificate : (claim count : List ℕ) (cuts tree : Lines) → AreShort (codes "lotcert 1" ∷ (claim ∷ (count ∷ (cuts ++ (tree ++ codes "end" ∷ []))))) → ((length claim ≤ 16384) × (length count ≤ 16384)) × AreShort cuts × AreShort tree
-short_certificate claim count cuts tree short =
-    let rest = short.1.1.1 in
-    ((short.1.0, short.1.1.0), short_first cuts (tree ++ codes "end" ∷ []) rest, short_first tree (codes "end" ∷ []) (short_second cuts (tree ++ codes "end" ∷ []) rest))
+pub leaf_line : {version : ℕ} (l : LeafShape) → HasForm (leaf_first l) → HasLine version (leaf_first l)
+leaf_line (LinearLeaf den parts) form = record { text = refl; form = form; known = tt }
+leaf_line (FarkasLeaf parts) form = record { text = refl; form = form; known = tt }
+leaf_line PointLeaf form = record { text = refl; form = form; known = tt }

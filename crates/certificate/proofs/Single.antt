@@ -1,172 +1,128 @@
 -- A text has one certificate or one fault.
-use Rattle.std.proofs.Common.{◌≡◌, ◌≢◌, ◌≤◌, ◌<◌, ◌+◌, ◌∙◌, ◌⊎◌, ⊎_elim, ℕ, refl, rules, sym, ap, subst, arith, inl, inr, List, [], ◌∷◌, ◌++◌, append_assoc, append-nil, codes, length}
-use Rattle.std.specs.Prelude.{Option, None, Some, replicate, ⊤}
+use Rattle.std.proofs.Common.{◌≡◌, ◌≢◌, ◌≤◌, ◌<◌, ◌+◌, ◌∙◌, ◌⊎◌, ⊎_elim, ℕ, refl, rules, sym, ap, subst, arith, inl, inr, List, [], ◌∷◌, ◌++◌, append_assoc, append-nil, length}
+use Rattle.std.specs.Prelude.{Option, None, Some, ⊤}
 use Rattle.std.proofs.lemmas.Bool.{cases_lt}
-use Rattle.lin_rows.specs.Texts.{one_text}
-use Rattle.certificate.specs.declared.tree.Claim.{Claim}
-use Rattle.certificate.specs.declared.tree.Claim.TheVariants as claim
-use Rattle.certificate.specs.declared.tree.Part.{Part}
-use Rattle.certificate.specs.declared.tree.Cut.{Cut}
-use Rattle.certificate.specs.declared.tree.Cut.TheVariants as cut
-use Rattle.certificate.specs.declared.tree.Leaf.{Leaf}
-use Rattle.certificate.specs.declared.tree.Leaf.TheVariants as leaf
-use Rattle.certificate.specs.declared.tree.Tree.{Tree}
-use Rattle.certificate.specs.declared.tree.Tree.TheVariants.{Branch', Leaf as LeafOf}
-use Rattle.certificate.specs.declared.tree.Certificate.{Certificate}
 use Rattle.lin_rows.specs.declared.column.Column.{Column}
-use Rattle.certificate.specs.declared.head.HeadLine.{HeadLine}
-use Rattle.certificate.specs.declared.head.HeadLine.TheVariants as head
-use Rattle.certificate.specs.declared.line.CertLine.{CertLine}
-use Rattle.certificate.specs.declared.line.CertLine.TheVariants as line
+use Rattle.cert_lines.specs.declared.parts.Claim.{Claim}
+use Rattle.cert_lines.specs.declared.parts.Part.{Part}
+use Rattle.cert_lines.specs.declared.head.HeadLine.{HeadLine}
+use Rattle.cert_lines.specs.declared.head.HeadLine.TheVariants as head
 use Rattle.certificate.specs.declared.fault.CertTextFault.{CertTextFault}
 use Rattle.certificate.specs.declared.fault.CertTextFault.TheVariants as fault
-use Rattle.certificate.specs.Text.{certificate_text, claim_line, count_line}
-use Rattle.certificate.specs.Limits.{IsSmallClaim}
-use Rattle.certificate.specs.Line.{IsLine, later_line}
-use Rattle.certificate.specs.Head.{IsHead, head_line}
+use Rattle.cert_lines.specs.Shapes.{BlockCut, BranchLine, CutShape, EndLine, FarkasLeaf, LeafShape, LineShape, LinearLeaf, LsCut, PointLeaf, PriceCut, RoundCut}
+use Rattle.cert_lines.specs.Text.{claim_line, count_line}
+use Rattle.cert_lines.specs.Line.{HasLine, IsLine, later_line}
+use Rattle.cert_lines.specs.Head.{IsHead, head_line}
+use Rattle.certificate.specs.Shapes.{End, Shape, Split, TreeShape}
+use Rattle.certificate.specs.Text.{head_text, head_values, heads_text}
+use Rattle.certificate.specs.Limits.{IsTextOf}
 use Rattle.certificate.specs.Values.{AreLines, Values, all_cut_values, body_values, cut_values, leaf_values, part_values, tree_values, value_text, values_text}
-use Rattle.certificate.specs.Needs.{IsDeep, IsMisshapen, IsStop, IsTooDeep, Need, Runs, StartsWith, Takes, a_cut, a_part, a_tree, after, the_end}
-use Rattle.certificate.specs.Faults.{AreHeads, IsBodyFault, IsCertTextFault, IsHeadFault, StartsWithHead, body_needs, head_text, head_values, heads_text}
-use Rattle.certificate.specs.Laws.{AreSameCuts, IsSameCertificate, IsSameCut, IsSameLeaf, IsSameLine, IsSameTree, IsTextOf, MeansOneThing}
-use Rattle.certificate.proofs.Alike.{one_value}
-use Rattle.certificate.proofs.Feeds.{line_plain, no_line, same_line}
-use Rattle.certificate.proofs.Heads.{head_plain}
-use Rattle.certificate.proofs.Needed.{cuts_run, runs_join, tree_run, values_append}
-use Rattle.certificate.proofs.Numerals.{same_rest}
-use Rattle.certificate.proofs.Splits.{same_number, tail}
-use Rattle.certificate.proofs.Wholes.{whole_text}
+use Rattle.certificate.specs.Needs.{IsDeep, IsMisshapen, IsStop, IsTooDeep, Need, Runs, StartsWith, Takes, a_tree, after, the_end}
+use Rattle.certificate.specs.Faults.{AreHeads, IsBodyFault, IsCertTextFault, IsHeadFault, StartsWithHead, body_needs}
+use Rattle.certificate.specs.Laws.{MeansOneThing}
+use Rattle.cert_lines.proofs.Alike.{one_value}
+use Rattle.cert_lines.proofs.Feeds.{line_plain}
+use Rattle.cert_lines.proofs.Heads.{head_plain, same_claim, same_count, same_version}
+use Rattle.certificate.proofs.Feeds.{no_line, same_line}
+use Rattle.certificate.proofs.Needed.{cuts_run, runs_join, tree_run}
 
 -- ---- lines of one text
-abbrev AreSameLines : Values → Values → Type 0
-AreSameLines [] [] = ⊤
-AreSameLines (l ∷ ls) (m ∷ ms) = IsSameLine l m × AreSameLines ls ms
-AreSameLines _ _ = ⊥
-
 -- two first lines of one text
-first_same : (l m : CertLine) (xs ys : List ℕ) → IsLine (later_line l) l → IsLine (later_line m) m → value_text l ++ xs ≡ value_text m ++ ys → IsSameLine l m × (xs ≡ ys)
-first_same l m xs ys a b e =
-    let (same, rest) = same_line (later_line l) (later_line m) xs ys (line_plain l a) (line_plain m b) e in
-    (one_value (later_line l) l m a (subst (λ t. IsLine t m) (sym same) b), rest)
+first_same : {version : ℕ} (l m : LineShape) (xs ys : List ℕ) → HasLine version l → HasLine version m → value_text l ++ xs ≡ value_text m ++ ys → (l ≡ m) × (xs ≡ ys)
+first_same {version = version} l m xs ys a b e =
+    let (same, rest) = same_line (later_line l) (later_line m) xs ys (line_plain l a.form) (line_plain m b.form) e in
+    (one_value version (later_line l) l m a (subst (λ t. IsLine version t m) (sym same) b), rest)
 
-no_first : (text : List ℕ) (l : CertLine) → text ≡ [] → StartsWith text l → ⊥
-no_first text l none s = no_line [] (later_line l) s.rest tt (line_plain l s.line) (sym none ∙ s.text)
+no_first : {version : ℕ} (text : List ℕ) (l : LineShape) → text ≡ [] → StartsWith version text l → ⊥
+no_first {version = version} text l none s = no_line [] (later_line l) s.rest tt (line_plain l s.line.form) (sym none ∙ s.text)
 
-start_same : (text : List ℕ) (l m : CertLine) → StartsWith text l → StartsWith text m → IsSameLine l m
-start_same text l m a b = (first_same l m a.rest b.rest a.line b.line (sym a.text ∙ b.text)).0
+start_same : {version : ℕ} (text : List ℕ) (l m : LineShape) → StartsWith version text l → StartsWith version text m → l ≡ m
+start_same {version = version} text l m a b = (first_same l m a.rest b.rest a.line b.line (sym a.text ∙ b.text)).0
 
-values_same : (xs ys : Values) → AreLines xs → AreLines ys → values_text xs ≡ values_text ys → AreSameLines xs ys
-values_same [] [] a b e = tt
-values_same [] (y ∷ ys) a b e = absurd (no_first [] y refl (record { rest = values_text ys; text = e; line = b.0 }))
-values_same (x ∷ xs) [] a b e = absurd (no_first [] x refl (record { rest = values_text xs; text = sym e; line = a.0 }))
-values_same (x ∷ xs) (y ∷ ys) a b e =
+values_same : (version : ℕ) (xs ys : Values) → AreLines version xs → AreLines version ys → values_text xs ≡ values_text ys → xs ≡ ys
+values_same version [] [] a b e = refl
+values_same version [] (y ∷ ys) a b e = absurd (no_first [] y refl (record { rest = values_text ys; text = e; line = b.0 }))
+values_same version (x ∷ xs) [] a b e = absurd (no_first [] x refl (record { rest = values_text xs; text = sym e; line = a.0 }))
+values_same version (x ∷ xs) (y ∷ ys) a b e =
     let (first, rest) = first_same x y (values_text xs) (values_text ys) a.0 b.0 e in
-    (first, values_same xs ys a.1 b.1 rest)
+    ap (λ z. z ∷ xs) first ∙ ap (λ zs. y ∷ zs) (values_same version xs ys a.1 b.1 rest)
 
--- ---- what lines of one value meet
-takes_same : (need : Need) (l m : CertLine) → IsSameLine l m → Takes need l → Takes need m
-takes_same a_part (line.Part p) (line.Part q) s t = tt
-takes_same a_cut (line.Cut c) (line.Cut d) s t = tt
-takes_same a_cut (line.Round divisor parts) (line.Round q n) s t = tt
-takes_same (a_tree above) (line.Branch column at) (line.Branch other less) s t = tt
-takes_same (a_tree above) (line.Linear den parts) (line.Linear q n) s t = tt
-takes_same (a_tree above) (line.Farkas parts) (line.Farkas n) s t = tt
-takes_same (a_tree above) line.Point line.Point s t = tt
-takes_same the_end line.End line.End s t = tt
-takes_same _ _ _ s t = search rules
-
-deep_same : (need : Need) (l m : CertLine) → IsSameLine l m → IsDeep need l → IsDeep need m
-deep_same (a_tree above) (line.Branch column at) (line.Branch other less) s d = d
-deep_same _ _ _ s d = search rules
-
-deep_takes : (need : Need) (l : CertLine) → IsDeep need l → Takes need l
-deep_takes (a_tree above) (line.Branch column at) d = tt
+-- a branch that is too deep is a branch
+deep_takes : (need : Need) (l : LineShape) → IsDeep need l → Takes need l
+deep_takes (a_tree above) (BranchLine column at) d = tt
 deep_takes _ _ d = search rules
 
-after_same : (need : Need) (l m : CertLine) → IsSameLine l m → after need l ≡ after need m
-after_same need (line.Round divisor parts) (line.Round q n) s = ap (λ k. replicate k a_part) s.1
-after_same need (line.Linear den parts) (line.Linear q n) s = ap (λ k. replicate k a_part) s.1
-after_same need (line.Farkas parts) (line.Farkas n) s = ap (λ k. replicate k a_part) s
-after_same need (line.Cut c) (line.Cut d) s = refl
-after_same need (line.Part p) (line.Part q) s = refl
-after_same (a_tree above) (line.Branch column at) (line.Branch other less) s = refl
-after_same a_part (line.Branch column at) (line.Branch other less) s = refl
-after_same a_cut (line.Branch column at) (line.Branch other less) s = refl
-after_same the_end (line.Branch column at) (line.Branch other less) s = refl
-after_same need line.Point line.Point s = refl
-after_same need line.End line.End s = refl
-after_same need _ _ s = search rules
-
 -- ---- where the reading ends: with nothing left, or at a fault that isn't memory's
-abbrev IsEnd : List Need → List ℕ → ℕ → Option CertTextFault → Type 0
-IsEnd left rest n None = (left ≡ []) × (rest ≡ [])
-IsEnd left rest n (Some f) = IsStop left rest n f × (f ≢ fault.Memory)
+abbrev IsEnd : ℕ → List Need → List ℕ → ℕ → Option CertTextFault → Type 0
+IsEnd version left rest n None = (left ≡ []) × (rest ≡ [])
+IsEnd version left rest n (Some f) = IsStop version left rest n f × (f ≢ fault.Memory)
 
 -- a line that is as needed is no end
-no_end : (need : Need) (later : List Need) (text : List ℕ) (n : ℕ) (l : CertLine) (e : Option CertTextFault) → StartsWith text l → Takes need l → (IsDeep need l → ⊥) → IsEnd (need ∷ later) text n e → ⊥
-no_end need later text n l None s takes shallow end = cc end.0
-no_end need later text n l (Some (fault.Header m)) s takes shallow end = end.0
-no_end need later text n l (Some (fault.Line m)) s takes shallow end = end.0.2 l s
-no_end need later text n l (Some (fault.Shape m)) s takes shallow end =
-    ⊎_elim (λ early. no_first text l early.0 s) (λ other. other.2 (takes_same need l other.0 (start_same text l other.0 s other.1) takes)) end.0.1
-no_end need later text n l (Some (fault.Deep m)) s takes shallow end = shallow (deep_same need end.0.1.0 l (start_same text end.0.1.0 l end.0.1.1 s) end.0.1.2)
-no_end need later text n l (Some fault.Memory) s takes shallow end = end.1 refl
+no_end : {version : ℕ} (need : Need) (later : List Need) (text : List ℕ) (n : ℕ) (l : LineShape) (e : Option CertTextFault) → StartsWith version text l → Takes need l → (IsDeep need l → ⊥) → IsEnd version (need ∷ later) text n e → ⊥
+no_end {version = version} need later text n l None s takes shallow end = cc end.0
+no_end {version = version} need later text n l (Some (fault.Header m)) s takes shallow end = end.0
+no_end {version = version} need later text n l (Some (fault.Line m)) s takes shallow end = end.0.2 l s
+no_end {version = version} need later text n l (Some (fault.Shape m)) s takes shallow end =
+    ⊎_elim (λ early. no_first text l early.0 s) (λ other. other.2 (subst (Takes need) (start_same text l other.0 s other.1) takes)) end.0.1
+no_end {version = version} need later text n l (Some (fault.Deep m)) s takes shallow end = shallow (subst (IsDeep need) (start_same text end.0.1.0 l end.0.1.1 s) end.0.1.2)
+no_end {version = version} need later text n l (Some fault.Memory) s takes shallow end = end.1 refl
 
 -- a line that is too deep isn't misshapen
-not_both : (needs : List Need) (text : List ℕ) (l : CertLine) → StartsWith text l → IsTooDeep needs l → IsMisshapen needs text → ⊥
-not_both [] text l s deep shape = deep
-not_both (need ∷ later) text l s deep shape =
-    ⊎_elim (λ early. no_first text l early.0 s) (λ other. other.2 (takes_same need l other.0 (start_same text l other.0 s other.1) (deep_takes need l deep))) shape
+not_both : {version : ℕ} (needs : List Need) (text : List ℕ) (l : LineShape) → StartsWith version text l → IsTooDeep needs l → IsMisshapen version needs text → ⊥
+not_both {version = version} [] text l s deep shape = deep
+not_both {version = version} (need ∷ later) text l s deep shape =
+    ⊎_elim (λ early. no_first text l early.0 s) (λ other. other.2 (subst (Takes need) (start_same text l other.0 s other.1) (deep_takes need l deep))) shape
 
-no_shape : (needs : List Need) (text : List ℕ) → text ≢ [] → ((l : CertLine) → StartsWith text l → ⊥) → IsMisshapen needs text → ⊥
-no_shape needs text some none shape = ⊎_elim (λ early. some early.0) (λ other. none other.0 other.1) shape
+no_shape : {version : ℕ} (needs : List Need) (text : List ℕ) → text ≢ [] → ((l : LineShape) → StartsWith version text l → ⊥) → IsMisshapen version needs text → ⊥
+no_shape {version = version} needs text some none shape = ⊎_elim (λ early. some early.0) (λ other. none other.0 other.1) shape
 
 -- nothing left is no fault
-no_stop : (f : CertTextFault) (n : ℕ) → IsStop [] [] n f → f ≢ fault.Memory → ⊥
-no_stop (fault.Header m) n stop other = stop
-no_stop (fault.Line m) n stop other = stop.1 refl
-no_stop (fault.Shape m) n stop other = ⊎_elim (λ early. early.1 refl) (λ line. no_first [] line.0 refl line.1) stop.1
-no_stop (fault.Deep m) n stop other = stop.1.2
-no_stop fault.Memory n stop other = other refl
+no_stop : (version : ℕ) (f : CertTextFault) (n : ℕ) → IsStop version [] [] n f → f ≢ fault.Memory → ⊥
+no_stop version (fault.Header m) n stop other = stop
+no_stop version (fault.Line m) n stop other = stop.1 refl
+no_stop version (fault.Shape m) n stop other = ⊎_elim (λ early. early.1 refl) (λ line. no_first [] line.0 refl line.1) stop.1
+no_stop version (fault.Deep m) n stop other = stop.1.2
+no_stop version fault.Memory n stop other = other refl
 
-one_stop : (needs : List Need) (text : List ℕ) (n : ℕ) (f g : CertTextFault) → IsStop needs text n f → IsStop needs text n g → f ≢ fault.Memory → g ≢ fault.Memory → f ≡ g
-one_stop needs text n (fault.Header m) g a b x y = absurd a
-one_stop needs text n f (fault.Header k) a b x y = absurd b
-one_stop needs text n fault.Memory g a b x y = absurd (x refl)
-one_stop needs text n f fault.Memory a b x y = absurd (y refl)
-one_stop needs text n (fault.Line m) (fault.Line k) a b x y = ap fault.Line (a.0 ∙ sym b.0)
-one_stop needs text n (fault.Shape m) (fault.Shape k) a b x y = ap fault.Shape (a.0 ∙ sym b.0)
-one_stop needs text n (fault.Deep m) (fault.Deep k) a b x y = ap fault.Deep (a.0 ∙ sym b.0)
-one_stop needs text n (fault.Line m) (fault.Shape k) a b x y = absurd (no_shape needs text a.1 a.2 b.1)
-one_stop needs text n (fault.Shape m) (fault.Line k) a b x y = absurd (no_shape needs text b.1 b.2 a.1)
-one_stop needs text n (fault.Line m) (fault.Deep k) a b x y = absurd (a.2 b.1.0 b.1.1)
-one_stop needs text n (fault.Deep m) (fault.Line k) a b x y = absurd (b.2 a.1.0 a.1.1)
-one_stop needs text n (fault.Shape m) (fault.Deep k) a b x y = absurd (not_both needs text b.1.0 b.1.1 b.1.2 a.1)
-one_stop needs text n (fault.Deep m) (fault.Shape k) a b x y = absurd (not_both needs text a.1.0 a.1.1 a.1.2 b.1)
+one_stop : (version : ℕ) (needs : List Need) (text : List ℕ) (n : ℕ) (f g : CertTextFault) → IsStop version needs text n f → IsStop version needs text n g → f ≢ fault.Memory → g ≢ fault.Memory → f ≡ g
+one_stop version needs text n (fault.Header m) g a b x y = absurd a
+one_stop version needs text n f (fault.Header k) a b x y = absurd b
+one_stop version needs text n fault.Memory g a b x y = absurd (x refl)
+one_stop version needs text n f fault.Memory a b x y = absurd (y refl)
+one_stop version needs text n (fault.Line m) (fault.Line k) a b x y = ap fault.Line (a.0 ∙ sym b.0)
+one_stop version needs text n (fault.Shape m) (fault.Shape k) a b x y = ap fault.Shape (a.0 ∙ sym b.0)
+one_stop version needs text n (fault.Deep m) (fault.Deep k) a b x y = ap fault.Deep (a.0 ∙ sym b.0)
+one_stop version needs text n (fault.Line m) (fault.Shape k) a b x y = absurd (no_shape {version = version} needs text a.1 a.2 b.1)
+one_stop version needs text n (fault.Shape m) (fault.Line k) a b x y = absurd (no_shape {version = version} needs text b.1 b.2 a.1)
+one_stop version needs text n (fault.Line m) (fault.Deep k) a b x y = absurd (a.2 b.1.0 b.1.1)
+one_stop version needs text n (fault.Deep m) (fault.Line k) a b x y = absurd (b.2 a.1.0 a.1.1)
+one_stop version needs text n (fault.Shape m) (fault.Deep k) a b x y = absurd (not_both {version = version} needs text b.1.0 b.1.1 b.1.2 a.1)
+one_stop version needs text n (fault.Deep m) (fault.Shape k) a b x y = absurd (not_both {version = version} needs text a.1.0 a.1.1 a.1.2 b.1)
 
-same_end : (needs : List Need) (text : List ℕ) (n : ℕ) (e f : Option CertTextFault) → IsEnd needs text n e → IsEnd needs text n f → e ≡ f
-same_end needs text n None None a b = refl
-same_end needs text n None (Some g) a b = absurd (no_stop g n (subst (λ ns. IsStop ns [] n g) a.0 (subst (λ t. IsStop needs t n g) a.1 b.0)) b.1)
-same_end needs text n (Some f) None a b = absurd (no_stop f n (subst (λ ns. IsStop ns [] n f) b.0 (subst (λ t. IsStop needs t n f) b.1 a.0)) a.1)
-same_end needs text n (Some f) (Some g) a b = ap Some (one_stop needs text n f g a.0 b.0 a.1 b.1)
+same_end : (version : ℕ) (needs : List Need) (text : List ℕ) (n : ℕ) (e f : Option CertTextFault) → IsEnd version needs text n e → IsEnd version needs text n f → e ≡ f
+same_end version needs text n None None a b = refl
+same_end version needs text n None (Some g) a b = absurd (no_stop version g n (subst (λ ns. IsStop version ns [] n g) a.0 (subst (λ t. IsStop version needs t n g) a.1 b.0)) b.1)
+same_end version needs text n (Some f) None a b = absurd (no_stop version f n (subst (λ ns. IsStop version ns [] n f) b.0 (subst (λ t. IsStop version needs t n f) b.1 a.0)) a.1)
+same_end version needs text n (Some f) (Some g) a b = ap Some (one_stop version needs text n f g a.0 b.0 a.1 b.1)
 
-one_end : (needs : List Need) (n : ℕ) (xs ys : Values) (left mid : List Need) (rest more : List ℕ) (e f : Option CertTextFault) → AreLines xs → AreLines ys → values_text xs ++ rest ≡ values_text ys ++ more → Runs needs xs left → Runs needs ys mid → IsEnd left rest (n + length xs) e → IsEnd mid more (n + length ys) f → e ≡ f
-one_end needs n [] [] left mid rest more e f a b text x y p q =
-    same_end left rest (n + length {A = CertLine} []) e f p (subst (λ ns. IsEnd ns rest (n + length {A = CertLine} []) f) (sym y ∙ x) (subst (λ t. IsEnd mid t (n + length {A = CertLine} []) f) (sym text) q))
-one_end [] n [] (v ∷ ys) left mid rest more e f a b text x y p q = absurd y
-one_end (need ∷ later) n [] (v ∷ ys) left mid rest more e f a b text x y p q =
-    let starts : StartsWith rest v = record { rest = values_text ys ++ more; text = text ∙ append_assoc (value_text v) (values_text ys) more; line = b.0 } in
-    absurd (no_end need later rest (n + length {A = CertLine} []) v e starts y.0 y.1 (subst (λ ns. IsEnd ns rest (n + length {A = CertLine} []) e) (sym x) p))
-one_end [] n (u ∷ xs) [] left mid rest more e f a b text x y p q = absurd x
-one_end (need ∷ later) n (u ∷ xs) [] left mid rest more e f a b text x y p q =
-    let starts : StartsWith more u = record { rest = values_text xs ++ rest; text = sym text ∙ append_assoc (value_text u) (values_text xs) rest; line = a.0 } in
-    absurd (no_end need later more (n + length {A = CertLine} []) u f starts x.0 x.1 (subst (λ ns. IsEnd ns more (n + length {A = CertLine} []) f) (sym y) q))
-one_end [] n (u ∷ xs) (v ∷ ys) left mid rest more e f a b text x y p q = absurd x
-one_end (need ∷ later) n (u ∷ xs) (v ∷ ys) left mid rest more e f a b text x y p q =
+one_end : (version : ℕ) (needs : List Need) (n : ℕ) (xs ys : Values) (left mid : List Need) (rest more : List ℕ) (e f : Option CertTextFault) → AreLines version xs → AreLines version ys → values_text xs ++ rest ≡ values_text ys ++ more → Runs needs xs left → Runs needs ys mid → IsEnd version left rest (n + length xs) e → IsEnd version mid more (n + length ys) f → e ≡ f
+one_end version needs n [] [] left mid rest more e f a b text x y p q =
+    same_end version left rest (n + length {A = LineShape} []) e f p (subst (λ ns. IsEnd version ns rest (n + length {A = LineShape} []) f) (sym y ∙ x) (subst (λ t. IsEnd version mid t (n + length {A = LineShape} []) f) (sym text) q))
+one_end version [] n [] (v ∷ ys) left mid rest more e f a b text x y p q = absurd y
+one_end version (need ∷ later) n [] (v ∷ ys) left mid rest more e f a b text x y p q =
+    let starts : StartsWith version rest v = record { rest = values_text ys ++ more; text = text ∙ append_assoc (value_text v) (values_text ys) more; line = b.0 } in
+    absurd (no_end {version = version} need later rest (n + length {A = LineShape} []) v e starts y.0 y.1 (subst (λ ns. IsEnd version ns rest (n + length {A = LineShape} []) e) (sym x) p))
+one_end version [] n (u ∷ xs) [] left mid rest more e f a b text x y p q = absurd x
+one_end version (need ∷ later) n (u ∷ xs) [] left mid rest more e f a b text x y p q =
+    let starts : StartsWith version more u = record { rest = values_text xs ++ rest; text = sym text ∙ append_assoc (value_text u) (values_text xs) rest; line = a.0 } in
+    absurd (no_end {version = version} need later more (n + length {A = LineShape} []) u f starts x.0 x.1 (subst (λ ns. IsEnd version ns more (n + length {A = LineShape} []) f) (sym y) q))
+one_end version [] n (u ∷ xs) (v ∷ ys) left mid rest more e f a b text x y p q = absurd x
+one_end version (need ∷ later) n (u ∷ xs) (v ∷ ys) left mid rest more e f a b text x y p q =
     let (first, after_first) = first_same u v (values_text xs ++ rest) (values_text ys ++ more) a.0 b.0 (sym (append_assoc (value_text u) (values_text xs) rest) ∙ text ∙ append_assoc (value_text v) (values_text ys) more) in
-    one_end (after need u ++ later) (n + 1) xs ys left mid rest more e f a.1 b.1 after_first x.2
-    (subst (λ ns. Runs (ns ++ later) ys mid) (sym (after_same need u v first)) y.2)
-    (subst (λ k. IsEnd left rest k e) (omega arith) p)
-    (subst (λ k. IsEnd mid more k f) (omega arith) q)
+    one_end version (after need u ++ later) (n + 1) xs ys left mid rest more e f a.1 b.1 after_first x.2
+    (subst (λ ns. Runs (ns ++ later) ys mid) (sym (ap (after need) first)) y.2)
+    (subst (λ k. IsEnd version left rest k e) (omega arith) p)
+    (subst (λ k. IsEnd version mid more k f) (omega arith) q)
 
 -- ---- the first three lines
 heads_inside : (n : ℕ) (hs gs : List HeadLine) (rest more : List ℕ) → AreHeads n hs → AreHeads n gs → heads_text hs ++ rest ≡ heads_text gs ++ more → length hs < length gs → ((h : HeadLine) → StartsWithHead (n + length hs) rest h → ⊥) → ⊥
@@ -178,58 +134,38 @@ heads_inside n (h ∷ hs) (g ∷ gs) rest more a b e less none =
     let (same, after_first) = same_line (head_line h) (head_line g) (heads_text hs ++ rest) (heads_text gs ++ more) (head_plain n h a.0) (head_plain n g b.0) (sym (append_assoc (head_text h) (heads_text hs) rest) ∙ e ∙ append_assoc (head_text g) (heads_text gs) more) in
     heads_inside (n + 1) hs gs rest more a.1 b.1 after_first (omega (arith, less)) (λ x s. none x (subst (λ k. StartsWithHead k rest x) (omega arith) s))
 
-same_count : (a b : ℕ) → a ≤ 20000 → b ≤ 20000 → count_line a ≡ count_line b → a ≡ b
-same_count a b x y e = same_number a b (omega (arith, x)) (omega (arith, y)) (ap tail (same_rest (codes "cuts") (one_text a) (one_text b) e))
-
-same_claim : (c d : Claim) → IsSmallClaim c → IsSmallClaim d → claim_line c ≡ claim_line d → c ≡ d
-same_claim (claim.Optimal a) (claim.Optimal b) x y e = ap claim.Optimal (same_number a b (omega (arith, x)) (omega (arith, y)) (ap tail (same_rest (codes "claim optimal") (one_text a) (one_text b) e)))
-same_claim claim.Infeasible claim.Infeasible x y e = refl
-same_claim (claim.Bound a) (claim.Bound b) x y e = ap claim.Bound (same_number a b (omega (arith, x)) (omega (arith, y)) (ap tail (same_rest (codes "claim bound") (one_text a) (one_text b) e)))
-same_claim _ _ x y e = search (rules, e)
-
 -- two texts that begin with three such lines
-same_heads : (c d : Claim) (n m : ℕ) (rest more : List ℕ) → AreHeads 1 (head_values c n) → AreHeads 1 (head_values d m) → heads_text (head_values c n) ++ rest ≡ heads_text (head_values d m) ++ more → (c ≡ d) × (n ≡ m) × (rest ≡ more)
-same_heads c d n m rest more a b e =
-    let (mark, one) = same_line (head_line head.Mark) (head_line head.Mark) _ _ (head_plain 1 head.Mark a.0) (head_plain 1 head.Mark b.0) (sym (joined c n rest) ∙ e ∙ joined d m more) in
+same_heads : (u w : ℕ) (c d : Claim) (n m : ℕ) (rest more : List ℕ) → AreHeads 1 (head_values u c n) → AreHeads 1 (head_values w d m) → heads_text (head_values u c n) ++ rest ≡ heads_text (head_values w d m) ++ more → (u ≡ w) × (c ≡ d) × (n ≡ m) × (rest ≡ more)
+same_heads u w c d n m rest more a b e =
+    let (mark, one) = same_line (head_line (head.Mark u)) (head_line (head.Mark w)) _ _ (head_plain 1 (head.Mark u) a.0) (head_plain 1 (head.Mark w) b.0) (sym (joined u c n rest) ∙ e ∙ joined w d m more) in
     let (same, two) = same_line (claim_line c) (claim_line d) _ _ (head_plain 2 (head.Claim c) a.1.0) (head_plain 2 (head.Claim d) b.1.0) one in
     let (count, three) = same_line (count_line n) (count_line m) rest more (head_plain 3 (head.Cuts n) a.1.1.0) (head_plain 3 (head.Cuts m) b.1.1.0) two in
-    (same_claim c d a.1.0.small b.1.0.small same, same_count n m a.1.1.0.small b.1.1.0.small count, three)
+    (same_version u w a.0.small b.0.small mark, same_claim c d a.1.0.small b.1.0.small same, same_count n m a.1.1.0.small b.1.1.0.small count, three)
   where
     three_joined : (x y z t : List ℕ) → (x ++ (y ++ (z ++ []))) ++ t ≡ x ++ (y ++ (z ++ t))
     three_joined x y z t = simp (append_assoc, append-nil) refl
 
-    joined : (c : Claim) (n : ℕ) (t : List ℕ) → heads_text (head_values c n) ++ t ≡ head_text head.Mark ++ (head_text (head.Claim c) ++ (head_text (head.Cuts n) ++ t))
-    joined c n t = three_joined (head_text head.Mark) (head_text (head.Claim c)) (head_text (head.Cuts n)) t
+    joined : (u : ℕ) (c : Claim) (n : ℕ) (t : List ℕ) → heads_text (head_values u c n) ++ t ≡ head_text (head.Mark u) ++ (head_text (head.Claim c) ++ (head_text (head.Cuts n) ++ t))
+    joined u c n t = three_joined (head_text (head.Mark u)) (head_text (head.Claim c)) (head_text (head.Cuts n)) t
 
 -- ---- a certificate as a text that is read to its end
-certificate_heads : (bytes : List ℕ) (c : Certificate) → IsTextOf bytes c → AreHeads 1 (head_values c.claim (length c.cuts.items))
+certificate_heads : (bytes : List ℕ) (c : Shape) → IsTextOf bytes c → AreHeads 1 (head_values c.version c.claim (length c.cuts))
 certificate_heads bytes c t = (
-  record { number = refl; small = tt; text = refl },
+  record { number = refl; small = t.writable.version; text = refl },
   (
-    record { number = refl; small = t.writable.numbers.0; text = refl },
-    (record { number = refl; small = t.writable.numbers.1; text = refl }, tt),
+    record { number = refl; small = t.writable.amount; text = refl },
+    (record { number = refl; small = t.writable.few; text = refl }, tt),
   ),
 )
 
-body_text : (c : Certificate) → values_text (body_values c) ≡ values_text (all_cut_values c.cuts.items) ++ (values_text (tree_values c.tree) ++ values_text (line.End ∷ []))
-body_text c = values_append (all_cut_values c.cuts.items) (tree_values c.tree ++ line.End ∷ []) ∙ ap (λ t. values_text (all_cut_values c.cuts.items) ++ t) (values_append (tree_values c.tree) (line.End ∷ []))
-
-certificate_read : (bytes : List ℕ) (c : Certificate) → IsTextOf bytes c → bytes ≡ heads_text (head_values c.claim (length c.cuts.items)) ++ values_text (body_values c)
-certificate_read bytes c t =
-    let last = values_text (line.End ∷ []) in
-    let mid = values_text (tree_values c.tree) ++ last in
-    let rest = values_text (all_cut_values c.cuts.items) ++ mid in
-    let whole : heads_text (head_values c.claim (length c.cuts.items)) ++ rest ≡ certificate_text c = whole_text (heads_text (head_values c.claim (length c.cuts.items)) ++ rest) rest mid last c (length c.cuts.items) refl refl refl refl refl in
-    t.text ∙ sym whole ∙ ap (λ r. heads_text (head_values c.claim (length c.cuts.items)) ++ r) (sym (body_text c))
-
-certificate_runs : (bytes : List ℕ) (c : Certificate) → IsTextOf bytes c → Runs (body_needs (length c.cuts.items)) (body_values c) []
+certificate_runs : (bytes : List ℕ) (c : Shape) → IsTextOf bytes c → Runs (body_needs (length c.cuts)) (body_values c) []
 certificate_runs bytes c t =
-    runs_join (body_needs (length c.cuts.items)) (a_tree 0 ∷ the_end ∷ []) [] (all_cut_values c.cuts.items) (tree_values c.tree ++ line.End ∷ []) (cuts_run c.cuts.items (length c.cuts.items) (a_tree 0 ∷ the_end ∷ []) refl)
-    (runs_join (a_tree 0 ∷ the_end ∷ []) (the_end ∷ []) [] (tree_values c.tree) (line.End ∷ []) (tree_run c.tree 0 (the_end ∷ []) (omega (arith, t.writable.tree.1))) (tt, λ no_depth. no_depth, refl))
+    runs_join (body_needs (length c.cuts)) (a_tree 0 ∷ the_end ∷ []) [] (all_cut_values c.cuts) (tree_values c.tree ++ EndLine ∷ []) (cuts_run c.cuts (length c.cuts) (a_tree 0 ∷ the_end ∷ []) refl)
+    (runs_join (a_tree 0 ∷ the_end ∷ []) (the_end ∷ []) [] (tree_values c.tree) (EndLine ∷ []) (tree_run c.tree 0 (the_end ∷ []) (omega (arith, t.writable.paths))) (tt, λ no_depth. no_depth, refl))
 
 -- ---- one fault
-heads_apart : (bytes : List ℕ) (n : ℕ) (c : Claim) (m : ℕ) (rest : List ℕ) → IsHeadFault bytes n → bytes ≡ heads_text (head_values c m) ++ rest → AreHeads 1 (head_values c m) → ⊥
-heads_apart bytes n c m rest a text lines = heads_inside 1 a.read (head_values c m) a.rest rest a.lines lines (sym a.text ∙ text) (omega (arith, a.number, a.high)) (λ h s. a.none h (subst (λ k. StartsWithHead k a.rest h) (omega (arith, a.number)) s))
+heads_apart : (bytes : List ℕ) (n u : ℕ) (c : Claim) (m : ℕ) (rest : List ℕ) → IsHeadFault bytes n → bytes ≡ heads_text (head_values u c m) ++ rest → AreHeads 1 (head_values u c m) → ⊥
+heads_apart bytes n u c m rest a text lines = heads_inside 1 a.read (head_values u c m) a.rest rest a.lines lines (sym a.text ∙ text) (omega (arith, a.number, a.high)) (λ h s. a.none h (subst (λ k. StartsWithHead k a.rest h) (omega (arith, a.number)) s))
 
 one_head_fault : (bytes : List ℕ) (n m : ℕ) → IsHeadFault bytes n → IsHeadFault bytes m → n ≡ m
 one_head_fault bytes n m a b =
@@ -241,96 +177,106 @@ one_head_fault bytes n m a b =
     inside n m a b less = heads_inside 1 a.read b.read a.rest b.rest a.lines b.lines (sym a.text ∙ b.text) (omega (arith, a.number, b.number, less)) (λ h s. a.none h (subst (λ k. StartsWithHead k a.rest h) (omega (arith, a.number)) s))
 
 -- two ends after the same three lines
-one_body : (bytes rest more : List ℕ) (c d : Claim) (n m : ℕ) (xs ys : Values) (left mid : List Need) (r s : List ℕ) (e f : Option CertTextFault) → bytes ≡ heads_text (head_values c n) ++ rest → bytes ≡ heads_text (head_values d m) ++ more → AreHeads 1 (head_values c n) → AreHeads 1 (head_values d m) → AreLines xs → AreLines ys → rest ≡ values_text xs ++ r → more ≡ values_text ys ++ s → Runs (body_needs n) xs left → Runs (body_needs m) ys mid → IsEnd left r (4 + length xs) e → IsEnd mid s (4 + length ys) f → e ≡ f
-one_body bytes rest more c d n m xs ys left mid r s e f text other heads others a b u v x y p q =
-    let (same, count, after_heads) = same_heads c d n m rest more heads others (sym text ∙ other) in
-    one_end (body_needs n) 4 xs ys left mid r s e f a b (sym u ∙ after_heads ∙ v) x (subst (λ k. Runs (body_needs k) ys mid) (sym count) y) p q
+one_body : (bytes rest more : List ℕ) (v w : ℕ) (c d : Claim) (n m : ℕ) (xs ys : Values) (left mid : List Need) (r s : List ℕ) (e f : Option CertTextFault) → bytes ≡ heads_text (head_values v c n) ++ rest → bytes ≡ heads_text (head_values w d m) ++ more → AreHeads 1 (head_values v c n) → AreHeads 1 (head_values w d m) → AreLines v xs → AreLines w ys → rest ≡ values_text xs ++ r → more ≡ values_text ys ++ s → Runs (body_needs n) xs left → Runs (body_needs m) ys mid → IsEnd v left r (4 + length xs) e → IsEnd w mid s (4 + length ys) f → e ≡ f
+one_body bytes rest more v w c d n m xs ys left mid r s e f text other heads others a b first second x y p q =
+    let (version, same, count, after_heads) = same_heads v w c d n m rest more heads others (sym text ∙ other) in
+    one_end v (body_needs n) 4 xs ys left mid r s e f a (subst (λ k. AreLines k ys) (sym version) b) (sym first ∙ after_heads ∙ second) x (subst (λ k. Runs (body_needs k) ys mid) (sym count) y) p (subst (λ k. IsEnd k mid s (4 + length ys) f) (sym version) q)
 
 one_body_fault : (bytes : List ℕ) (f g : CertTextFault) → f ≢ fault.Memory → g ≢ fault.Memory → IsBodyFault bytes f → IsBodyFault bytes g → f ≡ g
 one_body_fault bytes f g x y a b =
-    let same : Some f ≡ Some g = one_body bytes a.rest b.rest a.claim b.claim a.count b.count a.fault.read b.fault.read a.fault.left b.fault.left a.fault.rest b.fault.rest (Some f) (Some g) a.text b.text a.lines b.lines a.fault.lines b.fault.lines a.fault.text b.fault.text a.fault.runs b.fault.runs (a.fault.stop, x) (b.fault.stop, y) in
+    let same : Some f ≡ Some g = one_body bytes a.rest b.rest a.version b.version a.claim b.claim a.count b.count a.fault.read b.fault.read a.fault.left b.fault.left a.fault.rest b.fault.rest (Some f) (Some g) a.text b.text a.lines b.lines a.fault.lines b.fault.lines a.fault.text b.fault.text a.fault.runs b.fault.runs (a.fault.stop, x) (b.fault.stop, y) in
     search (rules, same)
 
 -- a fault after the first three lines leaves no certificate
-no_certificate : (bytes : List ℕ) (c : Certificate) (f : CertTextFault) → IsTextOf bytes c → IsBodyFault bytes f → f ≢ fault.Memory → ⊥
+no_certificate : (bytes : List ℕ) (c : Shape) (f : CertTextFault) → IsTextOf bytes c → IsBodyFault bytes f → f ≢ fault.Memory → ⊥
 no_certificate bytes c f t b other =
     let all : values_text (body_values c) ≡ values_text (body_values c) ++ [] = sym (append-nil (values_text (body_values c))) in
-    let same : None ≡ Some f = one_body bytes (values_text (body_values c)) b.rest c.claim b.claim (length c.cuts.items) b.count (body_values c) b.fault.read [] b.fault.left [] b.fault.rest None (Some f) (certificate_read bytes c t) b.text (certificate_heads bytes c t) b.lines t.lines b.fault.lines all b.fault.text (certificate_runs bytes c t) b.fault.runs (refl, refl) (b.fault.stop, other) in
+    let same : None ≡ Some f = one_body bytes (values_text (body_values c)) b.rest c.version b.version c.claim b.claim (length c.cuts) b.count (body_values c) b.fault.read [] b.fault.left [] b.fault.rest None (Some f) t.text b.text (certificate_heads bytes c t) b.lines t.writable.lines b.fault.lines all b.fault.text (certificate_runs bytes c t) b.fault.runs (refl, refl) (b.fault.stop, other) in
     cc same
 
 -- ---- one certificate: its parts, from the front of the lines on
-parts_from : (ps qs : List Part) (ls ms : Values) → length ps ≡ length qs → AreSameLines (part_values ps ++ ls) (part_values qs ++ ms) → (ps ≡ qs) × AreSameLines ls ms
+parts_from : (ps qs : List Part) (ls ms : Values) → length ps ≡ length qs → part_values ps ++ ls ≡ part_values qs ++ ms → (ps ≡ qs) × (ls ≡ ms)
 parts_from [] [] ls ms e s = (refl, s)
 parts_from [] (q ∷ qs) ls ms e s = absurd (omega (arith, e))
 parts_from (p ∷ ps) [] ls ms e s = absurd (omega (arith, e))
 parts_from (p ∷ ps) (q ∷ qs) ls ms e s =
-    let (parts, rest) = parts_from ps qs ls ms (omega (arith, e)) s.1 in
-    (ap (λ x. x ∷ ps) s.0 ∙ ap (λ xs. q ∷ xs) parts, rest)
+    let first : p ≡ q = cc s in
+    let next : part_values ps ++ ls ≡ part_values qs ++ ms = cc s in
+    let (parts, rest) = parts_from ps qs ls ms (omega (arith, e)) next in
+    (ap (λ x. x ∷ ps) first ∙ ap (λ xs. q ∷ xs) parts, rest)
 
-cut_from : (c d : Cut) (ls ms : Values) → AreSameLines (cut_values c ++ ls) (cut_values d ++ ms) → IsSameCut c d × AreSameLines ls ms
-cut_from (cut.Round divisor parts) (cut.Round q others) ls ms s =
-    let (same, rest) = parts_from parts.items others.items ls ms s.0.1 s.1 in
-    ((s.0.0, same), rest)
-cut_from (cut.Round divisor parts) (cut.Ls item last chosen) ls ms s = absurd s.0
-cut_from (cut.Round divisor parts) (cut.Price item a) ls ms s = absurd s.0
-cut_from (cut.Round divisor parts) (cut.Block item a) ls ms s = absurd s.0
-cut_from (cut.Ls item last chosen) (cut.Round q others) ls ms s = absurd s.0
-cut_from (cut.Price item a) (cut.Round q others) ls ms s = absurd s.0
-cut_from (cut.Block item a) (cut.Round q others) ls ms s = absurd s.0
-cut_from (cut.Ls item last chosen) (cut.Ls jtem end others) ls ms s = s
-cut_from (cut.Price item a) (cut.Price jtem b) ls ms s = s
-cut_from (cut.Block item a) (cut.Block jtem b) ls ms s = s
-cut_from _ _ ls ms s = absurd s.0
+cut_from : (c d : CutShape) (ls ms : Values) → cut_values c ++ ls ≡ cut_values d ++ ms → (c ≡ d) × (ls ≡ ms)
+cut_from (RoundCut divisor parts) (RoundCut q others) ls ms s =
+    let divisors : divisor ≡ q = cc s in
+    let lengths : length parts ≡ length others = cc s in
+    let next : part_values parts ++ ls ≡ part_values others ++ ms = cc s in
+    let (same, rest) = parts_from parts others ls ms lengths next in
+    (cc (divisors, same), rest)
+cut_from (LsCut item last chosen) (LsCut jtem end others) ls ms s = (cc s, cc s)
+cut_from (PriceCut item a) (PriceCut jtem b) ls ms s = (cc s, cc s)
+cut_from (BlockCut item a) (BlockCut jtem b) ls ms s = (cc s, cc s)
+cut_from _ _ ls ms s = absurd (cc s)
 
-cuts_from : (cs ds : List Cut) (ls ms : Values) → length cs ≡ length ds → AreSameLines (all_cut_values cs ++ ls) (all_cut_values ds ++ ms) → AreSameCuts cs ds × AreSameLines ls ms
-cuts_from [] [] ls ms e s = (tt, s)
+cuts_from : (cs ds : List CutShape) (ls ms : Values) → length cs ≡ length ds → all_cut_values cs ++ ls ≡ all_cut_values ds ++ ms → (cs ≡ ds) × (ls ≡ ms)
+cuts_from [] [] ls ms e s = (refl, s)
 cuts_from [] (d ∷ ds) ls ms e s = absurd (omega (arith, e))
 cuts_from (c ∷ cs) [] ls ms e s = absurd (omega (arith, e))
 cuts_from (c ∷ cs) (d ∷ ds) ls ms e s =
-    let (first, rest) = cut_from c d (all_cut_values cs ++ ls) (all_cut_values ds ++ ms) (subst (λ xs. AreSameLines xs (cut_values d ++ (all_cut_values ds ++ ms))) (append_assoc (cut_values c) (all_cut_values cs) ls) (subst (AreSameLines (all_cut_values (c ∷ cs) ++ ls)) (append_assoc (cut_values d) (all_cut_values ds) ms) s)) in
+    let (first, rest) = cut_from c d (all_cut_values cs ++ ls) (all_cut_values ds ++ ms) (sym (append_assoc (cut_values c) (all_cut_values cs) ls) ∙ s ∙ append_assoc (cut_values d) (all_cut_values ds) ms) in
     let (cuts, last) = cuts_from cs ds ls ms (omega (arith, e)) rest in
-    ((first, cuts), last)
+    (ap (λ x. x ∷ cs) first ∙ ap (λ xs. d ∷ xs) cuts, last)
 
-leaf_from : (l m : Leaf) (ls ms : Values) → AreSameLines (leaf_values l ++ ls) (leaf_values m ++ ms) → IsSameLeaf l m × AreSameLines ls ms
-leaf_from (leaf.Linear den parts) (leaf.Linear q others) ls ms s =
-    let (same, rest) = parts_from parts.items others.items ls ms s.0.1 s.1 in
-    ((s.0.0, same), rest)
-leaf_from (leaf.Farkas parts) (leaf.Farkas others) ls ms s = parts_from parts.items others.items ls ms s.0 s.1
-leaf_from leaf.Point leaf.Point ls ms s = s
-leaf_from _ _ ls ms s = absurd s.0
+leaf_from : (l m : LeafShape) (ls ms : Values) → leaf_values l ++ ls ≡ leaf_values m ++ ms → (l ≡ m) × (ls ≡ ms)
+leaf_from (LinearLeaf den parts) (LinearLeaf q others) ls ms s =
+    let dens : den ≡ q = cc s in
+    let lengths : length parts ≡ length others = cc s in
+    let next : part_values parts ++ ls ≡ part_values others ++ ms = cc s in
+    let (same, rest) = parts_from parts others ls ms lengths next in
+    (cc (dens, same), rest)
+leaf_from (FarkasLeaf parts) (FarkasLeaf others) ls ms s =
+    let lengths : length parts ≡ length others = cc s in
+    let next : part_values parts ++ ls ≡ part_values others ++ ms = cc s in
+    let (same, rest) = parts_from parts others ls ms lengths next in
+    (ap FarkasLeaf same, rest)
+leaf_from PointLeaf PointLeaf ls ms s = (refl, cc s)
+leaf_from _ _ ls ms s = absurd (cc s)
 
-no_branch : (l : Leaf) (column : Column) (at : ℕ) (ls ms : Values) → AreSameLines (leaf_values l ++ ls) (line.Branch column at ∷ ms) → ⊥
-no_branch (leaf.Linear den parts) column at ls ms s = s.0
-no_branch (leaf.Farkas parts) column at ls ms s = s.0
-no_branch leaf.Point column at ls ms s = s.0
+no_branch : (l : LeafShape) (column : Column) (at : ℕ) (ls ms : Values) → leaf_values l ++ ls ≡ BranchLine column at ∷ ms → ⊥
+no_branch (LinearLeaf den parts) column at ls ms s = cc s
+no_branch (FarkasLeaf parts) column at ls ms s = cc s
+no_branch PointLeaf column at ls ms s = cc s
 
-no_leaf : (l : Leaf) (column : Column) (at : ℕ) (ls ms : Values) → AreSameLines (line.Branch column at ∷ ms) (leaf_values l ++ ls) → ⊥
-no_leaf (leaf.Linear den parts) column at ls ms s = s.0
-no_leaf (leaf.Farkas parts) column at ls ms s = s.0
-no_leaf leaf.Point column at ls ms s = s.0
-
-tree_from : (t u : Tree) (ls ms : Values) → AreSameLines (tree_values t ++ ls) (tree_values u ++ ms) → IsSameTree t u × AreSameLines ls ms
-tree_from (Branch' column at p low q high) (Branch' other less r below x above) ls ms s =
-    let (first, rest) = tree_from low below (tree_values high ++ ls) (tree_values above ++ ms) (subst (λ xs. AreSameLines xs (tree_values below ++ (tree_values above ++ ms))) (append_assoc (tree_values low) (tree_values high) ls) (subst (AreSameLines ((tree_values low ++ tree_values high) ++ ls)) (append_assoc (tree_values below) (tree_values above) ms) s.1)) in
+tree_from : (t u : TreeShape) (ls ms : Values) → tree_values t ++ ls ≡ tree_values u ++ ms → (t ≡ u) × (ls ≡ ms)
+tree_from (Split column at low high) (Split other less below above) ls ms s =
+    let columns : column ≡ other = cc s in
+    let ats : at ≡ less = cc s in
+    let next : (tree_values low ++ tree_values high) ++ ls ≡ (tree_values below ++ tree_values above) ++ ms = cc s in
+    let (first, rest) = tree_from low below (tree_values high ++ ls) (tree_values above ++ ms) (sym (append_assoc (tree_values low) (tree_values high) ls) ∙ next ∙ append_assoc (tree_values below) (tree_values above) ms) in
     let (second, last) = tree_from high above ls ms rest in
-    ((s.0.0, s.0.1, first, second), last)
-tree_from (Branch' column at p low q high) (LeafOf m) ls ms s = absurd (no_leaf m column at ms ((tree_values low ++ tree_values high) ++ ls) s)
-tree_from (LeafOf l) (Branch' column at p low q high) ls ms s = absurd (no_branch l column at ls ((tree_values low ++ tree_values high) ++ ms) s)
-tree_from (LeafOf l) (LeafOf m) ls ms s = leaf_from l m ls ms s
+    (cc (columns, ats, first, second), last)
+tree_from (Split column at low high) (End m) ls ms s = absurd (no_branch m column at ms ((tree_values low ++ tree_values high) ++ ls) (sym s))
+tree_from (End l) (Split column at low high) ls ms s = absurd (no_branch l column at ls ((tree_values low ++ tree_values high) ++ ms) s)
+tree_from (End l) (End m) ls ms s =
+    let (same, rest) = leaf_from l m ls ms s in
+    (ap End same, rest)
 
-one_certificate : (bytes : List ℕ) (c d : Certificate) → IsTextOf bytes c → IsTextOf bytes d → IsSameCertificate c d
+same_shape : (c d : Shape) → c.version ≡ d.version → c.claim ≡ d.claim → c.cuts ≡ d.cuts → c.tree ≡ d.tree → c ≡ d
+same_shape c d version claim cuts tree =
+    ap (λ x. shape x c.claim c.cuts c.tree) version ∙ ap (λ x. shape d.version x c.cuts c.tree) claim ∙ ap (λ x. shape d.version d.claim x c.tree) cuts ∙ ap (shape d.version d.claim d.cuts) tree
+  where
+    shape : ℕ → Claim → List CutShape → TreeShape → Shape
+    shape version claim cuts tree = record { version = version; claim = claim; cuts = cuts; tree = tree }
+
+one_certificate : (bytes : List ℕ) (c d : Shape) → IsTextOf bytes c → IsTextOf bytes d → c ≡ d
 one_certificate bytes c d t u =
-    let (claim, count, rest) = same_heads c.claim d.claim (length c.cuts.items) (length d.cuts.items) (values_text (body_values c)) (values_text (body_values d)) (certificate_heads bytes c t) (certificate_heads bytes d u) (sym (certificate_read bytes c t) ∙ certificate_read bytes d u) in
-    let (cuts, tree) = cuts_from c.cuts.items d.cuts.items (tree_values c.tree ++ line.End ∷ []) (tree_values d.tree ++ line.End ∷ []) count (values_same (body_values c) (body_values d) t.lines u.lines rest) in
-    record {
-      claim = claim;
-      cuts = cuts;
-      tree = (tree_from c.tree d.tree (line.End ∷ []) (line.End ∷ []) tree).0;
-    }
+    let (version, claim, count, rest) = same_heads c.version d.version c.claim d.claim (length c.cuts) (length d.cuts) (values_text (body_values c)) (values_text (body_values d)) (certificate_heads bytes c t) (certificate_heads bytes d u) (sym t.text ∙ u.text) in
+    let lines : body_values c ≡ body_values d = values_same c.version (body_values c) (body_values d) t.writable.lines (subst (λ k. AreLines k (body_values d)) (sym version) u.writable.lines) rest in
+    let (cuts, tree) = cuts_from c.cuts d.cuts (tree_values c.tree ++ EndLine ∷ []) (tree_values d.tree ++ EndLine ∷ []) count lines in
+    same_shape c d version claim cuts (tree_from c.tree d.tree (EndLine ∷ []) (EndLine ∷ []) tree).0
 
 -- ---- in all
-certificate_or_fault : (bytes : List ℕ) (c : Certificate) (f : CertTextFault) → IsTextOf bytes c → IsCertTextFault bytes f → f ≡ fault.Memory
-certificate_or_fault bytes c (fault.Header n) t wrong = absurd (heads_apart bytes n c.claim (length c.cuts.items) (values_text (body_values c)) wrong (certificate_read bytes c t) (certificate_heads bytes c t))
+certificate_or_fault : (bytes : List ℕ) (c : Shape) (f : CertTextFault) → IsTextOf bytes c → IsCertTextFault bytes f → f ≡ fault.Memory
+certificate_or_fault bytes c (fault.Header n) t wrong = absurd (heads_apart bytes n c.version c.claim (length c.cuts) (values_text (body_values c)) wrong t.text (certificate_heads bytes c t))
 certificate_or_fault bytes c (fault.Line n) t wrong = absurd (no_certificate bytes c (fault.Line n) t wrong (λ e. search (rules, e)))
 certificate_or_fault bytes c (fault.Shape n) t wrong = absurd (no_certificate bytes c (fault.Shape n) t wrong (λ e. search (rules, e)))
 certificate_or_fault bytes c (fault.Deep n) t wrong = absurd (no_certificate bytes c (fault.Deep n) t wrong (λ e. search (rules, e)))
@@ -359,7 +305,7 @@ which fault.Memory other = absurd (other refl)
 header_and_later : (bytes : List ℕ) (n : ℕ) (f g : CertTextFault) → f ≡ fault.Header n → IsLater g → IsCertTextFault bytes f → IsCertTextFault bytes g → ⊥
 header_and_later bytes n f g is later a b =
     let body = later_fault bytes g later b in
-    heads_apart bytes n body.claim body.count body.rest (subst (IsCertTextFault bytes) is a) body.text body.lines
+    heads_apart bytes n body.version body.claim body.count body.rest (subst (IsCertTextFault bytes) is a) body.text body.lines
 
 one_fault : (bytes : List ℕ) (f g : CertTextFault) → f ≢ fault.Memory → g ≢ fault.Memory → IsCertTextFault bytes f → IsCertTextFault bytes g → f ≡ g
 one_fault bytes f g x y a b =

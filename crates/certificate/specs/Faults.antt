@@ -1,21 +1,12 @@
 -- Why a text is no certificate's.
 use Rattle.std.specs.Prelude.{◌≡◌, ◌≤◌, ◌+◌, ℕ, List, [], ◌∷◌, ◌++◌, length, replicate, ⊤}
-use Rattle.std.specs.List.{flat_map}
-use Rattle.certificate.specs.declared.tree.Claim.{Claim}
-use Rattle.certificate.specs.declared.head.HeadLine.{HeadLine}
-use Rattle.certificate.specs.declared.head.HeadLine.TheVariants as head
+use Rattle.cert_lines.specs.declared.parts.Claim.{Claim}
+use Rattle.cert_lines.specs.declared.head.HeadLine.{HeadLine}
 use Rattle.certificate.specs.declared.fault.CertTextFault.{CertTextFault}
 use Rattle.certificate.specs.declared.fault.CertTextFault.TheVariants as fault
-use Rattle.certificate.specs.Text.{line_text}
-use Rattle.certificate.specs.Head.{IsHead, head_line}
+use Rattle.cert_lines.specs.Head.{IsHead, head_line}
+use Rattle.certificate.specs.Text.{head_text, head_values, heads_text}
 use Rattle.certificate.specs.Needs.{IsFaultFrom, Need, a_cut, a_tree, the_end}
-
--- a line with its line feed
-abbrev pub head_text : HeadLine → List ℕ
-head_text h = line_text (head_line h)
-
-abbrev pub heads_text : List HeadLine → List ℕ
-heads_text hs = flat_map head_text hs
 
 -- these are the values of lines from this number on
 abbrev pub AreHeads : ℕ → List HeadLine → Type 0
@@ -38,22 +29,19 @@ pub record IsHeadFault (bytes : List ℕ) (n : ℕ) : Type 0 where
   pub high : n ≤ 3
   pub none : (h : HeadLine) → StartsWithHead n rest h → ⊥
 
--- the first three lines
-abbrev pub head_values : Claim → ℕ → List HeadLine
-head_values claim count = head.Mark ∷ head.Claim claim ∷ head.Cuts count ∷ []
-
 -- what is needed after them
 abbrev pub body_needs : ℕ → List Need
 body_needs count = replicate count a_cut ++ (a_tree 0 ∷ the_end ∷ [])
 
 -- a later line is wrong
 pub record IsBodyFault (bytes : List ℕ) (f : CertTextFault) : Type 0 where
+  pub version : ℕ
   pub claim : Claim
   pub count : ℕ
   pub rest : List ℕ
-  pub text : bytes ≡ heads_text (head_values claim count) ++ rest
-  pub lines : AreHeads 1 (head_values claim count)
-  pub fault : IsFaultFrom (body_needs count) rest 4 f
+  pub text : bytes ≡ heads_text (head_values version claim count) ++ rest
+  pub lines : AreHeads 1 (head_values version claim count)
+  pub fault : IsFaultFrom version (body_needs count) rest 4 f
 
 -- the first line at which something is wrong, where memory isn't the cause
 abbrev pub IsCertTextFault : List ℕ → CertTextFault → Type 0

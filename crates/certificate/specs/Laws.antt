@@ -1,22 +1,19 @@
--- What a text means is one thing.
-use Rattle.std.specs.Prelude.{◌≡◌, ◌≢◌, ℕ, List, [], ◌∷◌, ⊤}
+-- What a text means is one thing, and certificates are the same where their shapes are.
+use Rattle.std.specs.Prelude.{◌≡◌, ◌≢◌, ◌↔◌, ℕ, List, [], ◌∷◌, ⊤}
 use Rattle.lin_rows.specs.declared.prices.Prices.{Prices}
 use Rattle.lin_rows.specs.declared.prices.Potentials.{Potentials}
-use Rattle.certificate.specs.declared.tree.Cut.{Cut}
-use Rattle.certificate.specs.declared.tree.Cut.TheVariants as cut
-use Rattle.certificate.specs.declared.tree.Leaf.{Leaf}
-use Rattle.certificate.specs.declared.tree.Leaf.TheVariants as leaf
+use Rattle.cert_lines.specs.declared.parts.Cut.{Cut}
+use Rattle.cert_lines.specs.declared.parts.Cut.TheVariants as cut
+use Rattle.cert_lines.specs.declared.parts.Leaf.{Leaf}
+use Rattle.cert_lines.specs.declared.parts.Leaf.TheVariants as leaf
 use Rattle.certificate.specs.declared.tree.Tree.{Tree}
 use Rattle.certificate.specs.declared.tree.Tree.TheVariants.{Branch', Leaf as LeafOf}
 use Rattle.certificate.specs.declared.tree.Certificate.{Certificate}
-use Rattle.certificate.specs.declared.line.CertLine.{CertLine}
-use Rattle.certificate.specs.declared.line.CertLine.TheVariants as line
 use Rattle.certificate.specs.declared.fault.CertTextFault.{CertTextFault}
 use Rattle.certificate.specs.declared.fault.CertTextFault.TheVariants.{Memory}
-use Rattle.certificate.specs.Text.{certificate_text}
-use Rattle.certificate.specs.Limits.{IsWritable}
-use Rattle.certificate.specs.Line.{IsLine}
-use Rattle.certificate.specs.Values.{AreLines, body_values}
+use Rattle.certificate.specs.Shapes.{Shape, shape_of, tree_shape}
+use Rattle.certificate.specs.Counts.{longest, longest_path, node_count, nodes}
+use Rattle.certificate.specs.Limits.{IsTextOf}
 use Rattle.certificate.specs.Faults.{IsCertTextFault}
 
 -- lists are compared by their items
@@ -50,35 +47,23 @@ IsSameTree (LeafOf l) (LeafOf m) = IsSameLeaf l m
 IsSameTree _ _ = ⊥
 
 pub record IsSameCertificate (c d : Certificate) : Type 0 where
+  pub version : c.version ≡ d.version
   pub claim : c.claim ≡ d.claim
   pub cuts : AreSameCuts c.cuts.items d.cuts.items
   pub tree : IsSameTree c.tree d.tree
 
-abbrev pub IsSameLine : CertLine → CertLine → Type 0
-IsSameLine (line.Cut c) (line.Cut d) = IsSameCut c d
-IsSameLine (line.Round divisor parts) (line.Round q n) = (divisor ≡ q) × (parts ≡ n)
-IsSameLine (line.Part part) (line.Part other) = part ≡ other
-IsSameLine (line.Branch column at) (line.Branch other less) = (column ≡ other) × (at ≡ less)
-IsSameLine (line.Linear den parts) (line.Linear q n) = (den ≡ q) × (parts ≡ n)
-IsSameLine (line.Farkas parts) (line.Farkas n) = parts ≡ n
-IsSameLine line.Point line.Point = ⊤
-IsSameLine line.End line.End = ⊤
-IsSameLine _ _ = ⊥
+-- certificates are the same where their shapes are
+abbrev pub ShapesAreSame : Type 0
+ShapesAreSame = (c d : Certificate) → IsSameCertificate c d ↔ (shape_of c ≡ shape_of d)
 
--- a line has one value
-abbrev pub LinesMeanOneThing : Type 0
-LinesMeanOneThing = (bytes : List ℕ) (l m : CertLine) → IsLine bytes l → IsLine bytes m → IsSameLine l m
-
--- the text is that of this certificate, which is within the limits and whose numbers fit their types
-pub record IsTextOf (bytes : List ℕ) (c : Certificate) : Type 0 where
-  pub text : bytes ≡ certificate_text c
-  pub writable : IsWritable c
-  pub lines : AreLines (body_values c)
+-- the shape of a tree has its numbers of nodes and of branches on a path
+abbrev pub ShapesAreCounted : Type 0
+ShapesAreCounted = (t : Tree) → (node_count (tree_shape t) ≡ nodes t) × (longest_path (tree_shape t) ≡ longest t)
 
 -- one certificate, or one fault where memory isn't the cause
 pub record MeansOneThing (bytes : List ℕ) : Type 0 where
-  pub one_certificate : (c d : Certificate) → IsTextOf bytes c → IsTextOf bytes d → IsSameCertificate c d
-  pub certificate_or_fault : (c : Certificate) (f : CertTextFault) → IsTextOf bytes c → IsCertTextFault bytes f → f ≡ Memory
+  pub one_certificate : (c d : Shape) → IsTextOf bytes c → IsTextOf bytes d → c ≡ d
+  pub certificate_or_fault : (c : Shape) (f : CertTextFault) → IsTextOf bytes c → IsCertTextFault bytes f → f ≡ Memory
   pub one_fault : (f g : CertTextFault) → f ≢ Memory → g ≢ Memory → IsCertTextFault bytes f → IsCertTextFault bytes g → f ≡ g
 
 abbrev pub TextsMeanOneThing : Type 0

@@ -1,12 +1,10 @@
+pub mod Shapes
 pub mod Counts
+pub mod Values
 pub mod Text
 pub mod Limits
-pub mod Head
-pub mod Line
-pub mod Words
-pub mod Forms
-pub mod Values
 pub mod Needs
+pub mod Stacks
 pub mod Faults
 pub mod Rest
 pub mod Nodes

@@ -6,32 +6,34 @@
 //! that text, and `read_certificate` gives the certificate of a text, or a `CertTextFault` with the first
 //! line at which something is wrong. `read_head` reads one of the first three lines by itself, and
 //! `read_line` a later one. That no text means two things is `texts_mean_one_thing`.
+//!
+//! Family: proofs. It stands on `cert_lines`, whose lines it puts together and whose calls it hands on; the
+//! checker of certificates and the search are to stand on it.
 #![tactic(auto)]
 
 mod counts;
 mod fault;
-mod forms;
-mod head;
 mod laws;
-mod lengths;
 mod limits;
-mod line;
-mod lists;
+mod needs;
 mod opening;
 mod reading;
 mod rest;
 mod tree;
-mod words;
 mod writing;
 
-pub use counts::{longest, nodes};
+pub use cert_lines::{
+    CertLine, Claim, Cut, HeadLine, Leaf, LineFault, MAX_BRANCHES, MAX_CUTS, MAX_DIVISOR, MAX_LINE,
+    MAX_PARTS, MAX_ROUND_PARTS, MAX_VERSION, Part, copy_cut, copy_leaf, lines_mean_one_thing,
+    read_head, read_line,
+};
+pub use counts::{cut_lines_count, leaf_lines_count, longest, nodes};
 pub use fault::CertTextFault;
-pub use head::{HeadLine, read_head};
-pub use laws::{lines_mean_one_thing, texts_mean_one_thing};
+pub use laws::{shapes_are_counted, shapes_are_same, texts_mean_one_thing};
 pub use limits::is_writable;
-pub use line::{CertLine, LineFault, read_line};
+pub use needs::{Misfit, Needs};
 pub use reading::read_certificate;
-pub use tree::{Certificate, Claim, Cut, Leaf, Part, Tree};
+pub use tree::{Certificate, Tree};
 pub use writing::write_certificate;
 
 #[cfg(test)]

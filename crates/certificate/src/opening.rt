@@ -1,9 +1,11 @@
 // The first three lines of a text.
-ghost use Rattle.std.specs.Prelude.{◌≡◌, ◌≤◌, ◌<◌, ◌+◌, ◌++◌, ◌^◌, IfErr, IfOk, IfSome, IsNone, IsTrue, false, length};
-ghost use Rattle.certificate.specs.declared.head.HeadLine.{HeadLine};
-ghost use Rattle.certificate.specs.declared.head.HeadLine.TheVariants as value;
-ghost use Rattle.certificate.specs.Faults.{AreHeads, IsCertTextFault, StartsWithHead, head_text, head_values, heads_text};
-ghost use Rattle.certificate.specs.Head.{IsHead, head_line};
+ghost use Rattle.std.specs.Prelude.{◌≡◌, ◌≤◌, ◌<◌, ◌+◌, ◌++◌, ◌^◌, IfErr, IfOk, IfSome, IsNone, length};
+ghost use Rattle.cert_lines.specs.declared.head.HeadLine.{HeadLine};
+ghost use Rattle.cert_lines.specs.declared.head.HeadLine.TheVariants as value;
+ghost use Rattle.cert_lines.specs.Limits.{IsVersion};
+ghost use Rattle.certificate.specs.Text.{head_text, head_values, heads_text};
+ghost use Rattle.certificate.specs.Faults.{AreHeads, IsCertTextFault, StartsWithHead};
+ghost use Rattle.cert_lines.specs.Head.{IsHead, head_line};
 
 use crate::rest::{Rest, split_line};
 use crate::{CertTextFault, Claim, HeadLine, read_head};
@@ -32,21 +34,21 @@ fn next_head(rest: &mut Rest, place: u32) -> Option<HeadLine>
     }
 }
 
-// The first line.
-fn next_mark(rest: &mut Rest) -> bool
+// The version, on the first line.
+fn next_mark(rest: &mut Rest) -> Option<u32>
     requires room { rest.old.line + length rest.old.text.now < 2 ^ 64 }
-    ensures line { IsTrue result → IsHead 1 (head_line value.Mark) value.Mark }
-    ensures text { IsTrue result → rest.old.text.now ≡ head_text value.Mark ++ rest.new.text.now }
-    ensures number { IsTrue result → rest.new.line ≡ rest.old.line + 1 }
-    ensures room { IsTrue result → rest.new.line + length rest.new.text.now ≤ rest.old.line + length rest.old.text.now }
-    ensures none { result ≡ false → (h : HeadLine) → StartsWithHead 1 rest.old.text.now h → ⊥ }
+    ensures line { IfSome result (λ v. IsHead 1 (head_line (value.Mark v)) (value.Mark v)) }
+    ensures text { IfSome result (λ v. rest.old.text.now ≡ head_text (value.Mark v) ++ rest.new.text.now) }
+    ensures number { IfSome result (λ v. rest.new.line ≡ rest.old.line + 1) }
+    ensures room { IfSome result (λ v. rest.new.line + length rest.new.text.now ≤ rest.old.line + length rest.old.text.now) }
+    ensures none { IsNone result → (h : HeadLine) → StartsWithHead 1 rest.old.text.now h → ⊥ }
 {
     match next_head(rest, 1) {
         Some(head) => match head {
-            HeadLine::Mark => true,
-            _ => false,
+            HeadLine::Mark(version) => Some(version),
+            _ => None,
         },
-        None => false,
+        None => None,
     }
 }
 
@@ -86,24 +88,25 @@ fn next_count(rest: &mut Rest) -> Option<u32>
     }
 }
 
-// The claim and the number of cuts.
-pub fn read_heads(rest: &mut Rest) -> Result<(Claim, u32), CertTextFault>
+// The version, the claim and the number of cuts.
+pub fn read_heads(rest: &mut Rest) -> Result<(u32, Claim, u32), CertTextFault>
     requires first { rest.old.line ≡ 1 }
     requires room { rest.old.line + length rest.old.text.now < 2 ^ 64 }
-    ensures lines { IfOk result (λ p. AreHeads 1 (head_values p.0 p.1)) }
-    ensures text { IfOk result (λ p. rest.old.text.now ≡ heads_text (head_values p.0 p.1) ++ rest.new.text.now) }
+    ensures version { IfOk result (λ p. IsVersion p.0) }
+    ensures lines { IfOk result (λ p. AreHeads 1 (head_values p.0 p.1 p.2)) }
+    ensures text { IfOk result (λ p. rest.old.text.now ≡ heads_text (head_values p.0 p.1 p.2) ++ rest.new.text.now) }
     ensures number { IfOk result (λ p. rest.new.line ≡ 4) }
     ensures room { IfOk result (λ p. rest.new.line + length rest.new.text.now ≤ rest.old.line + length rest.old.text.now) }
     ensures refused { IfErr result (IsCertTextFault rest.old.text.now) }
 {
-    if !next_mark(rest) {
+    let Some(version) = next_mark(rest) else {
         return Err(CertTextFault::Header(1));
-    }
+    };
     let Some(claim) = next_claim(rest) else {
         return Err(CertTextFault::Header(2));
     };
     let Some(count) = next_count(rest) else {
         return Err(CertTextFault::Header(3));
     };
-    Ok((claim, count))
+    Ok((version, claim, count))
 }

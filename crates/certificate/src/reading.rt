@@ -1,10 +1,12 @@
 // From a text to a certificate.
-ghost use Rattle.std.specs.Prelude.{◌≡◌, ◌≤◌, ◌<◌, ◌+◌, ◌++◌, ◌∷◌, ◌^◌, [], IfErr, IfOk, IfSome, IsNone, List, OnOk, length, replicate};
-ghost use Rattle.certificate.specs.declared.line.CertLine.TheVariants as value;
-ghost use Rattle.certificate.specs.Text.{certificate_text};
-ghost use Rattle.certificate.specs.Limits.{IsWritable};
-ghost use Rattle.certificate.specs.Counts.{longest};
-ghost use Rattle.certificate.specs.Values.{all_cut_values, cut_values, leaf_values, part_values, tree_values};
+ghost use Rattle.std.specs.Prelude.{◌≡◌, ◌≤◌, ◌<◌, ◌+◌, ◌++◌, ◌∷◌, ◌^◌, [], IfErr, IfOk, IfSome, IsNone, List, OnOk, length, map, replicate};
+ghost use Rattle.cert_lines.specs.Limits.{IsVersion};
+ghost use Rattle.cert_lines.specs.declared.limits.TheConstants.{MAX_BRANCHES};
+ghost use Rattle.cert_lines.specs.Shapes.{EndLine, PartLine, cut_shape, line_shape};
+ghost use Rattle.certificate.specs.Shapes.{shape_of, tree_shape};
+ghost use Rattle.certificate.specs.Limits.{IsTextOf};
+ghost use Rattle.certificate.specs.Counts.{longest_path};
+ghost use Rattle.certificate.specs.Values.{all_cut_values, cut_values, part_values, tree_values};
 ghost use Rattle.certificate.specs.Needs.{IsFaultFrom, Need, Takes, a_cut, a_part, a_tree, the_end};
 ghost use Rattle.certificate.specs.Faults.{IsCertTextFault};
 ghost use Rattle.certificate.specs.Rest.{AreRead};
@@ -13,14 +15,15 @@ ghost use Rattle.certificate.specs.Nodes.{IsHigh, node_values};
 use crate::opening::read_heads;
 use crate::rest::{Rest, next_line};
 use crate::{CertLine, CertTextFault, Certificate, Cut, Leaf, Part, Tree};
+use cert_lines::MAX_BRANCHES;
 use lin_rows::Column;
 use std::alloc::Global;
 use std::boxed::Box;
 
 // The part that a line is.
 fn part_of(line: CertLine) -> Option<Part>
-    ensures some { IfSome result (λ part. line ≡ value.Part part) }
-    ensures none { IsNone result → Takes a_part line → ⊥ }
+    ensures some { IfSome result (λ part. line_shape line ≡ PartLine part) }
+    ensures none { IsNone result → Takes a_part (line_shape line) → ⊥ }
 {
     match line {
         CertLine::Part(part) => Some(part),
@@ -29,49 +32,57 @@ fn part_of(line: CertLine) -> Option<Part>
 }
 
 // A part.
-fn read_part(alloc: Global, rest: &mut Rest) -> Result<Part, CertTextFault>
+fn read_part(alloc: Global, rest: &mut Rest, version: u32) -> Result<Part, CertTextFault>
+    requires version { IsVersion version }
     requires room { rest.old.line + length rest.old.text.now < 2 ^ 64 }
-    ensures part { IfOk result (λ part. AreRead rest.old rest.new (value.Part part ∷ [])) }
+    ensures part { IfOk result (λ part. AreRead version rest.old rest.new (PartLine part ∷ [])) }
     ensures room { OnOk result (rest.new.line + length rest.new.text.now ≤ rest.old.line + length rest.old.text.now) }
-    ensures refused { IfErr result (λ f. (later : List Need) → IsFaultFrom (a_part ∷ later) rest.old.text.now rest.old.line f) }
+    ensures refused { IfErr result (λ f. (later : List Need) → IsFaultFrom version (a_part ∷ later) rest.old.text.now rest.old.line f) }
 {
     let number = rest.line;
-    match part_of(next_line(alloc, rest)?) {
+    match part_of(next_line(alloc, rest, version)?) {
         Some(part) => Ok(part),
         None => Err(CertTextFault::Shape(number)),
     }
 }
 
 // So many parts.
-fn read_parts(alloc: Global, rest: &mut Rest, count: u32) -> Result<Vec<Part>, CertTextFault>
+fn read_parts(
+    alloc: Global,
+    rest: &mut Rest,
+    version: u32,
+    count: u32,
+) -> Result<Vec<Part>, CertTextFault>
+    requires version { IsVersion version }
     requires room { rest.old.line + length rest.old.text.now < 2 ^ 64 }
-    ensures parts { IfOk result (λ parts. AreRead rest.old rest.new (part_values parts.items)) }
+    ensures parts { IfOk result (λ parts. AreRead version rest.old rest.new (part_values parts.items)) }
     ensures count { IfOk result (λ parts. length parts.items ≡ count) }
     ensures room { OnOk result (rest.new.line + length rest.new.text.now ≤ rest.old.line + length rest.old.text.now) }
-    ensures refused { IfErr result (λ f. (later : List Need) → IsFaultFrom (replicate count a_part ++ later) rest.old.text.now rest.old.line f) }
+    ensures refused { IfErr result (λ f. (later : List Need) → IsFaultFrom version (replicate count a_part ++ later) rest.old.text.now rest.old.line f) }
 {
     let mut parts = Vec::new(alloc);
     for _ in 0..count {
-        parts.push(read_part(alloc, rest)?)?;
+        parts.push(read_part(alloc, rest, version)?)?;
     }
     Ok(parts)
 }
 
 // A cut, with its parts.
-fn read_cut(alloc: Global, rest: &mut Rest) -> Result<Cut, CertTextFault>
+fn read_cut(alloc: Global, rest: &mut Rest, version: u32) -> Result<Cut, CertTextFault>
+    requires version { IsVersion version }
     requires room { rest.old.line + length rest.old.text.now < 2 ^ 64 }
-    ensures cut { IfOk result (λ cut. AreRead rest.old rest.new (cut_values cut)) }
+    ensures cut { IfOk result (λ cut. AreRead version rest.old rest.new (cut_values (cut_shape cut))) }
     ensures room { OnOk result (rest.new.line + length rest.new.text.now ≤ rest.old.line + length rest.old.text.now) }
-    ensures refused { IfErr result (λ f. (later : List Need) → IsFaultFrom (a_cut ∷ later) rest.old.text.now rest.old.line f) }
+    ensures refused { IfErr result (λ f. (later : List Need) → IsFaultFrom version (a_cut ∷ later) rest.old.text.now rest.old.line f) }
 {
     let number = rest.line;
-    match next_line(alloc, rest)? {
+    match next_line(alloc, rest, version)? {
         CertLine::Cut(cut) => Ok(cut),
         CertLine::Round {
             divisor,
             parts: count,
         } => {
-            let parts = read_parts(alloc, rest, count)?;
+            let parts = read_parts(alloc, rest, version, count)?;
             Ok(Cut::Round { divisor, parts })
         }
         _ => Err(CertTextFault::Shape(number)),
@@ -79,16 +90,22 @@ fn read_cut(alloc: Global, rest: &mut Rest) -> Result<Cut, CertTextFault>
 }
 
 // So many cuts.
-fn read_cuts(alloc: Global, rest: &mut Rest, count: u32) -> Result<Vec<Cut>, CertTextFault>
+fn read_cuts(
+    alloc: Global,
+    rest: &mut Rest,
+    version: u32,
+    count: u32,
+) -> Result<Vec<Cut>, CertTextFault>
+    requires version { IsVersion version }
     requires room { rest.old.line + length rest.old.text.now < 2 ^ 64 }
-    ensures cuts { IfOk result (λ cuts. AreRead rest.old rest.new (all_cut_values cuts.items)) }
+    ensures cuts { IfOk result (λ cuts. AreRead version rest.old rest.new (all_cut_values (map cut_shape cuts.items))) }
     ensures count { IfOk result (λ cuts. length cuts.items ≡ count) }
     ensures room { OnOk result (rest.new.line + length rest.new.text.now ≤ rest.old.line + length rest.old.text.now) }
-    ensures refused { IfErr result (λ f. (later : List Need) → IsFaultFrom (replicate count a_cut ++ later) rest.old.text.now rest.old.line f) }
+    ensures refused { IfErr result (λ f. (later : List Need) → IsFaultFrom version (replicate count a_cut ++ later) rest.old.text.now rest.old.line f) }
 {
     let mut cuts = Vec::new(alloc);
     for _ in 0..count {
-        cuts.push(read_cut(alloc, rest)?)?;
+        cuts.push(read_cut(alloc, rest, version)?)?;
     }
     Ok(cuts)
 }
@@ -101,28 +118,34 @@ pub enum Node {
 }
 
 // The first node of a tree with so many branches above it.
-fn read_node(alloc: Global, rest: &mut Rest, above: u32) -> Result<Node, CertTextFault>
+fn read_node(
+    alloc: Global,
+    rest: &mut Rest,
+    version: u32,
+    above: u32,
+) -> Result<Node, CertTextFault>
+    requires version { IsVersion version }
     requires room { rest.old.line + length rest.old.text.now < 2 ^ 64 }
-    requires above { above ≤ 2000 }
-    ensures node { IfOk result (λ node. AreRead rest.old rest.new (node_values node)) }
+    requires above { above ≤ MAX_BRANCHES }
+    ensures node { IfOk result (λ node. AreRead version rest.old rest.new (node_values node)) }
     ensures high { IfOk result (λ node. IsHigh above node) }
     ensures room { OnOk result (rest.new.line + length rest.new.text.now ≤ rest.old.line + length rest.old.text.now) }
-    ensures refused { IfErr result (λ f. (later : List Need) → IsFaultFrom (a_tree above ∷ later) rest.old.text.now rest.old.line f) }
+    ensures refused { IfErr result (λ f. (later : List Need) → IsFaultFrom version (a_tree above ∷ later) rest.old.text.now rest.old.line f) }
 {
     let number = rest.line;
-    match next_line(alloc, rest)? {
+    match next_line(alloc, rest, version)? {
         CertLine::Branch { column, at } => {
-            if above == 2000 {
+            if above == MAX_BRANCHES {
                 return Err(CertTextFault::Deep(number));
             }
             Ok(Node::Branch { column, at })
         }
         CertLine::Linear { den, parts: count } => {
-            let parts = read_parts(alloc, rest, count)?;
+            let parts = read_parts(alloc, rest, version, count)?;
             Ok(Node::Leaf(Leaf::Linear { den, parts }))
         }
         CertLine::Farkas { parts: count } => {
-            let parts = read_parts(alloc, rest, count)?;
+            let parts = read_parts(alloc, rest, version, count)?;
             Ok(Node::Leaf(Leaf::Farkas { parts }))
         }
         CertLine::Point => Ok(Node::Leaf(Leaf::Point)),
@@ -131,18 +154,24 @@ fn read_node(alloc: Global, rest: &mut Rest, above: u32) -> Result<Node, CertTex
 }
 
 // A tree with so many branches above it. It calls itself once for each branch on the way to a leaf.
-fn read_tree(alloc: Global, rest: &mut Rest, above: u32) -> Result<Tree, CertTextFault>
+fn read_tree(
+    alloc: Global,
+    rest: &mut Rest,
+    version: u32,
+    above: u32,
+) -> Result<Tree, CertTextFault>
+    requires version { IsVersion version }
     requires room { rest.old.line + length rest.old.text.now < 2 ^ 64 }
-    requires above { above ≤ 2000 }
-    ensures tree { IfOk result (λ tree. AreRead rest.old rest.new (tree_values tree)) }
-    ensures paths { IfOk result (λ tree. above + longest tree ≤ 2000) }
+    requires above { above ≤ MAX_BRANCHES }
+    ensures tree { IfOk result (λ tree. AreRead version rest.old rest.new (tree_values (tree_shape tree))) }
+    ensures paths { IfOk result (λ tree. above + longest_path (tree_shape tree) ≤ MAX_BRANCHES) }
     ensures room { OnOk result (rest.new.line + length rest.new.text.now ≤ rest.old.line + length rest.old.text.now) }
-    ensures refused { IfErr result (λ f. (later : List Need) → IsFaultFrom (a_tree above ∷ later) rest.old.text.now rest.old.line f) }
+    ensures refused { IfErr result (λ f. (later : List Need) → IsFaultFrom version (a_tree above ∷ later) rest.old.text.now rest.old.line f) }
 {
-    match read_node(alloc, rest, above)? {
+    match read_node(alloc, rest, version, above)? {
         Node::Branch { column, at } => {
-            let low = read_tree(alloc, rest, above + 1)?;
-            let high = read_tree(alloc, rest, above + 1)?;
+            let low = read_tree(alloc, rest, version, above + 1)?;
+            let high = read_tree(alloc, rest, version, above + 1)?;
             Ok(Tree::Branch {
                 column,
                 at,
@@ -155,13 +184,14 @@ fn read_tree(alloc: Global, rest: &mut Rest, above: u32) -> Result<Tree, CertTex
 }
 
 // Whether nothing is left of a text, but for the last line.
-fn read_end(alloc: Global, rest: &mut Rest) -> Result<(), CertTextFault>
+fn read_end(alloc: Global, rest: &mut Rest, version: u32) -> Result<(), CertTextFault>
+    requires version { IsVersion version }
     requires room { rest.old.line + length rest.old.text.now < 2 ^ 64 }
-    ensures end { OnOk result (AreRead rest.old rest.new (value.End ∷ []) × (rest.new.text.now ≡ [])) }
-    ensures refused { IfErr result (λ f. IsFaultFrom (the_end ∷ []) rest.old.text.now rest.old.line f) }
+    ensures end { OnOk result (AreRead version rest.old rest.new (EndLine ∷ []) × (rest.new.text.now ≡ [])) }
+    ensures refused { IfErr result (λ f. IsFaultFrom version (the_end ∷ []) rest.old.text.now rest.old.line f) }
 {
     let number = rest.line;
-    match next_line(alloc, rest)? {
+    match next_line(alloc, rest, version)? {
         CertLine::End => {}
         _ => return Err(CertTextFault::Shape(number)),
     }
@@ -169,27 +199,31 @@ fn read_end(alloc: Global, rest: &mut Rest) -> Result<(), CertTextFault>
         return Ok(());
     }
     let last = rest.line;
-    next_line(alloc, rest)?;
+    next_line(alloc, rest, version)?;
     Err(CertTextFault::Shape(last))
 }
 
 /// The writable certificate whose text the bytes are, or the first line at which something is wrong. On one
 /// line the order is `Header` or `Line`, then `Shape`, then `Deep`.
 ///
-/// It calls itself once for each branch on the way to a leaf, at most 2,000 deep, and takes time and memory
+/// It calls itself once for each branch on the way to a leaf, at most `MAX_BRANCHES` deep, and takes time and memory
 /// in the length of the bytes.
 pub fn read_certificate(alloc: Global, bytes: &[u8]) -> Result<Certificate, CertTextFault>
-    ensures text { IfOk result (λ certificate. bytes.now ≡ certificate_text certificate) }
-    ensures writable { IfOk result IsWritable }
+    ensures text { IfOk result (λ certificate. IsTextOf bytes.now (shape_of certificate)) }
     ensures refused { IfErr result (IsCertTextFault bytes.now) }
 {
     let mut rest = Rest {
         text: bytes,
         line: 1,
     };
-    let (claim, count) = read_heads(&mut rest)?;
-    let cuts = read_cuts(alloc, &mut rest, count)?;
-    let tree = read_tree(alloc, &mut rest, 0)?;
-    read_end(alloc, &mut rest)?;
-    Ok(Certificate { claim, cuts, tree })
+    let (version, claim, count) = read_heads(&mut rest)?;
+    let cuts = read_cuts(alloc, &mut rest, version, count)?;
+    let tree = read_tree(alloc, &mut rest, version, 0)?;
+    read_end(alloc, &mut rest, version)?;
+    Ok(Certificate {
+        version,
+        claim,
+        cuts,
+        tree,
+    })
 }

@@ -26,6 +26,10 @@ const ROUNDED: &str = "lotcert 1\nclaim optimal 23\ncuts 2\nls 1 1 1\nround 10 4
     part balance 1 1 1\npart balance 1 2 1\npart link 1 2 1\npart capacity 1 1 1\nlinear 1 4\n\
     part balance 1 2 1\npart capacity 1 2 1\npart cut 1 5\npart cut 2 11\nend\n";
 
+// Rows that version 2 alone has.
+const LOTS: &str = "lotcert 2\nclaim infeasible\ncuts 0\nfarkas 2\npart late 1 1 1\n\
+    part least 1 1 -1\nend\n";
+
 // Whether a text is read, and written again byte for byte.
 fn comes_again(alloc: Global, text: &str) -> Result<bool, AllocError> {
     match read_certificate(alloc, text.as_bytes()) {
@@ -40,7 +44,7 @@ fn comes_again(alloc: Global, text: &str) -> Result<bool, AllocError> {
 #[test]
 fn what_is_read_is_written(rt: HostRuntime) -> Result<(), Fail> {
     let alloc = rt.alloc();
-    for text in [BRANCHES, INEQUALITIES, BLOCK, PRICES, ROUNDED] {
+    for text in [BRANCHES, INEQUALITIES, BLOCK, PRICES, ROUNDED, LOTS] {
         assert!(rt; comes_again(alloc, text)?);
     }
     Ok(())
@@ -72,6 +76,7 @@ fn lines_that_are_damaged(rt: HostRuntime) -> Result<(), Fail> {
     let alloc = rt.alloc();
     for (number, line, fault) in [
         (1usize, "lotcert 9", CertTextFault::Header(1)),
+        (6, "part late 1 1 1", CertTextFault::Line(6)),
         (2, "claim optimal 023", CertTextFault::Header(2)),
         (3, "cuts 20001", CertTextFault::Header(3)),
         (4, "branch z 1 1 0", CertTextFault::Line(4)),

@@ -1,10 +1,12 @@
 // Lines of a text, one after the other.
 ghost use Rattle.std.specs.Prelude.{◌≡◌, ◌≢◌, ◌≤◌, ◌<◌, ◌+◌, ◌++◌, ◌^◌, [], IfErr, IfOk, IfSome, IsNone, List, OnOk, length};
-ghost use Rattle.certificate.specs.Text.{line_text};
-ghost use Rattle.certificate.specs.Line.{IsLine, later_line};
+ghost use Rattle.cert_lines.specs.Text.{line_text};
+ghost use Rattle.cert_lines.specs.Shapes.{line_shape};
+ghost use Rattle.cert_lines.specs.Limits.{IsVersion};
+ghost use Rattle.cert_lines.specs.Line.{HasLine};
 ghost use Rattle.certificate.specs.Values.{value_text};
 ghost use Rattle.certificate.specs.Needs.{IsStop, Need};
-ghost use Rattle.certificate.specs.Rest.{HasNoFeed};
+ghost use Rattle.cert_lines.specs.Text.{HasNoFeed};
 
 use crate::{CertLine, CertTextFault, LineFault, read_line};
 use std::alloc::Global;
@@ -30,14 +32,15 @@ pub fn split_line(text: &[u8]) -> Option<(&[u8], &[u8])>
     None
 }
 
-// The value of the next line.
-pub fn next_line(alloc: Global, rest: &mut Rest) -> Result<CertLine, CertTextFault>
+// The value of the next line of a text of this version.
+pub fn next_line(alloc: Global, rest: &mut Rest, version: u32) -> Result<CertLine, CertTextFault>
+    requires version { IsVersion version }
     requires room { rest.old.line + length rest.old.text.now < 2 ^ 64 }
-    ensures line { IfOk result (λ l. IsLine (later_line l) l) }
-    ensures text { IfOk result (λ l. rest.old.text.now ≡ value_text l ++ rest.new.text.now) }
+    ensures line { IfOk result (λ l. HasLine version (line_shape l)) }
+    ensures text { IfOk result (λ l. rest.old.text.now ≡ value_text (line_shape l) ++ rest.new.text.now) }
     ensures number { OnOk result (rest.new.line ≡ rest.old.line + 1) }
     ensures room { OnOk result (rest.new.line + length rest.new.text.now ≤ rest.old.line + length rest.old.text.now) }
-    ensures refused { IfErr result (λ f. (needs : List Need) → (rest.old.text.now ≡ [] → needs ≢ []) → IsStop needs rest.old.text.now rest.old.line f) }
+    ensures refused { IfErr result (λ f. (needs : List Need) → (rest.old.text.now ≡ [] → needs ≢ []) → IsStop version needs rest.old.text.now rest.old.line f) }
 {
     let number = rest.line;
     if rest.text.is_empty() {
@@ -46,7 +49,7 @@ pub fn next_line(alloc: Global, rest: &mut Rest) -> Result<CertLine, CertTextFau
     let Some((line, text)) = split_line(rest.text) else {
         return Err(CertTextFault::Line(number));
     };
-    match read_line(alloc, line) {
+    match read_line(alloc, line, version) {
         Ok(value) => {
             rest.text = text;
             rest.line = number + 1;

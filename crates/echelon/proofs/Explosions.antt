@@ -1,10 +1,11 @@
 -- Rows of weights.
-use Rattle.std.proofs.Common.{◌≡◌, ◌≤◌, ◌+◌, ◌-◌, ◌*◌, ◌^◌, ◌∙◌, ⊎_elim, ℕ, sym, ap, subst, arith, List, [], ◌∷◌, ◌++◌}
+use Rattle.std.proofs.Common.{◌≡◌, ◌≤◌, ◌+◌, ◌-◌, ◌*◌, ◌∙◌, ⊎_elim, ℕ, sym, ap, subst, arith, List, [], ◌∷◌, ◌++◌}
 use Rattle.std.proofs.lemmas.Bool.{cases_lt}
 use Rattle.std.proofs.lemmas.List.{length_push, get_or_push, get_or_append_left}
 use Rattle.lot_sizing.specs.Sums.{sum_to}
 use Rattle.lot_sizing.specs.Problem.{Problem, item_count}
 use Rattle.lot_sizing.specs.Totals.{IsRanking}
+use Rattle.lot_sizing.specs.declared.limits.TheConstants.{MAX_TOTAL}
 use Rattle.lot_sizing.specs.Bill.{AreWeights, bill_of, one_if_same}
 use Rattle.lot_sizing.proofs.Sums.{sum_to-same}
 use Rattle.bill.specs.Laws.{WeightsExist}
@@ -12,7 +13,7 @@ use Rattle.bill.specs.Over.{row_entry}
 use Rattle.echelon.specs.Weights.{AreRows, AreRowsTo, IsRow}
 
 -- a row takes the weight in the next item
-pub row_more : (m : Problem) (i k x : ℕ) (row : List ℕ) → 1 ≤ k → x ≤ 10 ^ 12 → ((weight : ℕ → ℕ → ℕ) → AreWeights (bill_of m) weight → x ≡ weight i k) → IsRow m i (k - 1) row → IsRow m i (k + 1 - 1) (row ++ x ∷ [])
+pub row_more : (m : Problem) (i k x : ℕ) (row : List ℕ) → 1 ≤ k → x ≤ MAX_TOTAL → ((weight : ℕ → ℕ → ℕ) → AreWeights (bill_of m) weight → x ≡ weight i k) → IsRow m i (k - 1) row → IsRow m i (k + 1 - 1) (row ++ x ∷ [])
 row_more m i k x row low small is r = record {
   size = omega (arith, length_push row x, r.size, low);
   small = λ j j_low j_high. ⊎_elim

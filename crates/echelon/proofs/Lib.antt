@@ -3,3 +3,5 @@ pub mod Singles
 pub mod Orders
 pub mod Explosions
 pub mod Wholes
+pub mod Balances
+pub mod Marks

@@ -1,5 +1,6 @@
 -- Lists with a number for each period.
 use Rattle.std.proofs.Common.{◌≡◌, ◌≤◌, ◌+◌, ◌-◌, ◌∙◌, ⊎_elim, ℕ, suc, sym, ap, arith, List, [], ◌∷◌, ◌++◌, length, slice_index_or, take}
+use Rattle.std.specs.Prelude.{if◌then◌else◌, ◌==◌}
 use Rattle.std.proofs.lemmas.Bool.{cases_lt}
 use Rattle.std.proofs.lemmas.Grind.{get_or_default_zero}
 use Rattle.std.proofs.lemmas.List.{length_push, get_or_push, get_or_append_left, take_more}
@@ -7,7 +8,7 @@ use Rattle.lot_sizing.specs.Sums.{sum_to}
 use Rattle.lot_sizing.specs.Problem.{entry}
 use Rattle.lot_sizing.specs.Net.{Asked, asked_to, needed_to}
 use Rattle.lot_sizing.proofs.Sums.{sum_to_at}
-use Rattle.echelon.specs.Views.{HasEach, end_in}
+use Rattle.echelon.specs.Views.{HasEach}
 
 -- a list takes the number of the next period
 pub each_more : (n m x : ℕ) (f : ℕ → ℕ) (xs : List ℕ) → m ≡ suc n → HasEach n f xs → x ≡ f m → HasEach m f (xs ++ x ∷ [])
@@ -18,6 +19,10 @@ each_more n m x f xs next has is = record {
       (λ no. let e : t ≡ m = omega (arith, no, high, next) in get_or_push xs x 0 (t - 1) (omega (arith, e, has.size, next)) ∙ is ∙ ap f (sym e))
       (cases_lt t (suc n));
 }
+
+-- the required end stock in the last period
+abbrev pub end_in : Asked → ℕ → ℕ
+end_in a t = if t == a.periods then a.end_min else 0
 
 -- what is asked for up to a period, as it is added up
 pub record IsAsked (a : Asked) (t asked needed : ℕ) : Type 0 where

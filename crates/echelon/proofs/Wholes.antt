@@ -9,7 +9,7 @@ use Rattle.lot_sizing.specs.Problem.{IsWithinLimits, Problem, demand, entry, ite
 use Rattle.lot_sizing.specs.Echelon.{asked_in_echelon, in_echelon}
 use Rattle.lot_sizing.proofs.Bounds.{demand_small}
 use Rattle.lot_sizing.proofs.Sums.{sum_to_more, sum_to-bound, sum_to-same}
-use Rattle.echelon.specs.Views.{IsWithinLimits as IsEchelonWithin}
+use Rattle.echelon.specs.Views.{IsEchelonWithinBounds}
 use Rattle.echelon.specs.Weights.{AreBacks, AsksAs, HasBack, IsEchelonOf}
 use Rattle.echelon.specs.declared.net.EchelonItem.{EchelonItem}
 
@@ -49,8 +49,8 @@ asks_as m weight i e is t high =
     omega (arith, demands, ends)
 
 -- what is asked of the echelon is far below the limit
-pub echelon_within : (m : Problem) (weight : ℕ → ℕ → ℕ) (i : ℕ) (e : EchelonItem) → IsWithinLimits m → ((k : ℕ) → 1 ≤ k → k ≤ item_count m → weight i k ≤ 10 ^ 12) → IsEchelonOf m weight i e → IsEchelonWithin e
-echelon_within m weight i e within small is =
+pub echelon_within : (m : Problem) (weight : ℕ → ℕ → ℕ) (i : ℕ) (e : EchelonItem) → IsWithinLimits m → 1 ≤ i → i ≤ item_count m → ((k : ℕ) → 1 ≤ k → k ≤ item_count m → weight i k ≤ 10 ^ 12) → IsEchelonOf m weight i e → IsEchelonWithinBounds e
+echelon_within m weight i e within low high small is =
     let a = asked_in_echelon m weight i in
     let each : (t : ℕ) → 1 ≤ t → t ≤ m.periods → entry e.demand.items t ≤ 40 * 10 ^ 21 = λ t low high.
     let one = in_echelon_small m weight i (λ k. demand m k t) within small (λ k k_low k_high. demand_small m within k t k_low k_high low high) in
@@ -59,6 +59,8 @@ echelon_within m weight i e within small is =
     let opening = in_echelon_small m weight i (λ k. (item_at m k).opening) within small (λ k low high. (within.each_item k low high).opening) in
     let end_min = in_echelon_small m weight i (λ k. (item_at m k).end_min) within small (λ k low high. (within.each_item k low high).end_min) in
     record {
+      item = (omega (arith, is.item, low), omega (arith, is.item, high, is.weights.size));
+      items = omega (arith, is.weights.size, within.items);
       periods = omega (arith, is.demand.size, within.periods);
       backs = is.backs.size ∙ sym is.weights.size;
       weights = λ k d less.
@@ -67,4 +69,13 @@ echelon_within m weight i e within small is =
           let plain : slice_index_or e.weights.items k d ≡ entry e.weights.items (k + 1) = get_or_default e.weights.items k d 0 less ∙ ap (λ n. slice_index_or e.weights.items n 0) (sym e1) in
           omega (arith, plain, read, small (k + 1) (omega arith) (omega (arith, less, is.weights.size)));
       asked = omega (arith, ap (λ n. sum_to n (entry e.demand.items)) is.demand.size, demands, is.opening, opening, is.end_min, end_min, within.periods, within.items);
+      agree = (
+        λ owed.
+            let (j, j_low, j_high, counts, back) = is.backlogged.0 owed in
+            (j, j_low, omega (arith, j_high, is.weights.size), omega (arith, counts, is.weights.each j j_low j_high), (is.backs.each j j_low j_high).1 back),
+        λ some.
+            let (j, j_low, j_less, counts, back) = some in
+            let j_high : j ≤ item_count m = omega (arith, j_less, is.weights.size) in
+            is.backlogged.1 (j, j_low, j_high, omega (arith, counts, is.weights.each j j_low j_high), (is.backs.each j j_low j_high).0 back),
+      );
     }

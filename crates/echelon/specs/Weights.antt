@@ -1,12 +1,14 @@
 -- The weights of a problem's items, an order of the items, and what is asked of an echelon.
-use Rattle.std.specs.Prelude.{◌≡◌, ◌↔◌, ℕ, ◌-◌, ◌≤◌, ◌<◌, ◌^◌, Bool, false, IsTrue, IsSome, List, [], length, slice_index_or}
+use Rattle.std.specs.Prelude.{◌≡◌, ◌↔◌, ℕ, ◌-◌, ◌≤◌, ◌<◌, Bool, IsTrue, IsSome, List, [], length, slice_index_or}
 use Rattle.lot_sizing.specs.Problem.{Problem, entry, item_at, item_count, per_unit}
+use Rattle.lot_sizing.specs.declared.limits.TheConstants.{MAX_TOTAL}
 use Rattle.lot_sizing.specs.Bill.{AreWeights, bill_of}
 use Rattle.lot_sizing.specs.Echelon.{asked_in_echelon}
 use Rattle.lot_sizing.specs.Net.{asked_to}
 use Rattle.bill.specs.Over.{row_entry}
+use Rattle.lot_model.specs.Views.{IsInstance}
 use Rattle.echelon.specs.declared.net.EchelonItem.{EchelonItem}
-use Rattle.echelon.specs.Views.{HasEach, asked_of_echelon}
+use Rattle.echelon.specs.Views.{HasEach, asked_of_echelon, marked}
 
 -- a row of weights for each item, and the items in an order
 pub record Exploded : Type 0 where
@@ -31,18 +33,17 @@ pub record AreRows (m : Problem) (rows : List (List ℕ)) : Type 0 where
   pub size : length rows ≡ item_count m
   pub row_sizes : (i : ℕ) → 1 ≤ i → i ≤ item_count m → length (slice_index_or rows (i - 1) []) ≡ item_count m
   pub weights : AreWeights (bill_of m) (row_entry rows)
-  pub small : (i k : ℕ) → 1 ≤ i → i ≤ item_count m → 1 ≤ k → k ≤ item_count m → row_entry rows i k ≤ 10 ^ 12
+  pub small : (i k : ℕ) → 1 ≤ i → i ≤ item_count m → 1 ≤ k → k ≤ item_count m → row_entry rows i k ≤ MAX_TOTAL
 
+-- the weights of an instance's items, and an order of them
 pub record IsExplosionOf (m : Problem) (e : Exploded) : Type 0 where
+  pub instance : IsInstance m
   pub rows : AreRows m e.weights
   pub order : IsOrder m e.order
 
 -- an item has a backlog cost
 abbrev pub HasBack : Problem → ℕ → Type 0
 HasBack m i = IsSome (item_at m i).backlog_cost
-
-abbrev pub marked : List Bool → ℕ → Bool
-marked list i = slice_index_or list (i - 1) false
 
 -- a mark for each item, true where it has a backlog cost
 pub record AreBacks (m : Problem) (n : ℕ) (list : List Bool) : Type 0 where
@@ -70,7 +71,7 @@ AsksAs m weight i e = (t : ℕ) → t ≤ m.periods → asked_to (asked_of_echel
 -- the weights of an item, whatever weights its problem has
 pub record IsRow (m : Problem) (i n : ℕ) (row : List ℕ) : Type 0 where
   pub size : length row ≡ n
-  pub small : (k : ℕ) → 1 ≤ k → k ≤ n → entry row k ≤ 10 ^ 12
+  pub small : (k : ℕ) → 1 ≤ k → k ≤ n → entry row k ≤ MAX_TOTAL
   pub each : (weight : ℕ → ℕ → ℕ) → AreWeights (bill_of m) weight → (k : ℕ) → 1 ≤ k → k ≤ n → entry row k ≡ weight i k
 
 -- the rows of the first items

@@ -1,9 +1,9 @@
 // The weights of an instance's items, and their order along the bill.
-ghost use Rattle.std.specs.Prelude.{◌≡◌, ◌≤◌, ◌-◌, ◌+◌, ℕ, length, map, IfOk, slice_index_or, []};
+ghost use Rattle.std.specs.Prelude.{◌≡◌, ◌≤◌, ◌-◌, ◌+◌, ℕ, length, IfOk, slice_index_or, []};
 ghost use Rattle.lot_sizing.specs.Problem.{entry, item_count};
 ghost use Rattle.lot_sizing.specs.Totals.{IsRanking};
-ghost use Rattle.lot_model.specs.Views.{IsInstance};
-ghost use Rattle.echelon.specs.Weights.{AreRowsTo, IsExplosionOf, IsOrder, IsRow, weight_in};
+ghost use Rattle.lot_sizing.specs.declared.limits.TheConstants.{MAX_ITEMS};
+ghost use Rattle.echelon.specs.Weights.{IsExplosionOf, IsRow, weight_in};
 ghost use Rattle.echelon.specs.Order.{IsOrderedTo};
 
 use bill::totals_exist;
@@ -41,21 +41,10 @@ fn row_of(alloc: Global, instance: &Instance, item: u32) -> Result<Vec<u64>, All
     Ok(row)
 }
 
-// The weights of each item in each item.
-fn rows_of(alloc: Global, instance: &Instance) -> Result<Vec<Vec<u64>>, AllocError>
-    ensures { IfOk result (λ rows. AreRowsTo instance.now (item_count instance.now) (map (λ v. v.items) rows.items)) }
-{
-    let mut rows = Vec::with_capacity(alloc, instance.items() as usize)?;
-    for item in 1..instance.items() + 1 {
-        rows.push(row_of(alloc, instance, item)?)?;
-    }
-    Ok(rows)
-}
-
 // The items of one rank are put after those of the ranks before.
 fn order_rank(order: &mut Vec<u32>, ranks: &[u32], rank: u32) -> Result<(), AllocError>
     requires before { IsOrderedTo (entry ranks.now) (length ranks.now) rank 1 order.now.items }
-    requires count { length ranks.now ≤ 40 }
+    requires count { length ranks.now ≤ MAX_ITEMS }
     ensures { IfOk result (λ _. IsOrderedTo (entry ranks.now) (length ranks.now) rank (length ranks.now + 1) order.new.items) }
 {
     for item in 1..ranks.len() as u32 + 1 {
@@ -67,13 +56,12 @@ fn order_rank(order: &mut Vec<u32>, ranks: &[u32], rank: u32) -> Result<(), Allo
 }
 
 // The items by rank, and by number where ranks are equal.
-fn order_of(alloc: Global, instance: &Instance) -> Result<Vec<u32>, AllocError>
-    ensures order { IfOk result (λ order. IsOrder instance.now order.items) }
-    ensures instance { IfOk result (λ _. IsInstance instance.now) }
+fn order_of(alloc: Global, ranks: &[u32]) -> Result<Vec<u32>, AllocError>
+    requires count { length ranks.now ≤ MAX_ITEMS }
+    ensures { IfOk result (λ order. IsOrderedTo (entry ranks.now) (length ranks.now) (length ranks.now + 1) 1 order.items) }
 {
-    let ranks = instance.ranks();
     let mut order = Vec::with_capacity(alloc, ranks.len())?;
-    for rank in 0..instance.items() + 1 {
+    for rank in 0..ranks.len() as u32 + 1 {
         order_rank(&mut order, ranks, rank)?;
     }
     Ok(order)
@@ -87,8 +75,11 @@ impl Explosion {
         ensures { IfOk result (IsExplosionOf instance.now) }
     {
         totals_exist();
-        let weights = rows_of(alloc, instance)?;
-        let order = order_of(alloc, instance)?;
+        let mut weights = Vec::with_capacity(alloc, instance.items() as usize)?;
+        for item in 1..instance.items() + 1 {
+            weights.push(row_of(alloc, instance, item)?)?;
+        }
+        let order = order_of(alloc, instance.ranks())?;
         Ok(Explosion { weights, order })
     }
 

@@ -1,10 +1,12 @@
 // An echelon, and what remains to be made for it.
-ghost use Rattle.std.specs.Prelude.{◌≡◌, ◌≤◌, ◌+◌, ◌^◌, ◌↔◌, ◌==◌, if◌then◌else◌, length, IfOk, IsTrue};
+ghost use Rattle.std.specs.Prelude.{◌≡◌, ◌≤◌, ◌+◌, ◌↔◌, ◌==◌, if◌then◌else◌, length, IfOk, IsTrue};
 ghost use Rattle.lot_sizing.specs.Sums.{sum_to};
 ghost use Rattle.lot_sizing.specs.Problem.{entry};
 ghost use Rattle.lot_sizing.specs.Net.{left_after, net_in};
-ghost use Rattle.echelon.specs.Views.{HasEach, IsWithinLimits, asked_in, asked_of_echelon};
+ghost use Rattle.echelon.specs.Views.{HasEach, HasMarked, IsEchelonWithinBounds, asked_in, asked_of_echelon};
+ghost use Rattle.echelon.specs.declared.net.TheConstants.{MAX_ASKED};
 
+use lot_sizing::limits::{MAX_ITEMS, MAX_PERIODS, MAX_TOTAL};
 use std::alloc::{AllocError, Global};
 
 /// What is asked of an item and of all items that it goes into, in units of the item.
@@ -37,20 +39,20 @@ pub struct Net {
     pub left: Vec<u128>,
 }
 
-// The most that may be asked of an echelon and stand in it at first.
-const MOST: u128 = 10_000_000_000_000_000_000_000_000;
+/// The most that the demands, the opening stock and the required end stock of an echelon add to.
+pub const MAX_ASKED: u128 = 10_000_000_000_000_000_000_000_000;
 
 // Whether all demands, the opening stock and the required end stock add to at most the most.
 fn is_small_in_all(echelon: &EchelonItem) -> bool
-    ensures { IsTrue result ↔ (sum_to (length echelon.now.demand.items) (entry echelon.now.demand.items) + echelon.now.opening + echelon.now.end_min ≤ 10 ^ 25) }
+    ensures { IsTrue result ↔ (sum_to (length echelon.now.demand.items) (entry echelon.now.demand.items) + echelon.now.opening + echelon.now.end_min ≤ MAX_ASKED) }
 {
-    if echelon.opening > MOST || echelon.end_min > MOST - echelon.opening {
+    if echelon.opening > MAX_ASKED || echelon.end_min > MAX_ASKED - echelon.opening {
         return false;
     }
     let mut sum = echelon.opening + echelon.end_min;
     for period in 0..echelon.demand.len() {
         let demand = echelon.demand[period];
-        if demand > MOST - sum {
+        if demand > MAX_ASKED - sum {
             return false;
         }
         sum += demand;
@@ -58,17 +60,45 @@ fn is_small_in_all(echelon: &EchelonItem) -> bool
     true
 }
 
-/// Whether an echelon is within the limits that `net_of` asks for: at most 120 periods, weights of at most
-/// 10^12, a weight and a backlog mark for each item, and demands, opening stock and required end stock that
-/// add to at most 10^25.
-pub fn is_within_limits(echelon: &EchelonItem) -> bool
-    ensures { IsTrue result ↔ IsWithinLimits echelon.now }
+// Whether an item with a weight above 0 is marked.
+fn has_marked(weights: &[u64], marks: &[bool]) -> bool
+    requires { length marks.now ≡ length weights.now }
+    ensures { IsTrue result ↔ HasMarked weights.now marks.now }
+{
+    for item in 1..weights.len() + 1 {
+        if weights[item - 1] > 0 && marks[item - 1] {
+            return true;
+        }
+    }
+    false
+}
+
+// Whether the echelon says that it may be owed exactly where an item that counts has a backlog mark.
+fn marks_agree(echelon: &EchelonItem) -> bool
+    requires { length echelon.now.backs.items ≡ length echelon.now.weights.items }
+    ensures { IsTrue result ↔ (IsTrue echelon.now.backlogged ↔ HasMarked echelon.now.weights.items echelon.now.backs.items) }
+{
+    let marked = has_marked(&echelon.weights, &echelon.backs);
+    echelon.backlogged == marked
+}
+
+/// Whether an echelon is within the bounds that `net_of` asks for: one of at most 40 items, over at
+/// most 120 periods, with a weight of at most 10^12 and a backlog mark for each item, and demands,
+/// opening stock and required end stock that add to at most 10^25; and it may be owed exactly where
+/// an item with a weight above 0 has a backlog mark. It takes no memory.
+pub fn is_echelon_within_bounds(echelon: &EchelonItem) -> bool
+    ensures { IsTrue result ↔ IsEchelonWithinBounds echelon.now }
 {
     let weights: &[u64] = &echelon.weights;
-    echelon.demand.len() <= 120
-        && echelon.backs.len() == weights.len()
-        && weights.iter().all(|weight| *weight <= 1_000_000_000_000)
+    let items = weights.len();
+    let numbered = 1 <= echelon.item && echelon.item as usize <= items;
+    let sized = items <= MAX_ITEMS as usize && echelon.demand.len() <= MAX_PERIODS as usize;
+    numbered
+        && sized
+        && echelon.backs.len() == items
+        && weights.iter().all(|weight| *weight <= MAX_TOTAL)
         && is_small_in_all(echelon)
+        && marks_agree(echelon)
 }
 
 // The required end stock in the last period, and 0 before.
@@ -86,7 +116,7 @@ pub(crate) fn net_of_demand(
     opening: u128,
     end_min: u128,
 ) -> Result<Net, AllocError>
-    requires { sum_to (length demands.now) (entry demands.now) + opening + end_min ≤ 10 ^ 25 }
+    requires { sum_to (length demands.now) (entry demands.now) + opening + end_min ≤ MAX_ASKED }
     ensures net { IfOk result (λ found. HasEach (length demands.now) (net_in (asked_in demands.now opening end_min)) found.net.items) }
     ensures left { IfOk result (λ found. HasEach (length demands.now) (left_after (asked_in demands.now opening end_min)) found.left.items) }
 {
@@ -109,7 +139,7 @@ pub(crate) fn net_of_demand(
 
 /// The net demands of an echelon, and what is left of its opening stock. The error is want of memory.
 pub fn net_of(alloc: Global, echelon: &EchelonItem) -> Result<Net, AllocError>
-    requires within { IsWithinLimits echelon.now }
+    requires within { IsEchelonWithinBounds echelon.now }
     ensures net { IfOk result (λ found. HasEach (length echelon.now.demand.items) (net_in (asked_of_echelon echelon.now)) found.net.items) }
     ensures left { IfOk result (λ found. HasEach (length echelon.now.demand.items) (left_after (asked_of_echelon echelon.now)) found.left.items) }
 {

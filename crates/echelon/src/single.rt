@@ -1,11 +1,14 @@
 // An item by itself, and what a recursion answers for it.
-ghost use Rattle.std.specs.Prelude.{◌≡◌, ◌≤◌, ◌^◌, ◌↔◌, IsTrue, IfSome};
+ghost use Rattle.std.specs.Prelude.{◌≡◌, ◌≤◌, ◌↔◌, IsTrue, IfOk, IfSome};
 ghost use Rattle.lot_sizing.specs.Sums.{sum_to};
 ghost use Rattle.lot_sizing.specs.Problem.{IsSeries};
-ghost use Rattle.lot_sizing.specs.Single.{IsWithinBounds, net_demand, period_count};
+ghost use Rattle.lot_sizing.specs.Single.{IsWithinBounds, net_demand, period_count, positions};
+ghost use Rattle.lot_sizing.specs.declared.limits.TheConstants.{MAX_AMOUNT, MAX_TOTAL};
 ghost use Rattle.echelon.specs.Views.{single_of_item};
 
 use lot_sizing::Block;
+use lot_sizing::limits::{MAX_AMOUNT, MAX_PERIODS, MAX_TOTAL};
+use std::alloc::{AllocError, Global};
 
 /// An item by itself: lists with an entry for each period.
 #[derive(Debug, Drop)]
@@ -37,14 +40,14 @@ pub struct Blocks {
 
 // Whether a list has an entry for each period, none above a billion.
 fn is_series(list: &[u64], periods: usize) -> bool
-    ensures { IsTrue result ↔ IsSeries periods (10 ^ 9) list.now }
+    ensures { IsTrue result ↔ IsSeries periods MAX_AMOUNT list.now }
 {
-    list.len() == periods && list.iter().all(|number| *number <= 1_000_000_000)
+    list.len() == periods && list.iter().all(|number| *number <= MAX_AMOUNT)
 }
 
 // Whether the backlog costs, if there are any, have an entry for each period, none above a billion.
 fn is_optional_series(list: &Option<Vec<u64>>, periods: usize) -> bool
-    ensures { IsTrue result ↔ IfSome list.now (λ costs. IsSeries periods (10 ^ 9) costs.items) }
+    ensures { IsTrue result ↔ IfSome list.now (λ costs. IsSeries periods MAX_AMOUNT costs.items) }
 {
     match list {
         Some(costs) => is_series(costs, periods),
@@ -54,12 +57,12 @@ fn is_optional_series(list: &Option<Vec<u64>>, periods: usize) -> bool
 
 // Whether the net demands add to at most 10^12.
 fn is_small_in_all(single: &SingleItem) -> bool
-    ensures { IsTrue result ↔ (sum_to (period_count (single_of_item single.now)) (net_demand (single_of_item single.now)) ≤ 10 ^ 12) }
+    ensures { IsTrue result ↔ (sum_to (period_count (single_of_item single.now)) (net_demand (single_of_item single.now)) ≤ MAX_TOTAL) }
 {
     let mut sum = 0u128;
     for period in 0..single.net.len() {
         let net = single.net[period];
-        if net > 1_000_000_000_000 - sum {
+        if net > u128::from(MAX_TOTAL) - sum {
             return false;
         }
         sum += net;
@@ -75,5 +78,19 @@ pub fn is_within_bounds(single: &SingleItem) -> bool
     let periods = single.net.len();
     let costs = is_series(&single.setup, periods) && is_series(&single.unit, periods);
     let kept = is_series(&single.hold, periods) && is_optional_series(&single.back, periods);
-    periods <= 120 && costs && kept && is_small_in_all(single)
+    periods <= MAX_PERIODS as usize && costs && kept && is_small_in_all(single)
+}
+
+/// The positions: the periods with a net demand, in order. The error is want of memory.
+pub fn positions(alloc: Global, single: &SingleItem) -> Result<Vec<u32>, AllocError>
+    requires within { IsWithinBounds (single_of_item single.now) }
+    ensures positions { IfOk result (λ periods. periods.items ≡ positions (single_of_item single.now)) }
+{
+    let mut periods = Vec::new(alloc);
+    for period in 1..single.net.len() as u32 + 1 {
+        if single.net[(period - 1) as usize] != 0 {
+            periods.push(period)?;
+        }
+    }
+    Ok(periods)
 }

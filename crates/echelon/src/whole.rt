@@ -1,10 +1,13 @@
 // What is asked of an item and of all items that it goes into.
-ghost use Rattle.std.specs.Prelude.{◌≡◌, ◌≤◌, ◌*◌, ◌^◌, ◌↔◌, ℕ, length, IfOk, IsTrue};
+ghost use Rattle.std.specs.Prelude.{◌≡◌, ◌≤◌, ◌*◌, ◌↔◌, ℕ, length, IfOk, IsTrue};
 ghost use Rattle.lot_sizing.specs.Problem.{item_at, item_count};
-ghost use Rattle.lot_sizing.specs.Echelon.{asked_in_echelon, echelon_demand};
-ghost use Rattle.lot_model.specs.Views.{IsInstance};
-ghost use Rattle.echelon.specs.Views.{HasEach, IsWithinLimits};
-ghost use Rattle.echelon.specs.Weights.{AreBacks, AsksAs, HasBack, IsBacklogged, IsEchelonOf, IsExplosionOf, weight_in};
+ghost use Rattle.lot_sizing.specs.Plan.{IsFeasible, Plan};
+ghost use Rattle.lot_sizing.specs.Echelon.{IsLeadFree, asked_in_echelon, echelon_demand};
+ghost use Rattle.lot_sizing.specs.Totals.{AreLargestTotals};
+ghost use Rattle.lot_sizing.specs.declared.limits.TheConstants.{MAX_TOTAL};
+ghost use Rattle.echelon.specs.Views.{HasEach, IsEchelonWithinBounds, net_of_all};
+ghost use Rattle.echelon.specs.Weights.{AreBacks, AsksAs, IsBacklogged, IsEchelonOf, IsExplosionOf, weight_in};
+ghost use Rattle.echelon.specs.Balance.{IsBalancedIn};
 
 use crate::{EchelonItem, Explosion};
 use lot_model::Instance;
@@ -67,8 +70,7 @@ fn demands_of(
     requires explosion { IsExplosionOf instance.now explosion.now }
     requires low { 1 ≤ item }
     requires high { item ≤ item_count instance.now }
-    ensures each { IfOk result (λ found. HasEach instance.now.periods (echelon_demand instance.now (weight_in explosion.now) item) found.items) }
-    ensures instance { IfOk result (λ _. IsInstance instance.now) }
+    ensures { IfOk result (λ found. HasEach instance.now.periods (echelon_demand instance.now (weight_in explosion.now) item) found.items) }
 {
     let mut list = Vec::with_capacity(alloc, instance.periods() as usize)?;
     for period in 1..instance.periods() + 1 {
@@ -96,23 +98,13 @@ fn weights_of(
     Ok(list)
 }
 
-// Whether an item has a backlog cost.
-fn has_back(instance: &Instance, item: u32) -> bool
-    requires low { 1 ≤ item }
-    requires high { item ≤ item_count instance.now }
-    ensures { IsTrue result ↔ HasBack instance.now item }
-{
-    let last = instance.periods();
-    instance.backlog_cost(item, last).is_some()
-}
-
 // For each item whether it has a backlog cost.
 fn backs_of(alloc: Global, instance: &Instance) -> Result<Vec<bool>, AllocError>
     ensures { IfOk result (λ found. AreBacks instance.now (item_count instance.now) found.items) }
 {
     let mut list = Vec::with_capacity(alloc, instance.items() as usize)?;
     for item in 1..instance.items() + 1 {
-        list.push(has_back(instance, item))?;
+        list.push(instance.has_backlog_cost(item))?;
     }
     Ok(list)
 }
@@ -125,17 +117,36 @@ fn is_backlogged(instance: &Instance, explosion: &Explosion, item: u32) -> bool
     ensures { IsTrue result ↔ IsBacklogged instance.now (weight_in explosion.now) item }
 {
     for other in 1..instance.items() + 1 {
-        if explosion.weight(item, other) > 0 && has_back(instance, other) {
+        if explosion.weight(item, other) > 0 && instance.has_backlog_cost(other) {
             return true;
         }
     }
     false
 }
 
-/// What is asked of an item and of all items that it goes into, in units of the item. The explosion is that of
-/// the instance. The error is want of memory.
+/// Whether neither an item nor an item that it goes into has a lead time. It takes no memory.
+pub fn lead_free(instance: &Instance, explosion: &Explosion, item: u32) -> bool
+    requires explosion { IsExplosionOf instance.now explosion.now }
+    requires low { 1 ≤ item }
+    requires high { item ≤ item_count instance.now }
+    ensures { IsTrue result ↔ IsLeadFree instance.now (weight_in explosion.now) item }
+{
+    for other in 1..instance.items() + 1 {
+        if explosion.weight(item, other) > 0 && instance.lead(other) > 0 {
+            return false;
+        }
+    }
+    true
+}
+
+/// What is asked of a lead-free item and of all items that it goes into, in units of the item. The
+/// explosion is that of the instance. The error is want of memory.
 ///
-/// It takes time in the number of items times that of the periods.
+/// In every feasible plan the echelon balances (`balances`), and its net demands add to at most the
+/// item's largest total (`net`).
+///
+/// It takes time in the number of items times that of the periods, and keeps a list of weights and
+/// one of backlog marks: make one echelon of an item and use it for all its cuts.
 pub fn echelon_of(
     alloc: Global,
     instance: &Instance,
@@ -145,9 +156,13 @@ pub fn echelon_of(
     requires explosion { IsExplosionOf instance.now explosion.now }
     requires low { 1 ≤ item }
     requires high { item ≤ item_count instance.now }
+    requires lead_free { IsLeadFree instance.now (weight_in explosion.now) item }
     ensures echelon { IfOk result (IsEchelonOf instance.now (weight_in explosion.now) item) }
     ensures asks { IfOk result (AsksAs instance.now (weight_in explosion.now) item) }
-    ensures within { IfOk result IsWithinLimits }
+    ensures within { IfOk result IsEchelonWithinBounds }
+    ensures balances { IfOk result (λ e. (p : Plan) → IsFeasible instance.now p → IsBalancedIn instance.now p e) }
+    ensures net { IfOk result (λ e. (total : ℕ → ℕ) → AreLargestTotals instance.now total → net_of_all e ≤ total item) }
+    ensures net_small { IfOk result (λ e. net_of_all e ≤ MAX_TOTAL) }
 {
     Ok(EchelonItem {
         item,

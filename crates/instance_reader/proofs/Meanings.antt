@@ -9,7 +9,7 @@ use Rattle.lot_model.specs.Meaning.{Means}
 use Rattle.lot_model.proofs.Meanings.{means_one}
 use Rattle.instance_reader.specs.Document.{document_of}
 use Rattle.instance_reader.specs.Tables.{model_read}
-use Rattle.instance_reader.specs.Model.{BytesMean, DocumentMeans, IsTold, told}
+use Rattle.instance_reader.specs.Model.{MeanUpTo, DocumentMeans, IsTold, told}
 
 abbrev ok_or : {A B : Type 0} → Result A B → A → A
 ok_or (Ok x) d = x
@@ -33,43 +33,43 @@ not_both : {A B C : Type 0} (r : Result A B) (x : A) (y : B) → r ≡ Ok x → 
 not_both r x y one other = absurd (cc (sym one ∙ other))
 
 -- what is read alike means the same
-means_same : (t : Members) (m k : RawModel) (r s : Result Problem ModelFault) → model_read t ≡ Ok m → model_read t ≡ Ok k → Means m r → Means k s → r ≡ s
-means_same t m k r s one other means also = means_one m r s means (subst (λ n. Means n s) (sym (same_ok (model_read t) m k one other)) also)
+means_same : (newest : ℕ) (t : Members) (m k : RawModel) (r s : Result Problem ModelFault) → model_read newest t ≡ Ok m → model_read newest t ≡ Ok k → Means m r → Means k s → r ≡ s
+means_same newest t m k r s one other means also = means_one m r s means (subst (λ n. Means n s) (sym (same_ok (model_read newest t) m k one other)) also)
 
-told_same : (t : Members) (f g : ModelFault) → IsTold t f → IsTold t g → f ≡ g
-told_same t f g one other =
-    let same = means_same t one.model other.model (Err one.fault) (Err other.fault) one.is_read other.is_read one.breaks other.breaks in
+told_same : (newest : ℕ) (t : Members) (f g : ModelFault) → IsTold newest t f → IsTold newest t g → f ≡ g
+told_same newest t f g one other =
+    let same = means_same newest t one.model other.model (Err one.fault) (Err other.fault) one.is_read other.is_read one.breaks other.breaks in
     one.told ∙ ap (told t) (ap (λ z. err_or z one.fault) same) ∙ sym other.told
 
-document_one : (t : Members) (r s : Result Problem ModelFault) → DocumentMeans t r → DocumentMeans t s → r ≡ s
-document_one t (Ok p) (Ok q) one other = means_same t one.model other.model (Ok p) (Ok q) one.is_read other.is_read one.means other.means
-document_one t (Ok p) (Err g) one other =
+document_one : (newest : ℕ) (t : Members) (r s : Result Problem ModelFault) → DocumentMeans newest t r → DocumentMeans newest t s → r ≡ s
+document_one newest t (Ok p) (Ok q) one other = means_same newest t one.model other.model (Ok p) (Ok q) one.is_read other.is_read one.means other.means
+document_one newest t (Ok p) (Err g) one other =
     ⊎_elim
-    (λ wrong. not_both (model_read t) one.model g one.is_read wrong)
-    (λ told. absurd (cc (means_same t one.model told.model (Ok p) (Err told.fault) one.is_read told.is_read one.means told.breaks)))
+    (λ wrong. not_both (model_read newest t) one.model g one.is_read wrong)
+    (λ told. absurd (cc (means_same newest t one.model told.model (Ok p) (Err told.fault) one.is_read told.is_read one.means told.breaks)))
     other
-document_one t (Err f) (Ok q) one other =
+document_one newest t (Err f) (Ok q) one other =
     ⊎_elim
-    (λ wrong. not_both (model_read t) other.model f other.is_read wrong)
-    (λ told. absurd (cc (means_same t other.model told.model (Ok q) (Err told.fault) other.is_read told.is_read other.means told.breaks)))
+    (λ wrong. not_both (model_read newest t) other.model f other.is_read wrong)
+    (λ told. absurd (cc (means_same newest t other.model told.model (Ok q) (Err told.fault) other.is_read told.is_read other.means told.breaks)))
     one
-document_one t (Err f) (Err g) one other =
+document_one newest t (Err f) (Err g) one other =
     ap Err (⊎_elim
-    (λ wrong. ⊎_elim (λ also. same_err (model_read t) f g wrong also) (λ told. not_both (model_read t) told.model f told.is_read wrong) other)
-    (λ told. ⊎_elim (λ wrong. not_both (model_read t) told.model g told.is_read wrong) (λ also. told_same t f g told also) other)
+    (λ wrong. ⊎_elim (λ also. same_err (model_read newest t) f g wrong also) (λ told. not_both (model_read newest t) told.model f told.is_read wrong) other)
+    (λ told. ⊎_elim (λ wrong. not_both (model_read newest t) told.model g told.is_read wrong) (λ also. told_same newest t f g told also) other)
     one)
 
 none_some : {A : Type 0} (o : Option Members) (t : Members) → o ≡ None → o ≡ Some t → A
 none_some o t none some = absurd (cc (sym none ∙ some))
 
-pub bytes_one : (bytes : List ℕ) (r s : Result Problem ModelFault) → BytesMean bytes r → BytesMean bytes s → r ≡ s
-bytes_one bytes r s one other =
+pub bytes_one : (newest : ℕ) (bytes : List ℕ) (r s : Result Problem ModelFault) → MeanUpTo newest bytes r → MeanUpTo newest bytes s → r ≡ s
+bytes_one newest bytes r s one other =
     ⊎_elim
     (λ none. ⊎_elim (λ also. none.1 ∙ sym also.1) (λ some. none_some (document_of bytes) some.0 none.0 some.1) other)
     (λ some. ⊎_elim
     (λ none. none_some (document_of bytes) some.0 none.0 some.1)
     (λ also.
     let same : also.0 ≡ some.0 = ap (λ o. some_or o also.0) (sym also.1 ∙ some.1) in
-    document_one some.0 r s some.2 (subst (λ t. DocumentMeans t s) same also.2))
+    document_one newest some.0 r s some.2 (subst (λ t. DocumentMeans newest t s) same also.2))
     other)
     one

@@ -1,4 +1,4 @@
--- What bytes mean as a TOML document (TOML 1.0), and what stands under its keys.
+-- What bytes mean as a TOML document (TOML 1.1), and what stands under its keys.
 use Rattle.std.specs.Prelude.{ℕ, Bool, true, ◌&&◌, List, Option, None, if◌then◌else◌}
 use Rattle.std.specs.Str.{is_utf8}
 use Rattle.toml.specs.Data.{Data, Members, member, no_members, get_member}

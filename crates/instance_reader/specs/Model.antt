@@ -12,6 +12,7 @@ use Rattle.lot_draft.specs.declared.fault.Key.TheVariants as key
 use Rattle.lot_model.specs.Meaning.{Means}
 use Rattle.instance_reader.specs.Document.{document_of, value_at}
 use Rattle.instance_reader.specs.Tables.{model_read}
+use Rattle.instance_reader.specs.declared.versions.TheConstants.{FIRST_VERSION, NEWEST_VERSION}
 use Rattle.instance_reader.specs.declared.fault.ReadModelFault.{ReadModelFault}
 use Rattle.instance_reader.specs.declared.fault.ReadModelFault.TheVariants.{Refused, Memory}
 
@@ -38,32 +39,46 @@ abbrev pub told : Members → ModelFault → ModelFault
 told t f = if is_single t f.place f.key then record { code = f.code; place = f.place; key = f.key; period = None } else f
 
 -- a rule that the model of a document breaks
-pub record IsTold (t : Members) (f : ModelFault) : Type 0 where
+pub record IsTold (newest : ℕ) (t : Members) (f : ModelFault) : Type 0 where
   pub model : RawModel
-  pub is_read : model_read t ≡ Ok model
+  pub is_read : model_read newest t ≡ Ok model
   pub fault : ModelFault
   pub breaks : Means model (Err fault)
   pub told : f ≡ told t fault
 
 -- the model of a document breaks no rule
-pub record IsProblem (t : Members) (p : Problem) : Type 0 where
+pub record IsProblem (newest : ℕ) (t : Members) (p : Problem) : Type 0 where
   pub model : RawModel
-  pub is_read : model_read t ≡ Ok model
+  pub is_read : model_read newest t ≡ Ok model
   pub means : Means model (Ok p)
 
 -- what a document means: its model's problem; or the first key that is unknown or absent or of another kind, or the first rule that its model breaks
-abbrev pub DocumentMeans : Members → Result Problem ModelFault → Type 0
-DocumentMeans t (Ok p) = IsProblem t p
-DocumentMeans t (Err f) = (model_read t ≡ Err f) ⊎ IsTold t f
+abbrev pub DocumentMeans : ℕ → Members → Result Problem ModelFault → Type 0
+DocumentMeans newest t (Ok p) = IsProblem newest t p
+DocumentMeans newest t (Err f) = (model_read newest t ≡ Err f) ⊎ IsTold newest t f
+
+-- what bytes mean where versions are read up to the newest
+abbrev pub MeanUpTo : ℕ → List ℕ → Result Problem ModelFault → Type 0
+MeanUpTo newest bytes r = ((document_of bytes ≡ None) × (r ≡ Err not_toml)) ⊎ ((t : Members) × (document_of bytes ≡ Some t) × DocumentMeans newest t r)
 
 -- what bytes mean
 abbrev pub BytesMean : List ℕ → Result Problem ModelFault → Type 0
-BytesMean bytes r = ((document_of bytes ≡ None) × (r ≡ Err not_toml)) ⊎ ((t : Members) × (document_of bytes ≡ Some t) × DocumentMeans t r)
+BytesMean = MeanUpTo NEWEST_VERSION
+
+-- what bytes mean where only models of the first version are read
+abbrev pub FirstVersionMeans : List ℕ → Result Problem ModelFault → Type 0
+FirstVersionMeans = MeanUpTo FIRST_VERSION
 
 -- the bytes mean a refusal, where memory isn't the cause
+abbrev pub IsRefusalUpTo : ℕ → List ℕ → ReadModelFault → Type 0
+IsRefusalUpTo newest bytes (Refused f) = MeanUpTo newest bytes (Err f)
+IsRefusalUpTo newest bytes Memory = ⊤
+
 abbrev pub IsRefusal : List ℕ → ReadModelFault → Type 0
-IsRefusal bytes (Refused f) = BytesMean bytes (Err f)
-IsRefusal bytes Memory = ⊤
+IsRefusal = IsRefusalUpTo NEWEST_VERSION
+
+abbrev pub IsFirstVersionRefusal : List ℕ → ReadModelFault → Type 0
+IsFirstVersionRefusal = IsRefusalUpTo FIRST_VERSION
 
 -- the bytes are no document, where memory isn't the cause
 abbrev pub IsTableRefusal : List ℕ → ReadModelFault → Type 0

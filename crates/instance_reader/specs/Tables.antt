@@ -1,5 +1,5 @@
 -- What the tables of a model are read as, key by key.
-use Rattle.std.specs.Prelude.{ℕ, ℤ, pos, int_le, ◌&&◌, Bool, true, List, [], ◌∷◌, Option, Some, None, Ok, Err, is_some, codes, if◌then◌else◌}
+use Rattle.std.specs.Prelude.{ℕ, ℤ, pos, ◌&&◌, ◌==◌, Bool, true, List, [], ◌∷◌, Option, Some, None, Ok, Err, is_some, codes, if◌then◌else◌}
 use Rattle.toml.specs.Data.{Data, Items, item, no_items, Members, as_array, as_table}
 use Rattle.lot_draft.specs.Raw.{RawItem, RawModel, RawNeed, RawResource, RawUse}
 use Rattle.lot_draft.specs.Meaning.{natural}
@@ -10,6 +10,8 @@ use Rattle.lot_draft.specs.declared.fault.Place.{Place}
 use Rattle.lot_draft.specs.declared.fault.Place.TheVariants as place
 use Rattle.lot_draft.specs.declared.fault.Key.{Key}
 use Rattle.lot_draft.specs.declared.fault.Key.TheVariants as key
+use Rattle.lot_sizing.specs.declared.limits.TheConstants.{MAX_PERIODS}
+use Rattle.instance_reader.specs.declared.versions.TheConstants.{FIRST_VERSION, FIRST_VERSION_PERIODS}
 use Rattle.instance_reader.specs.Document.{has_only, value_at}
 use Rattle.instance_reader.specs.Reading.{Read, each_read, fault_at, needed, needed_number, needed_series, needed_text, number_or_zero, optional_number, optional_series, or_fault, series_or_zeros, then_read, unknown_key, where_absent}
 
@@ -51,8 +53,15 @@ root_keys = codes "version" ∷ codes "periods" ∷ codes "resource" ∷ codes "
 abbrev pub resource_keys : List (List ℕ)
 resource_keys = codes "name" ∷ codes "capacity" ∷ []
 
-abbrev pub item_keys : List (List ℕ)
-item_keys = codes "name" ∷ codes "demand" ∷ codes "unit_cost" ∷ codes "setup_cost" ∷ codes "hold_cost" ∷ codes "backlog_cost" ∷ codes "opening" ∷ codes "end_min" ∷ codes "end_max" ∷ codes "needs" ∷ codes "uses" ∷ []
+abbrev pub first_item_keys : List (List ℕ)
+first_item_keys = codes "name" ∷ codes "demand" ∷ codes "unit_cost" ∷ codes "setup_cost" ∷ codes "hold_cost" ∷ codes "backlog_cost" ∷ codes "opening" ∷ codes "end_min" ∷ codes "end_max" ∷ codes "needs" ∷ codes "uses" ∷ []
+
+abbrev pub later_item_keys : List (List ℕ)
+later_item_keys = codes "name" ∷ codes "demand" ∷ codes "unit_cost" ∷ codes "setup_cost" ∷ codes "hold_cost" ∷ codes "backlog_cost" ∷ codes "opening" ∷ codes "end_min" ∷ codes "end_max" ∷ codes "lead" ∷ codes "min_lot" ∷ codes "max_lot" ∷ codes "needs" ∷ codes "uses" ∷ []
+
+-- the keys of an item, by the version of the model
+abbrev pub item_keys : ℕ → List (List ℕ)
+item_keys version = if version == FIRST_VERSION then first_item_keys else later_item_keys
 
 abbrev pub need_keys : List (List ℕ)
 need_keys = codes "item" ∷ codes "quantity" ∷ []
@@ -96,10 +105,10 @@ resource_read periods k t =
     Ok record { name = name; capacity = capacity }))
     else Err (unknown_key at)
 
-abbrev pub item_read : ℕ → ℕ → Members → Read RawItem
-item_read periods i t =
+abbrev pub item_read : ℕ → ℕ → ℕ → Members → Read RawItem
+item_read version periods i t =
     let at = place.Item i in
-    if has_only item_keys t
+    if has_only (item_keys version) t
     then then_read (needed_text at key.Name t) (λ name.
     then_read (needed_series periods at key.Demand t) (λ demand.
     then_read (series_or_zeros periods at key.UnitCost t) (λ unit_cost.
@@ -109,6 +118,9 @@ item_read periods i t =
     then_read (number_or_zero at key.Opening t) (λ opening.
     then_read (number_or_zero at key.EndMin t) (λ end_min.
     then_read (optional_number at key.EndMax t) (λ end_max.
+    then_read (number_or_zero at key.Lead t) (λ lead.
+    then_read (number_or_zero at key.MinLot t) (λ min_lot.
+    then_read (optional_number at key.MaxLot t) (λ max_lot.
     then_read (needs_read i t) (λ needs.
     then_read (uses_read i t) (λ uses.
     Ok record {
@@ -121,42 +133,47 @@ item_read periods i t =
       opening = opening;
       end_min = end_min;
       end_max = end_max;
+      lead = lead;
+      min_lot = min_lot;
+      max_lot = max_lot;
       needs = needs;
       uses = uses;
-    })))))))))))
+    }))))))))))))))
     else Err (unknown_key at)
 
-abbrev pub is_one : ℤ → Bool
-is_one x = int_le (pos 1) x && int_le x (pos 1)
+abbrev pub version_in : ℕ → ℤ → Read ℕ
+version_in newest x = if is_from (pos FIRST_VERSION) (pos newest) x then Ok (natural x) else Err (fault_at code.Version place.Root key.Version)
 
-abbrev pub version_in : ℤ → Read ℤ
-version_in x = if is_one x then Ok x else Err (fault_at code.Version place.Root key.Version)
+-- a version from the first to the newest one that is read
+abbrev pub version_read : ℕ → Members → Read ℕ
+version_read newest t = then_read (needed_number place.Root key.Version t) (version_in newest)
 
--- version 1
-abbrev pub version_read : Members → Read ℤ
-version_read t = then_read (needed_number place.Root key.Version t) version_in
+-- the most periods of a model, by its version
+abbrev pub most_periods : ℕ → ℕ
+most_periods version = if version == FIRST_VERSION then FIRST_VERSION_PERIODS else MAX_PERIODS
 
-abbrev pub periods_in : ℤ → Read ℕ
-periods_in x = if is_from (pos 1) (pos 60) x then Ok (natural x) else Err (fault_at code.OutOfRange place.Root key.Periods)
+abbrev pub periods_in : ℕ → ℤ → Read ℕ
+periods_in version x = if is_from (pos 1) (pos (most_periods version)) x then Ok (natural x) else Err (fault_at code.OutOfRange place.Root key.Periods)
 
-abbrev pub periods_read : Members → Read ℕ
-periods_read t = then_read (needed_number place.Root key.Periods t) periods_in
+abbrev pub periods_read : ℕ → Members → Read ℕ
+periods_read version t = then_read (needed_number place.Root key.Periods t) (periods_in version)
 
 abbrev pub resources_read : ℕ → Members → Read (List RawResource)
 resources_read periods t = where_absent (Ok []) (tables (resource_read periods) (no_tables place.Root key.Resource)) (value_at key.Resource t)
 
-abbrev pub items_read : ℕ → Members → Read (List RawItem)
-items_read periods t = needed place.Root key.Item (tables (item_read periods) (no_tables place.Root key.Item)) t
+abbrev pub items_read : ℕ → ℕ → Members → Read (List RawItem)
+items_read version periods t = needed place.Root key.Item (tables (item_read version periods) (no_tables place.Root key.Item)) t
 
--- the model of a document
-abbrev pub body_read : Members → Read RawModel
-body_read t =
-    then_read (periods_read t) (λ periods.
+-- the model of a document of a version
+abbrev pub body_read : ℕ → Members → Read RawModel
+body_read version t =
+    then_read (periods_read version t) (λ periods.
     then_read (resources_read periods t) (λ resources.
-    then_read (items_read periods t) (λ items.
+    then_read (items_read version periods t) (λ items.
     Ok record { periods = pos periods; resources = resources; items = items })))
 
-abbrev pub model_read : Members → Read RawModel
-model_read t =
-    then_read (version_read t) (λ _.
-    if has_only root_keys t then body_read t else Err (unknown_key place.Root))
+-- the model of a document whose version is at most the newest
+abbrev pub model_read : ℕ → Members → Read RawModel
+model_read newest t =
+    then_read (version_read newest t) (λ version.
+    if has_only root_keys t then body_read version t else Err (unknown_key place.Root))

@@ -1,4 +1,4 @@
-//! Models as TOML documents.
+//! Models as TOML documents (TOML 1.1).
 //!
 //! `read_instance` gives the instance that bytes mean, or the first rule that they break. A document is
 //! read with `toml`, and its table key by key: what is absent, unknown or of another kind is a fault. What
@@ -6,7 +6,7 @@
 #![tactic(auto)]
 
 ghost use Rattle.std.specs.Prelude.{◌≡◌, Ok, IfOk, IfErr};
-ghost use Rattle.instance_reader.specs.Model.{BytesMean, IsRefusal};
+ghost use Rattle.instance_reader.specs.Model.{BytesMean, FirstVersionMeans, IsFirstVersionRefusal, IsRefusal, IsRefusalUpTo, MeanUpTo};
 
 mod document;
 mod fault;
@@ -14,11 +14,15 @@ mod laws;
 mod reading;
 mod tables;
 mod told;
+mod versions;
+mod writing;
 
 pub use fault::ReadModelFault;
-pub use laws::bytes_mean_one_thing;
+pub use laws::{bytes_mean_one_thing, model_texts_are_read};
 use lot_model::{DraftRefusal, Instance};
 use std::alloc::Global;
+pub use versions::{FIRST_VERSION, FIRST_VERSION_PERIODS, NEWEST_VERSION};
+pub use writing::write_model;
 
 /// The instance that the bytes mean, or the first rule that they break.
 ///
@@ -27,8 +31,24 @@ pub fn read_instance(alloc: Global, bytes: &[u8]) -> Result<Instance, ReadModelF
     ensures ok { IfOk result (λ instance. BytesMean bytes.now (Ok instance)) }
     ensures refused { IfErr result (IsRefusal bytes.now) }
 {
+    read_up_to(alloc, bytes, NEWEST_VERSION)
+}
+
+/// The same of bytes that must be a model of the first version: another version is refused.
+pub fn read_first_version(alloc: Global, bytes: &[u8]) -> Result<Instance, ReadModelFault>
+    ensures ok { IfOk result (λ instance. FirstVersionMeans bytes.now (Ok instance)) }
+    ensures refused { IfErr result (IsFirstVersionRefusal bytes.now) }
+{
+    read_up_to(alloc, bytes, FIRST_VERSION)
+}
+
+// The instance of a model whose version is at most the newest.
+fn read_up_to(alloc: Global, bytes: &[u8], newest: u32) -> Result<Instance, ReadModelFault>
+    ensures ok { IfOk result (λ instance. MeanUpTo newest bytes.now (Ok instance)) }
+    ensures refused { IfErr result (IsRefusalUpTo newest bytes.now) }
+{
     let table = document::table_of(alloc, bytes)?;
-    let draft = tables::model(alloc, &table)?;
+    let draft = tables::model(alloc, &table, newest)?;
     match Instance::from_draft(alloc, draft) {
         Ok(instance) => Ok(instance),
         Err(DraftRefusal::Refused { fault, draft: _ }) => {

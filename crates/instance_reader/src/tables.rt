@@ -1,11 +1,13 @@
 // What the tables of a model are read as, key by key.
-ghost use Rattle.std.specs.Prelude.{◌≡◌, ◌+◌, ◌≤◌, Ok, map, pos, IfOk, IfErr};
+ghost use Rattle.std.specs.Prelude.{◌≡◌, ◌+◌, ◌≤◌, ◌^◌, Ok, map, pos, IfOk, IfErr};
 ghost use Rattle.toml.specs.View.{items_view, table_view, view};
 ghost use Rattle.lot_draft.specs.Raw.{raw_item, raw_model, raw_need, raw_resource, raw_use};
 ghost use Rattle.lot_draft.specs.declared.fault.Place.TheVariants.{Item, Root};
 ghost use Rattle.lot_draft.specs.declared.fault.Key.TheVariants as key;
+ghost use Rattle.lot_sizing.specs.declared.limits.TheConstants.{MAX_PERIODS};
+ghost use Rattle.instance_reader.specs.Document.{has_only};
 ghost use Rattle.instance_reader.specs.Reading.{IsWhyNot};
-ghost use Rattle.instance_reader.specs.Tables.{are_tables, body_read, item_read, items_read, model_read, need_read, needs_read, no_tables, periods_read, resource_read, resources_read, table_list, table_read, tables_in, use_read, uses_read, version_read};
+ghost use Rattle.instance_reader.specs.Tables.{are_tables, body_read, first_item_keys, item_keys, item_read, items_read, later_item_keys, model_read, most_periods, need_read, needs_read, no_tables, periods_read, resource_read, resources_read, table_list, table_read, tables_in, use_read, uses_read, version_read};
 ghost use Rattle.instance_reader.specs.declared.fault.ReadModelFault.TheVariants.{Memory};
 
 use crate::ReadModelFault;
@@ -15,14 +17,16 @@ use crate::reading::{
     needed_number, needed_series, needed_text, number_or_zero, optional_number, optional_series,
     series_or_zeros,
 };
+use crate::versions::{FIRST_VERSION, FIRST_VERSION_PERIODS};
 use lot_model::{Draft, DraftItem, DraftNeed, DraftResource, DraftUse, Key, ModelCode, Place};
+use lot_sizing::limits::MAX_PERIODS;
 use std::alloc::Global;
 use toml::{Table, Value};
 
 // The number after this one. A list of 2^32 elements, which no text of fewer bytes has, is want of memory.
 fn next(number: u32) -> Result<u32, ReadModelFault>
     ensures ok { IfOk result (λ n. n ≡ number + 1) }
-    ensures refused { IfErr result (λ e. e ≡ Memory) }
+    ensures refused { IfErr result (λ e. (e ≡ Memory) × (2 ^ 32 ≤ number + 1)) }
 {
     match number.checked_add(1) {
         Some(n) => Ok(n),
@@ -229,18 +233,11 @@ fn resources(
     }
 }
 
-// An item.
-fn item(
-    alloc: Global,
-    table: &Table,
-    periods: u32,
-    number: u32,
-) -> Result<DraftItem, ReadModelFault>
-    ensures ok { IfOk result (λ found. item_read periods number (table_view table.now) ≡ Ok (raw_item found)) }
-    ensures refused { IfErr result (IsWhyNot (item_read periods number (table_view table.now))) }
+// Whether an item of a model of the first version has no unknown key.
+fn has_first_item_keys(table: &Table) -> bool
+    ensures { result ≡ has_only first_item_keys (table_view table.now) }
 {
-    let place = Place::Item(number);
-    if !has_only(
+    has_only(
         table,
         &[
             "name",
@@ -255,7 +252,58 @@ fn item(
             "needs",
             "uses",
         ],
-    ) {
+    )
+}
+
+// Whether an item of a later model has no unknown key.
+fn has_later_item_keys(table: &Table) -> bool
+    ensures { result ≡ has_only later_item_keys (table_view table.now) }
+{
+    has_only(
+        table,
+        &[
+            "name",
+            "demand",
+            "unit_cost",
+            "setup_cost",
+            "hold_cost",
+            "backlog_cost",
+            "opening",
+            "end_min",
+            "end_max",
+            "lead",
+            "min_lot",
+            "max_lot",
+            "needs",
+            "uses",
+        ],
+    )
+}
+
+// Whether an item of a model of a version has no unknown key.
+fn has_item_keys(table: &Table, version: u32) -> bool
+    ensures { result ≡ has_only (item_keys version) (table_view table.now) }
+{
+    if version == FIRST_VERSION {
+        has_first_item_keys(table)
+    } else {
+        has_later_item_keys(table)
+    }
+}
+
+// An item.
+fn item(
+    alloc: Global,
+    table: &Table,
+    version: u32,
+    periods: u32,
+    number: u32,
+) -> Result<DraftItem, ReadModelFault>
+    ensures ok { IfOk result (λ found. item_read version periods number (table_view table.now) ≡ Ok (raw_item found)) }
+    ensures refused { IfErr result (IsWhyNot (item_read version periods number (table_view table.now))) }
+{
+    let place = Place::Item(number);
+    if !has_item_keys(table, version) {
         return Err(unknown_key(place));
     }
     let name = needed_text(alloc, table, place, Key::Name)?;
@@ -267,6 +315,9 @@ fn item(
     let opening = number_or_zero(table, place, Key::Opening)?;
     let end_min = number_or_zero(table, place, Key::EndMin)?;
     let end_max = optional_number(table, place, Key::EndMax)?;
+    let lead = number_or_zero(table, place, Key::Lead)?;
+    let min_lot = number_or_zero(table, place, Key::MinLot)?;
+    let max_lot = optional_number(table, place, Key::MaxLot)?;
     let needs = needs(alloc, table, number)?;
     let uses = usages(alloc, table, number)?;
     Ok(DraftItem {
@@ -279,6 +330,9 @@ fn item(
         opening,
         end_min,
         end_max,
+        lead,
+        min_lot,
+        max_lot,
         needs,
         uses,
     })
@@ -287,77 +341,105 @@ fn item(
 fn item_in(
     alloc: Global,
     value: &Value,
+    version: u32,
     periods: u32,
     number: u32,
 ) -> Result<DraftItem, ReadModelFault>
-    ensures ok { IfOk result (λ found. table_read (item_read periods) (no_tables Root key.Item) number (view value.now) ≡ Ok (raw_item found)) }
-    ensures refused { IfErr result (IsWhyNot (table_read (item_read periods) (no_tables Root key.Item) number (view value.now))) }
+    ensures ok { IfOk result (λ found. table_read (item_read version periods) (no_tables Root key.Item) number (view value.now) ≡ Ok (raw_item found)) }
+    ensures refused { IfErr result (IsWhyNot (table_read (item_read version periods) (no_tables Root key.Item) number (view value.now))) }
 {
     match value.as_table() {
-        Some(table) => item(alloc, table, periods, number),
+        Some(table) => item(alloc, table, version, periods, number),
         None => Err(fault_at(ModelCode::WrongKind, Place::Root, Key::Item)),
     }
 }
 
 // The items of an array of tables.
-fn items_in(alloc: Global, list: &[Value], periods: u32) -> Result<Vec<DraftItem>, ReadModelFault>
-    ensures ok { IfOk result (λ found. tables_in (item_read periods) (no_tables Root key.Item) (items_view list.now) ≡ Ok (map raw_item found.items)) }
-    ensures refused { IfErr result (IsWhyNot (tables_in (item_read periods) (no_tables Root key.Item) (items_view list.now))) }
+fn items_in(
+    alloc: Global,
+    list: &[Value],
+    version: u32,
+    periods: u32,
+) -> Result<Vec<DraftItem>, ReadModelFault>
+    ensures ok { IfOk result (λ found. tables_in (item_read version periods) (no_tables Root key.Item) (items_view list.now) ≡ Ok (map raw_item found.items)) }
+    ensures refused { IfErr result (IsWhyNot (tables_in (item_read version periods) (no_tables Root key.Item) (items_view list.now))) }
 {
     let mut items = Vec::new(alloc);
     let mut number = 0u32;
     for value in list {
         number = next(number)?;
-        items.push(item_in(alloc, value, periods, number)?)?;
+        items.push(item_in(alloc, value, version, periods, number)?)?;
     }
     Ok(items)
 }
 
 // The items of a model.
-fn items(alloc: Global, table: &Table, periods: u32) -> Result<Vec<DraftItem>, ReadModelFault>
-    ensures ok { IfOk result (λ found. items_read periods (table_view table.now) ≡ Ok (map raw_item found.items)) }
-    ensures refused { IfErr result (IsWhyNot (items_read periods (table_view table.now))) }
+fn items(
+    alloc: Global,
+    table: &Table,
+    version: u32,
+    periods: u32,
+) -> Result<Vec<DraftItem>, ReadModelFault>
+    ensures ok { IfOk result (λ found. items_read version periods (table_view table.now) ≡ Ok (map raw_item found.items)) }
+    ensures refused { IfErr result (IsWhyNot (items_read version periods (table_view table.now))) }
 {
     match value_at(table, Key::Item) {
-        Some(value) => items_in(alloc, tables(value, Place::Root, Key::Item)?, periods),
+        Some(value) => items_in(
+            alloc,
+            tables(value, Place::Root, Key::Item)?,
+            version,
+            periods,
+        ),
         None => Err(fault_at(ModelCode::MissingKey, Place::Root, Key::Item)),
     }
 }
 
-// The version of a model.
-fn version(table: &Table) -> Result<i64, ReadModelFault>
-    ensures ok { IfOk result (λ found. version_read (table_view table.now) ≡ Ok found) }
-    ensures refused { IfErr result (IsWhyNot (version_read (table_view table.now))) }
+// The version of a model, which is at most the newest.
+fn version(table: &Table, newest: u32) -> Result<u32, ReadModelFault>
+    ensures ok { IfOk result (λ found. version_read newest (table_view table.now) ≡ Ok found) }
+    ensures refused { IfErr result (IsWhyNot (version_read newest (table_view table.now))) }
 {
     let version = needed_number(table, Place::Root, Key::Version)?;
-    if version >= 1 && version <= 1 {
-        Ok(version)
+    if version >= i64::from(FIRST_VERSION) && version <= i64::from(newest) {
+        Ok(version as u32)
     } else {
         Err(fault_at(ModelCode::Version, Place::Root, Key::Version))
     }
 }
 
-// The number of periods of a model.
-fn periods(table: &Table) -> Result<u32, ReadModelFault>
-    ensures ok { IfOk result (λ found. periods_read (table_view table.now) ≡ Ok found) }
-    ensures refused { IfErr result (IsWhyNot (periods_read (table_view table.now))) }
+// The most periods of a model of a version.
+fn most_periods(version: u32) -> u32
+    ensures value { result ≡ most_periods version }
+    ensures small { result ≤ MAX_PERIODS }
+{
+    if version == FIRST_VERSION {
+        FIRST_VERSION_PERIODS
+    } else {
+        MAX_PERIODS
+    }
+}
+
+// The number of periods of a model of a version.
+fn periods(table: &Table, version: u32) -> Result<u32, ReadModelFault>
+    ensures ok { IfOk result (λ found. periods_read version (table_view table.now) ≡ Ok found) }
+    ensures refused { IfErr result (IsWhyNot (periods_read version (table_view table.now))) }
 {
     let periods = needed_number(table, Place::Root, Key::Periods)?;
-    if periods >= 1 && periods <= 60 {
+    if periods >= 1 && periods <= i64::from(most_periods(version)) {
         Ok(periods as u32)
     } else {
         Err(fault_at(ModelCode::OutOfRange, Place::Root, Key::Periods))
     }
 }
 
-// The periods, resources and items of a model.
-fn body(alloc: Global, table: &Table) -> Result<Draft, ReadModelFault>
-    ensures ok { IfOk result (λ found. body_read (table_view table.now) ≡ Ok (raw_model found)) }
-    ensures refused { IfErr result (IsWhyNot (body_read (table_view table.now))) }
+// The periods, resources and items of a model of a version.
+fn body(alloc: Global, table: &Table, version: u32) -> Result<Draft, ReadModelFault>
+    ensures ok { IfOk result (λ found. body_read version (table_view table.now) ≡ Ok (raw_model found)) }
+    ensures refused { IfErr result (IsWhyNot (body_read version (table_view table.now))) }
 {
-    let periods = periods(table)?;
+    let periods = periods(table, version)?;
     let resources = resources(alloc, table, periods)?;
-    let items = items(alloc, table, periods)?;
+    let items = items(alloc, table, version, periods)?;
     Ok(Draft {
         periods: i64::from(periods),
         resources,
@@ -365,14 +447,14 @@ fn body(alloc: Global, table: &Table) -> Result<Draft, ReadModelFault>
     })
 }
 
-/// The draft of a document's model.
-pub fn model(alloc: Global, table: &Table) -> Result<Draft, ReadModelFault>
-    ensures ok { IfOk result (λ found. model_read (table_view table.now) ≡ Ok (raw_model found)) }
-    ensures refused { IfErr result (IsWhyNot (model_read (table_view table.now))) }
+/// The draft of a document's model, whose version is at most the newest.
+pub fn model(alloc: Global, table: &Table, newest: u32) -> Result<Draft, ReadModelFault>
+    ensures ok { IfOk result (λ found. model_read newest (table_view table.now) ≡ Ok (raw_model found)) }
+    ensures refused { IfErr result (IsWhyNot (model_read newest (table_view table.now))) }
 {
-    version(table)?;
+    let version = version(table, newest)?;
     if !has_only(table, &["version", "periods", "resource", "item"]) {
         return Err(unknown_key(Place::Root));
     }
-    body(alloc, table)
+    body(alloc, table, version)
 }

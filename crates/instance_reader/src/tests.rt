@@ -1,4 +1,4 @@
-use crate::read_instance;
+use crate::{read_first_version, read_instance};
 use lot_model::Instance;
 use std::alloc::Global;
 use std::test::Fail;
@@ -91,7 +91,12 @@ fn the_first_refusal_is_answered(rt: HostRuntime) -> Result<(), Fail> {
     for (text, want) in [
         ("", "M3 root version"),
         ("version = 1.5\ncolour = 1", "M4 root version"),
-        ("version = 2\ncolour = 1", "M14 root version"),
+        ("version = 3\ncolour = 1", "M14 root version"),
+        ("version = 0\ncolour = 1", "M14 root version"),
+        ("version = 2\ncolour = 1", "M2 root"),
+        ("version = 1\nperiods = 61", "M5 root periods"),
+        ("version = 2\nperiods = 121", "M5 root periods"),
+        ("version = 2\nperiods = 120", "M3 root item"),
         ("version = 1\ncolour = 1", "M2 root"),
         ("version = 1", "M3 root periods"),
         ("version = 1\nperiods = \"2\"", "M4 root periods"),
@@ -161,6 +166,112 @@ fn lines_and_single_numbers_are_refused_with_their_places(rt: HostRuntime) -> Re
         ("end_max = 2000000001", "M5 item 1 end_max"),
     ] {
         let text = two(alloc, more)?;
+        let found = refusal(alloc, text.as_str())?;
+        assert!(rt; found.as_str() == want, "{found}");
+    }
+    Ok(())
+}
+
+// A model of two items over two periods of a version, of which the first has more lines.
+fn versioned(alloc: Global, version: u32, more: &str) -> Result<String, Fail> {
+    let mut text = String::new(alloc);
+    write!(&mut text, "version = {version}\nperiods = 2\n")?;
+    write!(&mut text, "[[item]]\nname = \"A\"\ndemand = 1\n{more}\n")?;
+    write!(&mut text, "[[item]]\nname = \"B\"\ndemand = [3, 4]\n")?;
+    Ok(text)
+}
+
+#[test]
+fn lead_times_and_lots_are_keys_of_version_2(rt: HostRuntime) -> Result<(), Fail> {
+    let alloc = rt.alloc();
+    for (version, more, want) in [
+        (1u32, "lead = 1", "M2 item 1"),
+        (1, "max_lot = 1", "M2 item 1"),
+        (2, "lead = 60\nmin_lot = 4\nmax_lot = 4", "none"),
+        (2, "lead = 61\nmin_lot = \"x\"", "M4 item 1 min_lot"),
+        (2, "lead = 61\nmin_lot = -1", "M5 item 1 lead"),
+        (2, "lead = [1, 1]", "M4 item 1 lead"),
+        (2, "min_lot = -1\nmax_lot = 0", "M5 item 1 min_lot"),
+        (2, "max_lot = 0", "M5 item 1 max_lot"),
+        (2, "min_lot = 5\nmax_lot = 4", "M15 item 1"),
+        (
+            2,
+            "min_lot = 5\nmax_lot = 4\nend_min = 5\nend_max = 4",
+            "M13 item 1",
+        ),
+        (2, "min_lots = 5", "M2 item 1"),
+    ] {
+        let text = versioned(alloc, version, more)?;
+        let found = refusal(alloc, text.as_str())?;
+        assert!(rt; found.as_str() == want, "{found}");
+    }
+    Ok(())
+}
+
+#[test]
+fn lead_times_and_lots_are_read(rt: HostRuntime) -> Result<(), Fail> {
+    let alloc = rt.alloc();
+    let text = versioned(alloc, 2, "lead = 1\nmin_lot = 2\nmax_lot = 3")?;
+    let read = instance(alloc, text.as_str())?;
+    assert_eq!(rt; read.items(), 2);
+    assert_eq!(rt;
+        (read.lead(1), read.min_lot(1), read.max_lot(1)),
+        (1, 2, Some(3))
+    );
+    assert_eq!(rt;
+        (read.lead(2), read.min_lot(2), read.max_lot(2)),
+        (0, 0, None)
+    );
+    Ok(())
+}
+
+#[test]
+fn the_first_version_alone_can_be_asked_for(rt: HostRuntime) -> Result<(), Fail> {
+    let alloc = rt.alloc();
+    for (version, want) in [(1u32, "none"), (2, "M14 root version")] {
+        let text = versioned(alloc, version, "")?;
+        let found = match read_first_version(alloc, text.as_bytes()) {
+            Ok(_) => String::from_str(alloc, "none")?,
+            Err(fault) => fault.to_string(alloc)?,
+        };
+        assert!(rt; found.as_str() == want, "{found}");
+    }
+    Ok(())
+}
+
+// 40 items over 120 periods, of which the last item has more lines.
+fn largest(alloc: Global, more: &str) -> Result<String, Fail> {
+    let mut text = String::new(alloc);
+    write!(&mut text, "version = 2\nperiods = 120\n")?;
+    for item in 1..40u32 {
+        write!(&mut text, "[[item]]\nname = \"i{item}\"\ndemand = 1\n")?;
+    }
+    write!(&mut text, "[[item]]\nname = \"last\"\ndemand = 1\n{more}\n")?;
+    Ok(text)
+}
+
+// A hold cost for each of 120 periods.
+fn hold_costs(alloc: Global, last: &str) -> Result<String, Fail> {
+    let mut text = String::from_str(alloc, "hold_cost = [")?;
+    for _period in 1..120u32 {
+        write!(&mut text, "1, ")?;
+    }
+    write!(&mut text, "{last}]")?;
+    Ok(text)
+}
+
+#[test]
+fn the_largest_models_are_read_to_their_last_place(rt: HostRuntime) -> Result<(), Fail> {
+    let alloc = rt.alloc();
+    for (last, want) in [
+        ("1", "none"),
+        ("-1", "M5 item 40 hold_cost period 120"),
+        ("\"x\"", "M4 item 40 hold_cost period 120"),
+        ("1, 1", "M6 item 40 hold_cost"),
+        ("1, =", "M1 root"),
+    ] {
+        let more = hold_costs(alloc, last)?;
+        let text = largest(alloc, more.as_str())?;
         let found = refusal(alloc, text.as_str())?;
         assert!(rt; found.as_str() == want, "{found}");
     }

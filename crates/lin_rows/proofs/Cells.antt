@@ -6,7 +6,7 @@ use Rattle.std.proofs.lemmas.List.{get_or-set_same, get_or-set_other, get_or_def
 use Rattle.std.proofs.Math.Nat.{mul-le-mul_right}
 use Rattle.lin_rows.specs.declared.column.Column.{Column}
 use Rattle.lin_rows.specs.declared.column.Column.TheVariants.{X, Y, S, R}
-use Rattle.lin_rows.specs.declared.sums.Total.{Total}
+use Rattle.lin_rows.specs.declared.total.Total.{Total}
 use Rattle.lin_rows.specs.declared.row.Term.{Term}
 use Rattle.lin_rows.specs.Sums.{AddsTerm, IsWithin, Summed, cell_of, is_within, item_of, kind_of, no_total, period_of, same_column, total_in, total_of, with_more}
 

@@ -8,7 +8,7 @@ use Rattle.algebra.proofs.Integers.{add_assoc, add_zero, mul_zero, zero_add}
 use Rattle.lin_rows.specs.declared.column.Column.{Column}
 use Rattle.lin_rows.specs.declared.column.Column.TheVariants.{X, Y, S, R}
 use Rattle.lin_rows.specs.declared.row.Term.{Term}
-use Rattle.lin_rows.specs.declared.sums.Total.{Total}
+use Rattle.lin_rows.specs.declared.total.Total.{Total}
 use Rattle.lin_rows.specs.Columns.{order_of, place_of}
 use Rattle.lin_rows.specs.Rows.{AreTerms, LinRow}
 use Rattle.lin_rows.specs.Sums.{AddsTerm, AddsTerms, EachHasRoom, HasRoom, LacksRoom, PassesWith, Summed, coefficient, item_of, kind_of, period_of, same_column, total_of, with_more}

@@ -4,3 +4,6 @@ pub mod Columns
 pub mod Cells
 pub mod Coefficients
 pub mod Ranks
+mod Small
+mod Places
+mod Same

@@ -1,5 +1,5 @@
 -- Lists of terms: put together, with their columns rising, and what they add to.
-use Rattle.std.proofs.Common.{◌≡◌, ◌≢◌, ◌≤◌, ◌<◌, ◌+◌, ◌-◌, ◌*◌, ◌∙◌, ◌⊎◌, ⊎_elim, ℕ, zero, suc, refl, sym, ap, subst, arith, Bool, true, false, List, [], ◌∷◌, ◌++◌, append_assoc, append-nil, inl, inr}
+use Rattle.std.proofs.Common.{◌≡◌, ◌≢◌, ◌≤◌, ◌+◌, ◌-◌, ◌*◌, ◌∙◌, ◌⊎◌, ⊎_elim, ℕ, zero, suc, refl, sym, ap, subst, arith, Bool, true, false, List, [], ◌∷◌, ◌++◌, append_assoc, append-nil, inl, inr}
 use Rattle.std.specs.Prelude.{ℤ, pos, negsuc, ◌+ℤ◌, ◌*ℤ◌}
 use Rattle.std.specs.List.{All}
 use Rattle.std.proofs.lemmas.List.Elements.{All-append, filter-append}
@@ -19,11 +19,11 @@ put_then old more mid more2 new first second =
 pub put_none : (old : List Term) → PutTerms old [] old
 put_none old = sym (append-nil old)
 
-pub put_next : (n : ℕ) (f : ℕ → Term) (old mid new : List Term) → 1 ≤ n → PutTerms old (terms_to (n - 1) f) mid → PutTerms mid (f n ∷ []) new → PutTerms old (terms_to (n + 1 - 1) f) new
+pub put_next : (n : ℕ) (f : ℕ → List Term) (old mid new : List Term) → 1 ≤ n → PutTerms old (terms_to (n - 1) f) mid → PutTerms mid (f n) new → PutTerms old (terms_to (n + 1 - 1) f) new
 put_next n f old mid new low first second =
     let e : suc (n - 1) ≡ n + 1 - 1 = omega (arith, low) in
     let same : suc (n - 1) ≡ n = omega (arith, low) in
-    subst (λ k. PutTerms old (terms_to k f) new) e (put_then old (terms_to (n - 1) f) mid (f (suc (n - 1)) ∷ []) new first (subst (λ k. PutTerms mid (f k ∷ []) new) (sym same) second))
+    subst (λ k. PutTerms old (terms_to k f) new) e (put_then old (terms_to (n - 1) f) mid (f (suc (n - 1))) new first (subst (λ k. PutTerms mid (f k) new) (sym same) second))
 
 -- what terms add to
 pub sum_append : (v : Values) (xs ys : List Term) → sum_at v (xs ++ ys) ≡ sum_at v xs +ℤ sum_at v ys
@@ -76,22 +76,33 @@ are_terms (a ∷ ts) low high x =
     (λ none. rw none.0 (terms_from (some_terms ts) (order_of a.column + 1) low (omega (arith, x.0)) (are_terms ts (order_of a.column + 1) high x.1)))
     (none_or_some a.times)
 
+rise_below : (ts : List Term) (low mid high : ℕ) → mid ≤ high → RiseTo low ts mid → RiseTo low ts high
+rise_below [] low mid high h x = omega (arith, h, x)
+rise_below (a ∷ ts) low mid high h x = (x.0, rise_below ts (order_of a.column + 1) mid high h x.1)
+
 -- terms whose columns rise with their number
-pub rise_to : (n : ℕ) (f : ℕ → Term) (low step high : ℕ) → ((k : ℕ) → 1 ≤ k → k ≤ n → low + k * step ≤ order_of (f k).column) → ((k : ℕ) → 1 ≤ k → k ≤ n → order_of (f k).column < low + k * step + step) → low + n * step + step ≤ high → 1 ≤ step → RiseTo low (terms_to n f) high
-rise_to zero f low step high above below all some = omega (arith, all)
-rise_to (suc n) f low step high above below all some =
-    rise_append (terms_to n f) (f (suc n) ∷ []) low (low + n * step + step) high
-    (rise_to n f low step (low + n * step + step) (λ k k_low k_high. above k k_low (omega (arith, k_high))) (λ k k_low k_high. below k k_low (omega (arith, k_high))) (omega arith) some)
-    (omega (arith, above (suc n) (omega arith) (omega arith)), omega (arith, below (suc n) (omega arith) (omega arith), all))
+pub rise_to : (n : ℕ) (f : ℕ → List Term) (low step high : ℕ) → ((k : ℕ) → 1 ≤ k → k ≤ n → RiseTo (low + k * step) (f k) (low + k * step + step)) → low + n * step + step ≤ high → RiseTo low (terms_to n f) high
+rise_to zero f low step high each all = omega (arith, all)
+rise_to (suc n) f low step high each all =
+    let place : low + n * step + step ≡ low + suc n * step = omega arith in
+    rise_append (terms_to n f) (f (suc n)) low (low + suc n * step) high
+    (rise_to n f low step (low + suc n * step) (λ k k_low k_high. each k k_low (omega (arith, k_high))) (omega (arith, place)))
+    (rise_below (f (suc n)) (low + suc n * step) (low + suc n * step + step) high all (each (suc n) (omega arith) (omega arith)))
 
 pub all_one : (P : Term → Type 0) (a : Term) → P a → All P (a ∷ [])
 all_one P a here zero d less = here
 all_one P a here (suc k) d less = absurd (omega (arith, less))
 
 -- each of a list of terms that are numbered
-pub all_to : (P : Term → Type 0) (n : ℕ) (f : ℕ → Term) → ((k : ℕ) → 1 ≤ k → k ≤ n → P (f k)) → All P (terms_to n f)
+pub all_to : (P : Term → Type 0) (n : ℕ) (f : ℕ → List Term) → ((k : ℕ) → 1 ≤ k → k ≤ n → All P (f k)) → All P (terms_to n f)
 all_to P zero f each = λ k d less. absurd (omega (arith, less))
-all_to P (suc n) f each = All-append P (terms_to n f) (f (suc n) ∷ []) (all_to P n f (λ k low high. each k low (omega (arith, high)))) (all_one P (f (suc n)) (each (suc n) (omega arith) (omega arith)))
+all_to P (suc n) f each = All-append P (terms_to n f) (f (suc n)) (all_to P n f (λ k low high. each k low (omega (arith, high)))) (each (suc n) (omega arith) (omega arith))
+
+pub all_none : (P : Term → Type 0) → All P []
+all_none P k d less = absurd (omega (arith, less))
+
+pub all_both : (P : Term → Type 0) (a b : Term) → P a → P b → All P (a ∷ (b ∷ []))
+all_both P a b first second = All-append P (a ∷ []) (b ∷ []) (all_one P a first) (all_one P b second)
 
 abbrev row_with : List Term → ℤ → Bool → LinRow
 row_with terms right equal = record { terms = terms; right = right; equal = equal }

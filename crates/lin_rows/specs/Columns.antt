@@ -1,7 +1,7 @@
 -- The columns of the linear model, their order, and their values at a plan.
-use Rattle.std.specs.Prelude.{ℕ, ◌+◌, ◌-◌, ◌*◌, ◌^◌, ◌≤◌, ◌<◌, IsSome, is_some, if◌then◌else◌}
+use Rattle.std.specs.Prelude.{◌≡◌, ℕ, ◌+◌, ◌-◌, ◌*◌, ◌^◌, ◌≤◌, ◌<◌, IsSome, is_some, if◌then◌else◌}
 use Rattle.lot_sizing.specs.Sums.{sum_to}
-use Rattle.lot_sizing.specs.Problem.{Problem, item_at, item_count}
+use Rattle.lot_sizing.specs.Problem.{Problem, item_at, item_count, unit_cost, setup_cost, hold_cost, backlog_cost}
 use Rattle.lot_sizing.specs.Plan.{Plan}
 use Rattle.lin_rows.specs.declared.column.Column.{Column}
 use Rattle.lin_rows.specs.declared.column.Column.TheVariants.{X, Y, S, R}
@@ -65,3 +65,14 @@ number_of m (R i t) = 3 * cell_count m + owing_count m (i - 1) + t
 -- a column that comes earlier has a smaller number
 abbrev pub NumbersRise : Problem → Column → Type 0
 NumbersRise m c = (d : Column) → IsColumn m c → IsColumn m d → order_of d < order_of c → number_of m d < number_of m c
+
+-- what one of a column costs
+abbrev pub column_cost : Problem → Column → ℕ
+column_cost m (X i t) = unit_cost m i t
+column_cost m (Y i t) = setup_cost m i t
+column_cost m (S i t) = hold_cost m i t
+column_cost m (R i t) = backlog_cost m i t
+
+-- the problem has the column, and it has this number
+abbrev pub IsColumnAt : Problem → ℕ → Column → Type 0
+IsColumnAt m number c = IsColumn m c × (number_of m c ≡ number)

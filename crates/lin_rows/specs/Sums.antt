@@ -2,10 +2,11 @@
 use Rattle.std.specs.Prelude.{◌≡◌, ◌⊎◌, ℕ, ◌+◌, ◌-◌, ◌*◌, ◌^◌, ◌≤◌, ◌<◌, Bool, ◌&&◌, ◌==◌, nat_le, ℤ, pos, ◌+ℤ◌, ◌*ℤ◌, unsigned_abs, List, length, slice_index_or, if◌then◌else◌}
 use Rattle.std.specs.List.{All}
 use Rattle.algebra.specs.Sums.{list_sum_with}
+use Rattle.lot_sizing.specs.declared.limits.TheConstants.{MAX_ITEMS, MAX_PERIODS}
 use Rattle.lin_rows.specs.declared.column.Column.{Column}
 use Rattle.lin_rows.specs.declared.column.Column.TheVariants.{X, Y, S, R}
 use Rattle.lin_rows.specs.declared.row.Term.{Term}
-use Rattle.lin_rows.specs.declared.sums.Total.{Total}
+use Rattle.lin_rows.specs.declared.total.Total.{Total}
 use Rattle.lin_rows.specs.declared.sums.Sums.TheInside.{Inside}
 use Rattle.lin_rows.specs.Rows.{LinRow}
 
@@ -80,8 +81,8 @@ pub record IsTotal (a : Total) : Type 0 where
   pub small : a.amount < 2 ^ 127
 
 pub record AreSums (a : Inside) : Type 0 where
-  pub items : a.items ≤ 40
-  pub periods : a.periods ≤ 60
+  pub items : a.items ≤ MAX_ITEMS
+  pub periods : a.periods ≤ MAX_PERIODS
   pub size : length a.cells.items ≡ 4 * a.items * a.periods
   pub cells : All IsTotal a.cells.items
   pub right : IsTotal a.right

@@ -3,7 +3,7 @@ use Rattle.std.specs.Prelude.{ℕ, List, ◌++◌, codes, decimal}
 use Rattle.lin_rows.specs.declared.column.Column.{Column}
 use Rattle.lin_rows.specs.declared.column.Column.TheVariants.{X, Y, S, R}
 use Rattle.lin_rows.specs.declared.base.RowName.{RowName}
-use Rattle.lin_rows.specs.declared.base.RowName.TheVariants.{Balance, Link, Capacity, EndMin, EndMax, Top, Path, Cut}
+use Rattle.lin_rows.specs.declared.base.RowName.TheVariants.{Balance, Link, Capacity, EndMin, EndMax, Top, Least, Late, Path, Cut}
 
 -- a number after a space, and two
 abbrev pub one_text : ℕ → List ℕ
@@ -25,5 +25,7 @@ name_text (Capacity k t) = codes "capacity" ++ two_text k t
 name_text (EndMin i) = codes "endmin" ++ one_text i
 name_text (EndMax i) = codes "endmax" ++ one_text i
 name_text (Top i t) = codes "top" ++ two_text i t
+name_text (Least i t) = codes "least" ++ two_text i t
+name_text (Late i t) = codes "late" ++ two_text i t
 name_text (Path n) = codes "path" ++ one_text n
 name_text (Cut n) = codes "cut" ++ one_text n

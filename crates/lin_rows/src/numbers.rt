@@ -1,9 +1,10 @@
-// Columns by their numbers.
-ghost use Rattle.std.specs.Prelude.{◌≡◌, ◌≤◌, ◌<◌, ◌-◌, ◌*◌, ◌↔◌, IfSome, IsTrue, SomeIff};
+// Columns by their numbers, and what they cost.
+ghost use Rattle.std.specs.Prelude.{◌≡◌, ◌≤◌, ◌<◌, ◌-◌, ◌+◌, ◌*◌, ◌↔◌, IfSome, IsNone, IsTrue, SomeIff};
 ghost use Rattle.lot_sizing.specs.Sums.{sum_to};
 ghost use Rattle.lot_sizing.specs.Problem.{item_count};
+ghost use Rattle.lot_sizing.specs.declared.limits.TheConstants.{MAX_AMOUNT, MAX_ITEMS, MAX_PERIODS};
 ghost use Rattle.lot_model.specs.Views.{IsInstance};
-ghost use Rattle.lin_rows.specs.Columns.{IsCell, IsColumn, NumbersRise, cell_number, column_count, number_of, owes, owing_count};
+ghost use Rattle.lin_rows.specs.Columns.{IsCell, IsColumn, IsColumnAt, NumbersRise, cell_count, cell_number, column_cost, column_count, number_of, owes, owing_count};
 
 use crate::Column;
 use lot_model::Instance;
@@ -15,8 +16,7 @@ fn owes(instance: &Instance, item: u32) -> u32
     ensures value { result ≡ owes instance.now item }
     ensures small { result ≤ 1 }
 {
-    let last = instance.periods();
-    if instance.backlog_cost(item, last).is_some() {
+    if instance.has_backlog_cost(item) {
         1
     } else {
         0
@@ -26,7 +26,7 @@ fn owes(instance: &Instance, item: u32) -> u32
 // How many of the first items have a backlog cost.
 fn owing_items(instance: &Instance, count: u32) -> u32
     requires high { count ≤ item_count instance.now }
-    requires few { count ≤ 40 }
+    requires few { count ≤ MAX_ITEMS }
     ensures value { result ≡ sum_to count (owes instance.now) }
     ensures small { result ≤ count }
 {
@@ -46,8 +46,8 @@ pub fn column_count(instance: &Instance) -> u32
     3 * (items * periods) + owing_items(instance, items) * (periods - 1)
 }
 
-// Whether a number is one of so many, counted from 1.
-fn is_cell(instance: &Instance, item: u32, period: u32) -> bool
+// Whether the model has an item and a period.
+pub(crate) fn is_cell(instance: &Instance, item: u32, period: u32) -> bool
     ensures { IsTrue result ↔ IsCell instance.now item period }
 {
     item >= 1 && item <= instance.items() && period >= 1 && period <= instance.periods()
@@ -64,9 +64,7 @@ fn is_column(instance: &Instance, column: Column) -> bool
             is_cell(instance, item, period)
         }
         Column::R { item, period } => {
-            is_cell(instance, item, period)
-                && period < periods
-                && instance.backlog_cost(item, period).is_some()
+            is_cell(instance, item, period) && period < periods && instance.has_backlog_cost(item)
         }
     }
 }
@@ -75,7 +73,7 @@ fn is_column(instance: &Instance, column: Column) -> bool
 fn cell_number(instance: &Instance, item: u32, period: u32) -> u32
     requires cell { IsCell instance.now item period }
     ensures value { result ≡ cell_number instance.now item period }
-    ensures small { result ≤ 40 * 60 }
+    ensures small { result ≤ MAX_ITEMS * MAX_PERIODS }
 {
     (item - 1) * instance.periods() + period
 }
@@ -108,5 +106,86 @@ pub fn column_number(instance: &Instance, column: Column) -> Option<u32>
         Some(number_of(instance, column))
     } else {
         None
+    }
+}
+
+// The item and the period of a cell, of which so many come before it.
+fn cell_at(instance: &Instance, place: u32) -> (u32, u32)
+    requires { place < cell_count instance.now }
+    ensures cell { IsCell instance.now result.0 result.1 }
+    ensures number { cell_number instance.now result.0 result.1 ≡ place + 1 }
+{
+    let periods = instance.periods();
+    (place / periods + 1, place % periods + 1)
+}
+
+// The column of units, of a setup or of a stock, of which so many come before it.
+fn free_at(instance: &Instance, place: u32) -> Column
+    requires { place < 3 * cell_count instance.now }
+    ensures { IsColumnAt instance.now (place + 1) result }
+{
+    let cells = instance.items() * instance.periods();
+    if place < cells {
+        let (item, period) = cell_at(instance, place);
+        Column::X { item, period }
+    } else if place < 2 * cells {
+        let (item, period) = cell_at(instance, place - cells);
+        Column::Y { item, period }
+    } else {
+        let (item, period) = cell_at(instance, place - 2 * cells);
+        Column::S { item, period }
+    }
+}
+
+// The backlog of which so many are columns that come before it.
+fn owing_at(instance: &Instance, place: u32) -> Option<Column>
+    ensures column { IfSome result (IsColumnAt instance.now (3 * cell_count instance.now + (place + 1))) }
+    ensures none { IsNone result → owing_count instance.now (item_count instance.now) ≤ place }
+{
+    let each = instance.periods() - 1;
+    let mut left = place;
+    for item in 1..instance.items() + 1 {
+        let columns = owes(instance, item) * each;
+        if left < columns {
+            return Some(Column::R {
+                item,
+                period: left + 1,
+            });
+        }
+        left -= columns;
+    }
+    None
+}
+
+/// The column of a number, as `column_number` counts them. None exactly where the model has fewer columns, or
+/// the number is 0. It takes no memory, and time in the number of items.
+pub fn column_at(instance: &Instance, number: u32) -> Option<Column>
+    ensures column { IfSome result (IsColumnAt instance.now number) }
+    ensures none { IsNone result → (1 ≤ number) × (number ≤ column_count instance.now) → ⊥ }
+{
+    if number == 0 {
+        return None;
+    }
+    let place = number - 1;
+    let free = 3 * (instance.items() * instance.periods());
+    if place < free {
+        Some(free_at(instance, place))
+    } else {
+        owing_at(instance, place - free)
+    }
+}
+
+/// What one of a column costs: a unit made, a setup, a unit in stock or owed at the end of the period. It takes
+/// no memory.
+pub fn column_cost(instance: &Instance, column: Column) -> u64
+    requires { IsColumn instance.now column }
+    ensures value { result ≡ column_cost instance.now column }
+    ensures small { result ≤ MAX_AMOUNT }
+{
+    match column {
+        Column::X { item, period } => instance.unit_cost(item, period),
+        Column::Y { item, period } => instance.setup_cost(item, period),
+        Column::S { item, period } => instance.hold_cost(item, period),
+        Column::R { item, period } => instance.backlog_cost(item, period).unwrap_or(0),
     }
 }

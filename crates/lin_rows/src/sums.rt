@@ -8,28 +8,18 @@ ghost use Rattle.lin_rows.specs.Sums.{AddsRow, AddsTerm, AreWithin, HasRoom, Has
 ghost use Rattle.lin_rows.specs.declared.column.Column.{Column};
 ghost use Rattle.lin_rows.specs.declared.sums.SumFault.TheVariants.{Passed128};
 
-use crate::{Column, Row, Term, adding};
+use crate::{Column, Row, Term, Total, adding};
 use lot_model::Instance;
 use std::alloc::{AllocError, Global};
 use std::marker::Model;
-
-// The greatest amount, and one more.
-const LIMIT: u128 = 170_141_183_460_469_231_731_687_303_715_884_105_728;
-
-/// What has been added up of one column, or of the right sides.
-#[derive(Clone, Copy, Debug, PartialEq, Eq)]
-pub struct Total {
-    /// The sum.
-    pub sum: i128,
-    /// The sum of the absolute values of all that was added.
-    pub amount: u128,
-}
+use thiserror::Error;
 
 /// Why a row was not added: the absolute values that are added up of a column, or of the right sides,
 /// would reach 2^127.
-#[derive(Clone, Copy, Debug, PartialEq, Eq)]
+#[derive(Clone, Copy, Debug, PartialEq, Eq, Error)]
 pub enum SumFault {
     /// An amount would reach 2^127.
+    #[error("the numbers reach 2^127")]
     Passed128,
 }
 
@@ -97,31 +87,6 @@ fn is_within(items: u32, periods: u32, column: Column) -> bool
     item >= 1 && item <= items && (period >= 1 && period <= periods)
 }
 
-// Whether a multiple can be added.
-fn has_room(total: Total, times: i128, more: i128) -> bool
-    requires small { total.amount < 2 ^ 127 }
-    ensures { IsTrue result ↔ HasRoom total (times *ℤ more) }
-{
-    match times.unsigned_abs().checked_mul(more.unsigned_abs()) {
-        Some(product) => product < LIMIT - total.amount,
-        None => false,
-    }
-}
-
-// A total with a multiple added.
-fn with_more(total: Total, times: i128, more: i128) -> Total
-    requires total { IsTotal total }
-    requires room { HasRoom total (times *ℤ more) }
-    ensures value { result ≡ with_more total (times *ℤ more) }
-    ensures total { IsTotal result }
-{
-    let product = times * more;
-    Total {
-        sum: total.sum + product,
-        amount: total.amount + product.unsigned_abs(),
-    }
-}
-
 impl Sums {
     /// Sums of nothing, for an instance's columns. The error is want of memory.
     pub fn new(alloc: Global, instance: &Instance) -> Result<Sums, AllocError>
@@ -132,15 +97,24 @@ impl Sums {
     {
         let items = instance.items();
         let periods = instance.periods();
-        let none = Total { sum: 0, amount: 0 };
         let mut cells = Vec::new(alloc);
-        cells.resize(4 * items as usize * periods as usize, none)?;
+        cells.resize(4 * items as usize * periods as usize, Total::none())?;
         Ok(Sums {
             items,
             periods,
             cells,
-            right: none,
+            right: Total::none(),
         })
+    }
+
+    /// Makes all sums 0 again, as they are at first. It takes no memory, and time in the number of columns.
+    pub fn clear(&mut self)
+        ensures shape { SameShape self.old self.new }
+        ensures columns { (c : Column) → total_of self.new c ≡ no_total }
+        ensures right { self.new.right ≡ no_total }
+    {
+        self.cells.fill(Total::none());
+        self.right = Total::none();
     }
 
     // Where the total of a column stands.
@@ -160,7 +134,7 @@ impl Sums {
         if is_within(self.items, self.periods, column) {
             self.cells[self.cell(column)]
         } else {
-            Total { sum: 0, amount: 0 }
+            Total::none()
         }
     }
 
@@ -182,7 +156,7 @@ impl Sums {
     pub(crate) fn has_room_for_term(&self, term: Term, times: i128) -> bool
         ensures { IsTrue result ↔ HasRoom (total_of self.now term.column) (times *ℤ term.times) }
     {
-        has_room(self.total(term.column), times, term.times)
+        self.total(term.column).has_room(times, term.times)
     }
 
     // Whether a multiple of a right side can be added.
@@ -190,7 +164,7 @@ impl Sums {
         ensures value { IsTrue result ↔ HasRoom self.now.right (times *ℤ right) }
         ensures small { (c : Column) → (total_of self.now c).amount < 2 ^ 127 }
     {
-        has_room(self.right, times, right)
+        self.right.has_room(times, right)
     }
 
     // Adds a multiple of a term.
@@ -202,7 +176,7 @@ impl Sums {
         ensures right { self.new.right ≡ self.old.right }
     {
         let place = self.cell(term.column);
-        let more = with_more(self.total(term.column), times, term.times);
+        let more = self.total(term.column).with_more(times, term.times);
         self.cells[place] = more;
     }
 
@@ -213,7 +187,7 @@ impl Sums {
         ensures shape { SameShape self.old self.new }
         ensures columns { (c : Column) → total_of self.new c ≡ total_of self.old c }
     {
-        self.right = with_more(self.right, times, right);
+        self.right = self.right.with_more(times, right);
     }
 
     /// Adds a multiple of a row, whose columns are those of the sums. `Passed128` comes exactly where the

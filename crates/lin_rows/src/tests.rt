@@ -1,25 +1,37 @@
 use crate::{
-    Column, Row, RowFault, RowName, SumFault, Sums, Term, base_row, column_count, column_number,
+    Column, CutFault, Row, RowFault, RowName, SumFault, Sums, Term, base_row, column_at,
+    column_cost, column_count, column_number,
 };
 use lot_model::{Draft, DraftItem, DraftNeed, DraftResource, DraftUse, Instance};
+use lot_sizing::limits::{MAX_AMOUNT, MAX_END_STOCK, MAX_ITEMS};
 use std::alloc::{AllocError, Global};
 use std::test::Fail;
 
-// An item over two periods.
-fn item(alloc: Global, name: &str, first: i64, second: i64) -> Result<DraftItem, AllocError> {
+// An item over so many periods, of which nothing is asked.
+fn idle_item(alloc: Global, name: String, periods: usize) -> Result<DraftItem, AllocError> {
     Ok(DraftItem {
-        name: String::from_str(alloc, name)?,
-        demand: vec![in alloc; first, second]?,
-        unit_cost: vec![in alloc; 0i64, 0i64]?,
-        setup_cost: vec![in alloc; 10i64, 10i64]?,
-        hold_cost: vec![in alloc; 1i64, 1i64]?,
+        name,
+        demand: vec![in alloc; 0i64; periods]?,
+        unit_cost: vec![in alloc; 0i64; periods]?,
+        setup_cost: vec![in alloc; 10i64; periods]?,
+        hold_cost: vec![in alloc; 1i64; periods]?,
         backlog_cost: None,
         opening: 0,
         end_min: 0,
         end_max: None,
+        lead: 0,
+        min_lot: 0,
+        max_lot: None,
         needs: Vec::new(alloc),
         uses: Vec::new(alloc),
     })
+}
+
+// An item over two periods.
+fn item(alloc: Global, name: &str, first: i64, second: i64) -> Result<DraftItem, AllocError> {
+    let mut made = idle_item(alloc, String::from_str(alloc, name)?, 2)?;
+    made.demand = vec![in alloc; first, second]?;
+    Ok(made)
 }
 
 // One item that takes a unit of time for each unit and each setup, on a resource with 6 in each period.
@@ -146,6 +158,8 @@ fn rows_that_do_not_exist(rt: HostRuntime) -> Result<(), Fail> {
         RowName::EndMin(2),
         RowName::EndMax(0),
         RowName::Top(1, 0),
+        RowName::Least(1, 1),
+        RowName::Late(1, 2),
         RowName::Path(1),
         RowName::Cut(1),
     ] {
@@ -175,6 +189,37 @@ fn numbers_of_columns(rt: HostRuntime) -> Result<(), Fail> {
         (s(0, 1, 1), None),
     ] {
         assert_eq!(rt; column_number(&instance, term.column), number);
+    }
+    Ok(())
+}
+
+#[test]
+fn columns_of_numbers(rt: HostRuntime) -> Result<(), Fail> {
+    let alloc = rt.alloc();
+    let instance = tables(alloc)?;
+    for (number, column) in [
+        (0u32, None),
+        (1, Some(x(1, 1, 1).column)),
+        (4, Some(x(2, 2, 1).column)),
+        (5, Some(y(1, 1, 1).column)),
+        (12, Some(s(2, 2, 1).column)),
+        (13, Some(r(1, 1, 1).column)),
+        (14, None),
+    ] {
+        assert!(rt; column_at(&instance, number) == column);
+    }
+    Ok(())
+}
+
+#[test]
+fn costs_of_columns(rt: HostRuntime) -> Result<(), Fail> {
+    let alloc = rt.alloc();
+    let instance = tables(alloc)?;
+    for (number, cost) in [(1u32, 0u64), (5, 10), (9, 1), (13, 1)] {
+        match column_at(&instance, number) {
+            Some(column) => assert_eq!(rt; column_cost(&instance, column), cost),
+            None => return Err("no such column".into()),
+        }
     }
     Ok(())
 }
@@ -229,6 +274,19 @@ fn sums_of_rows(rt: HostRuntime) -> Result<(), Fail> {
 }
 
 #[test]
+fn sums_that_are_cleared(rt: HostRuntime) -> Result<(), Fail> {
+    let alloc = rt.alloc();
+    let instance = shop(alloc)?;
+    let mut sums = Sums::new(alloc, &instance)?;
+    assert!(rt; add(alloc, &instance, &mut sums, RowName::Link(1, 2), 1)?);
+    sums.clear();
+    assert_eq!(rt; (sums.column(y(1, 2, 1).column), sums.right()), (0, 0));
+    assert!(rt; add(alloc, &instance, &mut sums, RowName::Link(1, 2), 2)?);
+    assert_eq!(rt; (sums.column(y(1, 2, 1).column), sums.right()), (20, 0));
+    Ok(())
+}
+
+#[test]
 fn sums_that_pass_128_bits(rt: HostRuntime) -> Result<(), Fail> {
     let alloc = rt.alloc();
     let instance = shop(alloc)?;
@@ -242,6 +300,166 @@ fn sums_that_pass_128_bits(rt: HostRuntime) -> Result<(), Fail> {
     assert_eq!(rt; (sums.column(column), sums.right()), (-1, -1));
     assert!(rt; !add(alloc, &instance, &mut sums, RowName::Link(1, 2), half)?);
     assert!(rt; !add(alloc, &instance, &mut sums, RowName::Link(1, 2), i128::MIN)?);
+    Ok(())
+}
+
+// A part that arrives a period after its start, in lots of 3 to 6, over three periods.
+fn lots(alloc: Global) -> Result<Instance, Fail> {
+    let mut part = idle_item(alloc, String::from_str(alloc, "part")?, 3)?;
+    part.demand = vec![in alloc; 2i64, 4i64, 5i64]?;
+    part.opening = 2;
+    part.lead = 1;
+    part.min_lot = 3;
+    part.max_lot = Some(6);
+    let draft = Draft {
+        periods: 3,
+        resources: Vec::new(alloc),
+        items: vec![in alloc; part]?,
+    };
+    Ok(Instance::from_draft(alloc, draft).ok().ok_or("refused")?)
+}
+
+#[test]
+fn balances_of_lead_times(rt: HostRuntime) -> Result<(), Fail> {
+    let alloc = rt.alloc();
+    let instance = lots(alloc)?;
+    let first = row(alloc, &instance, RowName::Balance(1, 1))?;
+    assert!(rt; first.terms() == &[s(1, 1, -1)][..]);
+    assert_eq!(rt; (first.right(), first.is_equal()), (0, true));
+    let second = row(alloc, &instance, RowName::Balance(1, 2))?;
+    assert!(rt; second.terms() == &[x(1, 1, 1), s(1, 1, 1), s(1, 2, -1)][..]);
+    assert_eq!(rt; second.right(), 4);
+    Ok(())
+}
+
+#[test]
+fn rows_of_lots(rt: HostRuntime) -> Result<(), Fail> {
+    let alloc = rt.alloc();
+    let instance = lots(alloc)?;
+    let link = row(alloc, &instance, RowName::Link(1, 2))?;
+    assert!(rt; link.terms() == &[x(1, 2, -1), y(1, 2, 6)][..]);
+    let least = row(alloc, &instance, RowName::Least(1, 2))?;
+    assert!(rt; least.terms() == &[x(1, 2, 1), y(1, 2, -3)][..]);
+    Ok(())
+}
+
+#[test]
+fn rows_of_late_lots(rt: HostRuntime) -> Result<(), Fail> {
+    let alloc = rt.alloc();
+    let instance = lots(alloc)?;
+    let late = row(alloc, &instance, RowName::Late(1, 3))?;
+    assert!(rt; late.terms() == &[x(1, 3, -1)][..]);
+    assert!(rt; !late.is_equal());
+    match base_row(alloc, &instance, RowName::Late(1, 2)) {
+        Ok(_) => Err("a row that the model doesn't have".into()),
+        Err(fault) => {
+            assert_eq!(rt; fault, RowFault::NoSuchRow);
+            Ok(())
+        }
+    }
+}
+
+// So many times the same number.
+fn times(alloc: Global, count: usize, value: i64) -> Result<Vec<i64>, AllocError> {
+    let mut list = Vec::new(alloc);
+    list.resize(count, value)?;
+    Ok(list)
+}
+
+// Most periods of a draft.
+const PERIODS: usize = 120;
+
+// As many items and periods as a draft may have. Each item may be late, and takes a unit of time for each
+// unit and each setup.
+fn largest(alloc: Global) -> Result<Instance, Fail> {
+    let mut items = Vec::with_capacity(alloc, MAX_ITEMS as usize)?;
+    for number in 0..MAX_ITEMS {
+        let name = format!(in alloc; "item{number}")?;
+        let mut one = idle_item(alloc, name, PERIODS)?;
+        one.backlog_cost = Some(times(alloc, PERIODS, 2)?);
+        one.end_max = Some(MAX_END_STOCK as i64);
+        one.uses.push(DraftUse {
+            resource: String::from_str(alloc, "m")?,
+            unit: 1,
+            setup: MAX_AMOUNT as i64,
+        })?;
+        items.push(one)?;
+    }
+    let resource = DraftResource {
+        name: String::from_str(alloc, "m")?,
+        capacity: times(alloc, PERIODS, MAX_AMOUNT as i64)?,
+    };
+    let draft = Draft {
+        periods: PERIODS as i64,
+        resources: vec![in alloc; resource]?,
+        items,
+    };
+    Ok(Instance::from_draft(alloc, draft).ok().ok_or("refused")?)
+}
+
+#[test]
+fn columns_of_the_largest_instance(rt: HostRuntime) -> Result<(), Fail> {
+    let alloc = rt.alloc();
+    let instance = largest(alloc)?;
+    assert_eq!(rt; column_count(&instance), 19_160);
+    assert_eq!(rt;
+        column_number(&instance, r(40, 119, 1).column),
+        Some(19_160)
+    );
+    assert_eq!(rt; column_number(&instance, r(40, 120, 1).column), None);
+    Ok(())
+}
+
+#[test]
+fn rows_of_the_largest_instance(rt: HostRuntime) -> Result<(), Fail> {
+    let alloc = rt.alloc();
+    let instance = largest(alloc)?;
+    let capacity = row(alloc, &instance, RowName::Capacity(1, 120))?;
+    assert_eq!(rt;
+        (capacity.terms().len(), capacity.right()),
+        (80, -1_000_000_000)
+    );
+    let end = row(alloc, &instance, RowName::EndMax(40))?;
+    assert!(rt; end.terms() == &[s(40, 120, -1)][..]);
+    assert_eq!(rt; end.right(), -2_000_000_000);
+    Ok(())
+}
+
+#[test]
+fn sums_of_the_largest_instance(rt: HostRuntime) -> Result<(), Fail> {
+    let alloc = rt.alloc();
+    let instance = largest(alloc)?;
+    let mut sums = Sums::new(alloc, &instance)?;
+    assert!(rt; add(alloc, &instance, &mut sums, RowName::Capacity(1, 120), 3)?);
+    assert_eq!(rt; sums.column(y(40, 120, 1).column), -3_000_000_000);
+    Ok(())
+}
+
+#[test]
+fn texts_of_faults(rt: HostRuntime) -> Result<(), Fail> {
+    let alloc = rt.alloc();
+    let broken = CutFault::Potential {
+        first: 1,
+        last: 2,
+        server: 3,
+    };
+    for (fault, text) in [
+        (CutFault::Length, "a list has another length"),
+        (CutFault::TooLarge, "a number is past its limit"),
+        (
+            broken,
+            "potentials rise by more than the block 1 to 2 costs from period 3",
+        ),
+        (
+            CutFault::Sign,
+            "an inequality is taken a negative number of times",
+        ),
+        (CutFault::Memory, "out of memory"),
+    ] {
+        assert_eq!(rt; format!(in alloc; "{fault}")?.as_str(), text);
+    }
+    let none = format!(in alloc; "{}", RowFault::NoSuchRow)?;
+    assert_eq!(rt; none.as_str(), "there is no such row");
     Ok(())
 }
 
@@ -269,6 +487,8 @@ fn texts_of_columns_and_names(rt: HostRuntime) -> Result<(), Fail> {
         (RowName::EndMin(7), "endmin 7"),
         (RowName::EndMax(7), "endmax 7"),
         (RowName::Top(1, 2), "top 1 2"),
+        (RowName::Least(40, 120), "least 40 120"),
+        (RowName::Late(1, 2), "late 1 2"),
         (RowName::Path(10), "path 10"),
         (RowName::Cut(1), "cut 1"),
     ] {

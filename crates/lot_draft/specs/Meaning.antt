@@ -41,6 +41,9 @@ item_of resources items a = record {
   opening = natural a.opening;
   end_min = natural a.end_min;
   end_max = unwrap_or (option_map natural a.end_max) (natural a.end_min + natural a.opening);
+  lead = natural a.lead;
+  min_lot = natural a.min_lot;
+  max_lot = option_map natural a.max_lot;
   needs = map (need_of items) a.needs;
   uses = map (use_of resources) a.uses;
 }
@@ -55,6 +58,6 @@ problem_of m = record {
   items = map (item_of (resource_names m.resources) (item_names m.items)) m.items;
 }
 
--- the components of each item are items, and one unit takes at most a million of each
+-- the components of each item are items, and one unit takes some of each and not too many
 abbrev pub HaveNeeds : Problem → Type 0
 HaveNeeds p = (i : ℕ) → 1 ≤ i → i ≤ item_count p → AreNeeds (item_count p) (item_at p i).needs

@@ -29,6 +29,9 @@ pub record RawItem : Type 0 where
   pub opening : ℤ
   pub end_min : ℤ
   pub end_max : Option ℤ
+  pub lead : ℤ
+  pub min_lot : ℤ
+  pub max_lot : Option ℤ
   pub needs : List RawNeed
   pub uses : List RawUse
 
@@ -57,6 +60,9 @@ raw_item a = record {
   opening = a.opening;
   end_min = a.end_min;
   end_max = a.end_max;
+  lead = a.lead;
+  min_lot = a.min_lot;
+  max_lot = a.max_lot;
   needs = map raw_need a.needs.items;
   uses = map raw_use a.uses.items;
 }

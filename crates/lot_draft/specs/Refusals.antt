@@ -3,6 +3,7 @@ use Rattle.std.specs.Prelude.{ℕ, suc, ◌-◌, ◌^◌, ◌*◌, ℤ, pos, int
 use Rattle.std.specs.List.{list_any, sum_by}
 use Rattle.std.specs.Str.{bytes_eq}
 use Rattle.lot_sizing.specs.Problem.{is_name}
+use Rattle.lot_sizing.specs.declared.limits.TheConstants.{MAX_AMOUNT, MAX_BILL_LINES, MAX_END_STOCK, MAX_ITEMS, MAX_LEAD, MAX_PERIODS, MAX_QUANTITY, MAX_RESOURCES}
 use Rattle.lot_draft.specs.Raw.{RawItem, RawModel, RawNeed, RawResource, RawUse}
 use Rattle.lot_draft.specs.declared.fault.ModelFault.{ModelFault}
 use Rattle.lot_draft.specs.declared.fault.ModelCode.{ModelCode}
@@ -29,20 +30,17 @@ abbrev pub first_in : {A : Type 0} → (ℕ → A → Fault) → ℕ → List A 
 first_in f n [] = None
 first_in f n (x ∷ xs) = or_then (f n x) (first_in f (suc n) xs)
 
--- a number from 0 to the most
+-- a number from low to the most
 abbrev pub is_from : ℤ → ℤ → ℤ → Bool
 is_from low most x = int_le low x && int_le x most
-
-abbrev pub billion : ℤ
-billion = pos (10 ^ 9)
 
 -- so many periods, resources, items and lines of components
 abbrev pub count_fault : RawModel → Fault
 count_fault m =
-    or_then (unless (is_from (pos 1) (pos 60) m.periods) code.OutOfRange place.Root (Some key.Periods) None)
-    (or_then (unless (nat_le (length m.resources) 20) code.OutOfRange place.Root (Some key.Resource) None)
-    (or_then (unless (nat_le 1 (length m.items) && nat_le (length m.items) 40) code.OutOfRange place.Root (Some key.Item) None)
-    (unless (nat_le (sum_by (λ i. length i.needs) m.items) 400) code.OutOfRange place.Root (Some key.Needs) None)))
+    or_then (unless (is_from (pos 1) (pos MAX_PERIODS) m.periods) code.OutOfRange place.Root (Some key.Periods) None)
+    (or_then (unless (nat_le (length m.resources) MAX_RESOURCES) code.OutOfRange place.Root (Some key.Resource) None)
+    (or_then (unless (nat_le 1 (length m.items) && nat_le (length m.items) MAX_ITEMS) code.OutOfRange place.Root (Some key.Item) None)
+    (unless (nat_le (sum_by (λ i. length i.needs) m.items) MAX_BILL_LINES) code.OutOfRange place.Root (Some key.Needs) None)))
 
 abbrev pub resource_name_fault : ℕ → RawResource → Fault
 resource_name_fault k r = unless (is_name r.name) code.BadName (place.Resource k) None None
@@ -78,11 +76,11 @@ item_repeat is i a = repeat_at place.Item (item_names is) i a.name
 abbrev pub repeat_fault : RawModel → Fault
 repeat_fault m = or_then (first_in (resource_repeat m.resources) 1 m.resources) (first_in (item_repeat m.items) 1 m.items)
 
--- an entry of a list, from 0 to a billion
+-- an entry of a list, not negative and not too large
 abbrev pub entry_fault : Place → Key → ℕ → ℤ → Fault
-entry_fault p k t x = unless (is_from (pos 0) billion x) code.OutOfRange p (Some k) (Some t)
+entry_fault p k t x = unless (is_from (pos 0) (pos MAX_AMOUNT) x) code.OutOfRange p (Some k) (Some t)
 
--- a list with an entry for each period, each from 0 to a billion
+-- a list with an entry for each period, none negative or too large
 abbrev pub series_fault : ℤ → Place → Key → List ℤ → Fault
 series_fault periods p k xs =
     or_then (unless (int_le (pos (length xs)) periods && int_le periods (pos (length xs))) code.WrongLength p (Some k) None)
@@ -96,9 +94,9 @@ optional_series_fault periods p k (Some xs) = series_fault periods p k xs
 abbrev pub number_fault : ℤ → ℤ → Place → Key → ℤ → Fault
 number_fault low most p k x = unless (is_from low most x) code.OutOfRange p (Some k) None
 
-abbrev pub optional_number_fault : ℤ → Place → Key → Option ℤ → Fault
-optional_number_fault most p k None = None
-optional_number_fault most p k (Some x) = number_fault (pos 0) most p k x
+abbrev pub optional_number_fault : ℤ → ℤ → Place → Key → Option ℤ → Fault
+optional_number_fault low most p k None = None
+optional_number_fault low most p k (Some x) = number_fault low most p k x
 
 -- the lists of an item, key by key
 abbrev pub item_lists_fault : ℤ → ℕ → RawItem → Fault
@@ -110,14 +108,26 @@ item_lists_fault periods i a =
     (or_then (series_fault periods at key.HoldCost a.hold_cost)
     (optional_series_fault periods at key.BacklogCost a.backlog_cost))))
 
+-- its stocks before the first period and at the end of the last one
+abbrev pub item_stocks_fault : ℕ → RawItem → Fault
+item_stocks_fault i a =
+    let at = place.Item i in
+    or_then (number_fault (pos 0) (pos MAX_AMOUNT) at key.Opening a.opening)
+    (or_then (number_fault (pos 0) (pos MAX_AMOUNT) at key.EndMin a.end_min)
+    (optional_number_fault (pos 0) (pos MAX_END_STOCK) at key.EndMax a.end_max))
+
+-- its lead time and the bounds of its lots
+abbrev pub item_lots_fault : ℕ → RawItem → Fault
+item_lots_fault i a =
+    let at = place.Item i in
+    or_then (number_fault (pos 0) (pos MAX_LEAD) at key.Lead a.lead)
+    (or_then (number_fault (pos 0) (pos MAX_AMOUNT) at key.MinLot a.min_lot)
+    (optional_number_fault (pos 1) (pos MAX_AMOUNT) at key.MaxLot a.max_lot))
+
 -- its lists, then its numbers
 abbrev pub item_numbers_fault : ℤ → ℕ → RawItem → Fault
 item_numbers_fault periods i a =
-    let at = place.Item i in
-    or_then (item_lists_fault periods i a)
-    (or_then (number_fault (pos 0) billion at key.Opening a.opening)
-    (or_then (number_fault (pos 0) billion at key.EndMin a.end_min)
-    (optional_number_fault (pos (2 * 10 ^ 9)) at key.EndMax a.end_max)))
+    or_then (item_lists_fault periods i a) (or_then (item_stocks_fault i a) (item_lots_fault i a))
 
 abbrev pub capacity_fault : ℤ → ℕ → RawResource → Fault
 capacity_fault periods k r = series_fault periods (place.Resource k) key.Capacity r.capacity
@@ -138,15 +148,15 @@ abbrev pub need_fault : List (List ℕ) → ℕ → List RawNeed → ℕ → Raw
 need_fault names i lines n a =
     or_then (unless (is_among names a.item) code.UnknownName (place.Need i n) None None)
     (or_then (repeat_at (place.Need i) (need_names lines) n a.item)
-    (number_fault (pos 1) (pos (10 ^ 6)) (place.Need i n) key.Quantity a.quantity))
+    (number_fault (pos 1) (pos MAX_QUANTITY) (place.Need i n) key.Quantity a.quantity))
 
 -- a line of resources in the same way
 abbrev pub use_fault : List (List ℕ) → ℕ → List RawUse → ℕ → RawUse → Fault
 use_fault names i lines n a =
     or_then (unless (is_among names a.resource) code.UnknownName (place.Usage i n) None None)
     (or_then (repeat_at (place.Usage i) (use_names lines) n a.resource)
-    (or_then (number_fault (pos 0) billion (place.Usage i n) key.Unit a.unit)
-    (number_fault (pos 0) billion (place.Usage i n) key.Setup a.setup)))
+    (or_then (number_fault (pos 0) (pos MAX_AMOUNT) (place.Usage i n) key.Unit a.unit)
+    (number_fault (pos 0) (pos MAX_AMOUNT) (place.Usage i n) key.Setup a.setup)))
 
 -- the lines of an item: its components, then its resources
 abbrev pub item_lines_fault : RawModel → ℕ → RawItem → Fault
@@ -169,14 +179,17 @@ is_component is name = list_any (λ one. is_among (need_names one.needs) name) i
 abbrev pub backlog_fault : List RawItem → ℕ → RawItem → Fault
 backlog_fault is i a = unless (not (is_component is a.name && is_some a.backlog_cost)) code.BacklogOnComponent (place.Item i) None None
 
--- the least end stock is at most the largest one, where that is given
-abbrev pub are_ends : ℤ → Option ℤ → Bool
-are_ends least None = true
-are_ends least (Some most) = int_le least most
+-- the least is at most the largest, where there is one
+abbrev pub is_ordered : ℤ → Option ℤ → Bool
+is_ordered least None = true
+is_ordered least (Some most) = int_le least most
 
 abbrev pub ends_fault : ℕ → RawItem → Fault
-ends_fault i a = unless (are_ends a.end_min a.end_max) code.EndsCrossed (place.Item i) None None
+ends_fault i a = unless (is_ordered a.end_min a.end_max) code.EndsCrossed (place.Item i) None None
 
--- the first component with a backlog cost, then the first crossed ends
+abbrev pub lots_fault : ℕ → RawItem → Fault
+lots_fault i a = unless (is_ordered a.min_lot a.max_lot) code.LotsCrossed (place.Item i) None None
+
+-- the first component with a backlog cost, then the first crossed ends, then the first crossed lots
 abbrev pub later_fault : RawModel → Fault
-later_fault m = or_then (first_in (backlog_fault m.items) 1 m.items) (first_in ends_fault 1 m.items)
+later_fault m = or_then (first_in (backlog_fault m.items) 1 m.items) (or_then (first_in ends_fault 1 m.items) (first_in lots_fault 1 m.items))

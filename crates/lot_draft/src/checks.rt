@@ -2,13 +2,18 @@
 ghost use Rattle.std.specs.Prelude.{◌≡◌, ◌≤◌, ◌*◌, ◌^◌, false, length, map, nat_le, None, option_map, pos, take};
 ghost use Rattle.std.specs.List.{sum_by};
 ghost use Rattle.lot_draft.specs.Raw.{raw_item, raw_model, raw_need, raw_resource, raw_use};
-ghost use Rattle.lot_draft.specs.Refusals.{capacity_fault, count_fault, entry_fault, first_in, is_among, item_lines_fault, item_lists_fault, item_name_fault, item_names, item_numbers_fault, item_repeat, lines_fault, name_fault, need_fault, need_names, number_fault, numbers_fault, optional_number_fault, optional_series_fault, or_then, plain_fault, repeat_fault, resource_name_fault, resource_names, resource_repeat, series_fault, unless, use_fault, use_names};
+ghost use Rattle.lot_draft.specs.Refusals.{capacity_fault, count_fault, entry_fault, first_in, is_among, is_from, item_lines_fault, item_lists_fault, item_lots_fault, item_name_fault, item_names, item_numbers_fault, item_repeat, item_stocks_fault, lines_fault, name_fault, need_fault, need_names, number_fault, numbers_fault, optional_number_fault, optional_series_fault, or_then, plain_fault, repeat_fault, resource_name_fault, resource_names, resource_repeat, series_fault, unless, use_fault, use_names};
 ghost use Rattle.lot_sizing.specs.Problem.{item_count};
+ghost use Rattle.lot_sizing.specs.declared.limits.TheConstants.{MAX_AMOUNT, MAX_BILL_LINES, MAX_END_STOCK, MAX_ITEMS, MAX_LEAD, MAX_PERIODS, MAX_QUANTITY, MAX_RESOURCES};
 ghost use Rattle.lot_draft.specs.Meaning.{problem_of, HaveNeeds};
 
 use crate::names::is_name;
 use crate::{
     Draft, DraftItem, DraftNeed, DraftResource, DraftUse, Key, ModelCode, ModelFault, Place,
+};
+use lot_sizing::limits::{
+    MAX_AMOUNT, MAX_BILL_LINES, MAX_END_STOCK, MAX_ITEMS, MAX_LEAD, MAX_PERIODS, MAX_QUANTITY,
+    MAX_RESOURCES,
 };
 
 /// A fault at a place.
@@ -28,14 +33,14 @@ pub fn fault(
     })
 }
 
-// Whether there are at most 400 lines of components in all.
+// Whether there aren't too many lines of components in all.
 fn has_few_lines(items: &[DraftItem]) -> bool
-    ensures { result ≡ nat_le (sum_by (λ i. length i.needs) (map raw_item items.now)) 400 }
+    ensures { result ≡ nat_le (sum_by (λ i. length i.needs) (map raw_item items.now)) MAX_BILL_LINES }
 {
     let mut count = 0usize;
     for place in 0..items.len() {
         let lines = items[place].needs.len();
-        if lines > 400 - count {
+        if lines > MAX_BILL_LINES as usize - count {
             return false;
         }
         count += lines;
@@ -47,10 +52,10 @@ fn has_few_lines(items: &[DraftItem]) -> bool
 fn count_fault(draft: &Draft) -> Option<ModelFault>
     ensures { result ≡ count_fault (raw_model draft.now) }
 {
-    if draft.periods < 1 || draft.periods > 60 {
+    if !is_from(draft.periods, 1, MAX_PERIODS as u64) {
         return fault(ModelCode::OutOfRange, Place::Root, Some(Key::Periods), None);
     }
-    if draft.resources.len() > 20 {
+    if draft.resources.len() > MAX_RESOURCES as usize {
         return fault(
             ModelCode::OutOfRange,
             Place::Root,
@@ -58,7 +63,7 @@ fn count_fault(draft: &Draft) -> Option<ModelFault>
             None,
         );
     }
-    if draft.items.is_empty() || draft.items.len() > 40 {
+    if draft.items.is_empty() || draft.items.len() > MAX_ITEMS as usize {
         return fault(ModelCode::OutOfRange, Place::Root, Some(Key::Item), None);
     }
     if !has_few_lines(&draft.items) {
@@ -67,27 +72,34 @@ fn count_fault(draft: &Draft) -> Option<ModelFault>
     None
 }
 
-// A number from low to the most.
-fn number_fault(place: Place, key: Key, number: i64, low: i64, most: i64) -> Option<ModelFault>
-    ensures { result ≡ number_fault low most place key number }
+// Whether a number is from low to the most.
+fn is_from(number: i64, low: u64, most: u64) -> bool
+    ensures { result ≡ is_from (pos low) (pos most) number }
 {
-    if number < low || number > most {
-        return fault(ModelCode::OutOfRange, place, Some(key), None);
-    }
-    None
+    number >= 0 && low <= number as u64 && number as u64 <= most
 }
 
-// An entry of a list, from 0 to a billion.
+// A number from low to the most.
+fn number_fault(place: Place, key: Key, number: i64, low: u64, most: u64) -> Option<ModelFault>
+    ensures { result ≡ number_fault (pos low) (pos most) place key number }
+{
+    if is_from(number, low, most) {
+        return None;
+    }
+    fault(ModelCode::OutOfRange, place, Some(key), None)
+}
+
+// An entry of a list, not negative and not too large.
 fn entry_fault(place: Place, key: Key, number: i64, period: u64) -> Option<ModelFault>
     ensures { result ≡ entry_fault place key period number }
 {
-    if number < 0 || number > 1_000_000_000 {
-        return fault(ModelCode::OutOfRange, place, Some(key), Some(period));
+    if is_from(number, 0, MAX_AMOUNT) {
+        return None;
     }
-    None
+    fault(ModelCode::OutOfRange, place, Some(key), Some(period))
 }
 
-// A list with an entry for each period, each from 0 to a billion.
+// A list with an entry for each period, none negative or too large.
 fn series_fault(place: Place, key: Key, list: &[i64], periods: u32) -> Option<ModelFault>
     ensures { result ≡ series_fault (pos periods) place key list.now }
 {
@@ -117,12 +129,18 @@ fn optional_series_fault(
     }
 }
 
-// A number from 0 to two billions, where there is one.
-fn optional_number_fault(place: Place, key: Key, number: Option<i64>) -> Option<ModelFault>
-    ensures { result ≡ optional_number_fault (pos (2 * 10 ^ 9)) place key number }
+// A number from low to the most, where there is one.
+fn optional_number_fault(
+    place: Place,
+    key: Key,
+    number: Option<i64>,
+    low: u64,
+    most: u64,
+) -> Option<ModelFault>
+    ensures { result ≡ optional_number_fault (pos low) (pos most) place key number }
 {
     match number {
-        Some(number) => number_fault(place, key, number, 0, 2_000_000_000),
+        Some(number) => number_fault(place, key, number, low, most),
         None => None,
     }
 }
@@ -147,21 +165,45 @@ fn item_lists_fault(item: &DraftItem, number: u32, periods: u32) -> Option<Model
     optional_series_fault(at, Key::BacklogCost, &item.backlog_cost, periods)
 }
 
+// The stocks of an item before the first period and at the end of the last one.
+fn item_stocks_fault(item: &DraftItem, number: u32) -> Option<ModelFault>
+    ensures { result ≡ item_stocks_fault number (raw_item item.now) }
+{
+    let at = Place::Item(number);
+    if let Some(found) = number_fault(at, Key::Opening, item.opening, 0, MAX_AMOUNT) {
+        return Some(found);
+    }
+    if let Some(found) = number_fault(at, Key::EndMin, item.end_min, 0, MAX_AMOUNT) {
+        return Some(found);
+    }
+    optional_number_fault(at, Key::EndMax, item.end_max, 0, MAX_END_STOCK)
+}
+
+// The lead time of an item and the bounds of its lots.
+fn item_lots_fault(item: &DraftItem, number: u32) -> Option<ModelFault>
+    ensures { result ≡ item_lots_fault number (raw_item item.now) }
+{
+    let at = Place::Item(number);
+    if let Some(found) = number_fault(at, Key::Lead, item.lead, 0, MAX_LEAD as u64) {
+        return Some(found);
+    }
+    if let Some(found) = number_fault(at, Key::MinLot, item.min_lot, 0, MAX_AMOUNT) {
+        return Some(found);
+    }
+    optional_number_fault(at, Key::MaxLot, item.max_lot, 1, MAX_AMOUNT)
+}
+
 // The lists and numbers of an item, key by key.
 fn item_numbers_fault(item: &DraftItem, number: u32, periods: u32) -> Option<ModelFault>
     ensures { result ≡ item_numbers_fault (pos periods) number (raw_item item.now) }
 {
-    let at = Place::Item(number);
     if let Some(found) = item_lists_fault(item, number, periods) {
         return Some(found);
     }
-    if let Some(found) = number_fault(at, Key::Opening, item.opening, 0, 1_000_000_000) {
+    if let Some(found) = item_stocks_fault(item, number) {
         return Some(found);
     }
-    if let Some(found) = number_fault(at, Key::EndMin, item.end_min, 0, 1_000_000_000) {
-        return Some(found);
-    }
-    optional_number_fault(at, Key::EndMax, item.end_max)
+    item_lots_fault(item, number)
 }
 
 // A resource's name.
@@ -186,7 +228,7 @@ fn item_name_fault(item: &DraftItem, number: u32) -> Option<ModelFault>
 
 // The names of resources.
 fn resource_names_fault(resources: &[DraftResource]) -> Option<ModelFault>
-    requires few { length resources.now ≤ 20 }
+    requires few { length resources.now ≤ MAX_RESOURCES }
     ensures { result ≡ first_in resource_name_fault 1 (map raw_resource resources.now) }
 {
     for at in 0..resources.len() {
@@ -200,7 +242,7 @@ fn resource_names_fault(resources: &[DraftResource]) -> Option<ModelFault>
 
 // The names of items.
 fn item_names_fault(items: &[DraftItem]) -> Option<ModelFault>
-    requires few { length items.now ≤ 40 }
+    requires few { length items.now ≤ MAX_ITEMS }
     ensures { result ≡ first_in item_name_fault 1 (map raw_item items.now) }
 {
     for at in 0..items.len() {
@@ -214,7 +256,7 @@ fn item_names_fault(items: &[DraftItem]) -> Option<ModelFault>
 
 // The capacities of resources.
 fn capacities_fault(resources: &[DraftResource], periods: u32) -> Option<ModelFault>
-    requires few { length resources.now ≤ 20 }
+    requires few { length resources.now ≤ MAX_RESOURCES }
     ensures { result ≡ first_in (capacity_fault (pos periods)) 1 (map raw_resource resources.now) }
 {
     for at in 0..resources.len() {
@@ -240,7 +282,7 @@ fn capacity_fault(resource: &DraftResource, number: u32, periods: u32) -> Option
 
 // The lists and numbers of items.
 fn items_numbers_fault(items: &[DraftItem], periods: u32) -> Option<ModelFault>
-    requires few { length items.now ≤ 40 }
+    requires few { length items.now ≤ MAX_ITEMS }
     ensures { result ≡ first_in (item_numbers_fault (pos periods)) 1 (map raw_item items.now) }
 {
     for at in 0..items.len() {
@@ -326,7 +368,7 @@ fn resource_repeat(
 
 // Names of resources that stand before.
 fn resource_repeats_fault(resources: &[DraftResource]) -> Option<ModelFault>
-    requires few { length resources.now ≤ 40 }
+    requires few { length resources.now ≤ MAX_RESOURCES }
     ensures { result ≡ first_in (resource_repeat (map raw_resource resources.now)) 1 (map raw_resource resources.now) }
 {
     for at in 0..resources.len() {
@@ -352,7 +394,7 @@ fn item_repeat(items: &[DraftItem], item: &DraftItem, number: u32) -> Option<Mod
 
 // Names of items that stand before.
 fn item_repeats_fault(items: &[DraftItem]) -> Option<ModelFault>
-    requires few { length items.now ≤ 40 }
+    requires few { length items.now ≤ MAX_ITEMS }
     ensures { result ≡ first_in (item_repeat (map raw_item items.now)) 1 (map raw_item items.now) }
 {
     for at in 0..items.len() {
@@ -383,7 +425,7 @@ fn need_fault(
     if is_need_name(needs, (line - 1) as usize, &need.item) {
         return fault(ModelCode::RepeatedName, at, None, None);
     }
-    number_fault(at, Key::Quantity, need.quantity, 1, 1_000_000)
+    number_fault(at, Key::Quantity, need.quantity, 1, MAX_QUANTITY)
 }
 
 // A line of resources: an unknown one, one of an earlier line, or a time out of range.
@@ -405,15 +447,15 @@ fn use_fault(
     if is_use_name(uses, (line - 1) as usize, &usage.resource) {
         return fault(ModelCode::RepeatedName, at, None, None);
     }
-    if let Some(found) = number_fault(at, Key::Unit, usage.unit, 0, 1_000_000_000) {
+    if let Some(found) = number_fault(at, Key::Unit, usage.unit, 0, MAX_AMOUNT) {
         return Some(found);
     }
-    number_fault(at, Key::Setup, usage.setup, 0, 1_000_000_000)
+    number_fault(at, Key::Setup, usage.setup, 0, MAX_AMOUNT)
 }
 
 // The lines of resources of an item.
 fn uses_fault(resources: &[DraftResource], item: u32, uses: &[DraftUse]) -> Option<ModelFault>
-    requires few { length resources.now ≤ 20 }
+    requires few { length resources.now ≤ MAX_RESOURCES }
     ensures { result ≡ first_in (use_fault (resource_names (map raw_resource resources.now)) item (map raw_use uses.now)) 1 (map raw_use uses.now) }
 {
     for at in 0..uses.len() {

@@ -43,6 +43,12 @@ pub struct DraftItem {
     /// The largest stock at the end of the last period; where it is left out, the least one and the
     /// opening stock together.
     pub end_max: Option<i64>,
+    /// The periods from the start of a lot to its arrival.
+    pub lead: i64,
+    /// The least quantity of a setup.
+    pub min_lot: i64,
+    /// The largest quantity of a period; none where there is no bound.
+    pub max_lot: Option<i64>,
     /// What goes into one unit.
     pub needs: Vec<DraftNeed>,
     /// The resources that it takes time on.

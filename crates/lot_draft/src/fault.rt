@@ -36,6 +36,8 @@ pub enum ModelCode {
     EndsCrossed,
     /// M14: the model is of another version.
     Version,
+    /// M15: the least lot is above the largest.
+    LotsCrossed,
 }
 
 /// Where a rule is broken. Resources, items and lines are counted from 1.
@@ -84,6 +86,12 @@ pub enum Key {
     EndMin,
     /// `end_max`
     EndMax,
+    /// `lead`
+    Lead,
+    /// `min_lot`
+    MinLot,
+    /// `max_lot`
+    MaxLot,
     /// `needs`
     Needs,
     /// `uses`
@@ -128,6 +136,7 @@ impl fmt::Display for ModelCode {
             ModelCode::QuantityBound => "M12",
             ModelCode::EndsCrossed => "M13",
             ModelCode::Version => "M14",
+            ModelCode::LotsCrossed => "M15",
         })
     }
 }
@@ -166,6 +175,9 @@ impl Key {
             Key::Opening => "opening",
             Key::EndMin => "end_min",
             Key::EndMax => "end_max",
+            Key::Lead => "lead",
+            Key::MinLot => "min_lot",
+            Key::MaxLot => "max_lot",
             Key::Needs => "needs",
             Key::Uses => "uses",
             Key::Quantity => "quantity",

@@ -1,9 +1,10 @@
-// The first component with a backlog cost, and the first crossed ends.
+// The first component with a backlog cost, the first crossed ends, and the first crossed lots.
 ghost use Rattle.std.specs.Prelude.{◌≡◌, ◌≤◌, length, map, None, option_map};
 ghost use Rattle.std.specs.List.{sum_by};
 ghost use Rattle.lot_sizing.specs.Problem.{IsWithinLimits};
+ghost use Rattle.lot_sizing.specs.declared.limits.TheConstants.{MAX_BILL_LINES, MAX_ITEMS};
 ghost use Rattle.lot_draft.specs.Raw.{raw_item, raw_model};
-ghost use Rattle.lot_draft.specs.Refusals.{are_ends, backlog_fault, ends_fault, first_in, is_component, later_fault, plain_fault};
+ghost use Rattle.lot_draft.specs.Refusals.{backlog_fault, ends_fault, first_in, is_component, is_ordered, later_fault, lots_fault, plain_fault};
 ghost use Rattle.lot_draft.specs.Meaning.{problem_of};
 
 use crate::checks::{fault, is_need_name};
@@ -22,9 +23,9 @@ fn is_component(items: &[DraftItem], name: &str) -> bool
     false
 }
 
-// Whether the least end stock is at most the largest, where that is given.
-fn are_ends(least: i64, most: Option<i64>) -> bool
-    ensures { result ≡ are_ends least most }
+// Whether the least is at most the largest, where there is one.
+fn is_ordered(least: i64, most: Option<i64>) -> bool
+    ensures { result ≡ is_ordered least most }
 {
     match most {
         Some(most) => least <= most,
@@ -51,15 +52,25 @@ fn backlog_fault(items: &[DraftItem], item: &DraftItem, number: u32) -> Option<M
 fn ends_fault(item: &DraftItem, number: u32) -> Option<ModelFault>
     ensures { result ≡ ends_fault number (raw_item item.now) }
 {
-    if are_ends(item.end_min, item.end_max) {
+    if is_ordered(item.end_min, item.end_max) {
         return None;
     }
     fault(ModelCode::EndsCrossed, Place::Item(number), None, None)
 }
 
+// Crossed lots.
+fn lots_fault(item: &DraftItem, number: u32) -> Option<ModelFault>
+    ensures { result ≡ lots_fault number (raw_item item.now) }
+{
+    if is_ordered(item.min_lot, item.max_lot) {
+        return None;
+    }
+    fault(ModelCode::LotsCrossed, Place::Item(number), None, None)
+}
+
 // The first component with a backlog cost.
 fn backlogs_fault(items: &[DraftItem]) -> Option<ModelFault>
-    requires few { length items.now ≤ 40 }
+    requires few { length items.now ≤ MAX_ITEMS }
     ensures { result ≡ first_in (backlog_fault (map raw_item items.now)) 1 (map raw_item items.now) }
 {
     for at in 0..items.len() {
@@ -73,7 +84,7 @@ fn backlogs_fault(items: &[DraftItem]) -> Option<ModelFault>
 
 // The first crossed ends.
 fn all_ends_fault(items: &[DraftItem]) -> Option<ModelFault>
-    requires few { length items.now ≤ 40 }
+    requires few { length items.now ≤ MAX_ITEMS }
     ensures { result ≡ first_in ends_fault 1 (map raw_item items.now) }
 {
     for at in 0..items.len() {
@@ -85,17 +96,35 @@ fn all_ends_fault(items: &[DraftItem]) -> Option<ModelFault>
     None
 }
 
-/// The first component with a backlog cost, then the first crossed ends, in a draft with no plain fault.
+// The first crossed lots.
+fn all_lots_fault(items: &[DraftItem]) -> Option<ModelFault>
+    requires few { length items.now ≤ MAX_ITEMS }
+    ensures { result ≡ first_in lots_fault 1 (map raw_item items.now) }
+{
+    for at in 0..items.len() {
+        let item = &items[at];
+        if let Some(found) = lots_fault(item, at as u32 + 1) {
+            return Some(found);
+        }
+    }
+    None
+}
+
+/// The first component with a backlog cost, then the first crossed ends, then the first crossed lots,
+/// in a draft with no plain fault.
 ///
 /// Where there is none, the draft stands for a problem within the limits.
 pub fn later_fault(draft: &Draft) -> Option<ModelFault>
     requires { plain_fault (raw_model draft.now) ≡ None }
     ensures value { result ≡ later_fault (raw_model draft.now) }
     ensures limits { result ≡ None → IsWithinLimits (problem_of (raw_model draft.now)) }
-    ensures lines { result ≡ None → sum_by (λ i. length i.needs) (problem_of (raw_model draft.now)).items ≤ 400 }
+    ensures lines { result ≡ None → sum_by (λ i. length i.needs) (problem_of (raw_model draft.now)).items ≤ MAX_BILL_LINES }
 {
     if let Some(found) = backlogs_fault(&draft.items) {
         return Some(found);
     }
-    all_ends_fault(&draft.items)
+    if let Some(found) = all_ends_fault(&draft.items) {
+        return Some(found);
+    }
+    all_lots_fault(&draft.items)
 }

@@ -1,10 +1,13 @@
 //! Models as a reader found them, and the plain rules that they break.
 //!
+//! Family: models. Stands on `lot_sizing`; used by `lot_model` and `instance_reader`.
+//!
 //! A `Draft` has the numbers and names of a model as they stand, of any sign and size. `plain_fault`
 //! names the first rule of counts, names, lists, numbers and lines that it breaks, by a `ModelFault` with
-//! its place; a draft that breaks none of them, and whose ends aren't crossed, is a problem within the
-//! limits. `later_fault` names the first component with a backlog cost, then the first crossed ends.
-//! `item_place` and `resource_place` give the numbers that names stand for.
+//! its place; a draft that breaks none of them, and whose ends and lots aren't crossed, is a problem
+//! within the limits. `later_fault` names the first component with a backlog cost, then the first crossed
+//! ends, then the first crossed lots. `item_place` and `resource_place` give the numbers that names
+//! stand for.
 #![tactic(auto)]
 
 mod checks;

@@ -3,6 +3,8 @@ ghost use Rattle.std.specs.Prelude.{◌≡◌};
 ghost use Rattle.std.specs.List.{list_all};
 ghost use Rattle.lot_sizing.specs.Problem.{is_name, is_name_byte};
 
+use lot_sizing::limits::MAX_NAME;
+
 // Whether a byte may stand in a name.
 fn is_name_byte(byte: u8) -> bool
     ensures { result ≡ is_name_byte byte }
@@ -22,9 +24,9 @@ fn is_plain(bytes: &[u8]) -> bool
     bytes.iter().all(|byte| is_name_byte(*byte))
 }
 
-/// Whether a text is a name: 1 to 32 ASCII letters, digits, `_`, `-` or `.`.
+/// Whether a text is a name: 1 to `MAX_NAME` ASCII letters, digits, `_`, `-` or `.`.
 pub fn is_name(text: &str) -> bool
     ensures { result ≡ is_name text.now }
 {
-    text.len() >= 1 && text.len() <= 32 && is_plain(text.as_bytes())
+    text.len() >= 1 && text.len() <= MAX_NAME && is_plain(text.as_bytes())
 }

@@ -33,6 +33,9 @@ fn item(alloc: Global, name: &str) -> Result<DraftItem, AllocError> {
         opening: 0,
         end_min: 0,
         end_max: None,
+        lead: 0,
+        min_lot: 0,
+        max_lot: None,
         needs: Vec::new(alloc),
         uses: Vec::new(alloc),
     })
@@ -99,7 +102,7 @@ fn counts_come_before_names_and_numbers(rt: HostRuntime) -> Result<(), Fail> {
     let mut first = item(alloc, "A B")?;
     first.demand = vec![in alloc; 2i64, -8i64]?;
     let mut d = draft(alloc, first, item(alloc, "B")?)?;
-    d.periods = 61;
+    d.periods = 121;
     assert_eq!(rt; refusal(alloc, &d)?.as_str(), "M5 root periods");
     d.periods = 2;
     assert_eq!(rt; refusal(alloc, &d)?.as_str(), "M7 item 1");
@@ -203,6 +206,43 @@ fn backlog_costs_of_components_come_before_crossed_ends(rt: HostRuntime) -> Resu
     assert_eq!(rt; refusal(alloc, &d)?.as_str(), "M13 item 1");
     let d = crossed(alloc, None, Some(vec![in alloc; 1i64, 1i64]?))?;
     assert_eq!(rt; refusal(alloc, &d)?.as_str(), "M11 item 2");
+    Ok(())
+}
+
+#[test]
+fn bounds_of_lots_are_refused_in_their_order(rt: HostRuntime) -> Result<(), Fail> {
+    let alloc = rt.alloc();
+    for (lead, min_lot, max_lot, want) in [
+        (60i64, 1_000_000_000i64, Some(1_000_000_000i64), "none"),
+        (61, -1, Some(0), "M5 item 2 lead"),
+        (-1, 0, None, "M5 item 2 lead"),
+        (0, 1_000_000_001, Some(0), "M5 item 2 min_lot"),
+        (0, 0, Some(0), "M5 item 2 max_lot"),
+        (0, 5, Some(4), "M15 item 2"),
+        (0, 4, Some(4), "none"),
+        (0, 4, None, "none"),
+    ] {
+        let mut second = item(alloc, "B")?;
+        second.lead = lead;
+        second.min_lot = min_lot;
+        second.max_lot = max_lot;
+        let d = draft(alloc, item(alloc, "A")?, second)?;
+        assert_eq!(rt; refusal(alloc, &d)?.as_str(), want);
+    }
+    Ok(())
+}
+
+#[test]
+fn crossed_ends_of_any_item_come_before_crossed_lots(rt: HostRuntime) -> Result<(), Fail> {
+    let alloc = rt.alloc();
+    let mut first = item(alloc, "A")?;
+    first.min_lot = 5;
+    first.max_lot = Some(4);
+    let mut second = item(alloc, "B")?;
+    second.end_min = 5;
+    second.end_max = Some(4);
+    let d = draft(alloc, first, second)?;
+    assert_eq!(rt; refusal(alloc, &d)?.as_str(), "M13 item 2");
     Ok(())
 }
 

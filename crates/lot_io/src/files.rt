@@ -1,31 +1,45 @@
 // Whole files in and out.
-ghost use Rattle.std.specs.Prelude.{◌≡◌, ◌≤◌, ◌<◌, ◌+◌, ◌^◌, ℕ, List, length, IsTrue, Option, Some, None, IfOk, OnOk, OnErr, IsErrOf, vec_len};
+ghost use Rattle.std.specs.Prelude.{◌≡◌, ◌≤◌, ◌<◌, ◌+◌, ◌^◌, ℕ, List, length, IsTrue, Some, None, IfOk, OnOk, OnErr, IsErrOf, vec_len};
 ghost use Rattle.lot_io.specs.declared.files.ReadFault.TheVariants.{Memory};
-ghost use Rattle.lot_io.specs.Outside.{Rose, RoseBy, GrewBy, SameElsewhere, piece_size, pieces_of};
+ghost use Rattle.lot_io.specs.Outside.{RoseBy, GrewBy, OnlyReads, OnlyWrites, Finds, Misses, Fails, piece_size, pieces_of};
 
 use crate::{Shelf, ShelfFault, WriteFailed};
 use std::alloc::{AllocError, Global};
-use thiserror::Error;
+use std::error::Error;
+use std::fmt;
 
 /// How many bytes go over in one call.
 const PIECE: usize = 65_536;
 
 /// Why a file was not read.
-#[derive(Clone, Copy, Debug, PartialEq, Eq, Error)]
+#[derive(Clone, Copy, Debug, PartialEq, Eq)]
 pub enum ReadFault {
     /// There is no file of this name.
-    #[error("there is no such file")]
     Missing,
     /// A fetch failed.
-    #[error("the file could not be read")]
     Failed,
     /// The file is longer than the limit.
-    #[error("the file is too long")]
     TooLong,
     /// Memory ran out.
-    #[error("out of memory")]
     Memory,
 }
+
+impl fmt::Display for ReadFault {
+    ghost use Rattle.lot_io.specs.Texts.{read_fault_text};
+
+    ghost output = { λ fault. Some (read_fault_text fault) };
+
+    fn fmt<W: fmt::Write>(&self, f: &mut fmt::Formatter<W>) -> fmt::Result {
+        match self {
+            ReadFault::Missing => f.write_str("there is no such file"),
+            ReadFault::Failed => f.write_str("the file could not be read"),
+            ReadFault::TooLong => f.write_str("the file is too long"),
+            ReadFault::Memory => f.write_str("out of memory"),
+        }
+    }
+}
+
+impl Error for ReadFault {}
 
 impl From<AllocError> for ReadFault {
     ghost from_gives = { λ _ e. e ≡ Memory };
@@ -54,25 +68,24 @@ pub fn read_file<S: Shelf>(
 ) -> Result<Vec<u8>, ReadFault>
     requires { most < 2 ^ 63 }
 
-    // What is read, and why it may not be.
-    ensures bytes { IfOk result (λ bytes. IsTrue (S.told shelf.old) → S.file shelf.old name.now ≡ Some bytes.items) }
+    // What is read, and why it may not be. Want of memory stands in for no other refusal.
+    ensures bytes { IfOk result (λ bytes. IsTrue (S.shown shelf.old).told → (S.shown shelf.old).file name.now ≡ Some bytes.items) }
     ensures within { IfOk result (λ bytes. length bytes.items ≤ most) }
-    ensures missing { IsErrOf result ReadFault.Missing → Rose (S.misses shelf.old) (S.misses shelf.new) }
-    ensures absent { IsErrOf result ReadFault.Missing → IsTrue (S.told shelf.old) → S.file shelf.old name.now ≡ None }
-    ensures failed { IsErrOf result ReadFault.Failed → Rose (S.faults shelf.old) (S.faults shelf.new) }
-    ensures given { IsErrOf result ReadFault.TooLong → RoseBy (most + 1) (S.given shelf.old) (S.given shelf.new) }
-    ensures too_long { IsErrOf result ReadFault.TooLong → IsTrue (S.told shelf.old) → (bytes : List ℕ) × (S.file shelf.old name.now ≡ Some bytes) × (most < length bytes) }
+    ensures given { IfOk result (λ bytes. GrewBy (length bytes.items) (S.shown shelf.old).given (S.shown shelf.new).given) }
+    ensures found { OnOk result (Finds (S.shown shelf.old) (S.shown shelf.new)) }
+    ensures missing { IsErrOf result ReadFault.Missing → Misses (S.shown shelf.old) (S.shown shelf.new) }
+    ensures absent { IsErrOf result ReadFault.Missing → IsTrue (S.shown shelf.old).told → (S.shown shelf.old).file name.now ≡ None }
+    ensures failed { IsErrOf result ReadFault.Failed → Fails (S.shown shelf.old) (S.shown shelf.new) }
+    ensures too_much { IsErrOf result ReadFault.TooLong → RoseBy (most + 1) (S.shown shelf.old).given (S.shown shelf.new).given }
+    ensures too_long { IsErrOf result ReadFault.TooLong → IsTrue (S.shown shelf.old).told
+        → (bytes : List ℕ) × ((S.shown shelf.old).file name.now ≡ Some bytes) × (most < length bytes) }
+    ensures long_found { IsErrOf result ReadFault.TooLong → Finds (S.shown shelf.old) (S.shown shelf.new) }
+    ensures memory { IsErrOf result ReadFault.Memory → Finds (S.shown shelf.old) (S.shown shelf.new) }
+    ensures memory_given { IsErrOf result ReadFault.Memory → (S.shown shelf.new).given ≤ (S.shown shelf.old).given + most }
 
-    // Nothing is written, counts never fall, and what is fetched has a limit.
-    ensures told { S.told shelf.new ≡ S.told shelf.old }
-    ensures files { S.file shelf.new ≡ S.file shelf.old }
-    ensures write_faults { S.write_faults shelf.new ≡ S.write_faults shelf.old }
-    ensures starts { S.starts shelf.new ≡ S.starts shelf.old }
-    ensures appends { S.appends shelf.new ≡ S.appends shelf.old }
-    ensures misses_rise { S.misses shelf.old ≤ S.misses shelf.new }
-    ensures faults_rise { S.faults shelf.old ≤ S.faults shelf.new }
-    ensures given_rise { S.given shelf.old ≤ S.given shelf.new }
-    ensures given_bound { S.given shelf.new ≤ S.given shelf.old + most + piece_size }
+    // Nothing is written, and what is fetched has a limit.
+    ensures reads { OnlyReads (S.shown shelf.old) (S.shown shelf.new) }
+    ensures given_bound { (S.shown shelf.new).given ≤ (S.shown shelf.old).given + most + piece_size }
 {
     let mut bytes: Vec<u8> = Vec::new(alloc);
     let mut room = room_of(alloc, PIECE)?;
@@ -97,21 +110,15 @@ pub fn read_file<S: Shelf>(
 /// It starts the file, and then appends pieces of 65,536 bytes and what is left, if anything is.
 /// After a refusal the file may be absent or hold anything; all others stay.
 pub fn write_file<S: Shelf>(shelf: &mut S, name: &str, bytes: &[u8]) -> Result<(), WriteFailed>
-    ensures written { OnOk result (IsTrue (S.told shelf.old) → S.file shelf.new name.now ≡ Some bytes.now) }
-    ensures failed { OnErr result (Rose (S.write_faults shelf.old) (S.write_faults shelf.new)) }
-    ensures others { IsTrue (S.told shelf.old) → SameElsewhere name.now (S.file shelf.old) (S.file shelf.new) }
+    ensures written { OnOk result (IsTrue (S.shown shelf.old).told → (S.shown shelf.new).file name.now ≡ Some bytes.now) }
+    ensures fine { OnOk result ((S.shown shelf.new).write_faults ≡ (S.shown shelf.old).write_faults) }
+    ensures failed { OnErr result (GrewBy 1 (S.shown shelf.old).write_faults (S.shown shelf.new).write_faults) }
+    ensures writes { OnlyWrites name.now (S.shown shelf.old) (S.shown shelf.new) }
 
     // One start, and one append for each piece.
-    ensures starts { GrewBy 1 (S.starts shelf.old) (S.starts shelf.new) }
-    ensures appends { OnOk result (GrewBy (pieces_of (length bytes.now)) (S.appends shelf.old) (S.appends shelf.new)) }
-    ensures appends_bound { S.appends shelf.new ≤ S.appends shelf.old + pieces_of (length bytes.now) }
-
-    // What stays.
-    ensures told { S.told shelf.new ≡ S.told shelf.old }
-    ensures write_faults_rise { S.write_faults shelf.old ≤ S.write_faults shelf.new }
-    ensures faults { S.faults shelf.new ≡ S.faults shelf.old }
-    ensures misses { S.misses shelf.new ≡ S.misses shelf.old }
-    ensures given { S.given shelf.new ≡ S.given shelf.old }
+    ensures starts { GrewBy 1 (S.shown shelf.old).starts (S.shown shelf.new).starts }
+    ensures appends { OnOk result (GrewBy (pieces_of (length bytes.now)) (S.shown shelf.old).appends (S.shown shelf.new).appends) }
+    ensures appends_bound { (S.shown shelf.new).appends ≤ (S.shown shelf.old).appends + pieces_of (length bytes.now) }
 {
     shelf.start(name)?;
     let mut rest = bytes;

@@ -1,7 +1,8 @@
 // Files and a sink in memory, whose calls can be made to fail by their numbers.
-ghost use Rattle.std.specs.Prelude.{◌≡◌, ◌≤◌, ◌++◌, ◌↔◌, ◌⊎◌, true, ℕ, List, [], length, Option, Some, None, unwrap_or, IfOk, OnOk, OnErr, IsErr, IsErrOf, Contains};
-ghost use Rattle.lot_io.specs.Memory.{file_in, half_of, next_count};
-ghost use Rattle.lot_io.specs.Outside.{Fetched, SameElsewhere, Rose, GrewBy, AppendsSome};
+ghost use Rattle.std.specs.Prelude.{◌≡◌, ◌≤◌, ◌++◌, ◌↔◌, ◌⊎◌, ℕ, List, [], length, Some, None, unwrap_or, IfOk, OnOk, OnErr, IsErr, IsErrOf, Contains};
+ghost use Rattle.lot_io.specs.Memory.{file_in, next_count, printed, shelved};
+ghost use Rattle.lot_io.specs.Shelves.{AddsHalf, AddsNothing, KeepsLists, PutsHalf, PutsNothing};
+ghost use Rattle.lot_io.specs.Outside.{Fetched, SameElsewhere, GrewBy, AppendsSome, OnlyReads, OnlyWrites, Finds, Misses, Fails};
 
 use crate::{Shelf, ShelfFault, Sink, SinkFailed, WriteFailed};
 use std::alloc::{AllocError, Global};
@@ -91,42 +92,24 @@ fn copy_from(file: &[u8], at: u64, room: &mut [u8]) -> usize
 }
 
 impl Shelf for MemoryShelf {
-    ghost told = { λ _. true };
-
-    ghost file = { λ s. file_in s.files };
-
-    ghost faults = { λ s. s.faults };
-
-    ghost write_faults = { λ s. s.write_faults };
-
-    ghost misses = { λ s. s.misses };
-
-    ghost given = { λ s. s.given };
-
-    ghost starts = { λ s. s.starts };
-
-    ghost appends = { λ s. s.appends };
+    ghost shown = { shelved };
 
     /// Gives as many bytes as there are and fit.
     fn fetch(&mut self, name: &str, at: u64, room: &mut [u8]) -> Result<usize, ShelfFault>
         ensures bound { IfOk result (λ n. n ≤ length room.new) }
         ensures bytes { IfOk result (λ n. (bytes : List ℕ) × (file_in self.old.files name.now ≡ Some bytes) × Fetched bytes at n room.new) }
-        ensures missing { IsErrOf result ShelfFault.Missing → Rose self.old.misses self.new.misses }
-        ensures absent { IsErrOf result ShelfFault.Missing → file_in self.old.files name.now ≡ None }
-        ensures failed { IsErrOf result ShelfFault.Failed → Rose self.old.faults self.new.faults }
         ensures given { IfOk result (λ n. GrewBy n self.old.given self.new.given) }
         ensures not_given { OnErr result (self.new.given ≡ self.old.given) }
-        ensures given_rises { self.old.given ≤ self.new.given }
-        ensures files { file_in self.new.files ≡ file_in self.old.files }
-        ensures write_faults { self.new.write_faults ≡ self.old.write_faults }
-        ensures misses_rise { self.old.misses ≤ self.new.misses }
-        ensures faults_rise { self.old.faults ≤ self.new.faults }
-        ensures starts { self.new.starts ≡ self.old.starts }
-        ensures appends { self.new.appends ≡ self.old.appends }
+        ensures found { OnOk result (Finds (shelved self.old) (shelved self.new)) }
+        ensures missing { IsErrOf result ShelfFault.Missing → Misses (shelved self.old) (shelved self.new) }
+        ensures absent { IsErrOf result ShelfFault.Missing → file_in self.old.files name.now ≡ None }
+        ensures failed { IsErrOf result ShelfFault.Failed → Fails (shelved self.old) (shelved self.new) }
+        ensures reads { OnlyReads (shelved self.old) (shelved self.new) }
 
         // It fails exactly where its number is listed.
         ensures fails { IsErrOf result ShelfFault.Failed ↔ Contains self.old.fail_fetch.items (next_count self.old.fetches) }
-        ensures fetches { self.new.fetches ≡ next_count self.old.fetches }
+        ensures counted { self.new.fetches ≡ next_count self.old.fetches }
+        ensures lists { KeepsLists self.old self.new }
         ensures wants { self.new.wants ≡ self.old.wants }
     {
         self.fetches = self.fetches.saturating_add(1);
@@ -149,21 +132,21 @@ impl Shelf for MemoryShelf {
 
     fn start(&mut self, name: &str) -> Result<(), WriteFailed>
         ensures started { OnOk result (file_in self.new.files name.now ≡ Some []) }
-        ensures failed { OnErr result (Rose self.old.write_faults self.new.write_faults) }
-        ensures others { SameElsewhere name.now (file_in self.old.files) (file_in self.new.files) }
-        ensures write_faults_rise { self.old.write_faults ≤ self.new.write_faults }
-        ensures faults { self.new.faults ≡ self.old.faults }
-        ensures misses { self.new.misses ≡ self.old.misses }
-        ensures given { self.new.given ≡ self.old.given }
+        ensures fine { OnOk result (self.new.write_faults ≡ self.old.write_faults) }
+        ensures failed { OnErr result (GrewBy 1 self.old.write_faults self.new.write_faults) }
         ensures starts { GrewBy 1 self.old.starts self.new.starts }
         ensures appends { self.new.appends ≡ self.old.appends }
+        ensures others { SameElsewhere name.now (file_in self.old.files) (file_in self.new.files) }
+        ensures writes { OnlyWrites name.now (shelved self.old) (shelved self.new) }
 
         // It fails where its number is listed, and else only for want of memory. The file stays then.
-        ensures listed { Contains self.old.fail_start.items (next_count self.old.starts) → IsErr result }
-        ensures unlisted { OnErr result ((Contains self.old.fail_start.items (next_count self.old.starts) → ⊥) → Rose self.old.wants self.new.wants) }
+        ensures listed { Contains self.old.fail_start.items (next_count self.old.starts) → IsErr result × (self.new.wants ≡ self.old.wants) }
+        ensures unlisted { OnErr result ((Contains self.old.fail_start.items (next_count self.old.starts) → ⊥) → GrewBy 1 self.old.wants self.new.wants) }
+        ensures enough { OnOk result (self.new.wants ≡ self.old.wants) }
         ensures kept { OnErr result (file_in self.new.files name.now ≡ file_in self.old.files name.now) }
         ensures counted { self.new.starts ≡ next_count self.old.starts }
-        ensures wants_rise { self.old.wants ≤ self.new.wants }
+        ensures fetches { self.new.fetches ≡ self.old.fetches }
+        ensures lists { KeepsLists self.old self.new }
     {
         self.starts = self.starts.saturating_add(1);
         if self.fail_start.contains(&self.starts) {
@@ -180,24 +163,24 @@ impl Shelf for MemoryShelf {
 
     fn append(&mut self, name: &str, piece: &[u8]) -> Result<(), WriteFailed>
         ensures appended { OnOk result (file_in self.new.files name.now ≡ Some (unwrap_or (file_in self.old.files name.now) [] ++ piece.now)) }
-        ensures failed { OnErr result (Rose self.old.write_faults self.new.write_faults) }
-        ensures others { SameElsewhere name.now (file_in self.old.files) (file_in self.new.files) }
-        ensures write_faults_rise { self.old.write_faults ≤ self.new.write_faults }
-        ensures faults { self.new.faults ≡ self.old.faults }
-        ensures misses { self.new.misses ≡ self.old.misses }
-        ensures given { self.new.given ≡ self.old.given }
+        ensures fine { OnOk result (self.new.write_faults ≡ self.old.write_faults) }
+        ensures failed { OnErr result (GrewBy 1 self.old.write_faults self.new.write_faults) }
         ensures starts { self.new.starts ≡ self.old.starts }
         ensures appends { GrewBy 1 self.old.appends self.new.appends }
+        ensures others { SameElsewhere name.now (file_in self.old.files) (file_in self.new.files) }
+        ensures writes { OnlyWrites name.now (shelved self.old) (shelved self.new) }
 
         // It fails where its number is listed, and else only for want of memory.
         ensures listed { Contains self.old.fail_append.items (next_count self.old.appends) → IsErr result }
-        ensures unlisted { OnErr result ((Contains self.old.fail_append.items (next_count self.old.appends) → ⊥) → Rose self.old.wants self.new.wants) }
+        ensures unlisted { OnErr result ((Contains self.old.fail_append.items (next_count self.old.appends) → ⊥) → GrewBy 1 self.old.wants self.new.wants) }
+        ensures enough { OnOk result (self.new.wants ≡ self.old.wants) }
 
         // A listed one has added half of the piece, and want of memory adds nothing.
-        ensures half { OnErr result ((file_in self.new.files name.now ≡ Some (unwrap_or (file_in self.old.files name.now) [] ++ half_of piece.now)) ⊎ (Rose self.old.wants self.new.wants × (file_in self.new.files name.now ≡ file_in self.old.files name.now))) }
-        ensures whole { OnErr result ((Contains self.old.fail_append.items (next_count self.old.appends) → ⊥) → file_in self.new.files name.now ≡ file_in self.old.files name.now) }
+        ensures half { OnErr result (AddsHalf piece.now name.now self.old self.new ⊎ AddsNothing name.now self.old self.new) }
+        ensures whole { OnErr result ((Contains self.old.fail_append.items (next_count self.old.appends) → ⊥) → AddsNothing name.now self.old self.new) }
         ensures counted { self.new.appends ≡ next_count self.old.appends }
-        ensures wants_rise { self.old.wants ≤ self.new.wants }
+        ensures fetches { self.new.fetches ≡ self.old.fetches }
+        ensures lists { KeepsLists self.old self.new }
     {
         self.appends = self.appends.saturating_add(1);
         if self.fail_append.contains(&self.appends) {
@@ -292,27 +275,25 @@ impl MemorySink {
 }
 
 impl Sink for MemorySink {
-    ghost told = { λ _. true };
-
-    ghost bytes = { λ s. s.bytes.items };
-
-    ghost faults = { λ s. s.faults };
+    ghost shown = { printed };
 
     fn put(&mut self, piece: &[u8]) -> Result<(), SinkFailed>
         ensures put { OnOk result (self.new.bytes.items ≡ self.old.bytes.items ++ piece.now) }
         ensures part { OnErr result (AppendsSome piece.now self.old.bytes.items self.new.bytes.items) }
-        ensures failed { OnErr result (Rose self.old.faults self.new.faults) }
-        ensures faults_rise { self.old.faults ≤ self.new.faults }
+        ensures fine { OnOk result (self.new.faults ≡ self.old.faults) }
+        ensures failed { OnErr result (GrewBy 1 self.old.faults self.new.faults) }
+        ensures puts { GrewBy 1 self.old.puts self.new.puts }
 
         // It fails where its number is listed, and else only for want of memory.
         ensures listed { Contains self.old.fail_put.items (next_count self.old.puts) → IsErr result }
-        ensures unlisted { OnErr result ((Contains self.old.fail_put.items (next_count self.old.puts) → ⊥) → Rose self.old.wants self.new.wants) }
+        ensures unlisted { OnErr result ((Contains self.old.fail_put.items (next_count self.old.puts) → ⊥) → GrewBy 1 self.old.wants self.new.wants) }
+        ensures enough { OnOk result (self.new.wants ≡ self.old.wants) }
 
         // A listed one has added half of the piece, and want of memory adds nothing.
-        ensures half { OnErr result ((self.new.bytes.items ≡ self.old.bytes.items ++ half_of piece.now) ⊎ (Rose self.old.wants self.new.wants × (self.new.bytes.items ≡ self.old.bytes.items))) }
-        ensures whole { OnErr result ((Contains self.old.fail_put.items (next_count self.old.puts) → ⊥) → self.new.bytes.items ≡ self.old.bytes.items) }
+        ensures half { OnErr result (PutsHalf piece.now self.old self.new ⊎ PutsNothing self.old self.new) }
+        ensures whole { OnErr result ((Contains self.old.fail_put.items (next_count self.old.puts) → ⊥) → PutsNothing self.old self.new) }
         ensures counted { self.new.puts ≡ next_count self.old.puts }
-        ensures wants_rise { self.old.wants ≤ self.new.wants }
+        ensures list { self.new.fail_put ≡ self.old.fail_put }
     {
         self.puts = self.puts.saturating_add(1);
         if self.fail_put.contains(&self.puts) {

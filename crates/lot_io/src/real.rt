@@ -1,6 +1,9 @@
 // The machine's files and its standard output. Nothing is known of what these hold.
-ghost use Rattle.std.specs.Prelude.{false, [], None, ◌≡◌, ◌≤◌, length, IfOk};
+ghost use Rattle.std.specs.Prelude.{true, ◌≡◌, ◌≤◌, length, IfOk, OnOk, OnErr};
+ghost use Rattle.std.specs.Io.KnownBytes.{Appends};
+ghost use Rattle.std.specs.Fs.{new_options, with_append, with_create};
 ghost use Rattle.lot_io.specs.Outside.{GrewBy};
+ghost use Rattle.lot_io.specs.Real.{printed, shelved, written_in};
 
 use crate::{Shelf, ShelfFault, Sink, SinkFailed, WriteFailed};
 use std::fs;
@@ -85,31 +88,24 @@ fn fetch_from<R: Files>(
     }
 }
 
+// How a file is opened to add at its end: for appending, made where it is absent, and never emptied.
+fn appending() -> OpenOptions
+    ensures { result ≡ with_create (with_append new_options true) true }
+{
+    let mut options = OpenOptions::new();
+    options.append(true);
+    options.create(true);
+    options
+}
+
 // Adds the whole piece at the end of the file.
 fn append_to<R: Files>(files: &R, name: &str, piece: &[u8]) -> std::io::Result<()> {
-    let mut file = OpenOptions::new()
-        .append(true)
-        .create(true)
-        .open(files, name)?;
+    let mut file = appending().open(files, name)?;
     file.write_all(piece)
 }
 
 impl<R: Files> Shelf for DiskShelf<R> {
-    ghost told = { λ _. false };
-
-    ghost file = { λ _ _. None };
-
-    ghost faults = { λ s. s.faults };
-
-    ghost write_faults = { λ s. s.write_faults };
-
-    ghost misses = { λ s. s.misses };
-
-    ghost given = { λ s. s.given };
-
-    ghost starts = { λ s. s.starts };
-
-    ghost appends = { λ s. s.appends };
+    ghost shown = { shelved };
 
     fn fetch(&mut self, name: &str, at: u64, room: &mut [u8]) -> Result<usize, ShelfFault> {
         match fetch_from(&self.files, name, at, room) {
@@ -153,10 +149,13 @@ impl<R: Files> Shelf for DiskShelf<R> {
 
 /// Standard output, or any other writer.
 ///
-/// It tells nothing of what was put. The count stands still at 2^64 - 1.
+/// It tells nothing of what was put, beside what the writer itself says. Each count stands still at
+/// 2^64 - 1.
 #[derive(Drop)]
 pub struct StdSink<W> {
     out: W,
+    /// How many puts were made.
+    pub puts: u64,
     /// How many puts have failed.
     pub faults: u64,
 }
@@ -164,20 +163,30 @@ pub struct StdSink<W> {
 impl<W: Write + Drop> StdSink<W> {
     /// The sink over this writer.
     pub fn new(out: W) -> StdSink<W>
-        ensures { result.faults ≡ 0 }
+        ensures puts { result.puts ≡ 0 }
+        ensures faults { result.faults ≡ 0 }
+        ensures written { written_in W.contents result ≡ W.contents out }
     {
-        StdSink { out, faults: 0 }
+        StdSink {
+            out,
+            puts: 0,
+            faults: 0,
+        }
     }
 }
 
 impl<W: Write> Sink for StdSink<W> {
-    ghost told = { λ _. false };
+    ghost shown = { printed };
 
-    ghost bytes = { λ _. [] };
+    fn put(&mut self, piece: &[u8]) -> Result<(), SinkFailed>
+        ensures fine { OnOk result (self.new.faults ≡ self.old.faults) }
+        ensures failed { OnErr result (GrewBy 1 self.old.faults self.new.faults) }
+        ensures puts { GrewBy 1 self.old.puts self.new.puts }
 
-    ghost faults = { λ s. s.faults };
-
-    fn put(&mut self, piece: &[u8]) -> Result<(), SinkFailed> {
+        // A writer that says what it holds, as a `Vec` does, holds the whole piece.
+        ensures written { OnOk result (Appends (written_in W.contents self.old) (written_in W.contents self.new) piece.now) }
+    {
+        self.puts = grown(self.puts, 1);
         match self.out.write_all(piece) {
             Ok(()) => Ok(()),
             Err(_) => {

@@ -1,7 +1,4 @@
-use crate::{
-    DiskShelf, MemoryShelf, MemorySink, NumberFault, ReadFault, Sink, StdSink, read_file,
-    read_whole, write_file,
-};
+use crate::{DiskShelf, MemoryShelf, MemorySink, ReadFault, Sink, StdSink, read_file, write_file};
 use std::alloc::{AllocError, Global};
 use std::collections::BTreeMap;
 use std::test::Fail;
@@ -32,6 +29,41 @@ fn files_come_back_whole(rt: HostRuntime) -> Result<(), Fail> {
     let read = read_file(alloc, &mut shelf, "a", 131_083)?;
     assert!(rt; read.as_slice() == bytes.as_slice());
     assert_eq!(rt; (shelf.fetches, shelf.given), (4, 131_083));
+    Ok(())
+}
+
+#[test]
+fn a_file_of_five_pieces_comes_back(rt: HostRuntime) -> Result<(), Fail> {
+    let alloc = rt.alloc();
+    let bytes = vec![in alloc; 7u8; 262_145]?;
+    let mut shelf = empty_shelf(alloc, &[], &[])?;
+    assert_eq!(rt; write_file(&mut shelf, "a", bytes.as_slice()), Ok(()));
+    assert_eq!(rt; (shelf.starts, shelf.appends, shelf.wants), (1, 5, 0));
+    assert!(rt; read_file(alloc, &mut shelf, "a", 262_145)?.as_slice() == bytes.as_slice());
+    assert_eq!(rt; (shelf.fetches, shelf.misses, shelf.faults), (6, 0, 0));
+    Ok(())
+}
+
+// The listed calls fail whatever other calls come before them.
+#[test]
+fn listed_calls_fail_after_others(rt: HostRuntime) -> Result<(), Fail> {
+    let alloc = rt.alloc();
+    let mut shelf = MemoryShelf::new(
+        alloc,
+        BTreeMap::new(alloc),
+        vec![in alloc; 3u64]?,
+        vec![in alloc; 2u64]?,
+        vec![in alloc; 4u64]?,
+    );
+    assert_eq!(rt; write_file(&mut shelf, "a", b"one"), Ok(()));
+    assert!(rt; read_file(alloc, &mut shelf, "a", 9).is_ok());
+    assert!(rt; write_file(&mut shelf, "a", b"two").is_err());
+    assert!(rt; read_file(alloc, &mut shelf, "a", 9).is_err());
+    assert_eq!(rt; write_file(&mut shelf, "b", b"three"), Ok(()));
+    assert_eq!(rt; write_file(&mut shelf, "c", b"four"), Ok(()));
+    assert!(rt; write_file(&mut shelf, "d", b"five").is_err());
+    assert_eq!(rt; (shelf.starts, shelf.appends, shelf.fetches), (5, 4, 3));
+    assert_eq!(rt; (shelf.write_faults, shelf.faults, shelf.wants), (2, 1, 0));
     Ok(())
 }
 
@@ -76,12 +108,14 @@ fn files_are_refused_by_cause(rt: HostRuntime) -> Result<(), Fail> {
 #[test]
 fn a_failing_put_adds_half(rt: HostRuntime) -> Result<(), Fail> {
     let alloc = rt.alloc();
-    let mut sink = MemorySink::new(alloc, vec![in alloc; 2u64]?);
+    let mut sink = MemorySink::new(alloc, vec![in alloc; 2u64, 5u64]?);
     assert!(rt; sink.put(b"ab").is_ok());
     assert!(rt; sink.put(b"cde").is_err());
     assert!(rt; sink.put(b"f").is_ok());
-    assert!(rt; sink.bytes.as_slice() == b"abcf".as_slice());
-    assert_eq!(rt; (sink.puts, sink.faults, sink.wants), (3, 1, 0));
+    assert!(rt; sink.put(b"g").is_ok());
+    assert!(rt; sink.put(b"hi").is_err());
+    assert!(rt; sink.bytes.as_slice() == b"abcfgh".as_slice());
+    assert_eq!(rt; (sink.puts, sink.faults, sink.wants), (5, 2, 0));
     Ok(())
 }
 
@@ -95,7 +129,12 @@ fn real_files_and_output(rt: HostRuntime) -> Result<(), Fail> {
         Ok(())
     );
     assert_eq!(rt; write_file(&mut shelf, "a", bytes.as_slice()), Ok(()));
+    assert_eq!(rt; write_file(&mut shelf, "n", b"a neighbour"), Ok(()));
     assert!(rt; read_file(alloc, &mut shelf, "a", 65_537)?.as_slice() == bytes.as_slice());
+    assert!(rt; read_file(alloc, &mut shelf, "a", 65_537)?.as_slice() == bytes.as_slice());
+    assert!(rt; read_file(alloc, &mut shelf, "n", 99)?.as_slice() == b"a neighbour".as_slice());
+    assert_eq!(rt; shelf.given, 131_085);
+    assert_eq!(rt; (shelf.starts, shelf.appends), (3, 4));
     assert_eq!(rt;
         read_file(alloc, &mut shelf, "b", 9).err(),
         Some(ReadFault::Missing)
@@ -108,36 +147,17 @@ fn real_files_and_output(rt: HostRuntime) -> Result<(), Fail> {
     assert_eq!(rt; (shelf.misses, shelf.faults, shelf.write_faults), (1, 1, 1));
     let mut sink = StdSink::new(std::io::writer(&rt));
     assert!(rt; sink.put(b"printed\n").is_ok());
-    assert_eq!(rt; sink.faults, 0);
+    assert_eq!(rt; (sink.puts, sink.faults), (1, 0));
     Ok(())
 }
 
 #[test]
-fn whole_numbers_are_read(rt: HostRuntime) {
-    let most = u128::MAX;
-    let cases: [(&[u8], u128, Result<u128, NumberFault>); 12] = [
-        (b"", most, Err(NumberFault::NotDigits)),
-        (b"0", 0, Ok(0)),
-        (b"00", most, Err(NumberFault::LeadingZero)),
-        (b"007", most, Err(NumberFault::LeadingZero)),
-        (b"00x", most, Err(NumberFault::NotDigits)),
-        (b"+1", most, Err(NumberFault::NotDigits)),
-        (b"1 ", most, Err(NumberFault::NotDigits)),
-        (b"10", 9, Err(NumberFault::TooLarge)),
-        (b"10", 10, Ok(10)),
-        (b"340282366920938463463374607431768211455", most, Ok(most)),
-        (
-            b"340282366920938463463374607431768211456",
-            most,
-            Err(NumberFault::TooLarge),
-        ),
-        (
-            b"99999999999999999999999999999999999999999999999999",
-            most,
-            Err(NumberFault::TooLarge),
-        ),
-    ];
-    for (text, most, want) in cases {
-        assert_eq!(rt; read_whole(text, most), want, "{text:?}");
-    }
+fn a_writer_gets_whole_pieces(rt: HostRuntime) -> Result<(), Fail> {
+    let mut bytes: Vec<u8> = Vec::new(rt.alloc());
+    let mut sink = StdSink::new(&mut bytes);
+    assert!(rt; sink.put(b"two pieces ").is_ok());
+    assert!(rt; sink.put(b"of text\n").is_ok());
+    assert_eq!(rt; (sink.puts, sink.faults), (2, 0));
+    assert!(rt; bytes.as_slice() == b"two pieces of text\n".as_slice());
+    Ok(())
 }

@@ -1,28 +1,23 @@
 -- The bill of a problem, and that of the lists of its items' components.
-use Rattle.std.proofs.Common.{◌≡◌, ◌≤◌, ◌<◌, ◌+◌, ◌-◌, ◌*◌, ◌∙◌, ℕ, zero, suc, refl, sym, ap, subst, arith, List, [], ◌∷◌, map}
+use Rattle.std.proofs.Common.{◌≡◌, ◌≤◌, ◌<◌, ◌+◌, ◌-◌, ◌*◌, ◌∙◌, ℕ, zero, suc, refl, sym, ap, subst, arith, List, length, map}
 use Rattle.std.proofs.Math.Path.{fun_ext}
 use Rattle.std.proofs.Math.ListN.{get_or-map}
 use Rattle.std.proofs.lemmas.List.{get_or_default, length-map}
 use Rattle.lot_sizing.specs.declared.Need.{Need}
 use Rattle.lot_sizing.specs.Sums.{sum_to}
-use Rattle.lot_sizing.specs.Problem.{IsWithinLimits, Item, Problem, entry, item_at, item_count, no_item, per_unit}
-use Rattle.lot_sizing.specs.Bill.{AreTotals, Bill, GoesIntoOver, HasRanks, bill_of}
+use Rattle.lot_sizing.specs.Problem.{IsWithinLimits, Problem, entry, item_at, item_count, no_item, per_unit}
+use Rattle.lot_sizing.specs.Bill.{AreTotals, AreWeights, Bill, GoesIntoOver, HasRanks, bill_of}
 use Rattle.lot_sizing.proofs.Sums.{sum_to-same}
 use Rattle.bill.specs.Lines.{AreLines, bill_of_lines, lines_of, units_in}
-use Rattle.bill.specs.Over.{HasAll, IsBoundFault, IsFirstOver, IsWithin, OfAll}
+use Rattle.bill.specs.Over.{HasAll, HaveSize, IsWithin, OfAll}
 use Rattle.bill.specs.Sets.{HasNoCycle}
 use Rattle.bill.specs.Laws.{TotalsExist, WeightsExist}
+use Rattle.bill.proofs.Existing.{totals_exist, weights_exist}
+use Rattle.lot_sizing.specs.declared.limits.TheConstants.{MAX_TOTAL}
 use Rattle.std.specs.Prelude.{Result, Ok, Err, IfOk, IfErr}
-use Rattle.lot_draft.specs.Raw.{RawItem, RawModel}
-use Rattle.lot_draft.specs.Refusals.{item_names, resource_names}
-use Rattle.lot_draft.specs.Meaning.{HaveNeeds, item_of, need_of, problem_of}
-use Rattle.bill.specs.declared.explosion.BoundFault.{BoundFault}
-use Rattle.bill.specs.declared.explosion.BoundFault.TheVariants.{Over, Memory}
-use Rattle.lot_model.specs.Held.{IsOverFault}
-use Rattle.lot_model.specs.Meaning.{AreSmallRows, asked_of, there_of}
-
-abbrev pub needs_in : Problem → List (List Need)
-needs_in m = map (λ a. a.needs) m.items
+use Rattle.lot_draft.specs.Meaning.{HaveNeeds}
+use Rattle.lot_model.specs.Held.{AreOf, AreTotalsOf, needs_in}
+use Rattle.lot_model.specs.Meaning.{AreSmallRows, IsRanked, asked_of, there_of}
 
 abbrev with_units : ℕ → (ℕ → ℕ → ℕ) → Bill
 with_units n u = record { items = n; units = u }
@@ -70,10 +65,6 @@ pub of_same : (b : Bill) (asked there asked2 there2 : ℕ → ℕ) (P : (ℕ →
 of_same b asked there asked2 there2 P a t all total weight totals weights =
     all total weight (λ i low high. totals i low high ∙ ap (λ x. (x + sum_to b.items (λ j. b.units i j * total j)) - there2 i) (sym (a i low high)) ∙ ap (λ x. (asked i + sum_to b.items (λ j. b.units i j * total j)) - x) (sym (t i low high))) weights
 
--- the entry of a list with a number for each item
-pub mapped : (m : Problem) (f : Item → ℕ) (i : ℕ) → 1 ≤ i → i ≤ item_count m → entry (map f m.items) i ≡ f (item_at m i)
-mapped m f i low high = get_or_default (map f m.items) (i - 1) 0 (f no_item) (omega (arith, low, high, length-map m.items f)) ∙ get_or-map f m.items (i - 1) no_item
-
 -- totals that are known are totals
 pub known_totals : (b : Bill) (asked there : ℕ → ℕ) (rank : ℕ → ℕ) (totals : List ℕ) (weights : List (List ℕ)) → HasRanks b rank → TotalsExist → WeightsExist → OfAll b asked there (λ total weight. HasAll b total weight totals weights) → AreTotals b asked there (entry totals)
 known_totals b asked there rank totals weights ranks some_total some_weight all i low high =
@@ -95,11 +86,11 @@ pub all_within : (b : Bill) (asked there : ℕ → ℕ) (totals : List ℕ) (wei
 all_within b asked there totals weights all total weight t w = (all total weight t w).within
 
 -- what is said of the lists is said of the problem
-pub from_lists : (m : Problem) (lines : List (List Need)) (asked there : List ℕ) (P : Bill → (ℕ → ℕ) → (ℕ → ℕ → ℕ) → Type 0) → lines ≡ needs_in m → asked ≡ map (λ a. sum_to m.periods (entry a.demand) + a.end_max) m.items → there ≡ map (λ a. a.opening) m.items → OfAll (bill_of_lines lines) (entry asked) (entry there) (P (bill_of_lines lines)) → OfAll (bill_of m) (asked_of m) (there_of m) (P (bill_of m))
+pub from_lists : (m : Problem) (lines : List (List Need)) (asked there : List ℕ) (P : Bill → (ℕ → ℕ) → (ℕ → ℕ → ℕ) → Type 0) → lines ≡ needs_in m → AreOf m (asked_of m) asked → AreOf m (there_of m) there → OfAll (bill_of_lines lines) (entry asked) (entry there) (P (bill_of_lines lines)) → OfAll (bill_of m) (asked_of m) (there_of m) (P (bill_of m))
 from_lists m lines asked there P same as_asked as_there h =
     of_same (bill_of m) (entry asked) (entry there) (asked_of m) (there_of m) (P (bill_of m))
-    (λ i low high. ap (λ xs. entry xs i) as_asked ∙ mapped m (λ a. sum_to m.periods (entry a.demand) + a.end_max) i low high)
-    (λ i low high. ap (λ xs. entry xs i) as_there ∙ mapped m (λ a. a.opening) i low high)
+    as_asked
+    as_there
     (subst (λ b. OfAll b (entry asked) (entry there) (P b)) (bill_is m lines same) h)
 
 pub map_ok : {A E : Type 0} → (r : Result A E) (P Q : A → Type 0) → ((a : A) → P a → Q a) → IfOk r P → IfOk r Q
@@ -110,14 +101,21 @@ pub map_err : {A E : Type 0} → (r : Result A E) (P Q : E → Type 0) → ((e :
 map_err (Ok a) P Q f h = h
 map_err (Err e) P Q f h = f e h
 
-drafted_from : (resources names : List (List ℕ)) (is : List RawItem) → map (λ a. map (need_of names) a.needs) is ≡ map (λ a. a.needs) (map (item_of resources names) is)
-drafted_from resources names [] = refl
-drafted_from resources names (a ∷ is) = ap (λ rest. map (need_of names) a.needs ∷ rest) (drafted_from resources names is)
+-- weights of a problem whose items have ranks
+pub some_weights : (p : Problem) → IsRanked p → (weight : ℕ → ℕ → ℕ) × AreWeights (bill_of p) weight
+some_weights p ranked = weights_exist (bill_of p) ranked.0 ranked.1
 
-pub drafted : (m : RawModel) → map (λ a. map (need_of (item_names m.items)) a.needs) m.items ≡ needs_in (problem_of m)
-drafted m = drafted_from (resource_names m.resources) (item_names m.items) m.items
-
--- so is the fault of the lists
-pub over_fault : (m : Problem) (lines : List (List Need)) (asked there : List ℕ) → lines ≡ needs_in m → asked ≡ map (λ a. sum_to m.periods (entry a.demand) + a.end_max) m.items → there ≡ map (λ a. a.opening) m.items → (e : BoundFault) → IsBoundFault (bill_of_lines lines) (entry asked) (entry there) e → IsOverFault m e
-over_fault m lines asked there same as_asked as_there (Over i) h = from_lists m lines asked there (λ b total weight. IsFirstOver b total weight i) same as_asked as_there h
-over_fault m lines asked there same as_asked as_there Memory h = tt
+-- totals and weights of the lists are those of the problem
+pub totals_of : (m : Problem) (lines : List (List Need)) (asked there totals : List ℕ) (weights : List (List ℕ)) (rank : ℕ → ℕ) → lines ≡ needs_in m → AreOf m (asked_of m) asked → AreOf m (there_of m) there → HasRanks (bill_of m) rank → length totals ≡ item_count m → length weights ≡ item_count m → HaveSize (item_count m) weights → ((i : ℕ) → entry totals i ≤ MAX_TOTAL) → OfAll (bill_of_lines lines) (entry asked) (entry there) (λ total weight. HasAll (bill_of_lines lines) total weight totals weights) → AreTotalsOf m totals weights
+totals_of m lines asked there totals weights rank same as_asked as_there ranks totals_size weights_size row_sizes small h =
+    let all = from_lists m lines asked there (λ b total weight. HasAll b total weight totals weights) same as_asked as_there h in
+    record {
+      totals_size = totals_size;
+      weights_size = weights_size;
+      row_sizes = row_sizes;
+      rows_small = known_small (bill_of m) (asked_of m) (there_of m) rank totals weights ranks totals_exist weights_exist all;
+      all = all;
+      totals = known_totals (bill_of m) (asked_of m) (there_of m) rank totals weights ranks totals_exist weights_exist all;
+      small = small;
+      bounded = all_within (bill_of m) (asked_of m) (there_of m) totals weights all;
+    }

@@ -1,30 +1,59 @@
 -- What the steps from a draft to an instance hold.
-use Rattle.std.specs.Prelude.{ℕ, ◌≤◌, ◌^◌, ◌*◌, ⊤}
-use Rattle.lot_sizing.specs.Problem.{Item, Problem, IsSeries}
-use Rattle.lot_sizing.specs.Bill.{bill_of}
-use Rattle.bill.specs.Over.{IsFirstOver, OfAll}
-use Rattle.bill.specs.declared.explosion.BoundFault.{BoundFault}
-use Rattle.bill.specs.declared.explosion.BoundFault.TheVariants.{Over, Memory}
-use Rattle.lot_draft.specs.Raw.{RawModel}
-use Rattle.lot_model.specs.Meaning.{BreaksFirst, asked_of, there_of}
+use Rattle.std.specs.Prelude.{◌≡◌, ℕ, ◌≤◌, List, length, map}
+use Rattle.lot_sizing.specs.declared.limits.TheConstants.{MAX_AMOUNT, MAX_END_STOCK, MAX_TOTAL}
+use Rattle.lot_sizing.specs.declared.Need.{Need}
+use Rattle.lot_sizing.specs.Problem.{EachItem, Item, Problem, IsSeries, entry, item_count}
+use Rattle.lot_sizing.specs.Bill.{HasRanks, bill_of}
+use Rattle.lot_sizing.specs.Totals.{AreLargestTotals}
+use Rattle.bill.specs.Over.{HaveSize}
+use Rattle.bill.specs.Sets.{IsReachOf}
+use Rattle.lot_model.specs.Meaning.{AreAllOf, AreSmallRows, IsBounded}
 use Rattle.lot_model.specs.declared.building.Parts.{Parts}
-use Rattle.lot_model.specs.declared.making.Unmade.{Unmade}
-use Rattle.lot_model.specs.declared.making.Unmade.TheVariants as unmade
+use Rattle.lot_model.specs.declared.making.Prepared.{Prepared}
+use Rattle.lot_model.specs.declared.making.Found.{Found}
 
 abbrev pub problem_of_parts : Parts → Problem
 problem_of_parts a = record { periods = a.periods; resources = a.resources.items; items = a.items.items }
 
 -- an item with a demand for each period, none too large
 pub record IsAsked (periods : ℕ) (a : Item) : Type 0 where
-  pub demand : IsSeries periods (10 ^ 9) a.demand
-  pub end_max : a.end_max ≤ 2 * 10 ^ 9
+  pub demand : IsSeries periods MAX_AMOUNT a.demand
+  pub end_max : a.end_max ≤ MAX_END_STOCK
 
--- the fault names the first item past the bound, unless memory is the cause
-abbrev pub IsOverFault : Problem → BoundFault → Type 0
-IsOverFault p (Over i) = OfAll (bill_of p) (asked_of p) (there_of p) (λ total weight. IsFirstOver (bill_of p) total weight i)
-IsOverFault p Memory = ⊤
+-- the components of each item
+abbrev pub needs_in : Problem → List (List Need)
+needs_in m = map (λ a. a.needs) m.items
 
--- the first rule that a model breaks, unless memory is the cause
-abbrev pub IsUnmade : RawModel → Unmade → Type 0
-IsUnmade m (unmade.Refused fault) = BreaksFirst m fault
-IsUnmade m unmade.Memory = ⊤
+-- these are what is asked and what is there of each item
+abbrev pub AreOf : Problem → (ℕ → ℕ) → List ℕ → Type 0
+AreOf p f numbers = EachItem p (λ i. entry numbers i ≡ f i)
+
+-- the bill of a problem, and room for its ranks and totals
+pub record IsPrepared (p : Problem) (a : Prepared) : Type 0 where
+  pub lines : a.lines ≡ needs_in p
+  pub reach : IsReachOf (bill_of p) a.ranking
+  pub tables : a.tables ≡ item_count p
+  pub asked : length a.asked.items ≡ item_count p
+  pub there : length a.there.items ≡ item_count p
+
+-- ranks of a problem's items
+pub record AreRanks (p : Problem) (numbers : List ℕ) : Type 0 where
+  pub size : length numbers ≡ item_count p
+  pub small : (i : ℕ) → entry numbers i ≤ item_count p
+  pub ranks : HasRanks (bill_of p) (entry numbers)
+
+-- its largest totals and its weights
+pub record AreTotalsOf (p : Problem) (numbers : List ℕ) (rows : List (List ℕ)) : Type 0 where
+  pub totals_size : length numbers ≡ item_count p
+  pub weights_size : length rows ≡ item_count p
+  pub row_sizes : HaveSize (item_count p) rows
+  pub rows_small : AreSmallRows (item_count p) rows
+  pub all : AreAllOf p numbers rows
+  pub totals : AreLargestTotals p (entry numbers)
+  pub small : (i : ℕ) → entry numbers i ≤ MAX_TOTAL
+  pub bounded : IsBounded p
+
+-- both
+pub record IsFound (p : Problem) (found : Found) : Type 0 where
+  pub ranks : AreRanks p found.ranks.items
+  pub totals : AreTotalsOf p found.totals.totals found.totals.weights

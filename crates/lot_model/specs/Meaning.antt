@@ -1,6 +1,7 @@
 -- What a model means: a problem, or the first rule that it breaks.
-use Rattle.std.specs.Prelude.{◌≡◌, ◌⊎◌, ℕ, ◌+◌, ◌≤◌, ◌^◌, Some, None, List, Result, Ok, Err}
+use Rattle.std.specs.Prelude.{◌≡◌, ◌⊎◌, ℕ, ◌+◌, ◌≤◌, Some, None, List, Result, Ok, Err}
 use Rattle.lot_sizing.specs.Sums.{sum_to}
+use Rattle.lot_sizing.specs.declared.limits.TheConstants.{MAX_TOTAL}
 use Rattle.lot_sizing.specs.Problem.{Problem, demand, item_at, item_count}
 use Rattle.lot_sizing.specs.Bill.{HasRanks, bill_of}
 use Rattle.bill.specs.Over.{HasAll, IsFirstOver, IsWithin, OfAll, row_entry}
@@ -49,7 +50,7 @@ AreAllOf p totals weights = OfAll (bill_of p) (asked_of p) (there_of p) (λ tota
 
 -- no weight is past the bound
 abbrev pub AreSmallRows : ℕ → List (List ℕ) → Type 0
-AreSmallRows n rows = (i k : ℕ) → 1 ≤ i → i ≤ n → 1 ≤ k → k ≤ n → row_entry rows i k ≤ 10 ^ 12
+AreSmallRows n rows = (i k : ℕ) → 1 ≤ i → i ≤ n → 1 ≤ k → k ≤ n → row_entry rows i k ≤ MAX_TOTAL
 
 -- the first rule that a model breaks, in this order: counts, names, lists, numbers and lines; cycles; backlog costs of components and crossed ends; totals and weights
 abbrev pub BreaksFirst : RawModel → ModelFault → Type 0

@@ -1,5 +1,6 @@
 // The problem that a draft stands for.
 ghost use Rattle.std.specs.Prelude.{◌≡◌, ◌≤◌, length, map, option_map, IfOk, unwrap_or, ◌+◌};
+ghost use Rattle.lot_sizing.specs.declared.limits.TheConstants.{MAX_ITEMS, MAX_PERIODS, MAX_RESOURCES};
 ghost use Rattle.lot_draft.specs.Raw.{raw_item, raw_model, raw_need, raw_resource, raw_use};
 ghost use Rattle.lot_draft.specs.Refusals.{item_names, resource_names};
 ghost use Rattle.lot_draft.specs.Meaning.{item_of, natural, naturals, need_of, problem_of, resource_of, use_of};
@@ -51,7 +52,7 @@ fn optional_naturals(
 
 // A line of components.
 fn need_of(items: &[DraftItem], need: &DraftNeed) -> Need
-    requires few { length items.now ≤ 40 }
+    requires few { length items.now ≤ MAX_ITEMS }
     ensures { result ≡ need_of (item_names (map raw_item items.now)) (raw_need need.now) }
 {
     Need {
@@ -62,7 +63,7 @@ fn need_of(items: &[DraftItem], need: &DraftNeed) -> Need
 
 // A line of resources.
 fn use_of(resources: &[DraftResource], usage: &DraftUse) -> Usage
-    requires few { length resources.now ≤ 20 }
+    requires few { length resources.now ≤ MAX_RESOURCES }
     ensures { result ≡ use_of (resource_names (map raw_resource resources.now)) (raw_use usage.now) }
 {
     Usage {
@@ -78,7 +79,7 @@ pub fn needs_of(
     items: &[DraftItem],
     needs: &[DraftNeed],
 ) -> Result<Vec<Need>, AllocError>
-    requires few { length items.now ≤ 40 }
+    requires few { length items.now ≤ MAX_ITEMS }
     ensures { IfOk result (λ list. list.items ≡ map (need_of (item_names (map raw_item items.now))) (map raw_need needs.now)) }
 {
     let mut list = Vec::with_capacity(alloc, needs.len())?;
@@ -94,7 +95,7 @@ fn uses_of(
     resources: &[DraftResource],
     uses: &[DraftUse],
 ) -> Result<Vec<Usage>, AllocError>
-    requires few { length resources.now ≤ 20 }
+    requires few { length resources.now ≤ MAX_RESOURCES }
     ensures { IfOk result (λ list. list.items ≡ map (use_of (resource_names (map raw_resource resources.now))) (map raw_use uses.now)) }
 {
     let mut list = Vec::with_capacity(alloc, uses.len())?;
@@ -114,10 +115,20 @@ fn end_max(item: &DraftItem) -> u64
     }
 }
 
+// A number that may be absent.
+fn optional_natural(number: Option<i64>) -> Option<u64>
+    ensures { result ≡ option_map natural number }
+{
+    match number {
+        Some(number) => Some(natural(number)),
+        None => None,
+    }
+}
+
 // An item.
 fn item_data(alloc: Global, draft: &Draft, item: &DraftItem) -> Result<ItemData, AllocError>
-    requires items { length draft.now.items.items ≤ 40 }
-    requires resources { length draft.now.resources.items ≤ 20 }
+    requires items { length draft.now.items.items ≤ MAX_ITEMS }
+    requires resources { length draft.now.resources.items ≤ MAX_RESOURCES }
     ensures { IfOk result (λ made. made ≡ item_of (resource_names (map raw_resource draft.now.resources.items)) (item_names (map raw_item draft.now.items.items)) (raw_item item.now)) }
 {
     Ok(ItemData {
@@ -130,6 +141,9 @@ fn item_data(alloc: Global, draft: &Draft, item: &DraftItem) -> Result<ItemData,
         opening: natural(item.opening),
         end_min: natural(item.end_min),
         end_max: end_max(item),
+        lead: natural(item.lead),
+        min_lot: natural(item.min_lot),
+        max_lot: optional_natural(item.max_lot),
         needs: needs_of(alloc, &draft.items, &item.needs)?,
         uses: uses_of(alloc, &draft.resources, &item.uses)?,
     })
@@ -147,8 +161,8 @@ fn resource_data(alloc: Global, resource: &DraftResource) -> Result<ResourceData
 
 // The items.
 fn items_data(alloc: Global, draft: &Draft) -> Result<Vec<ItemData>, AllocError>
-    requires items { length draft.now.items.items ≤ 40 }
-    requires resources { length draft.now.resources.items ≤ 20 }
+    requires items { length draft.now.items.items ≤ MAX_ITEMS }
+    requires resources { length draft.now.resources.items ≤ MAX_RESOURCES }
     ensures { IfOk result (λ list. list.items ≡ map (item_of (resource_names (map raw_resource draft.now.resources.items)) (item_names (map raw_item draft.now.items.items))) (map raw_item draft.now.items.items)) }
 {
     let mut list = Vec::with_capacity(alloc, draft.items.len())?;
@@ -174,9 +188,9 @@ fn resources_data(
 
 /// The periods, resources and items of a draft.
 pub fn parts_of(alloc: Global, draft: &Draft) -> Result<Parts, AllocError>
-    requires periods { natural draft.now.periods ≤ 60 }
-    requires items { length draft.now.items.items ≤ 40 }
-    requires resources { length draft.now.resources.items ≤ 20 }
+    requires periods { natural draft.now.periods ≤ MAX_PERIODS }
+    requires items { length draft.now.items.items ≤ MAX_ITEMS }
+    requires resources { length draft.now.resources.items ≤ MAX_RESOURCES }
     ensures { IfOk result (λ parts. problem_of_parts parts ≡ problem_of (raw_model draft.now)) }
 {
     Ok(Parts {

@@ -1,7 +1,8 @@
 // A problem within its limits.
-ghost use Rattle.std.specs.Prelude.{◌≡◌, ◌≤◌, ◌*◌, ◌^◌, ◌↔◌, ℕ, length, Ok, Some, None, MatchOption, IfOk, IfErr, IsNone, IsTrue, unwrap_or};
+ghost use Rattle.std.specs.Prelude.{◌≡◌, ◌≤◌, ◌*◌, ◌^◌, ◌↔◌, ℕ, length, Ok, Some, None, MatchOption, IfOk, IfErr, IfSome, IsNone, IsSome, IsTrue, option_map, unwrap_or};
 ghost use Rattle.std.specs.List.{All};
-ghost use Rattle.lot_sizing.specs.Problem.{item_at, item_count, resource_at, resource_count, capacity, demand, unit_cost, setup_cost, hold_cost, backlog_cost, entry, IsName, IsUncoupled};
+ghost use Rattle.lot_sizing.specs.Problem.{item_at, item_count, resource_at, resource_count, capacity, demand, unit_cost, setup_cost, hold_cost, backlog_cost, entry, per_unit, setup_time, unit_time, IsName, IsPlain, IsPlainItem, IsSeries, IsUncoupled};
+ghost use Rattle.lot_sizing.specs.declared.limits.TheConstants.{MAX_AMOUNT, MAX_BILL_LINES, MAX_END_STOCK, MAX_LEAD, MAX_QUANTITY, MAX_RESOURCES, MAX_TOTAL};
 ghost use Rattle.lot_sizing.specs.Bill.{AreWeights, bill_of};
 ghost use Rattle.lot_sizing.specs.Totals.{AreLargestTotals, IsRanking};
 ghost use Rattle.lot_draft.specs.Raw.{raw_model};
@@ -9,9 +10,9 @@ ghost use Rattle.lot_model.specs.Meaning.{IsRefused, Means};
 ghost use Rattle.lot_model.specs.Views.{IsInstance};
 
 use crate::data::{ItemData, ResourceData};
-use crate::making::{Unmade, instance};
+use crate::making::instance;
 use crate::{Draft, DraftRefusal, Need, Usage};
-use bill::Explosion;
+use bill::Totals;
 use std::alloc::Global;
 use std::marker::Model;
 
@@ -23,7 +24,7 @@ pub struct Instance {
     pub(crate) periods: u32,
     pub(crate) resources: Vec<ResourceData>,
     pub(crate) items: Vec<ItemData>,
-    pub(crate) explosion: Explosion,
+    pub(crate) totals: Totals,
     pub(crate) ranks: Vec<u32>,
 }
 
@@ -49,9 +50,9 @@ impl Instance {
         ensures refused { IfErr result (IsRefused draft) }
     {
         match instance(alloc, &draft) {
-            Ok(made) => Ok(made),
-            Err(Unmade::Refused(fault)) => Err(DraftRefusal::Refused { fault, draft }),
-            Err(Unmade::Memory) => Err(DraftRefusal::Memory(draft)),
+            Ok(Ok(made)) => Ok(made),
+            Ok(Err(fault)) => Err(DraftRefusal::Refused { fault, draft }),
+            Err(_) => Err(DraftRefusal::Memory(draft)),
         }
     }
 
@@ -87,7 +88,7 @@ impl Instance {
         ensures name { IsName result.now }
     {
         let data = &self.items[(item - 1) as usize];
-        data.name()
+        data.name.as_str()
     }
 
     /// The name of a resource.
@@ -98,7 +99,7 @@ impl Instance {
         ensures name { IsName result.now }
     {
         let data = &self.resources[(resource - 1) as usize];
-        data.name()
+        data.name.as_str()
     }
 
     /// Units of an item asked for in a period.
@@ -108,10 +109,10 @@ impl Instance {
         requires low { 1 ≤ period }
         requires high { period ≤ self.now.periods }
         ensures value { result ≡ demand self.now item period }
-        ensures small { result ≤ 10 ^ 9 }
+        ensures small { result ≤ MAX_AMOUNT }
     {
         let data = &self.items[(item - 1) as usize];
-        data.demand(period)
+        data.demand[(period - 1) as usize]
     }
 
     /// The cost of making one unit of an item in a period.
@@ -121,10 +122,10 @@ impl Instance {
         requires low { 1 ≤ period }
         requires high { period ≤ self.now.periods }
         ensures value { result ≡ unit_cost self.now item period }
-        ensures small { result ≤ 10 ^ 9 }
+        ensures small { result ≤ MAX_AMOUNT }
     {
         let data = &self.items[(item - 1) as usize];
-        data.unit_cost(period)
+        data.unit_cost[(period - 1) as usize]
     }
 
     /// The cost of a setup of an item in a period.
@@ -134,10 +135,10 @@ impl Instance {
         requires low { 1 ≤ period }
         requires high { period ≤ self.now.periods }
         ensures value { result ≡ setup_cost self.now item period }
-        ensures small { result ≤ 10 ^ 9 }
+        ensures small { result ≤ MAX_AMOUNT }
     {
         let data = &self.items[(item - 1) as usize];
-        data.setup_cost(period)
+        data.setup_cost[(period - 1) as usize]
     }
 
     /// The cost of one unit of an item in stock at the end of a period.
@@ -147,10 +148,10 @@ impl Instance {
         requires low { 1 ≤ period }
         requires high { period ≤ self.now.periods }
         ensures value { result ≡ hold_cost self.now item period }
-        ensures small { result ≤ 10 ^ 9 }
+        ensures small { result ≤ MAX_AMOUNT }
     {
         let data = &self.items[(item - 1) as usize];
-        data.hold_cost(period)
+        data.hold_cost[(period - 1) as usize]
     }
 
     /// The cost of one unit of an item owed at the end of a period. None exactly where the item has
@@ -162,11 +163,14 @@ impl Instance {
         requires high { period ≤ self.now.periods }
         ensures value { MatchOption (item_at self.now item).backlog_cost (result ≡ None) (λ prices. result ≡ Some (entry prices period)) }
         ensures price { unwrap_or result 0 ≡ backlog_cost self.now item period }
-        ensures small { unwrap_or result 0 ≤ 10 ^ 9 }
+        ensures small { unwrap_or result 0 ≤ MAX_AMOUNT }
         ensures allowed { IsNone result ↔ IsNone (item_at self.now item).backlog_cost }
     {
         let data = &self.items[(item - 1) as usize];
-        data.backlog_cost(period)
+        match &data.backlog_cost {
+            None => None,
+            Some(prices) => Some(prices[(period - 1) as usize]),
+        }
     }
 
     /// Units of an item in stock before the first period.
@@ -174,10 +178,10 @@ impl Instance {
         requires low { 1 ≤ item }
         requires high { item ≤ item_count self.now }
         ensures value { result ≡ (item_at self.now item).opening }
-        ensures small { result ≤ 10 ^ 9 }
+        ensures small { result ≤ MAX_AMOUNT }
     {
         let data = &self.items[(item - 1) as usize];
-        data.opening()
+        data.opening
     }
 
     /// The least stock of an item at the end of the last period.
@@ -185,10 +189,10 @@ impl Instance {
         requires low { 1 ≤ item }
         requires high { item ≤ item_count self.now }
         ensures value { result ≡ (item_at self.now item).end_min }
-        ensures small { result ≤ 10 ^ 9 }
+        ensures small { result ≤ MAX_AMOUNT }
     {
         let data = &self.items[(item - 1) as usize];
-        data.end_min()
+        data.end_min
     }
 
     /// The largest stock of an item at the end of the last period.
@@ -196,10 +200,171 @@ impl Instance {
         requires low { 1 ≤ item }
         requires high { item ≤ item_count self.now }
         ensures value { result ≡ (item_at self.now item).end_max }
-        ensures small { result ≤ 2 * 10 ^ 9 }
+        ensures small { result ≤ MAX_END_STOCK }
     {
         let data = &self.items[(item - 1) as usize];
-        data.end_max()
+        data.end_max
+    }
+
+    /// Units of an item asked for, one entry for each period.
+    pub fn demands(&self, item: u32) -> &[u64]
+        requires low { 1 ≤ item }
+        requires high { item ≤ item_count self.now }
+        ensures value { result.now ≡ (item_at self.now item).demand }
+        ensures series { IsSeries self.now.periods MAX_AMOUNT result.now }
+    {
+        let data = &self.items[(item - 1) as usize];
+        &data.demand
+    }
+
+    /// The costs of making one unit of an item, one for each period.
+    pub fn unit_costs(&self, item: u32) -> &[u64]
+        requires low { 1 ≤ item }
+        requires high { item ≤ item_count self.now }
+        ensures value { result.now ≡ (item_at self.now item).unit_cost }
+        ensures series { IsSeries self.now.periods MAX_AMOUNT result.now }
+    {
+        let data = &self.items[(item - 1) as usize];
+        &data.unit_cost
+    }
+
+    /// The costs of a setup of an item, one for each period.
+    pub fn setup_costs(&self, item: u32) -> &[u64]
+        requires low { 1 ≤ item }
+        requires high { item ≤ item_count self.now }
+        ensures value { result.now ≡ (item_at self.now item).setup_cost }
+        ensures series { IsSeries self.now.periods MAX_AMOUNT result.now }
+    {
+        let data = &self.items[(item - 1) as usize];
+        &data.setup_cost
+    }
+
+    /// The costs of one unit of an item in stock, one for each period.
+    pub fn hold_costs(&self, item: u32) -> &[u64]
+        requires low { 1 ≤ item }
+        requires high { item ≤ item_count self.now }
+        ensures value { result.now ≡ (item_at self.now item).hold_cost }
+        ensures series { IsSeries self.now.periods MAX_AMOUNT result.now }
+    {
+        let data = &self.items[(item - 1) as usize];
+        &data.hold_cost
+    }
+
+    /// The costs of one unit of an item owed, one for each period. None exactly where the item has no
+    /// backlog cost.
+    pub fn backlog_costs(&self, item: u32) -> Option<&[u64]>
+        requires low { 1 ≤ item }
+        requires high { item ≤ item_count self.now }
+        ensures value { option_map (λ list. list.now) result ≡ (item_at self.now item).backlog_cost }
+        ensures series { IfSome result (λ list. IsSeries self.now.periods MAX_AMOUNT list.now) }
+    {
+        let data = &self.items[(item - 1) as usize];
+        match &data.backlog_cost {
+            None => None,
+            Some(prices) => Some(prices.as_slice()),
+        }
+    }
+
+    /// The times of a resource, one for each period.
+    pub fn capacities(&self, resource: u32) -> &[u64]
+        requires low { 1 ≤ resource }
+        requires high { resource ≤ resource_count self.now }
+        ensures value { result.now ≡ (resource_at self.now resource).capacity }
+        ensures series { IsSeries self.now.periods MAX_AMOUNT result.now }
+    {
+        let data = &self.resources[(resource - 1) as usize];
+        &data.capacity
+    }
+
+    /// The periods from the start of a lot of an item to its arrival.
+    pub fn lead(&self, item: u32) -> u32
+        requires low { 1 ≤ item }
+        requires high { item ≤ item_count self.now }
+        ensures value { result ≡ (item_at self.now item).lead }
+        ensures small { result ≤ MAX_LEAD }
+    {
+        let data = &self.items[(item - 1) as usize];
+        data.lead as u32
+    }
+
+    /// The least quantity of an item that a setup makes.
+    pub fn min_lot(&self, item: u32) -> u64
+        requires low { 1 ≤ item }
+        requires high { item ≤ item_count self.now }
+        ensures value { result ≡ (item_at self.now item).min_lot }
+        ensures small { result ≤ MAX_AMOUNT }
+    {
+        let data = &self.items[(item - 1) as usize];
+        data.min_lot
+    }
+
+    /// The largest quantity of an item that a period makes. None exactly where there is no bound.
+    pub fn max_lot(&self, item: u32) -> Option<u64>
+        requires low { 1 ≤ item }
+        requires high { item ≤ item_count self.now }
+        ensures value { result ≡ (item_at self.now item).max_lot }
+        ensures small { IfSome result (λ most. (1 ≤ most) × (most ≤ MAX_AMOUNT)) }
+    {
+        let data = &self.items[(item - 1) as usize];
+        data.max_lot
+    }
+
+    /// Whether an item has a backlog cost, so that it may be delivered late.
+    pub fn has_backlog_cost(&self, item: u32) -> bool
+        requires low { 1 ≤ item }
+        requires high { item ≤ item_count self.now }
+        ensures { IsTrue result ↔ IsSome (item_at self.now item).backlog_cost }
+    {
+        let data = &self.items[(item - 1) as usize];
+        data.backlog_cost.is_some()
+    }
+
+    /// How many units of an item go into one unit of another.
+    pub fn per_unit(&self, item: u32, other: u32) -> u64
+        requires low { 1 ≤ other }
+        requires high { other ≤ item_count self.now }
+        ensures value { result ≡ per_unit self.now item other }
+        ensures small { result ≤ MAX_BILL_LINES * MAX_QUANTITY }
+    {
+        let mut total = 0;
+        for need in self.needs(other) {
+            if need.item == item {
+                total += need.quantity;
+            }
+        }
+        total
+    }
+
+    /// The time that one unit of an item takes on a resource, in time units of the resource.
+    pub fn unit_time(&self, item: u32, resource: u32) -> u64
+        requires low { 1 ≤ item }
+        requires high { item ≤ item_count self.now }
+        ensures value { result ≡ unit_time self.now item resource }
+        ensures small { result ≤ MAX_RESOURCES * MAX_AMOUNT }
+    {
+        let mut total = 0;
+        for usage in self.uses(item) {
+            if usage.resource == resource {
+                total += usage.unit;
+            }
+        }
+        total
+    }
+
+    /// The time that a setup of an item takes on a resource, in time units of the resource.
+    pub fn setup_time(&self, item: u32, resource: u32) -> u64
+        requires low { 1 ≤ item }
+        requires high { item ≤ item_count self.now }
+        ensures value { result ≡ setup_time self.now item resource }
+        ensures small { result ≤ MAX_RESOURCES * MAX_AMOUNT }
+    {
+        let mut total = 0;
+        for usage in self.uses(item) {
+            if usage.resource == resource {
+                total += usage.setup;
+            }
+        }
+        total
     }
 
     /// The components of an item.
@@ -207,12 +372,12 @@ impl Instance {
         requires low { 1 ≤ item }
         requires high { item ≤ item_count self.now }
         ensures value { result.now ≡ (item_at self.now item).needs }
-        ensures count { length result.now ≤ 400 }
-        ensures small { All (λ need. (1 ≤ need.quantity) × (need.quantity ≤ 10 ^ 6)) result.now }
+        ensures count { length result.now ≤ MAX_BILL_LINES }
+        ensures small { All (λ need. (1 ≤ need.quantity) × (need.quantity ≤ MAX_QUANTITY)) result.now }
         ensures items_exist { All (λ need. (1 ≤ need.item) × (need.item ≤ item_count self.now)) result.now }
     {
         let data = &self.items[(item - 1) as usize];
-        data.needs()
+        &data.needs
     }
 
     /// The resources that an item takes time on.
@@ -220,12 +385,12 @@ impl Instance {
         requires low { 1 ≤ item }
         requires high { item ≤ item_count self.now }
         ensures value { result.now ≡ (item_at self.now item).uses }
-        ensures count { length result.now ≤ 20 }
-        ensures small { All (λ usage. (usage.unit ≤ 10 ^ 9) × (usage.setup ≤ 10 ^ 9)) result.now }
+        ensures count { length result.now ≤ MAX_RESOURCES }
+        ensures small { All (λ usage. (usage.unit ≤ MAX_AMOUNT) × (usage.setup ≤ MAX_AMOUNT)) result.now }
         ensures resources_exist { All (λ usage. (1 ≤ usage.resource) × (usage.resource ≤ resource_count self.now)) result.now }
     {
         let data = &self.items[(item - 1) as usize];
-        data.uses()
+        &data.uses
     }
 
     /// The time of a resource in a period.
@@ -235,10 +400,10 @@ impl Instance {
         requires period_low { 1 ≤ period }
         requires period_high { period ≤ self.now.periods }
         ensures value { result ≡ capacity self.now resource period }
-        ensures small { result ≤ 10 ^ 9 }
+        ensures small { result ≤ MAX_AMOUNT }
     {
         let data = &self.resources[(resource - 1) as usize];
-        data.capacity(period)
+        data.capacity[(period - 1) as usize]
     }
 
     /// The largest total: no feasible plan makes more of an item in all.
@@ -246,9 +411,10 @@ impl Instance {
         requires low { 1 ≤ item }
         requires high { item ≤ item_count self.now }
         ensures value { (total : ℕ → ℕ) × AreLargestTotals self.now total × (result ≡ total item) }
-        ensures small { result ≤ 10 ^ 12 }
+        ensures all { (total : ℕ → ℕ) → AreLargestTotals self.now total → result ≡ total item }
+        ensures small { result ≤ MAX_TOTAL }
     {
-        self.explosion.total(item)
+        self.totals.total(item)
     }
 
     /// The weight of an item in another: how many units of it one unit of the other takes over all paths
@@ -259,10 +425,9 @@ impl Instance {
         requires other_low { 1 ≤ other }
         requires other_high { other ≤ item_count self.now }
         ensures value { (weight : ℕ → ℕ → ℕ) → AreWeights (bill_of self.now) weight → result ≡ weight item other }
-        ensures small { result ≤ 10 ^ 12 }
-        ensures instance { IsInstance self.now }
+        ensures small { result ≤ MAX_TOTAL }
     {
-        self.explosion.weight(item, other)
+        self.totals.weight(item, other)
     }
 
     /// A rank for each item, above that of each item that it goes into.
@@ -275,7 +440,29 @@ impl Instance {
     }
 }
 
-/// Whether no item takes time on a resource or needs another item. It takes no memory.
+// Whether a lot of an item arrives in the period in which it is started, and may have any size.
+fn is_plain_item(instance: &Instance, item: u32) -> bool
+    requires low { 1 ≤ item }
+    requires high { item ≤ item_count instance.now }
+    ensures { IsTrue result ↔ IsPlainItem (item_at instance.now item) }
+{
+    instance.lead(item) == 0 && instance.min_lot(item) == 0 && instance.max_lot(item).is_none()
+}
+
+/// Whether no item has a lead time, a least lot or a largest lot. It takes no memory.
+pub fn is_plain(instance: &Instance) -> bool
+    ensures { IsTrue result ↔ IsPlain instance.now }
+{
+    for item in 1..instance.items() + 1 {
+        if !is_plain_item(instance, item) {
+            return false;
+        }
+    }
+    true
+}
+
+/// Whether no item takes time on a resource or needs another item, and all are plain. It takes no
+/// memory.
 pub fn is_uncoupled(instance: &Instance) -> bool
     ensures { IsTrue result ↔ IsUncoupled instance.now }
 {
@@ -284,5 +471,5 @@ pub fn is_uncoupled(instance: &Instance) -> bool
             return false;
         }
     }
-    true
+    is_plain(instance)
 }

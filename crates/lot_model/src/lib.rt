@@ -1,9 +1,13 @@
 //! Problems that the program plans, each within its limits.
 //!
+//! Family: models. Stands on `lot_sizing`, `lot_draft` and `bill`; used by all that read, judge or plan
+//! an instance.
+//!
 //! A `Draft` is what a reader found, as it stands. `Instance::from_draft` makes an `Instance` of it, or
 //! says by a `ModelFault` which rule it breaks first. An `Instance` is seen by contracts as the problem of
-//! the definitions. It keeps the limits, its items have ranks along the bill, and no largest total and no
-//! weight is above 10^12.
+//! the definitions. It keeps the limits, its names differ, its lines name things once, its components have
+//! no backlog cost, its items have ranks along the bill, and no largest total and no weight is past the
+//! bound. Written out as a model again, it means itself (`written_out_means_itself`).
 #![tactic(auto)]
 
 mod building;
@@ -13,8 +17,8 @@ mod laws;
 mod making;
 mod totals;
 
-pub use instance::{Instance, is_uncoupled};
-pub use laws::a_model_means_one_thing;
+pub use instance::{Instance, is_plain, is_uncoupled};
+pub use laws::{a_model_means_one_thing, a_model_means_something, written_out_means_itself};
 pub use lot_draft::{
     Draft, DraftItem, DraftNeed, DraftRefusal, DraftResource, DraftUse, Key, ModelCode, ModelFault,
     Place,

@@ -1,126 +1,159 @@
 // From a draft to an instance.
-ghost use Rattle.std.specs.Prelude.{◌≡◌, ◌≤◌, ◌-◌, ◌^◌, ℕ, [], length, map, None, Ok, IfOk, IfErr, slice_index_or};
-ghost use Rattle.lot_sizing.specs.Bill.{bill_of, HasRanks};
-ghost use Rattle.lot_sizing.specs.Problem.{entry, item_count, IsWithinLimits};
-ghost use Rattle.lot_sizing.specs.Totals.{AreLargestTotals};
-ghost use Rattle.bill.specs.Lines.{AreLines};
+ghost use Rattle.std.specs.Prelude.{◌≡◌, ◌≤◌, length, None, Ok, IfOk, IfErr, OnOk, MatchResult};
+ghost use Rattle.lot_sizing.specs.declared.limits.TheConstants.{MAX_ITEMS};
+ghost use Rattle.lot_sizing.specs.Bill.{bill_of};
+ghost use Rattle.lot_sizing.specs.Problem.{item_count, IsWithinLimits, Problem};
+ghost use Rattle.bill.specs.Sets.{IsReachOf};
 ghost use Rattle.lot_draft.specs.Raw.{raw_model};
 ghost use Rattle.lot_draft.specs.Refusals.{later_fault, plain_fault};
-ghost use Rattle.lot_draft.specs.Meaning.{problem_of};
-ghost use Rattle.lot_model.specs.Meaning.{AreAllOf, AreSmallRows, at_item, IsBounded, Means};
-ghost use Rattle.lot_model.specs.declared.making.Unmade.TheVariants.{Refused};
-ghost use Rattle.lot_model.specs.Held.{problem_of_parts, IsUnmade};
+ghost use Rattle.lot_draft.specs.Meaning.{HaveNeeds, problem_of};
+ghost use Rattle.lot_model.specs.Meaning.{at_item, BreaksFirst, IsCycle, IsPastBound, Means};
+ghost use Rattle.lot_model.specs.Valid.{HasFewLines};
+ghost use Rattle.lot_model.specs.Held.{AreRanks, AreTotalsOf, IsFound, IsPrepared, needs_in, problem_of_parts};
 
 use crate::building::{Parts, parts_of};
-use crate::totals::{bill_lines, explosion};
-use crate::{Draft, Instance, ModelCode, ModelFault, Need, Place};
-use bill::{BoundFault, CycleFault, Explosion, ranks_of};
+use crate::totals::{bill_lines, no_numbers, write_asked, write_there};
+use crate::{Draft, Instance, ModelCode, ModelFault, Place};
+use bill::{BillLines, Ranking, Tables, Totals, totals_exist};
 use lot_draft::{later_fault, plain_fault};
 use std::alloc::{AllocError, Global};
 
-/// Why an instance was not made.
-#[derive(Clone, Copy, Debug, PartialEq, Eq)]
-pub enum Unmade {
-    /// The draft breaks a rule.
-    Refused(ModelFault),
-    /// Memory ran out.
-    Memory,
-}
-
-impl From<AllocError> for Unmade {
-    ghost use Rattle.std.specs.Prelude.{◌≡◌};
-    ghost use Rattle.lot_model.specs.declared.making.Unmade.TheVariants.{Memory};
-
-    ghost from_gives = { λ _ e. e ≡ Memory };
-
-    fn from(_: AllocError) -> Unmade {
-        Unmade::Memory
-    }
-}
-
 // A rule that an item breaks as a whole.
-fn at_item(code: ModelCode, item: u32) -> Unmade
-    ensures { result ≡ Refused (at_item code item) }
+fn at_item(code: ModelCode, item: u32) -> ModelFault
+    ensures { result ≡ at_item code item }
 {
-    Unmade::Refused(ModelFault {
+    ModelFault {
         code,
         place: Place::Item(item),
         key: None,
         period: None,
+    }
+}
+
+// The bill of a problem, and room for its ranks and totals.
+#[derive(Drop)]
+pub struct Prepared<'a> {
+    lines: BillLines<'a>,
+    ranking: Ranking,
+    tables: Tables,
+    asked: Vec<u64>,
+    there: Vec<u64>,
+}
+
+// Takes all the memory that the judgement of a problem's bill needs.
+fn prepare<'a>(alloc: Global, parts: &'a Parts) -> Result<Prepared<'a>, AllocError>
+    requires needs { HaveNeeds (problem_of_parts parts.now) }
+    requires few { item_count (problem_of_parts parts.now) ≤ MAX_ITEMS }
+    ensures { IfOk result (IsPrepared (problem_of_parts parts.now)) }
+{
+    let lines = bill_lines(alloc, &parts.items)?;
+    let ranking = Ranking::of(alloc, &lines)?;
+    let tables = Tables::of(alloc, lines.items())?;
+    let asked = no_numbers(alloc, lines.items())?;
+    let there = no_numbers(alloc, lines.items())?;
+    Ok(Prepared {
+        lines,
+        ranking,
+        tables,
+        asked,
+        there,
     })
 }
 
-// The ranks of a draft's items, or the first that is its own component.
-fn ranks(alloc: Global, draft: &Draft, lines: &[Vec<Need>]) -> Result<Vec<u32>, Unmade>
-    requires plain { plain_fault (raw_model draft.now) ≡ None }
-    requires lines { map (λ v. v.items) lines.now ≡ map (λ a. a.needs) (problem_of (raw_model draft.now)).items }
-    requires bill { AreLines (map (λ v. v.items) lines.now) }
-    ensures size { IfOk result (λ ranks. length ranks.items ≡ length lines.now) }
-    ensures small { IfOk result (λ ranks. (i : ℕ) → entry ranks.items i ≤ length lines.now) }
-    ensures ranks { IfOk result (λ ranks. HasRanks (bill_of (problem_of (raw_model draft.now))) (entry ranks.items)) }
-    ensures refused { IfErr result (IsUnmade (raw_model draft.now)) }
+// The ranks of a bill's items, or the first that is its own component.
+fn ranks(ranking: Ranking) -> Result<Vec<u32>, ModelFault>
+    ensures ranks { (p : Problem) → IsReachOf (bill_of p) ranking → IfOk result (λ ranks. AreRanks p ranks.items) }
+    ensures refused { (p : Problem) → IsReachOf (bill_of p) ranking → IfErr result (IsCycle p) }
 {
-    match ranks_of(alloc, lines) {
+    match ranking.into_ranks() {
         Ok(ranks) => Ok(ranks),
-        Err(CycleFault::Cycle(item)) => Err(at_item(ModelCode::Cycle, item)),
-        Err(CycleFault::Memory) => Err(Unmade::Memory),
+        Err(fault) => Err(at_item(ModelCode::Cycle, fault.item)),
     }
 }
 
-// The totals and weights of a draft's items, or the first past the bound.
+// The totals and weights of a problem's items, or the first past the bound.
 fn totals(
-    alloc: Global,
-    draft: &Draft,
     parts: &Parts,
-    lines: &[Vec<Need>],
+    lines: &BillLines,
+    tables: Tables,
+    asked: &mut [u64],
+    there: &mut [u64],
     ranks: &[u32],
-) -> Result<Explosion, Unmade>
-    requires plain { plain_fault (raw_model draft.now) ≡ None }
-    requires later { later_fault (raw_model draft.now) ≡ None }
-    requires parts { problem_of_parts parts.now ≡ problem_of (raw_model draft.now) }
-    requires limits { IsWithinLimits (problem_of (raw_model draft.now)) }
-    requires lines { map (λ v. v.items) lines.now ≡ map (λ a. a.needs) (problem_of (raw_model draft.now)).items }
-    requires bill { AreLines (map (λ v. v.items) lines.now) }
-    requires count { length ranks.now ≡ length lines.now }
-    requires ranks { HasRanks (bill_of (problem_of (raw_model draft.now))) (entry ranks.now) }
-    requires small { (i : ℕ) → entry ranks.now i ≤ length lines.now }
-    ensures totals_size { IfOk result (λ found. length found.totals ≡ item_count (problem_of (raw_model draft.now))) }
-    ensures weights_size { IfOk result (λ found. length found.weights ≡ item_count (problem_of (raw_model draft.now))) }
-    ensures row_sizes { IfOk result (λ found. (i : ℕ) → 1 ≤ i → i ≤ item_count (problem_of (raw_model draft.now)) → length (slice_index_or found.weights (i - 1) []) ≡ item_count (problem_of (raw_model draft.now))) }
-    ensures rows_small { IfOk result (λ found. AreSmallRows (item_count (problem_of (raw_model draft.now))) found.weights) }
-    ensures all { IfOk result (λ found. AreAllOf (problem_of (raw_model draft.now)) found.totals found.weights) }
-    ensures totals { IfOk result (λ found. AreLargestTotals (problem_of (raw_model draft.now)) (entry found.totals)) }
-    ensures small { IfOk result (λ found. (i : ℕ) → entry found.totals i ≤ 10 ^ 12) }
-    ensures bounded { IfOk result (λ _. IsBounded (problem_of (raw_model draft.now))) }
-    ensures refused { IfErr result (IsUnmade (raw_model draft.now)) }
+) -> Result<Totals, ModelFault>
+    requires limits { IsWithinLimits (problem_of_parts parts.now) }
+    requires lines { lines.now ≡ needs_in (problem_of_parts parts.now) }
+    requires tables { tables ≡ item_count (problem_of_parts parts.now) }
+    requires asked { length asked.now ≡ item_count (problem_of_parts parts.now) }
+    requires there { length there.now ≡ item_count (problem_of_parts parts.now) }
+    requires ranks { AreRanks (problem_of_parts parts.now) ranks.now }
+    ensures found { IfOk result (λ found. AreTotalsOf (problem_of_parts parts.now) found.totals found.weights) }
+    ensures refused { IfErr result (IsPastBound (problem_of_parts parts.now)) }
 {
-    match explosion(alloc, parts, lines, ranks) {
+    totals_exist();
+    write_asked(parts, asked);
+    write_there(parts, there);
+    match Totals::of(tables, lines, asked, there, ranks) {
         Ok(found) => Ok(found),
-        Err(BoundFault::Over(item)) => Err(at_item(ModelCode::QuantityBound, item)),
-        Err(BoundFault::Memory) => Err(Unmade::Memory),
+        Err(fault) => Err(at_item(ModelCode::QuantityBound, fault.item)),
     }
 }
 
-/// The instance of a draft, or the first rule that it breaks.
-pub fn instance(alloc: Global, draft: &Draft) -> Result<Instance, Unmade>
-    ensures values { IfOk result (λ made. Means (raw_model draft.now) (Ok made)) }
-    ensures refused { IfErr result (IsUnmade (raw_model draft.now)) }
+// The ranks, totals and weights of a problem's items.
+#[derive(Drop)]
+pub struct Found {
+    ranks: Vec<u32>,
+    totals: Totals,
+}
+
+// The ranks, totals and weights of a draft with no plain fault, or the first rule that it breaks.
+fn judged(draft: &Draft, parts: &Parts, prepared: Prepared) -> Result<Found, ModelFault>
+    requires plain { plain_fault (raw_model draft.now) ≡ None }
+    requires parts { problem_of_parts parts.now ≡ problem_of (raw_model draft.now) }
+    requires prepared { IsPrepared (problem_of (raw_model draft.now)) prepared }
+    ensures later { OnOk result (later_fault (raw_model draft.now) ≡ None) }
+    ensures limits { OnOk result (IsWithinLimits (problem_of (raw_model draft.now))) }
+    ensures lines { OnOk result (HasFewLines (problem_of (raw_model draft.now))) }
+    ensures found { IfOk result (IsFound (problem_of (raw_model draft.now))) }
+    ensures refused { IfErr result (BreaksFirst (raw_model draft.now)) }
+{
+    let Prepared {
+        lines,
+        ranking,
+        tables,
+        asked,
+        there,
+    } = prepared;
+    let (mut asked, mut there) = (asked, there);
+    let ranks = match ranks(ranking) {
+        Ok(ranks) => ranks,
+        Err(fault) => return Err(fault),
+    };
+    if let Some(fault) = later_fault(draft) {
+        return Err(fault);
+    }
+    match totals(parts, &lines, tables, &mut asked, &mut there, &ranks) {
+        Ok(totals) => Ok(Found { ranks, totals }),
+        Err(fault) => Err(fault),
+    }
+}
+
+/// The instance of a draft, or the first rule that it breaks. The error is that there is no memory.
+pub fn instance(alloc: Global, draft: &Draft) -> Result<Result<Instance, ModelFault>, AllocError>
+    ensures { IfOk result (λ made. MatchResult made (λ p. Means (raw_model draft.now) (Ok p)) (BreaksFirst (raw_model draft.now))) }
 {
     if let Some(fault) = plain_fault(draft) {
-        return Err(Unmade::Refused(fault));
-    }
-    let lines = bill_lines(alloc, &draft.items)?;
-    let ranks = ranks(alloc, draft, &lines)?;
-    if let Some(fault) = later_fault(draft) {
-        return Err(Unmade::Refused(fault));
+        return Ok(Err(fault));
     }
     let parts = parts_of(alloc, draft)?;
-    let explosion = totals(alloc, draft, &parts, &lines, &ranks)?;
-    Ok(Instance {
-        periods: parts.periods,
-        resources: parts.resources,
-        items: parts.items,
-        explosion,
-        ranks,
-    })
+    let found = judged(draft, &parts, prepare(alloc, &parts)?);
+    match found {
+        Ok(Found { ranks, totals }) => Ok(Ok(Instance {
+            periods: parts.periods,
+            resources: parts.resources,
+            items: parts.items,
+            totals,
+            ranks,
+        })),
+        Err(fault) => Ok(Err(fault)),
+    }
 }

@@ -1,6 +1,7 @@
 use crate::{
     Draft, DraftItem, DraftNeed, DraftRefusal, DraftResource, DraftUse, Instance, is_uncoupled,
 };
+use lot_sizing::limits::{MAX_BILL_LINES, MAX_ITEMS, MAX_RESOURCES};
 use std::alloc::{AllocError, Global};
 use std::test::Fail;
 
@@ -16,6 +17,9 @@ fn item(alloc: Global, name: &str, demand: i64) -> Result<DraftItem, AllocError>
         opening: 3,
         end_min: 4,
         end_max: None,
+        lead: 0,
+        min_lot: 0,
+        max_lot: None,
         needs: Vec::new(alloc),
         uses: Vec::new(alloc),
     })
@@ -208,5 +212,148 @@ fn a_chain_of_forty_is_past_the_bound_at_the_fourth(rt: HostRuntime) -> Result<(
     };
     let (text, count) = refusal(alloc, d)?;
     assert_eq!(rt; (text.as_str(), count), ("M12 item 4", 40));
+    Ok(())
+}
+
+// The most periods that a draft may have.
+const PERIODS: i64 = 120;
+
+// A list with one number for each period.
+fn each_period(alloc: Global, number: i64) -> Result<Vec<i64>, AllocError> {
+    let mut list = Vec::new(alloc);
+    for _ in 0..PERIODS {
+        list.push(number)?;
+    }
+    Ok(list)
+}
+
+// An item over all periods, without a stock, with a demand of as many units in each period.
+fn long_item(alloc: Global, number: u32, demand: i64) -> Result<DraftItem, AllocError> {
+    let mut made = item(alloc, name(alloc, number)?.as_str(), 0)?;
+    made.demand = each_period(alloc, demand)?;
+    made.unit_cost = each_period(alloc, 1_000_000_000)?;
+    made.setup_cost = each_period(alloc, 1_000_000_000)?;
+    made.hold_cost = each_period(alloc, 1_000_000_000)?;
+    made.opening = 0;
+    made.end_min = 0;
+    Ok(made)
+}
+
+// As many items as there may be, of which all but the last two have no lines.
+fn longest(alloc: Global, before: DraftItem, last: DraftItem) -> Result<Draft, AllocError> {
+    let mut items = Vec::new(alloc);
+    for number in 1..MAX_ITEMS - 1 {
+        items.push(long_item(alloc, number, 0)?)?;
+    }
+    items.push(before)?;
+    items.push(last)?;
+    Ok(Draft {
+        periods: PERIODS,
+        resources: Vec::new(alloc),
+        items,
+    })
+}
+
+#[test]
+fn a_cycle_is_refused_at_the_last_item(rt: HostRuntime) -> Result<(), Fail> {
+    let alloc = rt.alloc();
+    let mut last = long_item(alloc, MAX_ITEMS, 0)?;
+    last.needs.push(need(alloc, "i40", 1)?)?;
+    let d = longest(alloc, long_item(alloc, MAX_ITEMS - 1, 0)?, last)?;
+    let (text, items) = refusal(alloc, d)?;
+    assert_eq!(rt; (text.as_str(), items), ("M10 item 40", 40));
+    Ok(())
+}
+
+#[test]
+fn a_backlog_cost_is_refused_at_the_last_item(rt: HostRuntime) -> Result<(), Fail> {
+    let alloc = rt.alloc();
+    let mut before = long_item(alloc, MAX_ITEMS - 1, 0)?;
+    before.needs.push(need(alloc, "i40", 1)?)?;
+    let mut last = long_item(alloc, MAX_ITEMS, 0)?;
+    last.backlog_cost = Some(each_period(alloc, 1)?);
+    let (text, items) = refusal(alloc, longest(alloc, before, last)?)?;
+    assert_eq!(rt; (text.as_str(), items), ("M11 item 40", 40));
+    Ok(())
+}
+
+#[test]
+fn a_total_is_refused_at_the_last_item(rt: HostRuntime) -> Result<(), Fail> {
+    let alloc = rt.alloc();
+    let mut before = long_item(alloc, MAX_ITEMS - 1, 1_000_000)?;
+    before.needs.push(need(alloc, "i40", 1_000_000)?)?;
+    let last = long_item(alloc, MAX_ITEMS, 0)?;
+    let (text, items) = refusal(alloc, longest(alloc, before, last)?)?;
+    assert_eq!(rt; (text.as_str(), items), ("M12 item 40", 40));
+    Ok(())
+}
+
+#[test]
+fn crossed_ends_are_refused_at_the_last_item(rt: HostRuntime) -> Result<(), Fail> {
+    let alloc = rt.alloc();
+    let mut last = long_item(alloc, MAX_ITEMS, 0)?;
+    last.end_min = 1;
+    last.end_max = Some(0);
+    let d = longest(alloc, long_item(alloc, MAX_ITEMS - 1, 0)?, last)?;
+    let (text, items) = refusal(alloc, d)?;
+    assert_eq!(rt; (text.as_str(), items), ("M13 item 40", 40));
+    Ok(())
+}
+
+// Lines of one unit each: each item takes the next twelve, as far as there are so many lines.
+fn most_lines(alloc: Global) -> Result<Vec<DraftItem>, AllocError> {
+    let mut items = Vec::new(alloc);
+    let mut left = MAX_BILL_LINES;
+    for number in 1..MAX_ITEMS + 1 {
+        let mut made = long_item(alloc, number, 0)?;
+        for other in number + 1..(number + 13).min(MAX_ITEMS + 1) {
+            if left > 0 {
+                made.needs
+                    .push(need(alloc, name(alloc, other)?.as_str(), 1)?)?;
+                left -= 1;
+            }
+        }
+        items.push(made)?;
+    }
+    Ok(items)
+}
+
+// A resource over all periods.
+fn long_resource(alloc: Global, number: u32) -> Result<DraftResource, AllocError> {
+    Ok(DraftResource {
+        name: name(alloc, number)?,
+        capacity: each_period(alloc, 1_000_000_000)?,
+    })
+}
+
+// A model with as much of all as there may be, but for one item that uses every resource.
+fn largest(alloc: Global) -> Result<Draft, AllocError> {
+    let mut resources = Vec::new(alloc);
+    for number in 1..MAX_RESOURCES + 1 {
+        resources.push(long_resource(alloc, number)?)?;
+    }
+    Ok(Draft {
+        periods: PERIODS,
+        resources,
+        items: most_lines(alloc)?,
+    })
+}
+
+#[test]
+fn the_largest_model_is_made_and_read(rt: HostRuntime) -> Result<(), Fail> {
+    let alloc = rt.alloc();
+    let made = Instance::from_draft(alloc, largest(alloc)?);
+    let instance = made.ok().ok_or("refused")?;
+    assert_eq!(rt; instance.items(), MAX_ITEMS);
+    assert_eq!(rt; instance.resources(), MAX_RESOURCES);
+    assert_eq!(rt; instance.periods(), PERIODS as u32);
+    let mut lines = 0usize;
+    for number in 1..instance.items() + 1 {
+        lines = instance.needs(number).len().saturating_add(lines);
+    }
+    assert_eq!(rt; lines, MAX_BILL_LINES as usize);
+    assert_eq!(rt; instance.capacity(20, 120), 1_000_000_000);
+    assert_eq!(rt; instance.setup_cost(40, 120), 1_000_000_000);
+    assert_eq!(rt; instance.weight(2, 1), 1);
     Ok(())
 }

@@ -1,6 +1,7 @@
 -- How large demands are, and what is used up where no item goes into another.
 use Rattle.std.proofs.Common.{◌≡◌, ◌≤◌, ◌-◌, ◌^◌, ◌∙◌, ℕ, refl, arith, []}
 use Rattle.lot_sizing.specs.Problem.{Problem, item_at, item_count, demand, per_unit, IsWithinLimits}
+use Rattle.lot_sizing.specs.declared.limits.TheConstants.{MAX_AMOUNT}
 use Rattle.lot_sizing.specs.Plan.{Table, used_up}
 use Rattle.lot_sizing.proofs.Sums.{sum_to-same, sum_to-zero}
 
@@ -8,7 +9,7 @@ use Rattle.lot_sizing.proofs.Sums.{sum_to-same, sum_to-zero}
 abbrev pub HasNoNeeds : Problem → Type 0
 HasNoNeeds m = (i : ℕ) → 1 ≤ i → i ≤ item_count m → (item_at m i).needs ≡ []
 
-pub demand_small : (m : Problem) → IsWithinLimits m → (i t : ℕ) → 1 ≤ i → i ≤ item_count m → 1 ≤ t → t ≤ m.periods → demand m i t ≤ 10 ^ 9
+pub demand_small : (m : Problem) → IsWithinLimits m → (i t : ℕ) → 1 ≤ i → i ≤ item_count m → 1 ≤ t → t ≤ m.periods → demand m i t ≤ MAX_AMOUNT
 demand_small m within i t low high t_low t_high =
     let series = (within.each_item i low high).lists.demand in
     series.small (t - 1) 0 (omega (arith, series.size))

@@ -3,14 +3,15 @@ use Rattle.std.proofs.Common.{◌≡◌, ◌≢◌, ◌≤◌, ◌<◌, ◌+◌,
 use Rattle.std.proofs.lemmas.Bool.{cases_lt, cases_eq}
 use Rattle.std.proofs.Math.Nat.{mul-le-mul_left}
 use Rattle.lot_sizing.specs.Sums.{sum_to}
-use Rattle.lot_sizing.specs.Problem.{Problem, item_at, item_count, demand, per_unit}
-use Rattle.lot_sizing.specs.Plan.{Plan, IsFeasible, stock_after, backlog_after, used_up}
+use Rattle.lot_sizing.specs.Problem.{Problem, EachItem, item_at, item_count, demand, per_unit}
+use Rattle.lot_sizing.specs.Plan.{Plan, Table, IsFeasible, arriving, stock_after, backlog_after, used_up}
 use Rattle.lot_sizing.specs.Bill.{Bill, bill_of, one_if_same, HasRanks, AreWeights}
 use Rattle.lot_sizing.specs.Totals.{IsRanking, AreLargestTotals}
-use Rattle.lot_sizing.specs.Net.{EachItem, asked_to, needed_to}
-use Rattle.lot_sizing.specs.Echelon.{in_echelon, asked_in_echelon, IsEchelonBalanced}
+use Rattle.lot_sizing.specs.Net.{asked_to, needed_to}
+use Rattle.lot_sizing.specs.Echelon.{in_echelon, asked_in_echelon, IsEchelonBalanced, IsLeadFree}
 use Rattle.lot_sizing.proofs.Sums.{sum_to-same, sum_to-le, sum_to-add, sum_to-times, sum_to-zero, sum_to-swap}
 use Rattle.lot_sizing.proofs.Plans.{stock_after_some, backlog_after_some}
+use Rattle.lot_sizing.proofs.Lots.{arriving_now}
 use Rattle.lot_sizing.proofs.Reduction.{end_here}
 
 same_one : (i k : ℕ) → i ≡ k → one_if_same i k ≡ 1
@@ -81,10 +82,18 @@ by_last_line b weight rank are ranks (suc n) i k few low high k_low k_high =
       turned_is b weight are i k low high k_low k_high,
     )
 
+-- where an item that counts has no lead time, what arrives is what is made
+arrives_weighed : (m : Problem) (weight : ℕ → ℕ → ℕ) (make : Table) (i j t : ℕ) → 1 ≤ t → (0 < weight i j → (item_at m j).lead ≡ 0) → weight i j * arriving m make j t ≡ weight i j * make j t
+arrives_weighed m weight make i j t low free =
+    ⊎_elim
+    (λ counts. ap (λ x. weight i j * x) (arriving_now m make j t (free counts) low))
+    (λ none. let e : weight i j ≡ 0 = omega (arith, none) in omega (arith, ap (λ x. x * arriving m make j t) e, ap (λ x. x * make j t) e))
+    (cases_lt 0 (weight i j))
+
 -- a balance of what items have, weighed
-pub echelon_balance : (m : Problem) (weight : ℕ → ℕ → ℕ) (rank : ℕ → ℕ) → AreWeights (bill_of m) weight → IsRanking m rank → (p : Plan) → IsFeasible m p → (i t : ℕ) → 1 ≤ i → i ≤ item_count m → 1 ≤ t → t ≤ m.periods → IsEchelonBalanced m weight p i t
+pub echelon_balance : (m : Problem) (weight : ℕ → ℕ → ℕ) (rank : ℕ → ℕ) → AreWeights (bill_of m) weight → IsRanking m rank → (p : Plan) → IsFeasible m p → (i t : ℕ) → 1 ≤ i → i ≤ item_count m → 1 ≤ t → t ≤ m.periods → IsLeadFree m weight i → IsEchelonBalanced m weight p i t
 unfolding turned
-echelon_balance m weight rank are ranks p f i t low high t_low t_high =
+echelon_balance m weight rank are ranks p f i t low high t_low t_high free =
     let n = item_count m in
     let w = weight i in
     let before = λ (j : ℕ). stock_after m p j (t - 1) in
@@ -95,7 +104,7 @@ echelon_balance m weight rank are ranks p f i t low high t_low t_high =
     let used = λ (j : ℕ). used_up m p.make j t in
     let asked = λ (j : ℕ). demand m j t in
     let each = sum_to-same n (λ j. w j * before j + w j * made j + w j * owes j) (λ j. w j * asked j + w j * used j + w j * here j + w j * owed j) (λ j j_low j_high.
-    omega (arith, ap (λ x. w j * x) (f.balance j t j_low j_high t_low t_high), ap (λ x. w j * x) (stock_after_some m p j t t_low), ap (λ x. w j * x) (backlog_after_some p j t t_low))) in
+    omega (arith, arrives_weighed m weight p.make i j t t_low (free j j_low j_high), ap (λ x. w j * x) (f.balance j t j_low j_high t_low t_high), ap (λ x. w j * x) (stock_after_some m p j t t_low), ap (λ x. w j * x) (backlog_after_some p j t t_low))) in
     let left = sum_to-add n (λ j. w j * before j + w j * made j) (λ j. w j * owes j) in
     let left_two = sum_to-add n (λ j. w j * before j) (λ j. w j * made j) in
     let right = sum_to-add n (λ j. w j * asked j + w j * used j + w j * here j) (λ j. w j * owed j) in

@@ -1,11 +1,13 @@
 -- The least stocks and backlogs.
-use Rattle.std.proofs.Common.{◌≡◌, ◌≤◌, ◌+◌, ◌-◌, ◌*◌, ◌∙◌, ℕ, zero, suc, refl, sym, ap, arith}
+use Rattle.std.proofs.Common.{◌≡◌, ◌≤◌, ◌+◌, ◌-◌, ◌*◌, ◌∙◌, ℕ, zero, suc, refl, sym, ap, subst, arith}
+use Rattle.std.specs.Prelude.{IfSome}
 use Rattle.std.proofs.Math.Nat.{mul-le-mul_left}
 use Rattle.lot_sizing.specs.Problem.{Problem, item_at, item_count, demand, per_unit, unit_time, setup_time, unit_cost, setup_cost, hold_cost, backlog_cost}
-use Rattle.lot_sizing.specs.Plan.{Plan, Table, EachCell, IsBalanced, IsFeasible, stock_after, backlog_after, used_up, time_used, cost}
+use Rattle.lot_sizing.specs.Plan.{Plan, Table, EachCell, IsBalanced, IsFeasible, IsLot, arriving, stock_after, backlog_after, used_up, time_used, cost}
 use Rattle.lot_sizing.specs.Least.{supply, outflow, least_stock, least_backlog, least_plan, SameCells, HasChoice}
 use Rattle.lot_sizing.proofs.Sums.{sum_to-same, sum_to-le}
 use Rattle.lot_sizing.proofs.Plans.{stock_after_some, backlog_after_some}
+use Rattle.lot_sizing.proofs.Lots.{arriving_same}
 
 -- what was there is what was asked for, up to what is left or owed
 pub balance_so_far : (m : Problem) (p : Plan) (i : ℕ) → 1 ≤ i → i ≤ item_count m → EachCell m (IsBalanced m p) → (t : ℕ) → t ≤ m.periods → stock_after m p i t + outflow m p.make i t ≡ supply m p.make i t + backlog_after p i t
@@ -46,7 +48,7 @@ pub used_up_same : (m : Problem) (a b : Table) (i t : ℕ) → SameCells m a b �
 used_up_same m a b i t same t_low t_high = sum_to-same (item_count m) _ _ (λ j low high. ap (λ n. per_unit m i j * n) (same j t low high t_low t_high))
 
 supply_same : (m : Problem) (a b : Table) (i : ℕ) → SameCells m a b → 1 ≤ i → i ≤ item_count m → (t : ℕ) → t ≤ m.periods → supply m a i t ≡ supply m b i t
-supply_same m a b i same low high t h = ap (λ n. (item_at m i).opening + n) (sum_to-same t (a i) (b i) (λ u u_low u_high. same i u low high u_low (omega arith)))
+supply_same m a b i same low high t h = ap (λ n. (item_at m i).opening + n) (sum_to-same t (arriving m a i) (arriving m b i) (λ u u_low u_high. arriving_same m a b i u same low high (omega arith)))
 
 outflow_same : (m : Problem) (a b : Table) (i : ℕ) → SameCells m a b → (t : ℕ) → t ≤ m.periods → outflow m a i t ≡ outflow m b i t
 outflow_same m a b i same t h = sum_to-same t _ _ (λ u u_low u_high. ap (λ n. demand m i u + n) (used_up_same m a b i u same u_low (omega arith)))
@@ -68,6 +70,11 @@ least_costs m make setup p f choice =
     let y = choice.setup i t low high t_low t_high in
     omega (arith, ap (λ n. unit_cost m i t * n) x, ap (λ n. setup_cost m i t * n) y, mul-le-mul_left (hold_cost m i t) least.0, mul-le-mul_left (backlog_cost m i t) least.1)))
 
+-- a lot is within its bounds where the same lot is
+pub lot_same : (m : Problem) (p : Plan) (make setup : Table) (i t : ℕ) → p.make i t ≡ make i t → p.setup i t ≡ setup i t → IsLot m p i t → IsLot m (least_plan m make setup) i t
+lot_same m p make setup i t x y lot =
+    (omega (arith, x, ap (λ n. (item_at m i).min_lot * n) y, lot.0), subst (λ n. IfSome (item_at m i).max_lot (λ most. n ≤ most)) x lot.1)
+
 -- and it is feasible
 pub least_feasible : (m : Problem) (make setup : Table) (p : Plan) → 1 ≤ m.periods → IsFeasible m p → HasChoice m make setup p → IsFeasible m (least_plan m make setup)
 least_feasible m make setup p some f choice = record {
@@ -88,10 +95,12 @@ least_feasible m make setup p some f choice = record {
   backlog = λ i t low high t_low t_high.
       let least = least_of m make setup p f choice i t low high t_low t_high in
       (λ free. omega (arith, (f.backlog i t low high t_low t_high).0 free, least.1), λ last. omega (arith, (f.backlog i t low high t_low t_high).1 last, least.1));
+  lots = λ i t low high t_low t_high. lot_same m p make setup i t (choice.make i t low high t_low t_high) (choice.setup i t low high t_low t_high) (f.lots i t low high t_low t_high);
+  horizon = λ i t low high t_low t_high late. sym (choice.make i t low high t_low t_high) ∙ f.horizon i t low high t_low t_high late;
 }
 
 -- one period more
-pub supply_more : (m : Problem) (make : Table) (i t : ℕ) → 1 ≤ t → supply m make i t ≡ supply m make i (t - 1) + make i t
+pub supply_more : (m : Problem) (make : Table) (i t : ℕ) → 1 ≤ t → supply m make i t ≡ supply m make i (t - 1) + arriving m make i t
 supply_more m make i zero h = absurd (omega arith)
 supply_more m make i (suc t) h = let e : suc t - 1 ≡ t = omega arith in rw e (omega arith)
 

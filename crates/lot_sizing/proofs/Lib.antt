@@ -1,9 +1,11 @@
 pub mod Sums
 pub mod Plans
+pub mod Lots
 pub mod Least
 pub mod Bounds
 pub mod Same
 pub mod Totals
+pub mod Ones
 pub mod Texts
 pub mod Prices
 pub mod Positions

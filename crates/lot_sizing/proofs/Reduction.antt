@@ -5,15 +5,16 @@ use Rattle.std.specs.List.{sum_by}
 use Rattle.std.proofs.lemmas.Bool.{cases_eq}
 use Rattle.std.proofs.Math.Nat.{mul-le-mul_left}
 use Rattle.lot_sizing.specs.Sums.{sum_to}
-use Rattle.lot_sizing.specs.Problem.{Problem, IsUncoupled, item_at, item_count, demand, unit_time, setup_time, hold_cost, backlog_cost, backlog_price, entry}
-use Rattle.lot_sizing.specs.Plan.{Plan, Table, IsFeasible, used_up, time_used, cost_at, cost}
+use Rattle.lot_sizing.specs.Problem.{Problem, EachItem, IsUncoupled, item_at, item_count, demand, unit_time, setup_time, hold_cost, backlog_cost, backlog_price, entry}
+use Rattle.lot_sizing.specs.Plan.{Plan, Table, IsFeasible, arriving, used_up, time_used, cost_at, cost}
 use Rattle.lot_sizing.specs.Best.{IsFloor}
 use Rattle.lot_sizing.specs.Least.{outflow, least_stock, least_backlog, least_plan}
 use Rattle.lot_sizing.specs.Single.{Single, NetPlan, IsNetPlan, net_demand, net_cost, net_cost_at}
-use Rattle.lot_sizing.specs.Net.{Asked, asked_to, needed_to, net_in, left_after, asked_of, IsSingleOf, held_left, item_cost, HasRoom, ServesItem, IsBestChoice, EachItem, choice}
+use Rattle.lot_sizing.specs.Net.{Asked, asked_to, needed_to, net_in, left_after, asked_of, IsSingleOf, held_left, item_cost, HasRoom, ServesItem, IsBestChoice, choice}
 use Rattle.lot_sizing.proofs.Sums.{sum_to-same, sum_to-le, sum_to-add, sum_to-zero}
 use Rattle.lot_sizing.proofs.Bounds.{none_used_up}
 use Rattle.lot_sizing.proofs.Plans.{stock_after_some, backlog_after_some}
+use Rattle.lot_sizing.proofs.Lots.{arrived_now, no_bound}
 use Rattle.lot_sizing.proofs.Least.{balance_so_far, least_balanced}
 
 pub end_here : (a : Asked) (t : ℕ) → t ≡ a.periods → (if t == a.periods then a.end_min else 0) ≡ a.end_min
@@ -41,14 +42,17 @@ net_of_single m i s single some t h = sum_to-same t (net_demand s) (net_in (aske
 
 -- no item goes into another
 none_used : (m : Problem) → IsUncoupled m → (i : ℕ) (make : ℕ → ℕ → ℕ) (t : ℕ) → used_up m make i t ≡ 0
-none_used m free i make t = none_used_up m make (λ j low high. (free j low high).1) i t
+none_used m free i make t = none_used_up m make free.needs i t
 
 plain_outflow : (m : Problem) → IsUncoupled m → (i : ℕ) (make : ℕ → ℕ → ℕ) (t : ℕ) → outflow m make i t ≡ sum_to t (demand m i)
 plain_outflow m free i make t = sum_to-same t _ _ (λ u low high. omega (arith, none_used m free i make u))
 
+plain_supply : (m : Problem) → IsUncoupled m → (i : ℕ) → 1 ≤ i → i ≤ item_count m → (make : ℕ → ℕ → ℕ) (t : ℕ) → sum_to t (arriving m make i) ≡ sum_to t (make i)
+plain_supply m free i low high make t = arrived_now m make i t (free.plain i low high).lead
+
 -- what a plan holds and owes of an item by itself
 plan_balance : (m : Problem) (p : Plan) → IsUncoupled m → IsFeasible m p → (i t : ℕ) → 1 ≤ i → i ≤ item_count m → 1 ≤ t → t ≤ m.periods → p.stock i t + sum_to t (demand m i) ≡ (item_at m i).opening + sum_to t (p.make i) + p.backlog i t
-plan_balance m p free f i t low high t_low t_high = omega (arith, balance_so_far m p i low high f.balance t t_high, plain_outflow m free i p.make t, stock_after_some m p i t t_low, backlog_after_some p i t t_low)
+plan_balance m p free f i t low high t_low t_high = omega (arith, balance_so_far m p i low high f.balance t t_high, plain_outflow m free i p.make t, plain_supply m free i low high p.make t, stock_after_some m p i t t_low, backlog_after_some p i t t_low)
 
 -- a plan holds what is left and what is over, and owes what is short
 record IsKept (m : Problem) (p : Plan) (i t : ℕ) : Type 0 where
@@ -136,27 +140,28 @@ record IsLeft (m : Problem) (make : Table) (i t : ℕ) : Type 0 where
   stock : least_stock m make i t ≡ left_after (asked_of m i) t + (sum_to t (make i) - needed_to (asked_of m i) t)
   backlog : least_backlog m make i t ≡ needed_to (asked_of m i) t - sum_to t (make i)
 
-left_is : (m : Problem) (make : Table) → IsUncoupled m → (i t : ℕ) → 1 ≤ t → t ≤ m.periods → sum_to m.periods (make i) ≡ needed_to (asked_of m i) m.periods → IsLeft m make i t
-left_is m make free i t low high even =
+left_is : (m : Problem) (make : Table) → IsUncoupled m → (i t : ℕ) → 1 ≤ i → i ≤ item_count m → 1 ≤ t → t ≤ m.periods → sum_to m.periods (make i) ≡ needed_to (asked_of m i) m.periods → IsLeft m make i t
+left_is m make free i t i_low i_high low high even =
     let a = asked_of m i in
     let out = plain_outflow m free i make t in
+    let all = plain_supply m free i i_low i_high make t in
     ⊎_elim
     (λ last.
     let end = end_here a t last in
     let even_here : sum_to t (make i) ≡ needed_to a t = ap (λ n. sum_to n (make i)) last ∙ even ∙ ap (needed_to a) (sym last) in
-    record { stock = omega (arith, out, end, even_here); backlog = omega (arith, out, end, even_here) })
+    record { stock = omega (arith, out, all, end, even_here); backlog = omega (arith, out, all, end, even_here) })
     (λ before.
     let end = end_later a t before in
-    record { stock = omega (arith, out, end); backlog = omega (arith, out, end) })
+    record { stock = omega (arith, out, all, end); backlog = omega (arith, out, all, end) })
     (cases_eq t m.periods)
 
 even_of : (m : Problem) (i : ℕ) (s : Single) (q : NetPlan) → 1 ≤ m.periods → ServesItem m i s q → sum_to m.periods q.make ≡ needed_to (asked_of m i) m.periods
 even_of m i s q some serves = ap (λ n. sum_to n q.make) (sym serves.single.periods) ∙ serves.even ∙ ap (λ n. sum_to n (net_demand s)) serves.single.periods ∙ net_of_single m i s serves.single some m.periods (omega arith)
 
-least_cost_in : (m : Problem) (make setup : Table) → IsUncoupled m → 1 ≤ m.periods → (i : ℕ) (s : Single) → ServesItem m i s (choice make setup i) → (t : ℕ) → 1 ≤ t → t ≤ m.periods → cost_at m (least_plan m make setup) i t ≡ net_cost_at s (choice make setup i) t + hold_cost m i t * left_after (asked_of m i) t
-least_cost_in m make setup free some i s serves t low high =
+least_cost_in : (m : Problem) (make setup : Table) → IsUncoupled m → 1 ≤ m.periods → (i : ℕ) → 1 ≤ i → i ≤ item_count m → (s : Single) → ServesItem m i s (choice make setup i) → (t : ℕ) → 1 ≤ t → t ≤ m.periods → cost_at m (least_plan m make setup) i t ≡ net_cost_at s (choice make setup i) t + hold_cost m i t * left_after (asked_of m i) t
+least_cost_in m make setup free some i i_low i_high s serves t low high =
     let single = serves.single in
-    let left = left_is m make free i t low high (even_of m i s (choice make setup i) some serves) in
+    let left = left_is m make free i t i_low i_high low high (even_of m i s (choice make setup i) some serves) in
     let net = net_of_single m i s single some t high in
     let x = sum_to t (make i) in
     let over : x - sum_to t (net_demand s) ≡ x - needed_to (asked_of m i) t = omega (arith, net) in
@@ -173,13 +178,13 @@ least_cost_in m make setup free some i s serves t low high =
       ap (λ n. backlog_cost m i t * n) left.backlog,
     )
 
-pub least_cost_is : (m : Problem) (make setup : Table) → IsUncoupled m → 1 ≤ m.periods → (i : ℕ) (s : Single) → ServesItem m i s (choice make setup i) → item_cost m (least_plan m make setup) i ≡ net_cost s (choice make setup i) + held_left m i
-least_cost_is m make setup free some i s serves =
+pub least_cost_is : (m : Problem) (make setup : Table) → IsUncoupled m → 1 ≤ m.periods → (i : ℕ) → 1 ≤ i → i ≤ item_count m → (s : Single) → ServesItem m i s (choice make setup i) → item_cost m (least_plan m make setup) i ≡ net_cost s (choice make setup i) + held_left m i
+least_cost_is m make setup free some i i_low i_high s serves =
     let T = m.periods in
     omega (
       arith,
       sum_to-add T (net_cost_at s (choice make setup i)) (λ t. hold_cost m i t * left_after (asked_of m i) t),
-      sum_to-same T (cost_at m (least_plan m make setup) i) (λ t. net_cost_at s (choice make setup i) t + hold_cost m i t * left_after (asked_of m i) t) (λ t low high. least_cost_in m make setup free some i s serves t low high),
+      sum_to-same T (cost_at m (least_plan m make setup) i) (λ t. net_cost_at s (choice make setup i) t + hold_cost m i t * left_after (asked_of m i) t) (λ t low high. least_cost_in m make setup free some i i_low i_high s serves t low high),
       ap (λ n. sum_to n (net_cost_at s (choice make setup i))) serves.single.periods,
     )
 
@@ -189,12 +194,12 @@ items_floor m make setup single free some best p f =
     sum_to-le (item_count m) (item_cost m (least_plan m make setup)) (item_cost m p) (λ i low high.
     let b = best i low high in
     let net = is_net_plan m p free f some i low high (single i) b.serves.single in
-    omega (arith, least_cost_is m make setup free some i (single i) b.serves, costs_more m p free f some i low high (single i) b.serves.single, b.least (choice_of p i) net))
+    omega (arith, least_cost_is m make setup free some i low high (single i) b.serves, costs_more m p free f some i low high (single i) b.serves.single, b.least (choice_of p i) net))
 
 no_time : (m : Problem) → IsUncoupled m → (p : Plan) (k t : ℕ) → time_used m p k t ≡ 0
 no_time m free p k t =
     sum_to-same (item_count m) (λ i. unit_time m i k * p.make i t + setup_time m i k * p.setup i t) (λ _. 0) (λ i low high.
-    let uses = (free i low high).0 in
+    let uses = free.uses i low high in
     let unit : unit_time m i k ≡ 0 = ap (λ u. sum_by (λ usage. if usage.resource == k then usage.unit else 0) u) uses in
     let setup : setup_time m i k ≡ 0 = ap (λ u. sum_by (λ usage. if usage.resource == k then usage.setup else 0) u) uses in
     omega (arith, ap (λ n. n * p.make i t) unit, ap (λ n. n * p.setup i t) setup)) ∙ sum_to-zero (item_count m)
@@ -203,7 +208,7 @@ no_time m free p k t =
 pub items_feasible : (m : Problem) (make setup : Table) (single : ℕ → Single) → IsUncoupled m → 1 ≤ m.periods → EachItem m (λ i. (item_at m i).end_min ≤ (item_at m i).end_max) → EachItem m (λ i. ServesItem m i (single i) (choice make setup i)) → EachItem m (HasRoom m) → IsFeasible m (least_plan m make setup)
 items_feasible m make setup single free some ends serves rooms =
     let T = m.periods in
-    let left = λ (i t : ℕ) (low : 1 ≤ i) (high : i ≤ item_count m) (t_low : 1 ≤ t) (t_high : t ≤ T). left_is m make free i t t_low t_high (even_of m i (single i) (choice make setup i) some (serves i low high)) in
+    let left = λ (i t : ℕ) (low : 1 ≤ i) (high : i ≤ item_count m) (t_low : 1 ≤ t) (t_high : t ≤ T). left_is m make free i t low high t_low t_high (even_of m i (single i) (choice make setup i) some (serves i low high)) in
     record {
       balance = λ i t low high t_low t_high. least_balanced m make setup i t t_low;
       setup = λ i t low high t_low t_high. (serves i low high).plan.setup t t_low (omega (arith, t_high, (serves i low high).single.periods));
@@ -222,4 +227,8 @@ items_feasible m make setup single free some ends serves rooms =
             λ none. omega (arith, here.backlog, sv.plan.in_time (subst IsNone (sym sv.single.back) none) t t_low (omega (arith, t_high, sv.single.periods)), net_of_single m i (single i) sv.single some t t_high),
             λ last. omega (arith, here.backlog, even_of m i (single i) (choice make setup i) some sv, ap (λ n. sum_to n (make i)) last, ap (needed_to a) last),
           );
+      lots = λ i t low high t_low t_high.
+          let plain = free.plain i low high in
+          (omega (arith, ap (λ n. n * setup i t) plain.min_lot), no_bound (item_at m i).max_lot (λ most. make i t ≤ most) plain.max_lot);
+      horizon = λ i t low high t_low t_high late. absurd (omega (arith, late, t_high, (free.plain i low high).lead));
     }

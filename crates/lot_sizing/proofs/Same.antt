@@ -1,10 +1,12 @@
 -- What is feasible and what it costs goes by the numbers of the items and periods that there are.
-use Rattle.std.proofs.Common.{◌≡◌, ◌≤◌, ◌-◌, ◌*◌, ◌∙◌, ℕ, zero, suc, refl, sym, ap, arith}
-use Rattle.lot_sizing.specs.Problem.{Problem, item_count, unit_time, setup_time, unit_cost, setup_cost, hold_cost, backlog_cost}
+use Rattle.std.proofs.Common.{◌≡◌, ◌≤◌, ◌-◌, ◌*◌, ◌∙◌, ℕ, zero, suc, refl, sym, ap, subst, arith}
+use Rattle.std.specs.Prelude.{IfSome}
+use Rattle.lot_sizing.specs.Problem.{Problem, item_at, item_count, unit_time, setup_time, unit_cost, setup_cost, hold_cost, backlog_cost}
 use Rattle.lot_sizing.specs.Plan.{Plan, IsFeasible, stock_after, backlog_after, time_used, cost}
 use Rattle.lot_sizing.specs.Least.{SameCells}
 use Rattle.lot_sizing.proofs.Sums.{sum_to-same}
 use Rattle.lot_sizing.proofs.Least.{used_up_same}
+use Rattle.lot_sizing.proofs.Lots.{arriving_same}
 
 -- the same numbers throughout
 pub record SamePlan (m : Problem) (p q : Plan) : Type 0 where
@@ -35,7 +37,7 @@ feasible_same m p q some same f = record {
         used_up_same m p.make q.make i t same.make t_low t_high,
         stock_after_same m p q i same low high (t - 1) (omega arith),
         backlog_after_same m p q i same low high (t - 1) (omega arith),
-        same.make i t low high t_low t_high,
+        arriving_same m p.make q.make i t same.make low high t_high,
         same.stock i t low high t_low t_high,
         same.backlog i t low high t_low t_high,
       );
@@ -48,6 +50,11 @@ feasible_same m p q some same f = record {
   backlog = λ i t low high t_low t_high.
       let e = same.backlog i t low high t_low t_high in
       (λ free. sym e ∙ (f.backlog i t low high t_low t_high).0 free, λ last. sym e ∙ (f.backlog i t low high t_low t_high).1 last);
+  lots = λ i t low high t_low t_high.
+      let x = same.make i t low high t_low t_high in
+      let lot = f.lots i t low high t_low t_high in
+      (omega (arith, x, ap (λ n. (item_at m i).min_lot * n) (same.setup i t low high t_low t_high), lot.0), subst (λ n. IfSome (item_at m i).max_lot (λ most. n ≤ most)) x lot.1);
+  horizon = λ i t low high t_low t_high late. sym (same.make i t low high t_low t_high) ∙ f.horizon i t low high t_low t_high late;
 }
 
 pub cost_same : (m : Problem) (p q : Plan) → SamePlan m p q → cost m p ≡ cost m q

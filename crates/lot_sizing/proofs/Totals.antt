@@ -8,6 +8,7 @@ use Rattle.lot_sizing.specs.Plan.{Plan, IsFeasible, used_up}
 use Rattle.lot_sizing.specs.Totals.{IsRanking, AreLargestTotals}
 use Rattle.lot_sizing.proofs.Sums.{sum_to-same, sum_to-le, sum_to-add, sum_to-times, sum_to-swap}
 use Rattle.lot_sizing.proofs.Plans.{stock_after_some, backlog_after_some}
+use Rattle.lot_sizing.proofs.Lots.{all_arrive}
 use Rattle.lot_sizing.proofs.Least.{balance_so_far}
 
 -- what goes into other items in all
@@ -26,4 +27,4 @@ made_at_most m p rank total some f ranks totals (suc n) i low high h =
     (λ goes. mul-le-mul_left (per_unit m i j) (made_at_most m p rank total some f ranks totals n j j_low j_high (omega (arith, ranks i j low high j_low j_high goes))))
     (λ none. let e : per_unit m i j ≡ 0 = omega arith in omega (arith, ap (λ k. k * sum_to last (p.make j)) e, ap (λ k. k * total j) e))
     (cases_lt 0 (per_unit m i j))) in
-    omega (arith, totals i low high, balance_so_far m p i low high f.balance last (omega arith), sum_to-add last (demand m i) (used_up m p.make i), used_in_all m p i, parents, (f.end_stock i low high).1, (f.backlog i last low high some (omega arith)).1 refl, stock_after_some m p i last some, backlog_after_some p i last some)
+    omega (arith, totals i low high, all_arrive m p.make i (λ t t_low t_high late. f.horizon i t low high t_low t_high late), balance_so_far m p i low high f.balance last (omega arith), sum_to-add last (demand m i) (used_up m p.make i), used_in_all m p i, parents, (f.end_stock i low high).1, (f.backlog i last low high some (omega arith)).1 refl, stock_after_some m p i last some, backlog_after_some p i last some)

@@ -1,5 +1,5 @@
 -- Echelon stocks: an item and all of it that stands in other items.
-use Rattle.std.specs.Prelude.{◌≡◌, ℕ, ◌+◌, ◌-◌, ◌*◌}
+use Rattle.std.specs.Prelude.{◌≡◌, ℕ, ◌+◌, ◌-◌, ◌*◌, ◌≤◌, ◌<◌}
 use Rattle.lot_sizing.specs.Sums.{sum_to}
 use Rattle.lot_sizing.specs.Problem.{Problem, item_at, item_count, demand}
 use Rattle.lot_sizing.specs.Plan.{Plan, stock_after, backlog_after}
@@ -26,6 +26,10 @@ asked_in_echelon m weight i = record {
   opening = in_echelon m weight i (λ j. (item_at m j).opening);
   end_min = in_echelon m weight i (λ j. (item_at m j).end_min);
 }
+
+-- neither the item nor one that it goes into has a lead time
+abbrev pub IsLeadFree : Problem → (ℕ → ℕ → ℕ) → ℕ → Type 0
+IsLeadFree m weight i = (j : ℕ) → 1 ≤ j → j ≤ item_count m → 0 < weight i j → (item_at m j).lead ≡ 0
 
 -- what is made serves the echelon's demand or stays in its stock
 abbrev pub IsEchelonBalanced : Problem → (ℕ → ℕ → ℕ) → Plan → ℕ → ℕ → Type 0

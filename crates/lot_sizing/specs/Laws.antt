@@ -1,13 +1,13 @@
 -- Laws that hold of every problem.
 use Rattle.std.specs.Prelude.{◌≡◌, ℕ, ◌+◌, ◌≤◌, List}
 use Rattle.lot_sizing.specs.Sums.{sum_to}
-use Rattle.lot_sizing.specs.Problem.{Problem, IsUncoupled, item_at, item_count}
+use Rattle.lot_sizing.specs.Problem.{Problem, EachItem, IsUncoupled, item_at, item_count}
 use Rattle.lot_sizing.specs.Best.{IsFloor}
 use Rattle.lot_sizing.specs.declared.Block.{Block}
 use Rattle.lot_sizing.specs.Single.{Single, NetPlan, IsNetPlan, ArePotentials, Cover, period_count, net_demand, net_cost, position_count, potential, blocks_plan, blocks_cost, lot_in}
 use Rattle.lot_sizing.specs.Bill.{AreWeights, bill_of}
-use Rattle.lot_sizing.specs.Echelon.{IsEchelonBalanced, asked_in_echelon}
-use Rattle.lot_sizing.specs.Net.{EachItem, needed_to, HasRoom, ServesItem, IsBestChoice, choice, item_cost, held_left}
+use Rattle.lot_sizing.specs.Echelon.{IsEchelonBalanced, IsLeadFree, asked_in_echelon}
+use Rattle.lot_sizing.specs.Net.{needed_to, HasRoom, ServesItem, IsBestChoice, choice, item_cost, held_left}
 use Rattle.lot_sizing.specs.Plan.{Plan, Table, EachCell, IsFeasible, cost}
 use Rattle.lot_sizing.specs.Least.{HasChoice, least_backlog, least_plan, least_stock}
 use Rattle.lot_sizing.specs.Totals.{AreLargestTotals, IsRanking}
@@ -36,7 +36,7 @@ BlocksServe =
     → IsNetPlan s (blocks_plan s blocks) × (net_cost s (blocks_plan s blocks) ≤ blocks_cost s blocks)
     × (sum_to (period_count s) (lot_in s blocks) ≡ sum_to (period_count s) (net_demand s))
 
--- where no item uses a resource or needs another: with net plans of least cost for each item by itself, the least stocks and backlogs cost no more than any feasible plan
+-- in an uncoupled problem: with net plans of least cost for each item by itself, the least stocks and backlogs cost no more than any feasible plan
 abbrev pub ItemsAreBestApart : Type 0
 ItemsAreBestApart =
     (m : Problem) (make setup : Table) (single : ℕ → Single) → IsUncoupled m → 1 ≤ m.periods
@@ -60,14 +60,25 @@ CostsApart =
     → EachItem m (λ i. ServesItem m i (single i) (choice make setup i))
     → EachItem m (λ i. item_cost m (least_plan m make setup) i ≡ net_cost (single i) (choice make setup i) + held_left m i)
 
--- in every feasible plan each echelon balances, where no item is its own component
+-- in every feasible plan the echelon of a lead-free item balances, where no item is its own component
 abbrev pub EchelonsBalance : Type 0
 EchelonsBalance =
     (m : Problem) (weight : ℕ → ℕ → ℕ) (rank : ℕ → ℕ) → AreWeights (bill_of m) weight → IsRanking m rank → (p : Plan) → IsFeasible m p
-    → EachCell m (IsEchelonBalanced m weight p)
+    → EachCell m (λ i t. IsLeadFree m weight i → IsEchelonBalanced m weight p i t)
 
 -- what must be made of an item for its echelon is at most its largest total
 abbrev pub NetIsWithinTotals : Type 0
 NetIsWithinTotals =
     (m : Problem) (weight : ℕ → ℕ → ℕ) (rank total : ℕ → ℕ) → AreWeights (bill_of m) weight → IsRanking m rank → AreLargestTotals m total
     → EachItem m (λ i. (item_at m i).end_min ≤ (item_at m i).end_max) → EachItem m (λ i. needed_to (asked_in_echelon m weight i) m.periods ≤ total i)
+
+-- where no item is its own component, each item has one largest total
+abbrev pub TotalsAreOne : Type 0
+TotalsAreOne =
+    (m : Problem) (rank a b : ℕ → ℕ) → IsRanking m rank → AreLargestTotals m a → AreLargestTotals m b → EachItem m (λ i. a i ≡ b i)
+
+-- and one weight in each item
+abbrev pub WeightsAreOne : Type 0
+WeightsAreOne =
+    (m : Problem) (rank : ℕ → ℕ) (a b : ℕ → ℕ → ℕ) → IsRanking m rank → AreWeights (bill_of m) a → AreWeights (bill_of m) b
+    → EachItem m (λ i. EachItem m (λ k. a i k ≡ b i k))

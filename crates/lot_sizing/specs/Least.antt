@@ -2,11 +2,11 @@
 use Rattle.std.specs.Prelude.{◌≡◌, ℕ, ◌+◌, ◌-◌}
 use Rattle.lot_sizing.specs.Sums.{sum_to}
 use Rattle.lot_sizing.specs.Problem.{Problem, item_at, demand}
-use Rattle.lot_sizing.specs.Plan.{Plan, Table, EachCell, used_up}
+use Rattle.lot_sizing.specs.Plan.{Plan, Table, EachCell, arriving, used_up}
 
--- what there has been of an item up to a period
+-- what there has been of an item up to a period: its opening stock and the lots that have arrived
 abbrev pub supply : Problem → Table → ℕ → ℕ → ℕ
-supply m make i t = (item_at m i).opening + sum_to t (make i)
+supply m make i t = (item_at m i).opening + sum_to t (arriving m make i)
 
 -- what was asked for up to a period
 abbrev pub outflow : Problem → Table → ℕ → ℕ → ℕ

@@ -48,10 +48,6 @@ held_left m i = sum_to m.periods (λ t. hold_cost m i t * left_after (asked_of m
 abbrev pub item_cost : Problem → Plan → ℕ → ℕ
 item_cost m p i = sum_to m.periods (cost_at m p i)
 
--- for each item
-abbrev pub EachItem : Problem → (ℕ → Type 0) → Type 0
-EachItem m R = (i : ℕ) → 1 ≤ i → i ≤ item_count m → R i
-
 -- what is left of the opening stock once all demand is served isn't more than the end allows
 abbrev pub HasRoom : Problem → ℕ → Type 0
 HasRoom m i = (item_at m i).opening ≤ sum_to m.periods (demand m i) + (item_at m i).end_max

@@ -4,6 +4,7 @@ use Rattle.std.specs.List.{sum_by, list_any}
 use Rattle.lot_sizing.specs.Sums.{sum_to, sum_from}
 use Rattle.lot_sizing.specs.Problem.{IsSeries, entry, backlog_price}
 use Rattle.lot_sizing.specs.declared.Block.{Block}
+use Rattle.lot_sizing.specs.declared.limits.TheConstants.{MAX_AMOUNT, MAX_PERIODS, MAX_TOTAL}
 
 -- an entry of each list for each period
 pub record Single : Type 0 where
@@ -23,12 +24,12 @@ net_demand s t = entry s.net t
 
 -- the limits of a single item
 pub record IsWithinBounds (s : Single) : Type 0 where
-  pub periods : period_count s ≤ 120
-  pub setup : IsSeries (period_count s) (10 ^ 9) s.setup
-  pub unit : IsSeries (period_count s) (10 ^ 9) s.unit
-  pub hold : IsSeries (period_count s) (10 ^ 9) s.hold
-  pub back : IfSome s.back (IsSeries (period_count s) (10 ^ 9))
-  pub net : sum_to (period_count s) (net_demand s) ≤ 10 ^ 12
+  pub periods : period_count s ≤ MAX_PERIODS
+  pub setup : IsSeries (period_count s) MAX_AMOUNT s.setup
+  pub unit : IsSeries (period_count s) MAX_AMOUNT s.unit
+  pub hold : IsSeries (period_count s) MAX_AMOUNT s.hold
+  pub back : IfSome s.back (IsSeries (period_count s) MAX_AMOUNT)
+  pub net : sum_to (period_count s) (net_demand s) ≤ MAX_TOTAL
 
 -- the quantity and the setup of each period
 pub record NetPlan : Type 0 where

@@ -1,6 +1,6 @@
 // Laws about the definitions, each the contract of a function that does nothing.
 ghost use Rattle.std.specs.Prelude.{◌≤◌};
-ghost use Rattle.lot_sizing.specs.Laws.{BlocksServe, BoundsTotals, CostsApart, EchelonsBalance, ItemsAreBestApart, KeepsLeast, LastPotentialIsFloor, NetIsWithinTotals, PlansHaveRoom, RoomIsEnough};
+ghost use Rattle.lot_sizing.specs.Laws.{BlocksServe, BoundsTotals, CostsApart, EchelonsBalance, ItemsAreBestApart, KeepsLeast, LastPotentialIsFloor, NetIsWithinTotals, PlansHaveRoom, RoomIsEnough, TotalsAreOne, WeightsAreOne};
 
 /// Every feasible plan makes at most the largest total of each item, in a problem whose items have a
 /// ranking: no item is its own component, over any number of bill lines.
@@ -26,7 +26,7 @@ pub fn blocks_serve()
     ensures { BlocksServe }
 {}
 
-/// In a problem whose items use no resource and need no item, net plans of least cost for each item
+/// In a problem without coupling, lead times and bounds on lots, net plans of least cost for each item
 /// by itself, with the least stocks and backlogs, cost no more than any feasible plan.
 pub fn items_are_best_apart()
     ensures { ItemsAreBestApart }
@@ -46,8 +46,8 @@ pub fn costs_apart()
     ensures { CostsApart }
 {}
 
-/// In every feasible plan of a problem without an item that is its own component, the echelon of each
-/// item balances: what the item and all items that it goes into have of it.
+/// In every feasible plan of a problem without an item that is its own component, the echelon of a
+/// lead-free item balances: what the item and all items that it goes into have of it.
 pub fn echelons_balance()
     ensures { EchelonsBalance }
 {}
@@ -56,4 +56,14 @@ pub fn echelons_balance()
 /// item's largest total.
 pub fn net_is_within_totals()
     ensures { NetIsWithinTotals }
+{}
+
+/// Where no item is its own component, each item has one largest total.
+pub fn totals_are_one()
+    ensures { TotalsAreOne }
+{}
+
+/// Where no item is its own component, each item has one weight in each other.
+pub fn weights_are_one()
+    ensures { WeightsAreOne }
 {}

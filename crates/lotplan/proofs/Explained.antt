@@ -1,99 +1,310 @@
--- What the parts of a run say of the whole, and what the whole says of its status.
-use Rattle.std.proofs.Common.{◌≡◌, ◌≢◌, ◌∙◌, ◌⊎◌, ⊎_elim, ◌++◌, ℕ, List, [], Option, Some, None, IsTrue, inl, inr, refl, ap, subst, arith, rules}
-use Rattle.lot_io.specs.Outside.{AppendsSome}
-use Rattle.lotplan.specs.declared.answer.Said.{Said}
-use Rattle.lotplan.specs.Command.{Asked, version, planning, judging, command_of}
-use Rattle.lotplan.specs.Answer.{Answer, no_memory, status_of}
-use Rattle.lotplan.specs.Run.{Shelved, Printed, Explains, Prints, PrintsSaid, Says, SaysSome, IsRun, HadNoFault, PlansBest, FindsNoPlan, CannotPlan, CallFor, FindsFault, FindsFeasible}
-use Rattle.lotplan.proofs.Outputs.{not_there}
-use Rattle.lotplan.proofs.Planned.{called_at, coupled_at, impossible_at, optimal_at, unchanged_at}
-use Rattle.lotplan.proofs.Judged.{fault_at, feasible_at, judged_at, judged_same, no_fault_at, no_judged}
+-- What a run is says what each number of a status says.
+use Rattle.std.proofs.Common.{◌≡◌, ◌≢◌, ◌∙◌, ◌⊎◌, ⊎_elim, ℕ, List, Option, Some, None, IsTrue, inl, inr, refl, sym, subst, arith}
+use Rattle.std.specs.Prelude.{Result, Ok, Err, IfOk, OnErr}
+use Rattle.std.specs.declared.alloc.AllocError.{AllocError}
+use Rattle.lot_draft.specs.declared.fault.ModelFault.{ModelFault}
+use Rattle.lot_io.specs.Outside.{GrewBy, OnlyReads, Printed, Rose, Shelved}
+use Rattle.lotplan.specs.declared.said.Said.{Said}
+use Rattle.lotplan.specs.declared.status.Status.{Status}
+use Rattle.lotplan.specs.declared.status.Status.TheVariants.{Done, NoCommand}
+use Rattle.lotplan.specs.Command.{Asked, version, planning, judging}
+use Rattle.lotplan.specs.Status.{code_of}
+use Rattle.lotplan.specs.Saying.{Ends, Gains, Prints}
+use Rattle.lotplan.specs.Reading.{ReadAnswer, refused, missing, unread, too_long, read_status}
+use Rattle.lotplan.specs.Planning.{CannotPlan, FailsToWrite, FindsNoPlan, PlanAnswer, PlanExplains, PlansBest, StartsAtMost, plan_line, plan_status}
+use Rattle.lotplan.specs.Planning as plan
+use Rattle.lotplan.specs.Judging.{FindsFault, FindsFeasible, JudgeAnswer, JudgeExplains, judge_line, judge_status}
+use Rattle.lotplan.specs.Judging as judge
+use Rattle.lotplan.specs.Run.{CallFor, HadNoFault, IsNoCommand, IsRun, ran_out, runs, Leaves, RunsAs, SaysFor, Stops, refused_line, version_line}
+use Rattle.lotplan.proofs.Outputs.{printed, prints_as}
+use Rattle.lotplan.proofs.Readings.{IsReading, reading, same_reads}
+use Rattle.lotplan.proofs.Planned as planned
+use Rattle.lotplan.proofs.Judged as judged
 
--- printing what is said of an answer prints the answer
-prints : (answer : Answer) (said : Said) (status : ℕ) (old new : Printed) → Says answer said → PrintsSaid said status old new → Prints answer status old new
-prints answer said status old new says done =
-    ⊎_elim
-    (λ whole. inl (whole.0 ∙ says.status, λ t. whole.1 t ∙ ap (λ line. old.bytes ++ line) says.line))
-    (λ part. inr (part.0, part.1, λ t. subst (λ line. AppendsSome line old.bytes new.bytes) says.line (part.2 t)))
+-- ---- from what is said and printed to the run
+runs_as : (asked : Option Asked) (code : ℕ) (old new : Shelved) (out_old out_new : Printed) (said : Said) → SaysFor asked old new said → Ends (Ok said) code out_old out_new → RunsAs asked code old new out_old out_new
+runs_as None code old new out_old out_new said (same, says) done = (same, prints_as refused_line NoCommand said code out_old out_new says done)
+runs_as (Some version) code old new out_old out_new said (same, says) done = (same, prints_as version_line Done said code out_old out_new says done)
+runs_as (Some (planning m p c)) code old new out_old out_new said (answer, x, says) done = (answer, x, prints_as (plan_line answer) (plan_status answer) said code out_old out_new says done)
+runs_as (Some (judging m p)) code old new out_old out_new said ((answer, x, says), reads) done = (answer, x, reads, prints_as (judge_line answer) (judge_status answer) said code out_old out_new says done)
+
+pub is_run : (asked : Option Asked) (code : ℕ) (old new : Shelved) (out_old out_new : Printed) (r : Result Said AllocError) → IfOk r (SaysFor asked old new) → OnErr r (Leaves asked old new) → Ends r code out_old out_new → IsRun asked code old new out_old out_new
+is_run asked code old new out_old out_new (Ok said) says left done = runs (runs_as asked code old new out_old out_new said says done)
+is_run asked code old new out_old out_new (Err e) says left done = ran_out (record { is = done.0; left = left; silent = done.1 })
+
+-- ---- a run whose number is neither that of a failed print nor that of memory
+abbrev EndsAs : Option Asked → ℕ → Shelved → Shelved → Printed → Printed → Type 0
+EndsAs None code old new out_old out_new = (new ≡ old) × (code ≡ 4) × Gains refused_line out_old out_new
+EndsAs (Some version) code old new out_old out_new = (new ≡ old) × (code ≡ 0)
+EndsAs (Some (planning m p c)) code old new out_old out_new =
+    (answer : PlanAnswer) × PlanExplains m p old new answer × (code ≡ code_of (plan_status answer)) × Gains (plan_line answer) out_old out_new
+EndsAs (Some (judging m p)) code old new out_old out_new =
+    (answer : JudgeAnswer) × JudgeExplains m p old new answer × OnlyReads old new × (code ≡ code_of (judge_status answer)) × Gains (judge_line answer) out_old out_new
+
+ends_by : (asked : Option Asked) (code : ℕ) (old new : Shelved) (out_old out_new : Printed) → RunsAs asked code old new out_old out_new → code ≢ 9 → EndsAs asked code old new out_old out_new
+ends_by None code old new out_old out_new x other =
+    let d = printed refused_line NoCommand code out_old out_new x.1 other in
+    (x.0, d.0, d.1)
+ends_by (Some version) code old new out_old out_new x other = (x.0, (printed version_line Done code out_old out_new x.1 other).0)
+ends_by (Some (planning m p c)) code old new out_old out_new (answer, x, done) other =
+    let d = printed (plan_line answer) (plan_status answer) code out_old out_new done other in
+    (answer, x, d.0, d.1)
+ends_by (Some (judging m p)) code old new out_old out_new (answer, x, reads, done) other =
+    let d = printed (judge_line answer) (judge_status answer) code out_old out_new done other in
+    (answer, x, reads, d.0, d.1)
+
+ends : (asked : Option Asked) (code : ℕ) (old new : Shelved) (out_old out_new : Printed) → IsRun asked code old new out_old out_new → code ≢ 10 → code ≢ 9 → EndsAs asked code old new out_old out_new
+ends asked code old new out_old out_new (ran_out x) some other = absurd (some x.is)
+ends asked code old new out_old out_new (runs x) some other = ends_by asked code old new out_old out_new x other
+
+-- ---- what each number says
+optimal_by : (asked : Option Asked) (code : ℕ) (old new : Shelved) (out_old out_new : Printed) (m p c : List ℕ) → asked ≡ Some (planning m p c) → EndsAs asked code old new out_old out_new → code ≡ 0 → (IsTrue old.told → PlansBest old.file new.file m p out_old out_new) × GrewBy 1 old.starts new.starts
+optimal_by asked code old new out_old out_new m p c is x zero =
+    let (answer, why, number, line) = subst (λ a. EndsAs a code old new out_old out_new) is x in
+    planned.optimal_at m p code old new out_old out_new answer why number line zero
+
+pub optimal : (asked : Option Asked) (code : ℕ) (old new : Shelved) (out_old out_new : Printed) → IsRun asked code old new out_old out_new → (m p c : List ℕ) → asked ≡ Some (planning m p c) → code ≡ 0 → IsTrue old.told → PlansBest old.file new.file m p out_old out_new
+optimal asked code old new out_old out_new run m p c is zero t =
+    (optimal_by asked code old new out_old out_new m p c is (ends asked code old new out_old out_new run (λ e. omega (arith, e, zero)) (λ e. omega (arith, e, zero))) zero).0 t
+
+pub wrote : (asked : Option Asked) (code : ℕ) (old new : Shelved) (out_old out_new : Printed) → IsRun asked code old new out_old out_new → (m p c : List ℕ) → asked ≡ Some (planning m p c) → code ≡ 0 → GrewBy 1 old.starts new.starts
+wrote asked code old new out_old out_new run m p c is zero =
+    (optimal_by asked code old new out_old out_new m p c is (ends asked code old new out_old out_new run (λ e. omega (arith, e, zero)) (λ e. omega (arith, e, zero))) zero).1
+
+pub feasible : (asked : Option Asked) (code : ℕ) (old new : Shelved) (out_old out_new : Printed) → IsRun asked code old new out_old out_new → (m p : List ℕ) → asked ≡ Some (judging m p) → code ≡ 0 → IsTrue old.told → FindsFeasible old.file m p out_old out_new
+feasible asked code old new out_old out_new run m p is zero t =
+    let (answer, why, reads, number, line) = subst (λ a. EndsAs a code old new out_old out_new) is (ends asked code old new out_old out_new run (λ e. omega (arith, e, zero)) (λ e. omega (arith, e, zero))) in
+    judged.feasible_at m p code old new out_old out_new answer why number line zero t
+
+infeasible_by : (asked : Option Asked) (code : ℕ) (old new : Shelved) (out_old out_new : Printed) → EndsAs asked code old new out_old out_new → code ≡ 1 → IsTrue old.told → FindsNoPlan asked old.file out_old out_new
+infeasible_by None code old new out_old out_new x one t = absurd (omega (arith, x.1, one))
+infeasible_by (Some version) code old new out_old out_new x one t = absurd (omega (arith, x.1, one))
+infeasible_by (Some (planning m p c)) code old new out_old out_new (answer, why, number, line) one t =
+    let found = planned.impossible_at m p code old new out_old out_new answer why number line one t in
+    record { model_file = m; plan_file = p; words = record { certificate_file = c; is = refl }; holds = found.0; line = found.1 }
+infeasible_by (Some (judging m p)) code old new out_old out_new (answer, why, reads, number, line) one t = absurd ((judged.numbers answer code number).one one)
+
+pub infeasible : (asked : Option Asked) (code : ℕ) (old new : Shelved) (out_old out_new : Printed) → IsRun asked code old new out_old out_new → code ≡ 1 → IsTrue old.told → FindsNoPlan asked old.file out_old out_new
+infeasible asked code old new out_old out_new run is t = infeasible_by asked code old new out_old out_new (ends asked code old new out_old out_new run (λ e. omega (arith, e, is)) (λ e. omega (arith, e, is))) is t
+
+coupled_by : (asked : Option Asked) (code : ℕ) (old new : Shelved) (out_old out_new : Printed) → EndsAs asked code old new out_old out_new → code ≡ 12 → IsTrue old.told → CannotPlan asked old.file out_old out_new
+coupled_by None code old new out_old out_new x twelve t = absurd (omega (arith, x.1, twelve))
+coupled_by (Some version) code old new out_old out_new x twelve t = absurd (omega (arith, x.1, twelve))
+coupled_by (Some (planning m p c)) code old new out_old out_new (answer, why, number, line) twelve t =
+    let found = planned.coupled_at m p code old new out_old out_new answer why number line twelve t in
+    record { model_file = m; plan_file = p; words = record { certificate_file = c; is = refl }; holds = found.0; line = found.1 }
+coupled_by (Some (judging m p)) code old new out_old out_new (answer, why, reads, number, line) twelve t = absurd ((judged.numbers answer code number).twelve twelve)
+
+pub not_built : (asked : Option Asked) (code : ℕ) (old new : Shelved) (out_old out_new : Printed) → IsRun asked code old new out_old out_new → code ≡ 12 → IsTrue old.told → CannotPlan asked old.file out_old out_new
+not_built asked code old new out_old out_new run is t = coupled_by asked code old new out_old out_new (ends asked code old new out_old out_new run (λ e. omega (arith, e, is)) (λ e. omega (arith, e, is))) is t
+
+faulty_by : (asked : Option Asked) (code : ℕ) (old new : Shelved) (out_old out_new : Printed) → EndsAs asked code old new out_old out_new → code ≡ 3 → IsTrue old.told → FindsFault asked old.file out_old out_new
+faulty_by None code old new out_old out_new x three t = absurd (omega (arith, x.1, three))
+faulty_by (Some version) code old new out_old out_new x three t = absurd (omega (arith, x.1, three))
+faulty_by (Some (planning m p c)) code old new out_old out_new (answer, why, number, line) three t = planned.not_three answer code number three
+faulty_by (Some (judging m p)) code old new out_old out_new (answer, why, reads, number, line) three t = judged.fault_at m p code old new out_old out_new answer why number line three t
+
+pub faulty : (asked : Option Asked) (code : ℕ) (old new : Shelved) (out_old out_new : Printed) → IsRun asked code old new out_old out_new → code ≡ 3 → IsTrue old.told → FindsFault asked old.file out_old out_new
+faulty asked code old new out_old out_new run is t = faulty_by asked code old new out_old out_new (ends asked code old new out_old out_new run (λ e. omega (arith, e, is)) (λ e. omega (arith, e, is))) is t
+
+unwritten_by : (asked : Option Asked) (code : ℕ) (old new : Shelved) (out_old out_new : Printed) → EndsAs asked code old new out_old out_new → code ≡ 8 → FailsToWrite asked old new out_old out_new
+unwritten_by None code old new out_old out_new x eight = absurd (omega (arith, x.1, eight))
+unwritten_by (Some version) code old new out_old out_new x eight = absurd (omega (arith, x.1, eight))
+unwritten_by (Some (planning m p c)) code old new out_old out_new (answer, why, number, line) eight = planned.unwritten_at m p c code old new out_old out_new answer why number line eight
+unwritten_by (Some (judging m p)) code old new out_old out_new (answer, why, reads, number, line) eight = absurd ((judged.numbers answer code number).eight eight)
+
+pub unwritten : (asked : Option Asked) (code : ℕ) (old new : Shelved) (out_old out_new : Printed) → IsRun asked code old new out_old out_new → code ≡ 8 → FailsToWrite asked old new out_old out_new
+unwritten asked code old new out_old out_new run is = unwritten_by asked code old new out_old out_new (ends asked code old new out_old out_new run (λ e. omega (arith, e, is)) (λ e. omega (arith, e, is))) is
+
+plan_not_four : {A : Type 0} (answer : PlanAnswer) (code : ℕ) → code ≡ code_of (plan_status answer) → code ≡ 4 → A
+plan_not_four (plan.optimal amount) code is four = absurd (omega (arith, is, four))
+plan_not_four plan.infeasible code is four = absurd (omega (arith, is, four))
+plan_not_four plan.not_built code is four = absurd (omega (arith, is, four))
+plan_not_four (plan.unwritten file) code is four = absurd (omega (arith, is, four))
+plan_not_four (plan.stopped why) code is four = absurd (omega (arith, (reading why code is).low, four))
+
+judge_not_four : {A : Type 0} (answer : JudgeAnswer) (code : ℕ) → code ≡ code_of (judge_status answer) → code ≡ 4 → A
+judge_not_four (judge.feasible amount) code is four = absurd (omega (arith, is, four))
+judge_not_four (judge.no_plan fault) code is four = absurd (omega (arith, is, four))
+judge_not_four (judge.broken rule) code is four = absurd (omega (arith, is, four))
+judge_not_four (judge.stopped why) code is four = absurd (omega (arith, (reading why code is).low, four))
+
+no_command_by : (asked : Option Asked) (code : ℕ) (old new : Shelved) (out_old out_new : Printed) → EndsAs asked code old new out_old out_new → code ≡ 4 → IsNoCommand asked out_old out_new
+no_command_by None code old new out_old out_new x four = record { is = refl; line = x.2 }
+no_command_by (Some version) code old new out_old out_new x four = absurd (omega (arith, x.1, four))
+no_command_by (Some (planning m p c)) code old new out_old out_new (answer, why, number, line) four = plan_not_four answer code number four
+no_command_by (Some (judging m p)) code old new out_old out_new (answer, why, reads, number, line) four = judge_not_four answer code number four
+
+pub no_command : (asked : Option Asked) (code : ℕ) (old new : Shelved) (out_old out_new : Printed) → IsRun asked code old new out_old out_new → code ≡ 4 → IsNoCommand asked out_old out_new
+no_command asked code old new out_old out_new run is = no_command_by asked code old new out_old out_new (ends asked code old new out_old out_new run (λ e. omega (arith, e, is)) (λ e. omega (arith, e, is))) is
+
+-- ---- files that give nothing to go on with
+abbrev SomeStop : Option Asked → ℕ → Shelved → Shelved → Printed → Printed → Type 0
+SomeStop asked code old new out_old out_new = (why : ReadAnswer) × Stops asked old new out_old out_new why × (code ≡ code_of (read_status why))
+
+plan_stop : (m p c : List ℕ) (code : ℕ) (old new : Shelved) (out_old out_new : Printed) (answer : PlanAnswer) → PlanExplains m p old new answer → code ≡ code_of (plan_status answer) → Gains (plan_line answer) out_old out_new → IsReading code → SomeStop (Some (planning m p c)) code old new out_old out_new
+plan_stop m p c code old new out_old out_new (plan.optimal amount) x is line r = absurd (omega (arith, is, r.low))
+plan_stop m p c code old new out_old out_new plan.infeasible x is line r = absurd (omega (arith, is, r.low))
+plan_stop m p c code old new out_old out_new plan.not_built x is line r = absurd (omega (arith, is, r.high))
+plan_stop m p c code old new out_old out_new (plan.unwritten file) x is line r = absurd (r.other is)
+plan_stop m p c code old new out_old out_new (plan.stopped why) x is line r = (why, record { cause = x.0; line = line }, is)
+
+judge_stop : (m p : List ℕ) (code : ℕ) (old new : Shelved) (out_old out_new : Printed) (answer : JudgeAnswer) → JudgeExplains m p old new answer → code ≡ code_of (judge_status answer) → Gains (judge_line answer) out_old out_new → IsReading code → SomeStop (Some (judging m p)) code old new out_old out_new
+judge_stop m p code old new out_old out_new (judge.feasible amount) x is line r = absurd (omega (arith, is, r.low))
+judge_stop m p code old new out_old out_new (judge.no_plan fault) x is line r = absurd (omega (arith, is, r.low))
+judge_stop m p code old new out_old out_new (judge.broken rule) x is line r = absurd (omega (arith, is, r.low))
+judge_stop m p code old new out_old out_new (judge.stopped why) x is line r = (why, record { cause = x; line = line }, is)
+
+stop_by : (asked : Option Asked) (code : ℕ) (old new : Shelved) (out_old out_new : Printed) → EndsAs asked code old new out_old out_new → IsReading code → SomeStop asked code old new out_old out_new
+stop_by None code old new out_old out_new x r = absurd (omega (arith, x.1, r.low))
+stop_by (Some version) code old new out_old out_new x r = absurd (omega (arith, x.1, r.low))
+stop_by (Some (planning m p c)) code old new out_old out_new (answer, why, number, line) r = plan_stop m p c code old new out_old out_new answer why number line r
+stop_by (Some (judging m p)) code old new out_old out_new (answer, why, reads, number, line) r = judge_stop m p code old new out_old out_new answer why number line r
+
+stop : (asked : Option Asked) (code : ℕ) (old new : Shelved) (out_old out_new : Printed) → IsRun asked code old new out_old out_new → IsReading code → code ≢ 9 → code ≢ 10 → SomeStop asked code old new out_old out_new
+stop asked code old new out_old out_new run r nine ten = stop_by asked code old new out_old out_new (ends asked code old new out_old out_new run ten nine) r
+
+pub refuses : (asked : Option Asked) (code : ℕ) (old new : Shelved) (out_old out_new : Printed) → IsRun asked code old new out_old out_new → code ≡ 5 → (fault : ModelFault) × Stops asked old new out_old out_new (refused fault)
+refuses asked code old new out_old out_new run is = pick (stop asked code old new out_old out_new run (record { low = omega (arith, is); high = omega (arith, is); other = λ e. omega (arith, is, e) }) (λ e. omega (arith, is, e)) (λ e. omega (arith, is, e)))
+  where
+    pick : SomeStop asked code old new out_old out_new → (fault : ModelFault) × Stops asked old new out_old out_new (refused fault)
+    pick (refused fault, x, number) = (fault, x)
+    pick (missing file, x, number) = absurd (omega (arith, is, number))
+    pick (unread file, x, number) = absurd (omega (arith, is, number))
+    pick (too_long file, x, number) = absurd (omega (arith, is, number))
+
+pub misses : (asked : Option Asked) (code : ℕ) (old new : Shelved) (out_old out_new : Printed) → IsRun asked code old new out_old out_new → code ≡ 6 → (file : List ℕ) × Stops asked old new out_old out_new (missing file)
+misses asked code old new out_old out_new run is = pick (stop asked code old new out_old out_new run (record { low = omega (arith, is); high = omega (arith, is); other = λ e. omega (arith, is, e) }) (λ e. omega (arith, is, e)) (λ e. omega (arith, is, e)))
+  where
+    pick : SomeStop asked code old new out_old out_new → (file : List ℕ) × Stops asked old new out_old out_new (missing file)
+    pick (refused fault, x, number) = absurd (omega (arith, is, number))
+    pick (missing file, x, number) = (file, x)
+    pick (unread file, x, number) = absurd (omega (arith, is, number))
+    pick (too_long file, x, number) = absurd (omega (arith, is, number))
+
+pub fails_to_read : (asked : Option Asked) (code : ℕ) (old new : Shelved) (out_old out_new : Printed) → IsRun asked code old new out_old out_new → code ≡ 7 → (file : List ℕ) × Stops asked old new out_old out_new (unread file)
+fails_to_read asked code old new out_old out_new run is = pick (stop asked code old new out_old out_new run (record { low = omega (arith, is); high = omega (arith, is); other = λ e. omega (arith, is, e) }) (λ e. omega (arith, is, e)) (λ e. omega (arith, is, e)))
+  where
+    pick : SomeStop asked code old new out_old out_new → (file : List ℕ) × Stops asked old new out_old out_new (unread file)
+    pick (refused fault, x, number) = absurd (omega (arith, is, number))
+    pick (missing file, x, number) = absurd (omega (arith, is, number))
+    pick (unread file, x, number) = (file, x)
+    pick (too_long file, x, number) = absurd (omega (arith, is, number))
+
+pub is_long : (asked : Option Asked) (code : ℕ) (old new : Shelved) (out_old out_new : Printed) → IsRun asked code old new out_old out_new → code ≡ 11 → (file : List ℕ) × Stops asked old new out_old out_new (too_long file)
+is_long asked code old new out_old out_new run is = pick (stop asked code old new out_old out_new run (record { low = omega (arith, is); high = omega (arith, is); other = λ e. omega (arith, is, e) }) (λ e. omega (arith, is, e)) (λ e. omega (arith, is, e)))
+  where
+    pick : SomeStop asked code old new out_old out_new → (file : List ℕ) × Stops asked old new out_old out_new (too_long file)
+    pick (refused fault, x, number) = absurd (omega (arith, is, number))
+    pick (missing file, x, number) = absurd (omega (arith, is, number))
+    pick (unread file, x, number) = absurd (omega (arith, is, number))
+    pick (too_long file, x, number) = (file, x)
+
+-- ---- printing that failed, and none
+pub record IsShown (code : ℕ) : Type 0 where
+  pub nine : code ≢ 9
+  pub ten : code ≢ 10
+
+read_shown : (why : ReadAnswer) → IsShown (code_of (read_status why))
+read_shown (refused fault) = record { nine = λ e. omega (arith, e); ten = λ e. omega (arith, e) }
+read_shown (missing file) = record { nine = λ e. omega (arith, e); ten = λ e. omega (arith, e) }
+read_shown (unread file) = record { nine = λ e. omega (arith, e); ten = λ e. omega (arith, e) }
+read_shown (too_long file) = record { nine = λ e. omega (arith, e); ten = λ e. omega (arith, e) }
+
+plan_shown : (answer : PlanAnswer) → IsShown (code_of (plan_status answer))
+plan_shown (plan.optimal amount) = record { nine = λ e. omega (arith, e); ten = λ e. omega (arith, e) }
+plan_shown plan.infeasible = record { nine = λ e. omega (arith, e); ten = λ e. omega (arith, e) }
+plan_shown plan.not_built = record { nine = λ e. omega (arith, e); ten = λ e. omega (arith, e) }
+plan_shown (plan.unwritten file) = record { nine = λ e. omega (arith, e); ten = λ e. omega (arith, e) }
+plan_shown (plan.stopped why) = read_shown why
+
+judge_shown : (answer : JudgeAnswer) → IsShown (code_of (judge_status answer))
+judge_shown (judge.feasible amount) = record { nine = λ e. omega (arith, e); ten = λ e. omega (arith, e) }
+judge_shown (judge.no_plan fault) = record { nine = λ e. omega (arith, e); ten = λ e. omega (arith, e) }
+judge_shown (judge.broken rule) = record { nine = λ e. omega (arith, e); ten = λ e. omega (arith, e) }
+judge_shown (judge.stopped why) = read_shown why
+
+-- a failed print raised its count, and no print ends with the number of memory
+pub record IsPrint (code : ℕ) (old new : Printed) : Type 0 where
+  pub failed : code ≡ 9 → Rose old.faults new.faults
+  pub ten : code ≢ 10
+
+print_of : (text : List ℕ) (ending : Status) (code : ℕ) (old new : Printed) → IsShown (code_of ending) → Prints text ending code old new → IsPrint code old new
+print_of text ending code old new shown done = ⊎_elim
+    (λ whole. record { failed = λ nine. absurd (shown.nine (sym whole.0 ∙ nine)); ten = λ e. shown.ten (sym whole.0 ∙ e) })
+    (λ part. record { failed = λ _. part.1; ten = λ e. omega (arith, part.0, e) })
     done
 
-pub is_run : (words : List (List ℕ)) (status : ℕ) (old new : Shelved) (out_old out_new : Printed) (said : Said) → SaysSome (Explains (command_of words) old new) said → PrintsSaid said status out_old out_new → IsRun words status old new out_old out_new
-is_run words status old new out_old out_new said some done = record { answer = some.0; explains = some.1; prints = prints some.0 said status out_old out_new some.2 done }
+print_by : (asked : Option Asked) (code : ℕ) (old new : Shelved) (out_old out_new : Printed) → RunsAs asked code old new out_old out_new → IsPrint code out_old out_new
+print_by None code old new out_old out_new x = print_of refused_line NoCommand code out_old out_new (record { nine = λ e. omega (arith, e); ten = λ e. omega (arith, e) }) x.1
+print_by (Some version) code old new out_old out_new x = print_of version_line Done code out_old out_new (record { nine = λ e. omega (arith, e); ten = λ e. omega (arith, e) }) x.1
+print_by (Some (planning m p c)) code old new out_old out_new (answer, x, done) = print_of (plan_line answer) (plan_status answer) code out_old out_new (plan_shown answer) done
+print_by (Some (judging m p)) code old new out_old out_new (answer, x, reads, done) = print_of (judge_line answer) (judge_status answer) code out_old out_new (judge_shown answer) done
 
-no_memory_explains : (asked : Option Asked) (old new : Shelved) → new.file ≡ old.file → Explains asked old new no_memory
-no_memory_explains None old new same = (inr refl, same)
-no_memory_explains (Some version) old new same = (inr refl, same)
-no_memory_explains (Some (planning m p c)) old new same = same
-no_memory_explains (Some (judging m p)) old new same = same
+pub unprinted : (asked : Option Asked) (code : ℕ) (old new : Shelved) (out_old out_new : Printed) → IsRun asked code old new out_old out_new → code ≡ 9 → Rose out_old.faults out_new.faults
+unprinted asked code old new out_old out_new (ran_out x) nine = absurd (omega (arith, x.is, nine))
+unprinted asked code old new out_old out_new (runs x) nine = (print_by asked code old new out_old out_new x).failed nine
 
-append_none : (xs : List ℕ) → xs ≡ xs ++ []
-append_none xs = search rules
+pub silent : (asked : Option Asked) (code : ℕ) (old new : Shelved) (out_old out_new : Printed) → IsRun asked code old new out_old out_new → code ≡ 10 → out_new ≡ out_old
+silent asked code old new out_old out_new (ran_out x) ten = x.silent
+silent asked code old new out_old out_new (runs x) ten = absurd ((print_by asked code old new out_old out_new x).ten ten)
 
--- a run that found no memory
-pub no_memory_run : (words : List (List ℕ)) (old new : Shelved) (out : Printed) → new.file ≡ old.file → IsRun words 10 old new out out
-no_memory_run words old new out same = record { answer = no_memory; explains = no_memory_explains (command_of words) old new same; prints = inl (refl, λ _. append_none out.bytes) }
+-- ---- what is written and read
+leaves_reads : (asked : Option Asked) (old new : Shelved) → Leaves asked old new → OnlyReads old new
+leaves_reads None old new x = same_reads old new x
+leaves_reads (Some version) old new x = same_reads old new x
+leaves_reads (Some (planning m p c)) old new x = x
+leaves_reads (Some (judging m p)) old new x = x
 
--- status 0 of `plan`
-pub plans_best : (words : List (List ℕ)) (status : ℕ) (old new : Shelved) (out_old out_new : Printed) → IsRun words status old new out_old out_new → (m p c : List ℕ) → command_of words ≡ Some (planning m p c) → status ≡ 0 → IsTrue old.told → PlansBest old.file new.file m p out_old out_new
-plans_best words status old new out_old out_new run m p c asked zero t =
-    optimal_at m p status old new out_old out_new run.answer (subst (λ k. Explains k old new run.answer) asked run.explains) run.prints zero t
+quiet_by : (asked : Option Asked) (code : ℕ) (old new : Shelved) (out_old out_new : Printed) → EndsAs asked code old new out_old out_new → code ≢ 0 → code ≢ 8 → OnlyReads old new
+quiet_by None code old new out_old out_new x some eight = same_reads old new x.0
+quiet_by (Some version) code old new out_old out_new x some eight = same_reads old new x.0
+quiet_by (Some (planning m p c)) code old new out_old out_new (answer, why, number, line) some eight = planned.quiet_at m p code old new answer why number some eight
+quiet_by (Some (judging m p)) code old new out_old out_new (answer, why, reads, number, line) some eight = reads
 
--- status 0 of `judge`
-pub finds_feasible : (words : List (List ℕ)) (status : ℕ) (old new : Shelved) (out_old out_new : Printed) → IsRun words status old new out_old out_new → (m p : List ℕ) → command_of words ≡ Some (judging m p) → status ≡ 0 → IsTrue old.told → FindsFeasible old.file m p out_old out_new
-finds_feasible words status old new out_old out_new run m p asked zero t =
-    feasible_at m p status old new out_old out_new run.answer (subst (λ k. Explains k old new run.answer) asked run.explains) run.prints zero t
+pub quiet : (asked : Option Asked) (code : ℕ) (old new : Shelved) (out_old out_new : Printed) → IsRun asked code old new out_old out_new → code ≢ 0 → code ≢ 8 → code ≢ 9 → OnlyReads old new
+quiet asked code old new out_old out_new (ran_out x) some eight nine = leaves_reads asked old new x.left
+quiet asked code old new out_old out_new (runs x) some eight nine = quiet_by asked code old new out_old out_new (ends_by asked code old new out_old out_new x nine) some eight
 
-fault_by : (words : List (List ℕ)) (asked : Option Asked) (status : ℕ) (old new : Shelved) (out_old out_new : Printed) (answer : Answer) → command_of words ≡ asked → Explains asked old new answer → Prints answer status out_old out_new → status ≡ 3 → IsTrue old.told → FindsFault words old.file out_old out_new
-fault_by words None status old new out_old out_new answer same x done is t = not_there answer status out_old out_new done (λ e. ⊎_elim (λ a. omega (arith, e, is, ap status_of a)) (λ a. omega (arith, e, is, ap status_of a)) x.0) (λ e. omega (arith, e, is))
-fault_by words (Some version) status old new out_old out_new answer same x done is t = not_there answer status out_old out_new done (λ e. ⊎_elim (λ a. omega (arith, e, is, ap status_of a)) (λ a. omega (arith, e, is, ap status_of a)) x.0) (λ e. omega (arith, e, is))
-fault_by words (Some (planning m p c)) status old new out_old out_new answer same x done is t = no_fault_at m p status old new out_old out_new answer x done is
-fault_by words (Some (judging m p)) status old new out_old out_new answer same x done is t = fault_at words m p status old new out_old out_new answer same x done is t
+others_by : (code : ℕ) (old new : Shelved) (out_old out_new : Printed) (m p c : List ℕ) → IsRun (Some (planning m p c)) code old new out_old out_new → StartsAtMost p old new
+others_by code old new out_old out_new m p c (ran_out x) = planned.reads_at_most p old new x.left
+others_by code old new out_old out_new m p c (runs (answer, x, done)) = (planned.others_at m p old new answer x).0
 
-pub finds_fault : (words : List (List ℕ)) (status : ℕ) (old new : Shelved) (out_old out_new : Printed) → IsRun words status old new out_old out_new → status ≡ 3 → IsTrue old.told → FindsFault words old.file out_old out_new
-finds_fault words status old new out_old out_new run is t = fault_by words (command_of words) status old new out_old out_new run.answer refl run.explains run.prints is t
+pub others : (asked : Option Asked) (code : ℕ) (old new : Shelved) (out_old out_new : Printed) → IsRun asked code old new out_old out_new → (m p c : List ℕ) → asked ≡ Some (planning m p c) → StartsAtMost p old new
+others asked code old new out_old out_new run m p c is = others_by code old new out_old out_new m p c (subst (λ a. IsRun a code old new out_old out_new) is run)
 
--- only planning ends in these
-finds_by : (words : List (List ℕ)) (asked : Option Asked) (status : ℕ) (old new : Shelved) (out_old out_new : Printed) (answer : Answer) → command_of words ≡ asked → Explains asked old new answer → Prints answer status out_old out_new → status ≡ 1 → IsTrue old.told → FindsNoPlan words old.file out_old out_new
-finds_by words None status old new out_old out_new answer same x done is t = not_there answer status out_old out_new done (λ e. ⊎_elim (λ a. omega (arith, e, is, ap status_of a)) (λ a. omega (arith, e, is, ap status_of a)) x.0) (λ e. omega (arith, e, is))
-finds_by words (Some version) status old new out_old out_new answer same x done is t = not_there answer status out_old out_new done (λ e. ⊎_elim (λ a. omega (arith, e, is, ap status_of a)) (λ a. omega (arith, e, is, ap status_of a)) x.0) (λ e. omega (arith, e, is))
-finds_by words (Some (planning m p c)) status old new out_old out_new answer same x done is t =
-    let found = impossible_at m p status old new out_old out_new answer x done is t in
-    record { model_file = m; asked = record { plan_file = p; certificate_file = c; is = same }; holds = found.0; line = found.1 }
-finds_by words (Some (judging m p)) status old new out_old out_new answer same x done is t = no_judged m p status old new out_old out_new answer x done (inl is)
+judging_by : (code : ℕ) (old new : Shelved) (out_old out_new : Printed) (m p : List ℕ) → IsRun (Some (judging m p)) code old new out_old out_new → OnlyReads old new
+judging_by code old new out_old out_new m p (ran_out x) = x.left
+judging_by code old new out_old out_new m p (runs (answer, x, reads, done)) = reads
 
--- status 1
-pub finds_none : (words : List (List ℕ)) (status : ℕ) (old new : Shelved) (out_old out_new : Printed) → IsRun words status old new out_old out_new → status ≡ 1 → IsTrue old.told → FindsNoPlan words old.file out_old out_new
-finds_none words status old new out_old out_new run is t = finds_by words (command_of words) status old new out_old out_new run.answer refl run.explains run.prints is t
+pub judge_reads : (asked : Option Asked) (code : ℕ) (old new : Shelved) (out_old out_new : Printed) → IsRun asked code old new out_old out_new → (m p : List ℕ) → asked ≡ Some (judging m p) → OnlyReads old new
+judge_reads asked code old new out_old out_new run m p is = judging_by code old new out_old out_new m p (subst (λ a. IsRun a code old new out_old out_new) is run)
 
-cannot_by : (words : List (List ℕ)) (asked : Option Asked) (status : ℕ) (old new : Shelved) (out_old out_new : Printed) (answer : Answer) → command_of words ≡ asked → Explains asked old new answer → Prints answer status out_old out_new → status ≡ 12 → IsTrue old.told → CannotPlan words old.file
-cannot_by words None status old new out_old out_new answer same x done is t = not_there answer status out_old out_new done (λ e. ⊎_elim (λ a. omega (arith, e, is, ap status_of a)) (λ a. omega (arith, e, is, ap status_of a)) x.0) (λ e. omega (arith, e, is))
-cannot_by words (Some version) status old new out_old out_new answer same x done is t = not_there answer status out_old out_new done (λ e. ⊎_elim (λ a. omega (arith, e, is, ap status_of a)) (λ a. omega (arith, e, is, ap status_of a)) x.0) (λ e. omega (arith, e, is))
-cannot_by words (Some (planning m p c)) status old new out_old out_new answer same x done is t =
-    record { model_file = m; asked = record { plan_file = p; certificate_file = c; is = same }; holds = coupled_at m p status old new out_old out_new answer x done is t }
-cannot_by words (Some (judging m p)) status old new out_old out_new answer same x done is t = no_judged m p status old new out_old out_new answer x done (inr is)
+idle_by : (code : ℕ) (old new : Shelved) (out_old out_new : Printed) → IsRun None code old new out_old out_new → new ≡ old
+idle_by code old new out_old out_new (ran_out x) = x.left
+idle_by code old new out_old out_new (runs x) = x.0
 
--- status 12
-pub cannot_plan : (words : List (List ℕ)) (status : ℕ) (old new : Shelved) (out_old out_new : Printed) → IsRun words status old new out_old out_new → status ≡ 12 → IsTrue old.told → CannotPlan words old.file
-cannot_plan words status old new out_old out_new run is t = cannot_by words (command_of words) status old new out_old out_new run.answer refl run.explains run.prints is t
+pub idle : (asked : Option Asked) (code : ℕ) (old new : Shelved) (out_old out_new : Printed) → IsRun asked code old new out_old out_new → asked ≡ None → new ≡ old
+idle asked code old new out_old out_new run is = idle_by code old new out_old out_new (subst (λ a. IsRun a code old new out_old out_new) is run)
 
-called_by : (asked : Option Asked) (status : ℕ) (old new : Shelved) (out_old out_new : Printed) → HadNoFault old new out_old out_new → IsTrue old.told → (answer : Answer) → Explains asked old new answer → status ≡ status_of answer → (status ≡ 10) ⊎ CallFor asked old.file status
-called_by None status old new out_old out_new fine t answer x is = ⊎_elim (λ e. inr (is ∙ ap status_of e)) (λ e. inl (is ∙ ap status_of e)) x.0
-called_by (Some version) status old new out_old out_new fine t answer x is = ⊎_elim (λ e. inr (is ∙ ap status_of e)) (λ e. inl (is ∙ ap status_of e)) x.0
-called_by (Some (planning m p c)) status old new out_old out_new fine t answer x is = called_at m p status old new out_old out_new fine t answer x is
-called_by (Some (judging m p)) status old new out_old out_new fine t answer x is = judged_at m p status old new out_old out_new fine t answer x is
+told_by : (asked : Option Asked) (code : ℕ) (old new : Shelved) (out_old out_new : Printed) → RunsAs asked code old new out_old out_new → new.told ≡ old.told
+told_by None code old new out_old out_new x = (same_reads old new x.0).told
+told_by (Some version) code old new out_old out_new x = (same_reads old new x.0).told
+told_by (Some (planning m p c)) code old new out_old out_new (answer, x, done) = (planned.others_at m p old new answer x).1
+told_by (Some (judging m p)) code old new out_old out_new (answer, x, reads, done) = reads.told
 
--- the status without a fault
-pub called : (words : List (List ℕ)) (status : ℕ) (old new : Shelved) (out_old out_new : Printed) → IsRun words status old new out_old out_new → IsTrue old.told → HadNoFault old new out_old out_new → (status ≡ 10) ⊎ CallFor (command_of words) old.file status
-called words status old new out_old out_new run t fine =
-    ⊎_elim (λ whole. called_by (command_of words) status old new out_old out_new fine t run.answer run.explains whole.0) (λ part. absurd (fine.put part.1)) run.prints
+pub tells : (asked : Option Asked) (code : ℕ) (old new : Shelved) (out_old out_new : Printed) → IsRun asked code old new out_old out_new → new.told ≡ old.told
+tells asked code old new out_old out_new (ran_out x) = (leaves_reads asked old new x.left).told
+tells asked code old new out_old out_new (runs x) = told_by asked code old new out_old out_new x
 
-unchanged_by : (asked : Option Asked) (status : ℕ) (old new : Shelved) (answer : Answer) → Explains asked old new answer → status ≡ status_of answer → status ≢ 0 → status ≢ 8 → new.file ≡ old.file
-unchanged_by None status old new answer x is some other = x.1
-unchanged_by (Some version) status old new answer x is some other = x.1
-unchanged_by (Some (planning m p c)) status old new answer x is some other = unchanged_at m p status old new answer x is some other
-unchanged_by (Some (judging m p)) status old new answer x is some other = judged_same m p old new answer x
+-- ---- what is called for
+called_by : (asked : Option Asked) (code : ℕ) (old new : Shelved) (out_old out_new : Printed) → HadNoFault old new out_old out_new → IsTrue old.told → EndsAs asked code old new out_old out_new → CallFor asked old.file code
+called_by None code old new out_old out_new fine t x = x.1
+called_by (Some version) code old new out_old out_new fine t x = x.1
+called_by (Some (planning m p c)) code old new out_old out_new fine t (answer, x, number, line) = planned.called_at m p code old new out_old out_new fine t answer x number
+called_by (Some (judging m p)) code old new out_old out_new fine t (answer, x, reads, number, line) = judged.called_at m p code old new out_old out_new fine t answer x number
 
--- files stay on each status but 0, 8 and 9
-pub unchanged : (words : List (List ℕ)) (status : ℕ) (old new : Shelved) (out_old out_new : Printed) → IsRun words status old new out_old out_new → status ≢ 0 → status ≢ 8 → status ≢ 9 → new.file ≡ old.file
-unchanged words status old new out_old out_new run some eight nine =
-    ⊎_elim (λ whole. unchanged_by (command_of words) status old new run.answer run.explains whole.0 some eight) (λ part. absurd (nine part.0)) run.prints
+pub called : (asked : Option Asked) (code : ℕ) (old new : Shelved) (out_old out_new : Printed) → IsRun asked code old new out_old out_new → IsTrue old.told → HadNoFault old new out_old out_new → (code ≡ 10) ⊎ CallFor asked old.file code
+called asked code old new out_old out_new (ran_out x) t fine = inl x.is
+called asked code old new out_old out_new (runs x) t fine =
+    inr (called_by asked code old new out_old out_new fine t (ends_by asked code old new out_old out_new x (λ nine. fine.put ((print_by asked code old new out_old out_new x).failed nine))))

@@ -1,4 +1,5 @@
 pub mod Outputs
+pub mod Readings
 pub mod Planned
 pub mod Judged
 pub mod Explained

@@ -1,13 +1,15 @@
--- What a printed line says of a run's status.
-use Rattle.std.proofs.Common.{◌≡◌, ◌≢◌, ⊎_elim, ◌++◌, ℕ, IsTrue}
-use Rattle.lotplan.specs.Answer.{Answer, line_of, status_of}
-use Rattle.lotplan.specs.Run.{Printed, Prints}
+-- What is said is what is printed.
+use Rattle.std.proofs.Common.{◌≡◌, ◌≢◌, ⊎_elim, ℕ, List, subst}
+use Rattle.std.specs.Prelude.{string_bytes}
+use Rattle.lot_io.specs.Outside.{Printed}
+use Rattle.lotplan.specs.Status.{code_of}
+use Rattle.lotplan.specs.Saying.{Gains, IsSaid, Prints}
+use Rattle.lotplan.specs.declared.said.Said.{Said}
+use Rattle.lotplan.specs.declared.status.Status.{Status}
 
--- ---- statuses
--- the status is that of an answer, or 9
-pub not_there : {A : Type 0} (answer : Answer) (status : ℕ) (old new : Printed) → Prints answer status old new → (status ≡ status_of answer → ⊥) → (status ≡ 9 → ⊥) → A
-not_there answer status old new done one other = absurd (⊎_elim (λ whole. one whole.0) (λ part. other part.0) done)
+pub prints_as : (text : List ℕ) (ending : Status) (said : Said) (code : ℕ) (old new : Printed) → IsSaid text ending said → Prints (string_bytes said.line) said.status code old new → Prints text ending code old new
+prints_as text ending said code old new is done = subst (λ e. Prints text e code old new) is.status (subst (λ t. Prints t said.status code old new) is.line done)
 
--- the line, where the status isn't 9
-pub line_there : (answer : Answer) (status : ℕ) (old new : Printed) → Prints answer status old new → status ≢ 9 → IsTrue old.told → new.bytes ≡ old.bytes ++ line_of answer
-line_there answer status old new done other = ⊎_elim (λ whole. whole.1) (λ part. absurd (other part.0)) done
+-- where printing didn't fail, the number is that of the status, and the line is there
+pub printed : (text : List ℕ) (ending : Status) (code : ℕ) (old new : Printed) → Prints text ending code old new → code ≢ 9 → (code ≡ code_of ending) × Gains text old new
+printed text ending code old new done other = ⊎_elim (λ whole. whole) (λ part. absurd (other part.0)) done

@@ -10,11 +10,14 @@ use Rattle.lot_io.specs.Outside.{Files}
 use Rattle.lot_draft.specs.declared.fault.ModelFault.{ModelFault}
 use Rattle.lot_draft.proofs.Limits.{plain}
 use Rattle.instance_reader.specs.Model.{BytesMean}
+use Rattle.instance_reader.specs.declared.versions.TheConstants.{NEWEST_VERSION}
 use Rattle.instance_reader.proofs.Meanings.{bytes_one}
 use Rattle.plan_file.specs.Records.{IsPlanOf, records_of}
 use Rattle.plan_file.proofs.Meanings.{means_one}
 use Rattle.lotplan.specs.Command.{Asked, version, planning, judging}
-use Rattle.lotplan.specs.Run.{AreBroken, AreFeasible, AreNoPlan, BytesCallFor, CallFor, FileCallsFor, JudgeCallsFor, PlanCallsFor, ProblemCallsFor}
+use Rattle.lotplan.specs.Planning.{BytesCallFor, FileCallsFor, ProblemCallsFor}
+use Rattle.lotplan.specs.Judging.{AreBroken, AreFeasible, AreNoPlan, JudgeCallsFor, PlanCallsFor}
+use Rattle.lotplan.specs.Run.{CallFor}
 
 problem_one : (m : Problem) (s t : ℕ) → ProblemCallsFor m s → ProblemCallsFor m t → s ≡ t
 problem_one m s t a b = ⊎_elim
@@ -30,10 +33,10 @@ problem_one m s t a b = ⊎_elim
 
 -- no bytes mean two problems, or a problem and a fault
 one_problem : (bytes : List ℕ) (m n : Problem) → BytesMean bytes (Ok m) → BytesMean bytes (Ok n) → m ≡ n
-one_problem bytes m n a b = let same = bytes_one bytes (Ok m) (Ok n) a b in cc same
+one_problem bytes m n a b = let same = bytes_one NEWEST_VERSION bytes (Ok m) (Ok n) a b in cc same
 
 no_fault : (bytes : List ℕ) (m : Problem) (f : ModelFault) → BytesMean bytes (Ok m) → BytesMean bytes (Err f) → ⊥
-no_fault bytes m f a b = let same = bytes_one bytes (Ok m) (Err f) a b in cc same
+no_fault bytes m f a b = let same = bytes_one NEWEST_VERSION bytes (Ok m) (Err f) a b in cc same
 
 bytes_call : (bytes : List ℕ) (s t : ℕ) → BytesCallFor bytes s → BytesCallFor bytes t → s ≡ t
 bytes_call bytes s t a b = ⊎_elim

@@ -1,29 +1,47 @@
 -- What the program's own values stand for.
+use Rattle.std.specs.Prelude.{⊤}
 use Rattle.lotplan.specs.Command as command
-use Rattle.lotplan.specs.Answer as answer
+use Rattle.lotplan.specs.Reading as reading
+use Rattle.lotplan.specs.Planning as planning
+use Rattle.lotplan.specs.Judging as judging
 use Rattle.lotplan.specs.declared.command.Command.{Command}
 use Rattle.lotplan.specs.declared.command.Command.TheVariants.{Name, Plan, Judge}
-use Rattle.lotplan.specs.declared.answer.Answer.{Answer}
-use Rattle.lotplan.specs.declared.answer.Answer.TheVariants.{Named, Optimal, Feasible, Infeasible, NoPlan, Broken, NoCommand, Refused, NotBuilt, Missing, Unread, Unwritten, TooLong}
+use Rattle.lotplan.specs.declared.model_file.ReadAnswer.{ReadAnswer}
+use Rattle.lotplan.specs.declared.model_file.ReadAnswer.TheVariants.{Refused, Missing, Unread, TooLong}
+use Rattle.lotplan.specs.declared.model_file.Stop.{Stop}
+use Rattle.lotplan.specs.declared.model_file.Stop.TheVariants.{Answered, Memory}
+use Rattle.lotplan.specs.declared.commands.plan.PlanAnswer.{PlanAnswer}
+use Rattle.lotplan.specs.declared.commands.plan.PlanAnswer.TheVariants as plan
+use Rattle.lotplan.specs.declared.commands.judge.JudgeAnswer.{JudgeAnswer}
+use Rattle.lotplan.specs.declared.commands.judge.JudgeAnswer.TheVariants as judge
 
 -- what a command asks for
-abbrev pub asked_of : Command → command.Asked
-asked_of Name = command.version
-asked_of (Judge names) = command.judging names.model.now names.plan.now
-asked_of (Plan names) = command.planning names.model.now names.plan.now names.certificate.now
+abbrev pub asked_by : Command → command.Asked
+asked_by Name = command.version
+asked_by (Judge names) = command.judging names.model.now names.plan.now
+asked_by (Plan names) = command.planning names.model.now names.plan.now names.certificate.now
 
--- the answer
-abbrev pub meant_by : Answer → answer.Answer
-meant_by Named = answer.named
-meant_by (Optimal amount) = answer.optimal amount
-meant_by (Feasible amount) = answer.feasible amount
-meant_by (NoPlan fault) = answer.no_plan fault
-meant_by (Broken rule) = answer.broken rule
-meant_by Infeasible = answer.infeasible
-meant_by NoCommand = answer.no_command
-meant_by (Refused fault) = answer.refused fault
-meant_by NotBuilt = answer.not_built
-meant_by (Missing file) = answer.missing file.now
-meant_by (Unread file) = answer.unread file.now
-meant_by (Unwritten file) = answer.unwritten file.now
-meant_by (TooLong file) = answer.too_long file.now
+-- answers
+abbrev pub read_meant : ReadAnswer → reading.ReadAnswer
+read_meant (Refused fault) = reading.refused fault
+read_meant (Missing file) = reading.missing file.now
+read_meant (Unread file) = reading.unread file.now
+read_meant (TooLong file) = reading.too_long file.now
+
+abbrev pub plan_meant : PlanAnswer → planning.PlanAnswer
+plan_meant (plan.Optimal amount) = planning.optimal amount
+plan_meant plan.Infeasible = planning.infeasible
+plan_meant plan.NotBuilt = planning.not_built
+plan_meant (plan.Unwritten file) = planning.unwritten file.now
+plan_meant (plan.Stopped why) = planning.stopped (read_meant why)
+
+abbrev pub judge_meant : JudgeAnswer → judging.JudgeAnswer
+judge_meant (judge.Feasible amount) = judging.feasible amount
+judge_meant (judge.NoPlan fault) = judging.no_plan fault
+judge_meant (judge.Broken rule) = judging.broken rule
+judge_meant (judge.Stopped why) = judging.stopped (read_meant why)
+
+-- the answer has its cause; want of memory needs none
+abbrev pub IsStop : (reading.ReadAnswer → Type 0) → Stop → Type 0
+IsStop P (Answered why) = P (read_meant why)
+IsStop P Memory = ⊤

@@ -1,6 +1,9 @@
 pub mod Command
-pub mod Answer
+pub mod Status
+pub mod Saying
+pub mod Reading
+pub mod Planning
+pub mod Judging
 pub mod Run
 pub mod Held
-pub mod Stops
 pub mod Laws

@@ -1,7 +1,7 @@
 // What the words of a command line ask for.
 ghost use Rattle.std.specs.Prelude.{◌≡◌, map, option_map, string_bytes};
 ghost use Rattle.lotplan.specs.Command.{are_file_names, are_two_names, command_of, is_file_name};
-ghost use Rattle.lotplan.specs.Held.{asked_of};
+ghost use Rattle.lotplan.specs.Held.{asked_by};
 
 /// What the words ask for.
 #[derive(Clone, Copy, Debug, PartialEq, Eq)]
@@ -65,7 +65,7 @@ fn are_two_names(model: &str, plan: &str) -> bool
 
 /// What the words ask for, if they are a command.
 pub fn read_words<'a>(words: &'a [String]) -> Option<Command<'a>>
-    ensures { option_map asked_of result ≡ command_of (map string_bytes words.entry.now) }
+    ensures { option_map asked_by result ≡ command_of (map string_bytes words.entry.now) }
 {
     match words {
         [] => Some(Command::Name),

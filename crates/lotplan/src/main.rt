@@ -1,33 +1,33 @@
 //! `lotplan`: plans lots in whole numbers, with proof that no plan costs less.
 //!
 //! `main` gives the command line, the machine's files and standard output to `run`, and ends with
-//! its status. `run` reads the words, plans, writes and prints; what each status means is its
-//! contract. So far models are planned in which no item takes time on a
-//! resource or goes into another.
+//! its status. `run` reads the words, plans or judges, writes and prints; what each status means is its
+//! contract. So far models are planned in which no item takes time on a resource, goes into another,
+//! or has a lead time or a bound on its lots.
 #![tactic(auto)]
 
-ghost use Rattle.lotplan.specs.Answer.{no_command};
-ghost use Rattle.lotplan.specs.Run.{printed, Prints};
+ghost use Rattle.lotplan.specs.Run.{refused_line};
+ghost use Rattle.lotplan.specs.Saying.{Prints};
+ghost use Rattle.lotplan.specs.declared.status.Status.TheVariants.{NoCommand};
 
-mod answer;
 mod command;
-mod judging;
+mod commands;
 mod laws;
-mod planner;
+mod model_file;
 mod run;
+mod said;
+mod status;
 
 pub use laws::statuses_are_one;
 use lot_io::{DiskShelf, Sink, StdSink};
 pub use run::run;
+use status::Status;
 use std::io::ErrorKind;
 use std::process::ExitCode;
 use std::{env, io};
 
-// The status where a word is no text, and where memory ran out.
-const NO_COMMAND: u8 = 4;
-
-const NO_MEMORY: u8 = 10;
-
+// Where the arguments can't be read for another cause than a word that is no text, as where memory
+// runs out, the status is that of memory: std has no other cause on Linux.
 fn main(rt: HostRuntime) -> ExitCode {
     let alloc = rt.alloc();
     let mut out = StdSink::new(io::writer(&rt));
@@ -37,23 +37,21 @@ fn main(rt: HostRuntime) -> ExitCode {
                 let mut shelf = DiskShelf::new(&rt);
                 run(alloc, words.as_slice(), &mut shelf, &mut out)
             }
-            Err(_) => NO_MEMORY,
+            Err(_) => Status::NoMemory.code(),
         },
         Err(error) if error.kind() == ErrorKind::InvalidData => refuse_words(&mut out),
-        Err(_) => NO_MEMORY,
+        Err(_) => Status::NoMemory.code(),
     };
     ExitCode::from(status)
 }
 
-// Prints the refusal of words that are no text in UTF-8, and gives its status.
+// Prints the refusal of words that are no text in UTF-8, and gives its number.
 fn refuse_words<K: Sink>(out: &mut K) -> u8
-    ensures { Prints no_command result
-        (printed (K.told out.old) (K.bytes out.old) (K.faults out.old))
-        (printed (K.told out.new) (K.bytes out.new) (K.faults out.new)) }
+    ensures { Prints refused_line NoCommand result (K.shown out.old) (K.shown out.new) }
 {
     match out.put(b"refused words\n") {
-        Ok(()) => NO_COMMAND,
-        Err(_) => 9,
+        Ok(()) => Status::NoCommand.code(),
+        Err(_) => Status::Unprinted.code(),
     }
 }
 

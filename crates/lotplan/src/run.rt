@@ -1,108 +1,120 @@
 // The top call.
-ghost use Rattle.std.specs.Prelude.{◌≡◌, ◌≢◌, ◌⊎◌, ◌+◌, ℕ, List, IsTrue, Some, None, map, string_bytes, IfOk, OnErr};
-ghost use Rattle.lot_io.specs.Outside.{Rose, RoseBy, SameElsewhere};
+ghost use Rattle.std.specs.Prelude.{◌≡◌, ◌≢◌, ◌⊎◌, ◌≤◌, ◌+◌, ◌*◌, ℕ, List, IsTrue, Some, None, map, string_bytes, IfOk, OnErr};
+ghost use Rattle.lot_draft.specs.declared.fault.ModelFault.{ModelFault};
+ghost use Rattle.lot_io.specs.Outside.{GrewBy, OnlyReads, Rose, piece_size};
 ghost use Rattle.lotplan.specs.Command.{command_of, judging, planning};
-ghost use Rattle.lotplan.specs.Run.{CallFor, file_limit, printed, shelved, CannotPlan, Explains, FindsFault, FindsFeasible, FindsNoPlan, HadNoFault, IsRun, PlansBest, PrintsSaid, RefusesModel, SaysSome};
+ghost use Rattle.lotplan.specs.Saying.{Ends};
+ghost use Rattle.lotplan.specs.Reading.{file_limit, missing, refused, too_long, unread};
+ghost use Rattle.lotplan.specs.Planning.{CannotPlan, FailsToWrite, FindsNoPlan, PlansBest, StartsAtMost};
+ghost use Rattle.lotplan.specs.Judging.{FindsFault, FindsFeasible};
+ghost use Rattle.lotplan.specs.Run.{CallFor, HadNoFault, IsNoCommand, IsRun, Leaves, SaysFor, Stops};
 
-use crate::answer::{Answer, Said};
 use crate::command::{Command, read_words};
-use crate::judging::judge_files;
-use crate::planner::plan_files;
+use crate::commands::judge::judge_files;
+use crate::commands::plan::plan_files;
+use crate::said::Said;
+use crate::status::Status;
 use lot_io::{Shelf, Sink};
 use std::alloc::{AllocError, Global};
 
-/// Does what the words ask for, prints one line, and gives the status of the process.
+/// Does what the words ask for, prints one line, and gives the number of the status.
 ///
 /// `words` are those after the program's name: none for the program's name and version,
-/// `plan MODEL PLAN CERTIFICATE` or `judge MODEL PLAN`. The statuses are 0 done, 1 no plan is feasible, 3 the
-/// plan file holds no plan or one that breaks a rule, 4 no command, 5 the model is refused, 6 a file is
-/// absent, 7 it could not be read, 8 it could not be written, 9 the line could not be printed, 10 want of
-/// memory, 11 a file is longer than 16,777,216 bytes, 12 the model can't be planned yet. All memory is taken
-/// before the first write.
+/// `plan MODEL PLAN CERTIFICATE` or `judge MODEL PLAN`. The numbers are 0 done, 1 no plan is feasible,
+/// 3 the plan file holds no plan or one that breaks a rule, 4 no command, 5 the model is refused, 6 a
+/// file is absent, 7 it could not be read, 8 it could not be written, 9 the line could not be printed,
+/// 10 out of memory, 11 a file is longer than 16,777,216 bytes, 12 the model can't be planned yet. All
+/// memory is taken before the first write.
+///
+/// What is said of counts holds over every shelf and sink, the machine's own too; what is said of
+/// contents holds where they are told.
 pub fn run<S: Shelf, K: Sink>(alloc: Global, words: &[String], shelf: &mut S, out: &mut K) -> u8
     // After `plan` with status 0 the plan file holds a best plan, and the line has its cost.
-    ensures optimal { (m p c : List ℕ) → command_of (map string_bytes words.now) ≡ Some (planning m p c)
-        → result ≡ 0 → IsTrue (S.told shelf.old) → PlansBest (S.file shelf.old) (S.file shelf.new) m p
-        (printed (K.told out.old) (K.bytes out.old) (K.faults out.old))
-        (printed (K.told out.new) (K.bytes out.new) (K.faults out.new)) }
+    ensures optimal { (m p c : List ℕ) → command_of (map string_bytes words.now) ≡ Some (planning m p c) → result ≡ 0
+        → IsTrue (S.shown shelf.old).told
+        → PlansBest (S.shown shelf.old).file (S.shown shelf.new).file m p (K.shown out.old) (K.shown out.new) }
 
     // After `judge` with status 0 the plan file holds a feasible plan, and the line has its cost.
-    ensures judged { (m p : List ℕ) → command_of (map string_bytes words.now) ≡ Some (judging m p)
-        → result ≡ 0 → IsTrue (S.told shelf.old) → FindsFeasible (S.file shelf.old) m p
-        (printed (K.told out.old) (K.bytes out.old) (K.faults out.old))
-        (printed (K.told out.new) (K.bytes out.new) (K.faults out.new)) }
+    ensures judged { (m p : List ℕ) → command_of (map string_bytes words.now) ≡ Some (judging m p) → result ≡ 0
+        → IsTrue (S.shown shelf.old).told
+        → FindsFeasible (S.shown shelf.old).file m p (K.shown out.old) (K.shown out.new) }
 
     // Without a fault the status is 10, or exactly what the words and the files call for.
-    ensures called_for { IsTrue (S.told shelf.old)
-        → HadNoFault
-        (shelved (S.told shelf.old) (S.file shelf.old) (S.faults shelf.old) (S.write_faults shelf.old) (S.misses shelf.old) (S.given shelf.old))
-        (shelved (S.told shelf.new) (S.file shelf.new) (S.faults shelf.new) (S.write_faults shelf.new) (S.misses shelf.new) (S.given shelf.new))
-        (printed (K.told out.old) (K.bytes out.old) (K.faults out.old))
-        (printed (K.told out.new) (K.bytes out.new) (K.faults out.new))
-        → (result ≡ 10) ⊎ CallFor (command_of (map string_bytes words.now)) (S.file shelf.old) result }
+    ensures called_for { IsTrue (S.shown shelf.old).told
+        → HadNoFault (S.shown shelf.old) (S.shown shelf.new) (K.shown out.old) (K.shown out.new)
+        → (result ≡ 10) ⊎ CallFor (command_of (map string_bytes words.now)) (S.shown shelf.old).file result }
 
-    // The cause of each other status.
-    ensures no_command { result ≡ 4 → command_of (map string_bytes words.now) ≡ None }
-    ensures infeasible { result ≡ 1 → IsTrue (S.told shelf.old) → FindsNoPlan (map string_bytes words.now) (S.file shelf.old)
-        (printed (K.told out.old) (K.bytes out.old) (K.faults out.old))
-        (printed (K.told out.new) (K.bytes out.new) (K.faults out.new)) }
-    ensures faulty { result ≡ 3 → IsTrue (S.told shelf.old) → FindsFault (map string_bytes words.now) (S.file shelf.old)
-        (printed (K.told out.old) (K.bytes out.old) (K.faults out.old))
-        (printed (K.told out.new) (K.bytes out.new) (K.faults out.new)) }
-    ensures refused { result ≡ 5 → IsTrue (S.told shelf.old) → RefusesModel (map string_bytes words.now) (S.file shelf.old) }
-    ensures not_built { result ≡ 12 → IsTrue (S.told shelf.old) → CannotPlan (map string_bytes words.now) (S.file shelf.old) }
-    ensures missing { result ≡ 6 → Rose (S.misses shelf.old) (S.misses shelf.new) }
-    ensures unread { result ≡ 7 → Rose (S.faults shelf.old) (S.faults shelf.new) }
-    ensures unwritten { result ≡ 8 → Rose (S.write_faults shelf.old) (S.write_faults shelf.new) }
-    ensures unprinted { result ≡ 9 → Rose (K.faults out.old) (K.faults out.new) }
-    ensures too_long { result ≡ 11 → RoseBy (file_limit + 1) (S.given shelf.old) (S.given shelf.new) }
+    // The cause of each other status, and its line.
+    ensures infeasible { result ≡ 1 → IsTrue (S.shown shelf.old).told
+        → FindsNoPlan (command_of (map string_bytes words.now)) (S.shown shelf.old).file (K.shown out.old) (K.shown out.new) }
+    ensures faulty { result ≡ 3 → IsTrue (S.shown shelf.old).told
+        → FindsFault (command_of (map string_bytes words.now)) (S.shown shelf.old).file (K.shown out.old) (K.shown out.new) }
+    ensures no_command { result ≡ 4 → IsNoCommand (command_of (map string_bytes words.now)) (K.shown out.old) (K.shown out.new) }
+    ensures refused { result ≡ 5 → (fault : ModelFault) × Stops (command_of (map string_bytes words.now))
+        (S.shown shelf.old) (S.shown shelf.new) (K.shown out.old) (K.shown out.new) (refused fault) }
+    ensures missing { result ≡ 6 → (file : List ℕ) × Stops (command_of (map string_bytes words.now))
+        (S.shown shelf.old) (S.shown shelf.new) (K.shown out.old) (K.shown out.new) (missing file) }
+    ensures unread { result ≡ 7 → (file : List ℕ) × Stops (command_of (map string_bytes words.now))
+        (S.shown shelf.old) (S.shown shelf.new) (K.shown out.old) (K.shown out.new) (unread file) }
+    ensures unwritten { result ≡ 8 → FailsToWrite (command_of (map string_bytes words.now))
+        (S.shown shelf.old) (S.shown shelf.new) (K.shown out.old) (K.shown out.new) }
+    ensures unprinted { result ≡ 9 → Rose (K.shown out.old).faults (K.shown out.new).faults }
+    ensures too_long { result ≡ 11 → (file : List ℕ) × Stops (command_of (map string_bytes words.now))
+        (S.shown shelf.old) (S.shown shelf.new) (K.shown out.old) (K.shown out.new) (too_long file) }
+    ensures not_built { result ≡ 12 → IsTrue (S.shown shelf.old).told
+        → CannotPlan (command_of (map string_bytes words.now)) (S.shown shelf.old).file (K.shown out.old) (K.shown out.new) }
 
-    // What stays: all files but the plan file, and that one too unless it was being written.
-    ensures unchanged { result ≢ 0 → result ≢ 8 → result ≢ 9 → S.file shelf.new ≡ S.file shelf.old }
+    // What is written: nothing on a status but 0, 8 and 9, and by `plan` alone; never another file.
+    ensures quiet { result ≢ 0 → result ≢ 8 → result ≢ 9 → OnlyReads (S.shown shelf.old) (S.shown shelf.new) }
+    ensures wrote { (m p c : List ℕ) → command_of (map string_bytes words.now) ≡ Some (planning m p c) → result ≡ 0
+        → GrewBy 1 (S.shown shelf.old).starts (S.shown shelf.new).starts }
     ensures others { (m p c : List ℕ) → command_of (map string_bytes words.now) ≡ Some (planning m p c)
-        → IsTrue (S.told shelf.old) → SameElsewhere p (S.file shelf.old) (S.file shelf.new) }
-    ensures judge_writes_nothing { (m p : List ℕ) → command_of (map string_bytes words.now) ≡ Some (judging m p) → S.file shelf.new ≡ S.file shelf.old }
-    ensures silent { result ≡ 10 → IsTrue (K.told out.old) → K.bytes out.new ≡ K.bytes out.old }
-    ensures told_shelf { S.told shelf.new ≡ S.told shelf.old }
-    ensures told_sink { K.told out.new ≡ K.told out.old }
+        → StartsAtMost p (S.shown shelf.old) (S.shown shelf.new) }
+    ensures judge_only_reads { (m p : List ℕ) → command_of (map string_bytes words.now) ≡ Some (judging m p)
+        → OnlyReads (S.shown shelf.old) (S.shown shelf.new) }
 
-    // The whole: some answer explains what the run did, printed and gave.
-    ensures run { IsRun (map string_bytes words.now) result
-        (shelved (S.told shelf.old) (S.file shelf.old) (S.faults shelf.old) (S.write_faults shelf.old) (S.misses shelf.old) (S.given shelf.old))
-        (shelved (S.told shelf.new) (S.file shelf.new) (S.faults shelf.new) (S.write_faults shelf.new) (S.misses shelf.new) (S.given shelf.new))
-        (printed (K.told out.old) (K.bytes out.old) (K.faults out.old))
-        (printed (K.told out.new) (K.bytes out.new) (K.faults out.new)) }
+    // What is read: nothing for words that are no command, and at most two files within the limit.
+    ensures idle { command_of (map string_bytes words.now) ≡ None → S.shown shelf.new ≡ S.shown shelf.old }
+    ensures given { (S.shown shelf.new).given ≤ (S.shown shelf.old).given + 2 * (file_limit + piece_size) }
+    ensures told { (S.shown shelf.new).told ≡ (S.shown shelf.old).told }
+
+    // What is printed: nothing on status 10, and else one piece.
+    ensures silent { result ≡ 10 → K.shown out.new ≡ K.shown out.old }
+    ensures one_line { result ≢ 10 → GrewBy 1 (K.shown out.old).puts (K.shown out.new).puts }
+    ensures told_sink { (K.shown out.new).told ≡ (K.shown out.old).told }
+
+    // The whole: memory ran out before anything was written, or some answer explains what the run did.
+    ensures run { IsRun (command_of (map string_bytes words.now)) result (S.shown shelf.old) (S.shown shelf.new)
+        (K.shown out.old) (K.shown out.new) }
 {
-    match said(alloc, words, shelf) {
-        Ok(said) => print(&said, out),
-        Err(_) => 10,
-    }
+    let said = said(alloc, words, shelf);
+    end_with(&said, out)
 }
 
-// Prints what is said, and gives its status.
-fn print<K: Sink>(said: &Said, out: &mut K) -> u8
-    ensures printed { PrintsSaid said.now result
-        (printed (K.told out.old) (K.bytes out.old) (K.faults out.old))
-        (printed (K.told out.new) (K.bytes out.new) (K.faults out.new)) }
-    ensures told { K.told out.new ≡ K.told out.old }
+// Prints what is said, if memory sufficed for it, and gives the number of the status.
+fn end_with<K: Sink>(said: &Result<Said, AllocError>, out: &mut K) -> u8
+    ensures ends { Ends said.now result (K.shown out.old) (K.shown out.new) }
+    ensures one_line { result ≢ 10 → GrewBy 1 (K.shown out.old).puts (K.shown out.new).puts }
+    ensures told { (K.shown out.new).told ≡ (K.shown out.old).told }
 {
-    match out.put(said.line.as_bytes()) {
-        Ok(()) => said.status,
-        Err(_) => 9,
+    match said {
+        Ok(said) => match out.put(said.line.as_bytes()) {
+            Ok(()) => said.status.code(),
+            Err(_) => Status::Unprinted.code(),
+        },
+        Err(_) => Status::NoMemory.code(),
     }
 }
 
 // What is said of the words.
 fn said<S: Shelf>(alloc: Global, words: &[String], shelf: &mut S) -> Result<Said, AllocError>
-    ensures said { IfOk result (SaysSome (Explains (command_of (map string_bytes words.now))
-        (shelved (S.told shelf.old) (S.file shelf.old) (S.faults shelf.old) (S.write_faults shelf.old) (S.misses shelf.old) (S.given shelf.old))
-        (shelved (S.told shelf.new) (S.file shelf.new) (S.faults shelf.new) (S.write_faults shelf.new) (S.misses shelf.new) (S.given shelf.new)))) }
-    ensures memory { OnErr result (S.file shelf.new ≡ S.file shelf.old) }
-    ensures told { S.told shelf.new ≡ S.told shelf.old }
+    ensures said { IfOk result (SaysFor (command_of (map string_bytes words.now)) (S.shown shelf.old) (S.shown shelf.new)) }
+    ensures memory { OnErr result (Leaves (command_of (map string_bytes words.now)) (S.shown shelf.old) (S.shown shelf.new)) }
+    ensures given { (S.shown shelf.new).given ≤ (S.shown shelf.old).given + 2 * (file_limit + piece_size) }
 {
     match read_words(words) {
-        None => Answer::NoCommand.said(alloc),
-        Some(Command::Name) => Answer::Named.said(alloc),
+        None => Said::new(alloc, "refused words\n", Status::NoCommand),
+        Some(Command::Name) => Said::new(alloc, "lotplan 1\n", Status::Done),
         Some(Command::Plan(names)) => plan_files(alloc, names.model, names.plan, shelf),
         Some(Command::Judge(names)) => judge_files(alloc, names.model, names.plan, shelf),
     }

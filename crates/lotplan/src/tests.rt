@@ -183,9 +183,9 @@ fn items_with_and_without_backlog_are_planned(rt: HostRuntime) -> Result<(), Fai
     let alloc = rt.alloc();
     let costs = "demand = [4, 6]\nsetup_cost = [100, 20]\nhold_cost = 1";
     let model = format!(in alloc;
-        "version = 1\nperiods = 2\n[[item]]\nname = \"A\"\n{costs}\n[[item]]\nname = \"B\"\n{costs}\nbacklog_cost = 2\n"
+        "version = 1\nperiods = 2\n[[item]]\nname = \"A\"\n{costs}\nbacklog_cost = 2\n[[item]]\nname = \"B\"\n{costs}\n"
     )?;
-    let records = "A,1,10,1,6,0\nA,2,0,0,0,0\nB,1,0,0,0,4\nB,2,10,1,0,0\n";
+    let records = "A,1,0,0,0,4\nA,2,10,1,0,0\nB,1,10,1,6,0\nB,2,0,0,0,0\n";
     assert!(rt; ends_in(alloc, model.as_str(), 0, "optimal 134\n", records)?);
     Ok(())
 }
@@ -219,19 +219,110 @@ fn models_are_refused(rt: HostRuntime) -> Result<(), Fail> {
     Ok(())
 }
 
+// The model of a shop with these lines at its root, this name of its item, these lines in it and these
+// in its use of the resource.
+fn damaged(
+    alloc: Global,
+    root: &str,
+    name: &str,
+    more: &str,
+    uses: &str,
+) -> Result<String, AllocError> {
+    format!(in alloc;
+        "{root}\n[[resource]]\nname = \"m\"\ncapacity = 6\n[[item]]\nname = \"{name}\"\n{more}\nsetup_cost = 10\nhold_cost = 1\nuses = [{{ {uses}, unit = 1, setup = 1 }}]\n"
+    )
+}
+
 #[test]
-fn texts_that_are_no_model_are_refused(rt: HostRuntime) -> Result<(), Fail> {
+fn damaged_models_are_refused(rt: HostRuntime) -> Result<(), Fail> {
     let alloc = rt.alloc();
-    assert!(rt;
-        ends_in(
-            alloc,
-            "version = 1\nperiods =\n",
+    let good = "version = 1\nperiods = 2";
+    let demand = "demand = [2, 8]";
+    let uses = "resource = \"m\"";
+    for (root, name, more, uses, status, line) in [
+        (good, "A", demand, uses, 12u8, "refused notbuilt\n"),
+        (
+            "version = 1\nperiods =",
+            "A",
+            demand,
+            uses,
             5,
             "refused model M1 root\n",
-            ""
-        )?
-    );
-    assert!(rt; ends_in(alloc, "", 5, "refused model M3 root version\n", "")?);
+        ),
+        (
+            good,
+            "A",
+            "demand = [2, 8]\ncolour = 1",
+            uses,
+            5,
+            "refused model M2 item 1\n",
+        ),
+        (good, "A", "", uses, 5, "refused model M3 item 1 demand\n"),
+        (
+            good,
+            "A",
+            "demand = \"x\"",
+            uses,
+            5,
+            "refused model M4 item 1 demand\n",
+        ),
+        (
+            good,
+            "A",
+            "demand = [2, -8]",
+            uses,
+            5,
+            "refused model M5 item 1 demand period 2\n",
+        ),
+        (
+            "version = 1\nperiods = 61",
+            "A",
+            demand,
+            uses,
+            5,
+            "refused model M5 root periods\n",
+        ),
+        (
+            good,
+            "A",
+            "demand = [2]",
+            uses,
+            5,
+            "refused model M6 item 1 demand\n",
+        ),
+        (good, "A B", demand, uses, 5, "refused model M7 item 1\n"),
+        (
+            good,
+            "A",
+            demand,
+            "resource = \"q\"",
+            5,
+            "refused model M9 item 1 uses 1\n",
+        ),
+        (
+            good,
+            "A",
+            "demand = [2, 8]\nend_min = 5\nend_max = 4",
+            uses,
+            5,
+            "refused model M13 item 1\n",
+        ),
+        (
+            "version = 3\nperiods = 2",
+            "A",
+            demand,
+            uses,
+            5,
+            "refused model M14 root version\n",
+        ),
+        ("", "A", demand, uses, 5, "refused model M3 root version\n"),
+    ] {
+        let model = damaged(alloc, root, name, more, uses)?;
+        assert!(rt; ends_in(alloc, model.as_str(), status, line, "")?);
+    }
+    let item = "[[item]]\nname = \"A\"\ndemand = [2, 8]\n";
+    let twice = format!(in alloc; "{good}\n{item}{item}")?;
+    assert!(rt; ends_in(alloc, twice.as_str(), 5, "refused model M8 item 2\n", "")?);
     Ok(())
 }
 
@@ -350,6 +441,88 @@ fn end_stocks_and_backlogs_are_judged(rt: HostRuntime) -> Result<(), Fail> {
     Ok(())
 }
 
+// A model of one item in version 2, with these lines.
+fn one_lot(alloc: Global, periods: u32, lines: &str) -> Result<String, AllocError> {
+    format!(in alloc; "version = 2\nperiods = {periods}\n[[item]]\nname = \"A\"\n{lines}\n")
+}
+
+#[test]
+fn lead_times_and_lots_are_judged(rt: HostRuntime) -> Result<(), Fail> {
+    let alloc = rt.alloc();
+    let later = one_lot(
+        alloc,
+        2,
+        "demand = [0, 10]\nlead = 1\nsetup_cost = 5\nunit_cost = 2",
+    )?;
+    for (records, status, line) in [
+        ("A,1,10,1,0,0\nA,2,0,0,0,0\n", 0u8, "feasible 25\n"),
+        (
+            "A,1,10,1,0,0\nA,2,3,1,0,0\n",
+            3,
+            "broken 9 item 1 period 2\n",
+        ),
+    ] {
+        assert!(rt; judged_as(alloc, later.as_str(), records, status, line)?);
+    }
+    let lots = one_lot(
+        alloc,
+        1,
+        "demand = [4]\nmin_lot = 6\nend_max = 5\nsetup_cost = 1\nhold_cost = 1",
+    )?;
+    let few = "broken 8 item 1 period 1\n";
+    assert!(rt; judged_as(alloc, lots.as_str(), "A,1,4,1,0,0\n", 3, few)?);
+    assert!(rt; ends_in(alloc, later.as_str(), 12, "refused notbuilt\n", "")?);
+    Ok(())
+}
+
+#[test]
+fn lead_times_and_lots_are_refused(rt: HostRuntime) -> Result<(), Fail> {
+    let alloc = rt.alloc();
+    let crossed = one_lot(alloc, 1, "demand = [4]\nmin_lot = 5\nmax_lot = 4")?;
+    assert!(rt; ends_in(alloc, crossed.as_str(), 5, "refused model M15 item 1\n", "")?);
+    let first = one_item(alloc, 2, "demand = [0, 10]\nlead = 1")?;
+    assert!(rt; ends_in(alloc, first.as_str(), 5, "refused model M2 item 1\n", "")?);
+    let long = one_lot(alloc, 121, "demand = 0")?;
+    assert!(rt;
+        ends_in(
+            alloc,
+            long.as_str(),
+            5,
+            "refused model M5 root periods\n",
+            ""
+        )?
+    );
+    Ok(())
+}
+
+// The texts of `examples/`, and the lines that the README shows for them.
+const BAKERY: &str =
+    "version = 1\nperiods = 6\n\n[[item]]\nname = \"bread\"\ndemand = [40, 35, 50, 0, 60, 45]\nunit_cost = 2\nsetup_cost = [30, 30, 30, 30, 45, 45]\nhold_cost = 1\nopening = 10\n\n[[item]]\nname = \"cake\"\ndemand = [4, 0, 6, 2, 0, 12]\nunit_cost = 9\nsetup_cost = 50\nhold_cost = 3\nbacklog_cost = 5\nend_min = 2\nend_max = 4\n";
+
+const WORKSHOP: &str =
+    "version = 1\nperiods = 4\n\n[[resource]]\nname = \"saw\"\ncapacity = 200\n\n[[item]]\nname = \"table\"\ndemand = [20, 0, 30, 10]\nsetup_cost = 40\nhold_cost = 2\nneeds = [{ item = \"leg\", quantity = 4 }]\n\n[[item]]\nname = \"leg\"\ndemand = 0\nsetup_cost = 30\nhold_cost = 1\nuses = [{ resource = \"saw\", unit = 1, setup = 10 }]\n";
+
+#[test]
+fn the_examples_print_what_the_readme_shows(rt: HostRuntime) -> Result<(), Fail> {
+    let alloc = rt.alloc();
+    let records =
+        "bread,1,30,1,0,0\nbread,2,35,1,0,0\nbread,3,50,1,0,0\nbread,4,0,0,0,0\nbread,5,105,1,45,0\nbread,6,0,0,0,0\ncake,1,0,0,0,4\ncake,2,0,0,0,4\ncake,3,12,1,2,0\ncake,4,0,0,0,0\ncake,5,0,0,0,0\ncake,6,14,1,2,0\n";
+    assert!(rt; ends_in(alloc, BAKERY, 0, "optimal 1006\n", records)?);
+    let loaf = one_item(alloc, 1, "demand = [10]\nunit_cost = 2\nsetup_cost = 5")?;
+    assert!(rt; ends_in(alloc, loaf.as_str(), 0, "optimal 25\n", "A,1,10,1,0,0\n")?);
+    let tables = "table,1,20,1,0,0\ntable,2,0,0,0,0\ntable,3,40,1,10,0\ntable,4,0,0,0,0\n";
+    for (leg, status, line) in [
+        (160u32, 0u8, "feasible 160\n"),
+        (200, 3, "broken 3 item 2 period 3 left 200 right 160\n"),
+    ] {
+        let records = format!(in alloc;
+            "{tables}leg,1,80,1,0,0\nleg,2,0,0,0,0\nleg,3,{leg},1,0,0\nleg,4,0,0,0,0\n"
+        )?;
+        assert!(rt; judged_as(alloc, WORKSHOP, records.as_str(), status, line)?);
+    }
+    Ok(())
+}
+
 #[test]
 fn a_judgement_names_the_file_that_is_absent(rt: HostRuntime) -> Result<(), Fail> {
     let alloc = rt.alloc();
@@ -392,7 +565,7 @@ fn words_are_refused(rt: HostRuntime) -> Result<(), Fail> {
             "{words:?}"
         );
         assert!(rt; out.bytes.as_slice() == line.as_bytes(), "{words:?}");
-        assert!(rt; shelf.fetches == 0 && shelf.starts == 0);
+        assert_eq!(rt; (shelf.fetches, shelf.starts, out.puts), (0, 0, 1));
     }
     Ok(())
 }
@@ -422,7 +595,7 @@ fn faults_of_the_outside_are_named(rt: HostRuntime) -> Result<(), Fail> {
             holds(&shelf, "m", TEN) && shelf.files.get("c").is_none(),
             "{printed}"
         );
-        assert_eq!(rt; (shelf.wants, out.wants), (0, 0));
+        assert_eq!(rt; (shelf.wants, out.wants, out.puts), (0, 0, 1));
         if status < 8 {
             assert!(rt; shelf.files.len() == 1, "{printed}");
         }

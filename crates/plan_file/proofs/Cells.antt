@@ -6,7 +6,7 @@ use Rattle.lot_sizing.specs.Plan.{Plan}
 use Rattle.plan_rules.specs.Order.{HoldsBefore, IsBefore, IsFirst}
 use Rattle.plan_file.specs.Records.{IsGood, IsRead, Record}
 use Rattle.plan_file.specs.Numbers.{AreSame, IsPutFrom}
-use Rattle.plan_file.specs.Faults.{IsRecordFault, IsRowsFault}
+use Rattle.plan_file.specs.Faults.{IsRecordFault, IsCellFault}
 use Rattle.plan_file.specs.declared.fault.PlanFault.{PlanFault}
 use Rattle.plan_file.specs.declared.fault.PlanFault.TheVariants as fault
 
@@ -54,9 +54,9 @@ first : (m : Problem) (rs : List Record) (p : Plan) (i t : ℕ) → 1 ≤ i → 
 first m rs p i t low high t_low t_high so_far broken = record { row_low = low; row_high = high; column_low = t_low; column_high = t_high; broken = broken; before = good_before m rs p i t so_far }
 
 -- why the records aren't all read
-pub stopped : (m : Problem) (rs : List Record) (p : Plan) (i t : ℕ) (f : PlanFault) → 1 ≤ i → i ≤ item_count m → 1 ≤ t → t ≤ m.periods → HoldsBefore (item_count m) m.periods (IsRead m rs p) i t → IsRecordFault m rs i t f → IsRowsFault m rs f
+pub stopped : (m : Problem) (rs : List Record) (p : Plan) (i t : ℕ) (f : PlanFault) → 1 ≤ i → i ≤ item_count m → 1 ≤ t → t ≤ m.periods → HoldsBefore (item_count m) m.periods (IsRead m rs p) i t → IsRecordFault m rs i t f → IsCellFault m rs f
 stopped m rs p i t fault.Header low high t_low t_high so_far x = absurd x
 stopped m rs p i t fault.RowCount low high t_low t_high so_far x = (i, t, first m rs p i t low high t_low t_high so_far (λ good. x good.there), x)
 stopped m rs p i t (fault.Row n) low high t_low t_high so_far x = (i, t, first m rs p i t low high t_low t_high so_far (λ good. x.2 good.row), x)
 stopped m rs p i t (fault.Number n c) low high t_low t_high so_far x = (i, t, first m rs p i t low high t_low t_high so_far (λ good. x.3.bad (good.numbers c x.3.low x.3.high)), x)
-stopped m rs p i t fault.Memory low high t_low t_high so_far x = x
+stopped m rs p i t fault.Memory low high t_low t_high so_far x = absurd x

@@ -6,7 +6,7 @@ use Rattle.lot_sizing.specs.Problem.{Problem, item_count}
 use Rattle.lot_sizing.specs.Plan.{EachCell, Plan}
 use Rattle.plan_rules.specs.Order.{IsFirst}
 use Rattle.plan_file.specs.Records.{AreNumbersOf, HasHeader, HasNumbers, IsGood, IsPlanOf, IsRead, Record, is_header, is_row, number_of, record_at}
-use Rattle.plan_file.specs.Faults.{IsCellFault, IsFirstBad, IsPlanFault, IsRecordFault, IsRowsFault}
+use Rattle.plan_file.specs.Faults.{IsCellFault, IsFirstBad, IsPlanFault, IsRecordFault}
 use Rattle.plan_file.specs.declared.fault.PlanFault.{PlanFault}
 use Rattle.plan_file.specs.declared.fault.PlanFault.TheVariants as fault
 
@@ -83,12 +83,12 @@ header_all : (n : ℕ) (rs all : List Record) → IsFront n rs all → 0 < n →
 header_all n rs all fr some h = record { there = fr.there 0 some h.there; header = subst (λ r. IsTrue (is_header r)) (fr.same 0 some) h.header }
 
 -- what stops the reading of the first records stops that of all
-pub rows_fault : (m : Problem) (n : ℕ) (rs all : List Record) → rs ≡ take n all → n ≡ item_count m * m.periods + 2 → HasHeader rs → (f : PlanFault) → IsRowsFault m rs f → IsPlanFault m all f
+pub rows_fault : (m : Problem) (n : ℕ) (rs all : List Record) → rs ≡ take n all → n ≡ item_count m * m.periods + 2 → HasHeader rs → (f : PlanFault) → IsCellFault m rs f → IsPlanFault m all f
 rows_fault m n rs all is size header fault.Header (i, t, first, wrong) = absurd wrong
 rows_fault m n rs all is size header fault.RowCount x = (header_all n rs all (front n rs all is) (omega (arith, size)) header, inl (cell_all m n rs all (front n rs all is) size fault.RowCount x))
 rows_fault m n rs all is size header (fault.Row k) x = (header_all n rs all (front n rs all is) (omega (arith, size)) header, cell_all m n rs all (front n rs all is) size (fault.Row k) x)
 rows_fault m n rs all is size header (fault.Number k c) x = (header_all n rs all (front n rs all is) (omega (arith, size)) header, cell_all m n rs all (front n rs all is) size (fault.Number k c) x)
-rows_fault m n rs all is size header fault.Memory x = x
+rows_fault m n rs all is size header fault.Memory (i, t, first, wrong) = absurd wrong
 
 count_front : (m : Problem) (n : ℕ) (rs all : List Record) → IsFront n rs all → n ≡ item_count m * m.periods + 2 → length all ≡ item_count m * m.periods + 1 → length rs ≡ item_count m * m.periods + 1
 count_front m n rs all fr size count =

@@ -1,15 +1,17 @@
 -- Fields that need no quotes.
-use Rattle.std.proofs.Common.{◌≡◌, ◌∙◌, ◌+◌, ◌/◌, ◌%◌, ◌^◌, ◌<◌, ◌≤◌, ◌≢◌, ⊎_elim, ℕ, true, false, List, [], ◌∷◌, ◌++◌, decimal, length, slice_index_or, refl, arith, mod-lt}
+use Rattle.std.proofs.Common.{◌≡◌, ◌∙◌, ◌+◌, ◌/◌, ◌%◌, ◌^◌, ◌<◌, ◌≤◌, ◌≢◌, ◌==◌, ⊎_elim, ℕ, true, false, List, [], ◌∷◌, ◌++◌, decimal, length, slice_index_or, refl, sym, ap, arith, mod-lt}
 use Rattle.std.specs.Prelude.{nat_le, ◌&&◌}
 use Rattle.std.specs.List.{list_any, list_all}
 use Rattle.std.specs.Str.Parse.{digits_value}
-use Rattle.std.proofs.lemmas.Bool.{and_parts, cases_lt}
-use Rattle.std.proofs.lemmas.Bool.Decides.{nat_tests}
+use Rattle.std.proofs.lemmas.Bool.{and_parts, cases_lt, false≢true}
+use Rattle.std.proofs.lemmas.Bool.Decides.{Decides-eqb, Decides-like, nat_tests, same_from_decides}
+use Rattle.std.proofs.lemmas.Slice.Eq.{bytes_eq-Decides}
+use Rattle.std.specs.Str.{bytes_eq}
 use Rattle.std.proofs.lemmas.List.Folds.{list_any-append}
 use Rattle.std.proofs.lemmas.Fmt.{decimal_by_steps_wide, decimal_is_IsNumeral}
 use Rattle.csv.specs.Quoting.{needs_byte}
 use Rattle.csv.specs.Writing.{default_writer}
-use Rattle.lot_io.specs.Digits.{StartsWithZero}
+use Rattle.whole_numbers.specs.Digits.{StartsWithZero}
 use Rattle.lot_sizing.specs.Problem.{IsName, is_name_byte}
 use Rattle.plan_file.specs.Records.{IsNumber}
 
@@ -71,3 +73,12 @@ number_read n h =
 
 pub number_value : (n : ℕ) → n < 2 ^ 64 → digits_value 10 (decimal n) ≡ n
 number_value n h = (decimal_is_IsNumeral n h).1
+
+-- ---- whether a text is what is written of a number
+pub is_written : (text : List ℕ) (n p : ℕ) → n < 2 ^ 64 → p < 2 ^ 64 → text ≡ decimal n → (n == p) ≡ bytes_eq text (decimal p)
+is_written text n p n_fits p_fits is = same_from_decides (n == p) (bytes_eq text (decimal p))
+    (Decides-like (n == p) (λ e. is ∙ ap decimal e) (λ same. sym (number_value n n_fits) ∙ ap (digits_value 10) (sym is ∙ same) ∙ number_value p p_fits) (Decides-eqb n p))
+    (bytes_eq-Decides text (decimal p))
+
+pub isnt_written : (text : List ℕ) (p : ℕ) → text ≢ decimal p → false ≡ bytes_eq text (decimal p)
+isnt_written text p apart = same_from_decides false (bytes_eq text (decimal p)) (λ e. absurd (false≢true e), λ same. absurd (apart same)) (bytes_eq-Decides text (decimal p))

@@ -12,9 +12,9 @@ use Rattle.csv.proofs.RoundTrip.{rows_text}
 use Rattle.lot_sizing.specs.Problem.{IsWithinLimits, Problem, item_at, item_count}
 use Rattle.lot_sizing.specs.Plan.{EachCell, Plan}
 use Rattle.lot_sizing.specs.Texts.{item_records, join_to, plan_header, plan_record, plan_text}
-use Rattle.plan_file.specs.Records.{AreNumbersOf, HasNumbers, IsNumber, IsPlanOf, Record, field, is_row, number_of, record_at, records_of}
+use Rattle.plan_file.specs.Records.{AreNumbersOf, HasNumbers, IsNumber, IsPlanOf, Record, field, is_row, number_of, record_at, records_of, header}
 use Rattle.plan_rules.specs.Cells.{place}
-use Rattle.plan_file.specs.Written.{FitIn64, header, list_to, lists_to, plan_records, record_of, records_of_item}
+use Rattle.plan_file.specs.Written.{FitIn64, list_to, lists_to, plan_records, record_of, records_of_item}
 use Rattle.plan_file.proofs.Plain.{IsPlain, number_read, number_value, plain_name, plain_number}
 use Rattle.plan_file.proofs.Reached.{records-written}
 

@@ -20,16 +20,11 @@ IsRecordFault m rs i t fault.Header = ⊥
 IsRecordFault m rs i t fault.RowCount = number_of m i t < length rs → ⊥
 IsRecordFault m rs i t (fault.Row n) = (n ≡ number_of m i t) × (number_of m i t < length rs) × (IsTrue (is_row m i t (record_at rs (number_of m i t))) → ⊥)
 IsRecordFault m rs i t (fault.Number n c) = (n ≡ number_of m i t) × (number_of m i t < length rs) × IsTrue (is_row m i t (record_at rs (number_of m i t))) × IsFirstBad (record_at rs (number_of m i t)) c
-IsRecordFault m rs i t fault.Memory = ⊤
+IsRecordFault m rs i t fault.Memory = ⊥
 
 -- the fault of the first record that isn't good
 abbrev pub IsCellFault : Problem → List Record → PlanFault → Type 0
 IsCellFault m rs f = (i t : ℕ) × IsFirst (item_count m) m.periods (IsGood m rs) i t × IsRecordFault m rs i t f
-
--- where memory isn't the cause
-abbrev pub IsRowsFault : Problem → List Record → PlanFault → Type 0
-IsRowsFault m rs fault.Memory = ⊤
-IsRowsFault m rs f = IsCellFault m rs f
 
 -- more records follow the last
 pub record HasMore (m : Problem) (rs : List Record) : Type 0 where
@@ -39,7 +34,7 @@ pub record HasMore (m : Problem) (rs : List Record) : Type 0 where
 -- the first fault in the order of the file, where memory isn't the cause
 abbrev pub IsPlanFault : Problem → List Record → PlanFault → Type 0
 IsPlanFault m rs fault.Header = HasHeader rs → ⊥
-IsPlanFault m rs fault.RowCount = HasHeader rs × (IsRowsFault m rs fault.RowCount ⊎ HasMore m rs)
-IsPlanFault m rs (fault.Row n) = HasHeader rs × IsRowsFault m rs (fault.Row n)
-IsPlanFault m rs (fault.Number n c) = HasHeader rs × IsRowsFault m rs (fault.Number n c)
+IsPlanFault m rs fault.RowCount = HasHeader rs × (IsCellFault m rs fault.RowCount ⊎ HasMore m rs)
+IsPlanFault m rs (fault.Row n) = HasHeader rs × IsCellFault m rs (fault.Row n)
+IsPlanFault m rs (fault.Number n c) = HasHeader rs × IsCellFault m rs (fault.Number n c)
 IsPlanFault m rs fault.Memory = ⊤

@@ -1,10 +1,10 @@
 -- What the records of a plan file mean.
-use Rattle.std.specs.Prelude.{◌≡◌, ℕ, ◌+◌, ◌-◌, ◌*◌, ◌^◌, ◌≤◌, ◌<◌, Bool, ◌&&◌, ◌==◌, IsTrue, List, [], length, slice_index_or, unwrap_or, codes, decimal}
+use Rattle.std.specs.Prelude.{◌≡◌, ℕ, ◌+◌, ◌-◌, ◌*◌, ◌^◌, ◌≤◌, ◌<◌, Bool, true, ◌&&◌, ◌==◌, IsTrue, List, [], ◌∷◌, length, slice_index_or, unwrap_or, codes, decimal}
 use Rattle.std.specs.Str.{bytes_eq}
 use Rattle.std.specs.Str.Parse.{digits_value}
 use Rattle.csv.specs.Reading.{default_config, records, strip_bom}
 use Rattle.csv.specs.Records.{field_at}
-use Rattle.lot_io.specs.Digits.{IsWholeText}
+use Rattle.whole_numbers.specs.Digits.{IsWholeText}
 use Rattle.lot_sizing.specs.Problem.{Problem, item_at, item_count}
 use Rattle.lot_sizing.specs.Plan.{EachCell, Plan}
 use Rattle.plan_rules.specs.Cells.{place}
@@ -25,8 +25,18 @@ record_at rs n = slice_index_or rs n []
 abbrev pub field : Record → ℕ → List ℕ
 field r c = unwrap_or (field_at r (c - 1)) []
 
+-- the first record of a plan file
+abbrev pub header : Record
+header = codes "item" ∷ codes "period" ∷ codes "make" ∷ codes "setup" ∷ codes "stock" ∷ codes "backlog" ∷ []
+
+-- from field c on the record has these texts
+abbrev pub has_texts : Record → ℕ → Record → Bool
+has_texts r c [] = true
+has_texts r c (text ∷ []) = bytes_eq (field r c) text
+has_texts r c (text ∷ texts) = bytes_eq (field r c) text && has_texts r (c + 1) texts
+
 abbrev pub is_header : Record → Bool
-is_header r = (length r == 6) && (bytes_eq (field r 1) (codes "item") && (bytes_eq (field r 2) (codes "period") && (bytes_eq (field r 3) (codes "make") && (bytes_eq (field r 4) (codes "setup") && (bytes_eq (field r 5) (codes "stock") && bytes_eq (field r 6) (codes "backlog"))))))
+is_header r = (length r == length header) && has_texts r 1 header
 
 -- the first record is the header
 pub record HasHeader (rs : List Record) : Type 0 where

@@ -1,8 +1,8 @@
 -- The records of a plan.
-use Rattle.std.specs.Prelude.{ℕ, zero, suc, List, [], ◌∷◌, ◌++◌, ◌^◌, ◌<◌, codes, decimal}
+use Rattle.std.specs.Prelude.{ℕ, zero, suc, List, [], ◌∷◌, ◌++◌, ◌^◌, ◌<◌, decimal}
 use Rattle.lot_sizing.specs.Problem.{Problem, item_at, item_count}
 use Rattle.lot_sizing.specs.Plan.{Plan}
-use Rattle.plan_file.specs.Records.{Record}
+use Rattle.plan_file.specs.Records.{Record, header}
 
 -- f 1, .., f n
 abbrev pub list_to : {A : Type 0} → ℕ → (ℕ → A) → List A
@@ -13,9 +13,6 @@ list_to (suc n) f = list_to n f ++ (f (suc n) ∷ [])
 abbrev pub lists_to : {A : Type 0} → ℕ → (ℕ → List A) → List A
 lists_to zero g = []
 lists_to (suc n) g = lists_to n g ++ g (suc n)
-
-abbrev pub header : Record
-header = codes "item" ∷ codes "period" ∷ codes "make" ∷ codes "setup" ∷ codes "stock" ∷ codes "backlog" ∷ []
 
 -- the record of an item and a period
 abbrev pub record_of : Problem → Plan → ℕ → ℕ → Record

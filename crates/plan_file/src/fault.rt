@@ -14,9 +14,9 @@ pub enum PlanFault {
     /// A record is absent, or one follows the last.
     RowCount,
     /// A record hasn't six fields, or isn't that of its item and period.
-    Row(u32),
+    Row(u64),
     /// A field of a record is no whole number of 64 bits.
-    Number(u32, u32),
+    Number(u64, u32),
     /// Memory ran out.
     Memory,
 }

@@ -1,21 +1,23 @@
 // From the records of a text to a plan.
 ghost use Rattle.std.specs.Prelude.{◌≡◌, ◌≢◌, ◌⊎◌, ◌≤◌, ◌<◌, ◌-◌, ℕ, IfOk, IfErr, IfSome, IfNone, OnOk, IsTrue, ◌↔◌, List, [], map, length, unwrap_or};
+ghost use Rattle.std.specs.Prelude.{decimal};
+ghost use Rattle.std.specs.Str.{bytes_eq};
 ghost use Rattle.std.specs.Str.Parse.{digits_value};
 ghost use Rattle.csv.specs.Records.{field_at, fields_of};
 ghost use Rattle.lot_sizing.specs.Problem.{item_count};
 ghost use Rattle.lot_sizing.specs.Plan.{EachCell};
 ghost use Rattle.plan_rules.specs.Held.{AllFit, plan_of};
 ghost use Rattle.plan_file.specs.Records.{AreNumbersOf, HasHeader, HasNumbers, IsNumber, IsPlanOf, IsRead, field, is_header, is_row, number_of, record_at, records_of};
-ghost use Rattle.plan_file.specs.Faults.{IsFirstBad, IsPlanFault, IsRecordFault, IsRowsFault};
+ghost use Rattle.plan_file.specs.Faults.{IsFirstBad, IsPlanFault, IsRecordFault, IsCellFault};
 ghost use Rattle.plan_file.specs.Numbers.{ArePut, HasNumbersIn, IsPutFrom};
 
 use crate::PlanFault;
 use crate::records::first_records;
 use csv::ByteRecord;
-use lot_io::{NumberFault, read_whole};
 use lot_model::Instance;
 use plan_rules::{Grid, Plan};
-use std::alloc::{AllocError, Global};
+use std::alloc::Global;
+use whole_numbers::read_whole;
 
 // A field of a record, counted from 1, and nothing where it is absent.
 fn field(row: &ByteRecord, number: usize) -> &[u8]
@@ -41,24 +43,25 @@ fn is_header(row: &ByteRecord) -> bool
         && field(row, 6) == b"backlog".as_slice()
 }
 
+// Whether a field is what is written of a period.
+fn is_period(text: &[u8], period: u32) -> bool
+    ensures { result ≡ bytes_eq text.now (decimal period) }
+{
+    match read_whole(text, u32::MAX as u128) {
+        Ok(number) => number == period as u128,
+        Err(_) => false,
+    }
+}
+
 // Whether a record is that of an item and a period.
-fn is_row(
-    alloc: Global,
-    instance: &Instance,
-    item: u32,
-    period: u32,
-    row: &ByteRecord,
-) -> Result<bool, AllocError>
+fn is_row(instance: &Instance, item: u32, period: u32, row: &ByteRecord) -> bool
     requires low { 1 ≤ item }
     requires high { item ≤ item_count instance.now }
-    ensures { IfOk result (λ found. found ≡ is_row instance.now item period (fields_of row.now)) }
+    ensures { result ≡ is_row instance.now item period (fields_of row.now) }
 {
-    let text = period.to_string(alloc)?;
-    Ok(
-        row.len() == 6
-            && field(row, 1) == instance.item_name(item).as_bytes()
-            && field(row, 2) == text.as_bytes(),
-    )
+    row.len() == 6
+        && field(row, 1) == instance.item_name(item).as_bytes()
+        && is_period(field(row, 2), period)
 }
 
 // The number that a field holds.
@@ -68,9 +71,7 @@ fn number(text: &[u8]) -> Option<u64>
 {
     match read_whole(text, u64::MAX as u128) {
         Ok(n) => Some(n as u64),
-        Err(NumberFault::NotDigits) => None,
-        Err(NumberFault::LeadingZero) => None,
-        Err(NumberFault::TooLarge) => None,
+        Err(_) => None,
     }
 }
 
@@ -128,9 +129,8 @@ fn put(instance: &Instance, plan: &mut Plan, item: u32, period: u32, numbers: Nu
     plan.backlog.set(item, period, numbers.backlog);
 }
 
-// Reads the record of an item and a period into a plan.
+// Reads the record of an item and a period into a plan. It takes no memory.
 fn read_record(
-    alloc: Global,
     instance: &Instance,
     rows: &[ByteRecord],
     item: u32,
@@ -151,34 +151,29 @@ fn read_record(
         return Err(PlanFault::RowCount);
     }
     let row = &rows[number as usize];
-    if !is_row(alloc, instance, item, period, row)? {
-        return Err(PlanFault::Row(number));
+    if !is_row(instance, item, period, row) {
+        return Err(PlanFault::Row(number as u64));
     }
     match numbers_of(row) {
         Ok(numbers) => {
             put(instance, plan, item, period, numbers);
             Ok(())
         }
-        Err(column) => Err(PlanFault::Number(number, column)),
+        Err(column) => Err(PlanFault::Number(number as u64, column)),
     }
 }
 
-// Reads all records after the header into a plan.
-fn read_records(
-    alloc: Global,
-    instance: &Instance,
-    rows: &[ByteRecord],
-    plan: &mut Plan,
-) -> Result<(), PlanFault>
+// Reads all records after the header into a plan. It takes no memory.
+fn read_records(instance: &Instance, rows: &[ByteRecord], plan: &mut Plan) -> Result<(), PlanFault>
     requires fits { AllFit instance.now plan.old }
     ensures fits { OnOk result (AllFit instance.now plan.new) }
     ensures read { OnOk result (EachCell instance.now (IsRead instance.now (map fields_of rows.now) (plan_of plan.new))) }
-    ensures refused { IfErr result (IsRowsFault instance.now (map fields_of rows.now)) }
+    ensures refused { IfErr result (IsCellFault instance.now (map fields_of rows.now)) }
 {
     let periods = instance.periods();
     for item in 1..instance.items() + 1 {
         for period in 1..periods + 1 {
-            read_record(alloc, instance, rows, item, period, plan)?;
+            read_record(instance, rows, item, period, plan)?;
         }
     }
     Ok(())
@@ -214,7 +209,7 @@ pub fn read_plan(alloc: Global, instance: &Instance, bytes: &[u8]) -> Result<Pla
         stock: Grid::filled(alloc, items, periods, 0)?,
         backlog: Grid::filled(alloc, items, periods, 0)?,
     };
-    read_records(alloc, instance, &rows, &mut plan)?;
+    read_records(instance, &rows, &mut plan)?;
     if rows.len() != count + 1 {
         return Err(PlanFault::RowCount);
     }

@@ -29,6 +29,7 @@ pub fn first_records(
                     return Err(AllocError);
                 }
             }
+            // Over bytes in memory the reader has no other cause, which its contract leaves open.
             Err(_) => return Err(AllocError),
         }
     }

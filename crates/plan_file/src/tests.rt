@@ -1,4 +1,4 @@
-use crate::{read_plan, write_plan};
+use crate::{PlanFault, read_plan, write_plan};
 use lot_model::{Draft, DraftItem, Instance};
 use plan_rules::{Grid, Plan};
 use std::alloc::{AllocError, Global};
@@ -16,6 +16,9 @@ fn instance(alloc: Global) -> Result<Instance, Fail> {
         opening: 0,
         end_min: 0,
         end_max: None,
+        lead: 0,
+        min_lot: 0,
+        max_lot: None,
         needs: Vec::new(alloc),
         uses: Vec::new(alloc),
     };
@@ -86,5 +89,72 @@ fn a_plan_that_is_written_is_read_again(rt: HostRuntime) -> Result<(), Fail> {
     assert_eq!(rt; read.make.get(1, 2), u64::MAX);
     assert_eq!(rt; (read.stock.items(), read.stock.periods()), (1, 2));
     assert_eq!(rt; read.stock.get(1, 1), 10);
+    Ok(())
+}
+
+// So many times the same number.
+fn times(alloc: Global, count: usize, value: i64) -> Result<Vec<i64>, AllocError> {
+    let mut list = Vec::new(alloc);
+    list.resize(count, value)?;
+    Ok(list)
+}
+
+// An item over 120 periods, with this name.
+fn long_item(alloc: Global, number: u32) -> Result<DraftItem, AllocError> {
+    Ok(DraftItem {
+        name: format!(in alloc; "i{number}")?,
+        demand: times(alloc, 120, 0)?,
+        unit_cost: times(alloc, 120, 0)?,
+        setup_cost: times(alloc, 120, 0)?,
+        hold_cost: times(alloc, 120, 0)?,
+        backlog_cost: None,
+        opening: 0,
+        end_min: 0,
+        end_max: None,
+        lead: 0,
+        min_lot: 0,
+        max_lot: None,
+        needs: Vec::new(alloc),
+        uses: Vec::new(alloc),
+    })
+}
+
+// Forty items over 120 periods.
+fn long_instance(alloc: Global) -> Result<Instance, Fail> {
+    let mut items = Vec::new(alloc);
+    for number in 1..41u32 {
+        items.push(long_item(alloc, number)?)?;
+    }
+    let draft = Draft {
+        periods: 120,
+        resources: Vec::new(alloc),
+        items,
+    };
+    Ok(Instance::from_draft(alloc, draft).ok().ok_or("refused")?)
+}
+
+// At the limits: 4,800 records are written, read again, and refused at the last one.
+#[test]
+fn the_longest_plan_is_read_again(rt: HostRuntime) -> Result<(), Fail> {
+    let alloc = rt.alloc();
+    let instance = long_instance(alloc)?;
+    let (items, periods) = (instance.items(), instance.periods());
+    let plan = Plan {
+        make: Grid::filled(alloc, items, periods, u64::MAX)?,
+        setup: Grid::filled(alloc, items, periods, 1)?,
+        stock: Grid::filled(alloc, items, periods, 10)?,
+        backlog: Grid::filled(alloc, items, periods, 7)?,
+    };
+    let mut bytes = write_plan(alloc, &instance, &plan)?;
+    let read = read_plan(alloc, &instance, bytes.as_slice())?;
+    assert_eq!(rt; (items, periods), (40, 120));
+    assert_eq!(rt; (read.backlog.items(), read.backlog.periods()), (40, 120));
+    assert_eq!(rt; read.backlog.get(40, 120), 7);
+    bytes.pop();
+    bytes.pop();
+    assert_eq!(rt;
+        read_plan(alloc, &instance, bytes.as_slice()).err(),
+        Some(PlanFault::Number(4_800, 6))
+    );
     Ok(())
 }

@@ -12,8 +12,8 @@ use lot_model::Instance;
 use plan_rules::Plan;
 use std::alloc::{AllocError, Global};
 
-#[tactic(auto, using(lot_sizing::proofs::Texts::join_to_more))]
 // Adds the records of an item.
+#[tactic(auto, using(lot_sizing::proofs::Texts::join_to_more))]
 fn add_records(
     text: &mut String,
     instance: &Instance,
@@ -37,8 +37,8 @@ fn add_records(
     Ok(())
 }
 
-#[tactic(auto, using(lot_sizing::proofs::Texts::join_to_more))]
 // The text of a plan.
+#[tactic(auto, using(lot_sizing::proofs::Texts::join_to_more))]
 fn plan_text(alloc: Global, instance: &Instance, plan: &Plan) -> Result<String, AllocError>
     requires { AllFit instance.now plan.now }
     ensures text { IfOk result (λ text. string_bytes text ≡ plan_text instance.now (plan_of plan.now)) }

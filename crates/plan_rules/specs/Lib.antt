@@ -4,3 +4,4 @@ pub mod Order
 pub mod Broken
 pub mod Rows
 pub mod Texts
+pub mod Laws

@@ -1,9 +1,10 @@
 -- Rows of the least stocks and backlogs.
-use Rattle.std.specs.Prelude.{◌≡◌, ◌≢◌, ◌⊎◌, ◌≤◌, ◌^◌, ℕ}
+use Rattle.std.specs.Prelude.{◌≡◌, ◌≢◌, ◌⊎◌, ◌≤◌, ◌^◌, ℕ, Option, Result, IfNone, IfOk, IfSome}
 use Rattle.lot_sizing.specs.Problem.{Problem, item_count}
 use Rattle.lot_sizing.specs.Plan.{Plan, Table, EachCell, IsFeasible, cost}
 use Rattle.lot_sizing.specs.Least.{least_stock, least_backlog, HasChoice}
 use Rattle.plan_rules.specs.Cells.{Cells, table_of}
+use Rattle.plan_rules.specs.declared.plan.Plan as grids
 
 -- the tables have the least stock and backlog here
 abbrev pub HasLeast : Problem → Table → Table → Table → ℕ → ℕ → Type 0
@@ -29,3 +30,16 @@ pub record IsLeastWith (m : Problem) (quantities setups : Table) (p : Plan) : Ty
 -- no feasible plan has these quantities and setups
 abbrev pub HasNoPlan : Problem → Table → Table → Type 0
 HasNoPlan m make setup = (q : Plan) → IsFeasible m q → HasChoice m make setup q → ⊥
+
+-- the plan holds these two grids
+pub record HasChosen (quantities setups : Cells) (p : grids.Plan) : Type 0 where
+  pub make : p.make ≡ quantities
+  pub setup : p.setup ≡ setups
+
+-- this holds of what was found, if memory was there and something was
+abbrev pub IfFound : {A E : Type 0} → Result (Option A) E → (A → Type 0) → Type 0
+IfFound result P = IfOk result (λ found. IfSome found P)
+
+-- this holds where memory was there and nothing was found
+abbrev pub IfNoneFound : {A E : Type 0} → Result (Option A) E → Type 0 → Type 0
+IfNoneFound result P = IfOk result (λ found. IfNone found P)

@@ -16,3 +16,5 @@ broken_text (broken.SetupMissing i t) = codes "broken 4" ++ cell_text i t
 broken_text (broken.Capacity k t used) = codes "broken 5 resource " ++ (decimal k ++ (codes " period " ++ (decimal t ++ (codes " used " ++ decimal used))))
 broken_text (broken.EndStock i) = codes "broken 6 item " ++ decimal i
 broken_text (broken.BacklogNotAllowed i t) = codes "broken 7" ++ cell_text i t
+broken_text (broken.Lot i t) = codes "broken 8" ++ cell_text i t
+broken_text (broken.Late i t) = codes "broken 9" ++ cell_text i t

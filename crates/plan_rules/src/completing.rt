@@ -1,13 +1,14 @@
 // The stocks and backlogs that go with given quantities.
-ghost use Rattle.std.specs.Prelude.{◌≡◌, ◌≢◌, ◌≤◌, ◌<◌, ◌+◌, ◌*◌, ◌^◌, ◌-◌, ◌⊎◌, ℕ, IfOk, IfSome, IfNone, IsTrue, true, false};
+ghost use Rattle.std.specs.Prelude.{◌≡◌, ◌≤◌, ◌<◌, ◌^◌, ℕ, IfSome, IfNone, IsTrue, false};
 ghost use Rattle.lot_sizing.specs.Problem.{item_count};
-ghost use Rattle.lot_sizing.specs.Plan.{IsFeasible, EachCell};
+ghost use Rattle.lot_sizing.specs.Plan.{IsFeasible, EachCell, cost};
+ghost use Rattle.lot_model.specs.Views.{IsInstance};
 ghost use Rattle.plan_rules.specs.Cells.{Fits, table_of};
 ghost use Rattle.plan_rules.specs.Held.{AllFit, plan_of};
-ghost use Rattle.plan_rules.specs.Rows.{HasLeast, OtherRowsSame, IsTooLarge, HasTooLarge, IsLeastWith, HasNoPlan};
+ghost use Rattle.plan_rules.specs.Rows.{HasLeast, HasChosen, IfFound, IfNoneFound, OtherRowsSame, IsTooLarge, HasTooLarge, IsLeastWith, HasNoPlan};
 
 use crate::judging::judge;
-use crate::{Grid, Plan, sums};
+use crate::{Grid, Plan, Planned, sums};
 use lot_model::Instance;
 use std::alloc::{AllocError, Global};
 
@@ -34,7 +35,7 @@ fn fill_item(
     let mut supply = instance.opening(item) as u128;
     let mut outflow = 0u128;
     for period in 1..instance.periods() + 1 {
-        supply += make.get(item, period) as u128;
+        supply += sums::arriving(instance, make, item, period) as u128;
         outflow += instance.demand(item, period) as u128
             + sums::used_up(instance, make, item, period);
         let left = supply.saturating_sub(outflow);
@@ -57,6 +58,7 @@ fn fill(instance: &Instance, make: &Grid, stock: &mut Grid, backlog: &mut Grid) 
     ensures backlog { Fits instance.now backlog.new }
     ensures rows { IsTrue result → EachCell instance.now (HasLeast instance.now (table_of make.now) (table_of stock.new) (table_of backlog.new)) }
     ensures too_large { result ≡ false → HasTooLarge instance.now (table_of make.now) }
+    ensures instance { IsInstance instance.now }
 {
     for item in 1..instance.items() + 1 {
         if !fill_item(instance, make, item, stock, backlog) {
@@ -66,27 +68,29 @@ fn fill(instance: &Instance, make: &Grid, stock: &mut Grid, backlog: &mut Grid) 
     true
 }
 
-/// The feasible plan with these quantities and setups and the least stocks and backlogs. No feasible plan
-/// with them has less stock or backlog, or costs less. None exactly where no feasible plan has them.
-///
-/// On None, and where memory runs out, the two grids are dropped. It takes time as `judge` does.
-pub fn complete(
-    alloc: Global,
+// The feasible plan with these quantities and setups and the least stocks and backlogs, which are put in
+// the other two grids. It is given no allocator, so no want of memory can stand in for its answer.
+fn finish(
     instance: &Instance,
     make: Grid,
     setup: Grid,
-) -> Result<Option<Plan>, AllocError>
+    mut stock: Grid,
+    mut backlog: Grid,
+) -> Option<Planned>
     requires make { Fits instance.now make }
     requires setup { Fits instance.now setup }
-    ensures choice { IfOk result (λ found. IfSome found (λ plan. (plan.make ≡ make) × (plan.setup ≡ setup))) }
-    ensures feasible { IfOk result (λ found. IfSome found (λ plan. AllFit instance.now plan × IsFeasible instance.now (plan_of plan))) }
-    ensures least { IfOk result (λ found. IfSome found (λ plan. IsLeastWith instance.now (table_of make) (table_of setup) (plan_of plan))) }
-    ensures none { IfOk result (λ found. IfNone found (HasNoPlan instance.now (table_of make) (table_of setup))) }
+    requires stock { Fits instance.now stock }
+    requires backlog { Fits instance.now backlog }
+    ensures choice { IfSome result (λ p. HasChosen make setup p.plan) }
+    ensures fits { IfSome result (λ p. AllFit instance.now p.plan) }
+    ensures feasible { IfSome result (λ p. IsFeasible instance.now (plan_of p.plan)) }
+    ensures least { IfSome result (λ p. IsLeastWith instance.now (table_of make) (table_of setup) (plan_of p.plan)) }
+    ensures cost { IfSome result (λ p. p.cost ≡ cost instance.now (plan_of p.plan)) }
+    ensures small { IfSome result (λ p. p.cost < 2 ^ 127) }
+    ensures none { IfNone result (HasNoPlan instance.now (table_of make) (table_of setup)) }
 {
-    let mut stock = Grid::filled(alloc, instance.items(), instance.periods(), 0)?;
-    let mut backlog = Grid::filled(alloc, instance.items(), instance.periods(), 0)?;
     if !fill(instance, &make, &mut stock, &mut backlog) {
-        return Ok(None);
+        return None;
     }
     let plan = Plan {
         make,
@@ -95,7 +99,54 @@ pub fn complete(
         backlog,
     };
     match judge(instance, &plan) {
-        Ok(_) => Ok(Some(plan)),
-        Err(_) => Ok(None),
+        Ok(cost) => Some(Planned { plan, cost }),
+        Err(_) => None,
+    }
+}
+
+/// The feasible plan with these quantities and setups and the least stocks and backlogs, and its cost. No
+/// feasible plan with them has less stock or backlog, or costs less. None exactly where no feasible plan
+/// has them.
+///
+/// On None, and where memory runs out, the two grids are dropped. It takes memory for two grids, and time
+/// as `judge` does.
+pub fn complete_at_cost(
+    alloc: Global,
+    instance: &Instance,
+    make: Grid,
+    setup: Grid,
+) -> Result<Option<Planned>, AllocError>
+    requires make { Fits instance.now make }
+    requires setup { Fits instance.now setup }
+    ensures choice { IfFound result (λ p. HasChosen make setup p.plan) }
+    ensures fits { IfFound result (λ p. AllFit instance.now p.plan) }
+    ensures feasible { IfFound result (λ p. IsFeasible instance.now (plan_of p.plan)) }
+    ensures least { IfFound result (λ p. IsLeastWith instance.now (table_of make) (table_of setup) (plan_of p.plan)) }
+    ensures cost { IfFound result (λ p. p.cost ≡ cost instance.now (plan_of p.plan)) }
+    ensures small { IfFound result (λ p. p.cost < 2 ^ 127) }
+    ensures none { IfNoneFound result (HasNoPlan instance.now (table_of make) (table_of setup)) }
+{
+    let stock = Grid::filled(alloc, instance.items(), instance.periods(), 0)?;
+    let backlog = Grid::filled(alloc, instance.items(), instance.periods(), 0)?;
+    Ok(finish(instance, make, setup, stock, backlog))
+}
+
+/// The plan of `complete_at_cost` alone.
+pub fn complete(
+    alloc: Global,
+    instance: &Instance,
+    make: Grid,
+    setup: Grid,
+) -> Result<Option<Plan>, AllocError>
+    requires make { Fits instance.now make }
+    requires setup { Fits instance.now setup }
+    ensures choice { IfFound result (λ plan. HasChosen make setup plan) }
+    ensures feasible { IfFound result (λ plan. AllFit instance.now plan × IsFeasible instance.now (plan_of plan)) }
+    ensures least { IfFound result (λ plan. IsLeastWith instance.now (table_of make) (table_of setup) (plan_of plan)) }
+    ensures none { IfNoneFound result (HasNoPlan instance.now (table_of make) (table_of setup)) }
+{
+    match complete_at_cost(alloc, instance, make, setup)? {
+        Some(planned) => Ok(Some(planned.plan)),
+        None => Ok(None),
     }
 }

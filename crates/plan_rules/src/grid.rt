@@ -6,7 +6,7 @@ use std::alloc::{AllocError, Global};
 use std::marker::Model;
 
 /// A number for each item and period, item by item.
-#[derive(Drop)]
+#[derive(Debug, Drop)]
 pub struct Grid {
     items: u32,
     periods: u32,
@@ -62,6 +62,13 @@ impl Grid {
         self.periods
     }
 
+    /// All numbers, item by item, each item's by period.
+    pub fn cells(&self) -> &[u64]
+        ensures { result.now ≡ self.now.cells }
+    {
+        &self.cells
+    }
+
     /// The number of an item and a period.
     pub fn get(&self, item: u32, period: u32) -> u64
         requires item_low { 1 ≤ item }
@@ -87,5 +94,21 @@ impl Grid {
     {
         let place = place_of(self.periods, item, period);
         self.cells[place] = value;
+    }
+}
+
+impl PartialEq for Grid {
+    ghost use Rattle.std.specs.Prelude.{◌==◌};
+    ghost use Rattle.std.proofs.Common.{rules};
+    ghost use Rattle.std.specs.Cmp.Rules.{comparing};
+    ghost use Rattle.std.specs.Ordering.{on, eq_of_both};
+    ghost use Rattle.std.specs.Cmp.Lexicographic.{pointwise};
+
+    ghost eq = { eq_of_both (on (λ g. g.items) ◌==◌) (eq_of_both (on (λ g. g.periods) ◌==◌) (on (λ g. g.cells) (pointwise ◌==◌))) };
+
+    ghost laws = { Prim.search (comparing, rules) };
+
+    fn eq(&self, other: &Grid) -> bool {
+        self.items == other.items && self.periods == other.periods && self.cells == other.cells
     }
 }

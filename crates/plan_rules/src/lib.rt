@@ -4,20 +4,26 @@
 //! stocks and backlogs. `judge` answers what a feasible plan costs, or the first rule that a plan breaks
 //! and where. `complete` gives the stocks and backlogs that go best with quantities and setups. Contracts
 //! see a grid as its numbers by item and period, and a plan as the plan of the definitions.
+//!
+//! Family: plans. It stands on `lot_model`. `plan_file` and `uncoupled` use it.
 #![tactic(auto)]
 
 mod broken;
 mod completing;
 mod grid;
 mod judging;
+mod laws;
 mod plan;
+mod rules;
 mod sums;
 
 pub use broken::Broken;
-pub use completing::complete;
+pub use completing::{complete, complete_at_cost};
 pub use grid::Grid;
 pub use judging::judge;
-pub use plan::Plan;
+pub use laws::judgement_is_one;
+pub use plan::{Plan, Planned};
+pub use sums::{CostParts, arriving, cost_parts, time_used, used_up};
 
 #[cfg(test)]
 mod tests;

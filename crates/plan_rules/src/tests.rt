@@ -1,5 +1,9 @@
-use crate::{Broken, Grid, Plan, complete, judge};
-use lot_model::{Draft, DraftItem, Instance};
+use crate::{
+    Broken, CostParts, Grid, Plan, arriving, complete, complete_at_cost, cost_parts, judge,
+    time_used, used_up,
+};
+use lot_model::{Draft, DraftItem, DraftNeed, DraftResource, DraftUse, Instance};
+use lot_sizing::limits::MAX_ITEMS;
 use std::alloc::{AllocError, Global};
 use std::test::Fail;
 
@@ -9,6 +13,8 @@ fn a_grid_keeps_each_number(rt: HostRuntime) -> Result<(), Fail> {
     assert_eq!(rt; (grid.items(), grid.periods()), (2, 3));
     grid.set(2, 1, u64::MAX);
     assert_eq!(rt; grid.get(2, 1), u64::MAX);
+    assert_eq!(rt; grid.cells().len(), 6);
+    assert!(rt; grid != Grid::filled(rt.alloc(), 2, 3, 7)?);
     for (item, period) in [(1u32, 1u32), (1, 3), (2, 2), (2, 3)] {
         assert!(rt; item <= grid.items() && period <= grid.periods() && item >= 1 && period >= 1);
         assert_eq!(rt; grid.get(item, period), 7, "{item} {period}");
@@ -16,25 +22,39 @@ fn a_grid_keeps_each_number(rt: HostRuntime) -> Result<(), Fail> {
     Ok(())
 }
 
-// Ten loaves on one day, for a setup of 5 and 2 each.
-fn loaves(alloc: Global) -> Result<Instance, Fail> {
-    let item = DraftItem {
-        name: String::from_str(alloc, "loaf")?,
-        demand: vec![in alloc; 10i64]?,
-        unit_cost: vec![in alloc; 2i64]?,
-        setup_cost: vec![in alloc; 5i64]?,
-        hold_cost: vec![in alloc; 0i64]?,
+// So many times the same number.
+fn times(alloc: Global, periods: usize, value: i64) -> Result<Vec<i64>, AllocError> {
+    let mut list = Vec::new(alloc);
+    list.resize(periods, value)?;
+    Ok(list)
+}
+
+// An item that is asked for so many units in each period, for a setup of 5 and 2 a unit.
+fn item(alloc: Global, name: &str, periods: usize, demand: i64) -> Result<DraftItem, AllocError> {
+    Ok(DraftItem {
+        name: String::from_str(alloc, name)?,
+        demand: times(alloc, periods, demand)?,
+        unit_cost: times(alloc, periods, 2)?,
+        setup_cost: times(alloc, periods, 5)?,
+        hold_cost: times(alloc, periods, 1)?,
         backlog_cost: None,
         opening: 0,
         end_min: 0,
         end_max: None,
+        lead: 0,
+        min_lot: 0,
+        max_lot: None,
         needs: Vec::new(alloc),
         uses: Vec::new(alloc),
-    };
+    })
+}
+
+// Ten loaves on one day.
+fn loaves(alloc: Global) -> Result<Instance, Fail> {
     let draft = Draft {
         periods: 1,
         resources: Vec::new(alloc),
-        items: vec![in alloc; item]?,
+        items: vec![in alloc; item(alloc, "loaf", 1, 10)?]?,
     };
     Ok(Instance::from_draft(alloc, draft).ok().ok_or("refused")?)
 }
@@ -113,5 +133,128 @@ fn plans_are_completed(rt: HostRuntime) -> Result<(), Fail> {
             None => assert!(rt; !feasible, "{quantity}"),
         }
     }
+    Ok(())
+}
+
+// Three tables of four legs each, which are sawn: a leg takes 1 of 25 minutes, and setting up the saw
+// takes 10.
+fn tables(alloc: Global) -> Result<Instance, Fail> {
+    let mut table = item(alloc, "table", 1, 3)?;
+    table.needs.push(DraftNeed {
+        item: String::from_str(alloc, "leg")?,
+        quantity: 4,
+    })?;
+    let mut leg = item(alloc, "leg", 1, 0)?;
+    leg.uses.push(DraftUse {
+        resource: String::from_str(alloc, "saw")?,
+        unit: 1,
+        setup: 10,
+    })?;
+    let mut items = Vec::new(alloc);
+    items.push(table)?;
+    items.push(leg)?;
+    let saw = DraftResource {
+        name: String::from_str(alloc, "saw")?,
+        capacity: vec![in alloc; 25i64]?,
+    };
+    let draft = Draft {
+        periods: 1,
+        resources: vec![in alloc; saw]?,
+        items,
+    };
+    Ok(Instance::from_draft(alloc, draft).ok().ok_or("refused")?)
+}
+
+#[test]
+fn sums_of_a_plan(rt: HostRuntime) -> Result<(), Fail> {
+    let alloc = rt.alloc();
+    let instance = tables(alloc)?;
+    assert!(rt; instance.items() == 2 && instance.periods() == 1);
+    let mut make = Grid::filled(alloc, 2, 1, 3)?;
+    make.set(2, 1, 12);
+    let setup = Grid::filled(alloc, 2, 1, 1)?;
+    let planned = complete_at_cost(alloc, &instance, make, setup)?.ok_or("no plan")?;
+    assert_eq!(rt; planned.cost, 40);
+    assert_eq!(rt; arriving(&instance, &planned.plan.make, 2, 1), 12);
+    assert_eq!(rt; used_up(&instance, &planned.plan.make, 2, 1), 12);
+    assert_eq!(rt; time_used(&instance, &planned.plan, 1, 1), 22);
+    let parts = CostParts {
+        unit: 24,
+        setup: 5,
+        hold: 0,
+        backlog: 0,
+    };
+    assert_eq!(rt; cost_parts(&instance, &planned.plan, 2, 1), parts);
+    Ok(())
+}
+
+// The most periods that a draft may have.
+const PERIODS: u32 = 120;
+
+// As many items and periods as there may be, of which one unit is asked for in each period.
+fn largest(alloc: Global) -> Result<Instance, Fail> {
+    let mut items = Vec::new(alloc);
+    for number in 1u64..=u64::from(MAX_ITEMS) {
+        let name = number.to_string(alloc)?;
+        items.push(item(alloc, name.as_str(), PERIODS as usize, 1)?)?;
+    }
+    let draft = Draft {
+        periods: i64::from(PERIODS),
+        resources: Vec::new(alloc),
+        items,
+    };
+    Ok(Instance::from_draft(alloc, draft).ok().ok_or("refused")?)
+}
+
+#[test]
+fn the_largest_plan_is_completed(rt: HostRuntime) -> Result<(), Fail> {
+    let alloc = rt.alloc();
+    let instance = largest(alloc)?;
+    let (items, periods) = (instance.items(), instance.periods());
+    let make = Grid::filled(alloc, items, periods, 1)?;
+    let setup = Grid::filled(alloc, items, periods, 1)?;
+    let found = complete_at_cost(alloc, &instance, make, setup)?.ok_or("no plan")?;
+    // 40 items in 120 periods, each for 5 and 2.
+    assert_eq!(rt; found.cost, 33600);
+    Ok(())
+}
+
+#[test]
+fn the_last_cell_rules_out_a_plan(rt: HostRuntime) -> Result<(), Fail> {
+    let alloc = rt.alloc();
+    let instance = largest(alloc)?;
+    let (items, periods) = (instance.items(), instance.periods());
+    let mut make = Grid::filled(alloc, items, periods, 1)?;
+    make.set(items, periods, 0);
+    let setup = Grid::filled(alloc, items, periods, 1)?;
+    assert!(rt; complete(alloc, &instance, make, setup)?.is_none());
+    Ok(())
+}
+
+// A plan that meets each demand where it is asked for, but for a stock at the very end.
+fn with_a_last_stock(alloc: Global, instance: &Instance) -> Result<Plan, AllocError> {
+    let (items, periods) = (instance.items(), instance.periods());
+    let mut stock = Grid::filled(alloc, items, periods, 0)?;
+    stock.set(items, periods, 1);
+    Ok(Plan {
+        make: Grid::filled(alloc, items, periods, 1)?,
+        setup: Grid::filled(alloc, items, periods, 1)?,
+        stock,
+        backlog: Grid::filled(alloc, items, periods, 0)?,
+    })
+}
+
+#[test]
+fn the_last_cell_of_the_largest_plan_is_judged(rt: HostRuntime) -> Result<(), Fail> {
+    let alloc = rt.alloc();
+    let instance = largest(alloc)?;
+    let text = match judge(&instance, &with_a_last_stock(alloc, &instance)?) {
+        Ok(cost) => cost.to_string(alloc)?,
+        Err(broken) => broken.to_string(alloc)?,
+    };
+    assert!(rt;
+        text.as_str() == "broken 3 item 40 period 120 left 1 right 2",
+        "{text}"
+    );
     Ok(())
 }

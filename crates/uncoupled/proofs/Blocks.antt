@@ -1,11 +1,12 @@
 -- Lots and setups as blocks are put in a row.
-use Rattle.std.proofs.Common.{◌≡◌, ◌≢◌, ◌≤◌, ◌<◌, ◌+◌, ◌-◌, ◌*◌, ◌^◌, ◌∙◌, ◌⊎◌, ⊎_elim, inl, inr, ℕ, suc, refl, sym, ap, subst, arith, List, [], ◌∷◌, length, drop, slice_index_or}
+use Rattle.std.proofs.Common.{◌≡◌, ◌≢◌, ◌≤◌, ◌<◌, ◌+◌, ◌-◌, ◌∙◌, ⊎_elim, inl, inr, ℕ, suc, refl, sym, ap, subst, arith, List, [], ◌∷◌, length, drop, slice_index_or}
 use Rattle.std.specs.Prelude.{◌==◌, ◌||◌, if◌then◌else◌, true, false}
 use Rattle.std.specs.List.{list_any}
 use Rattle.std.proofs.lemmas.Bool.{cases_eq}
 use Rattle.std.proofs.lemmas.List.{drop_all, drop_more}
 use Rattle.lot_sizing.specs.declared.Block.{Block}
 use Rattle.std.proofs.lemmas.List.Sums.{sum_by-cons}
+use Rattle.lot_sizing.specs.declared.limits.TheConstants.{MAX_TOTAL}
 use Rattle.lot_sizing.specs.Sums.{sum_from}
 use Rattle.lot_sizing.specs.Single.{Cover, CoverFrom, IsBlock, IsWithinBounds, Single, block_lot, lot_in, net_demand, period_count, period_of, position_count, setup_in}
 use Rattle.lot_sizing.proofs.Sums.{sum_to_at, sum_to-front}
@@ -72,7 +73,7 @@ pub setup_last : (all : List Block) (t row : ℕ) → IsSetUpSoFar all [] t row 
 setup_last all t row so_far = ⊎_elim (λ done. done.0 ∙ sym done.1) (λ later. later.0 ∙ later.1) so_far
 
 -- a net demand is part of all of them
-pub net_at_most : (s : Single) (t : ℕ) → IsWithinBounds s → 1 ≤ t → t ≤ period_count s → net_demand s t ≤ 10 ^ 12
+pub net_at_most : (s : Single) (t : ℕ) → IsWithinBounds s → 1 ≤ t → t ≤ period_count s → net_demand s t ≤ MAX_TOTAL
 net_at_most s t within low high = omega (arith, sum_to_at t (net_demand s) low, sum_to-front t (period_count s) (net_demand s) high, within.net)
 
 -- a position more

@@ -1,5 +1,6 @@
 -- Rows of quantities and setups.
-use Rattle.std.specs.Prelude.{◌≡◌, ◌≢◌, ◌⊎◌, ℕ, ◌+◌, ◌*◌, ◌^◌, ◌≤◌, ◌<◌, List, length, drop}
+use Rattle.std.specs.Prelude.{◌≡◌, ◌≢◌, ◌⊎◌, ℕ, ◌+◌, ◌*◌, ◌≤◌, ◌<◌, List, drop}
+use Rattle.lot_sizing.specs.declared.limits.TheConstants.{MAX_PERIODS, MAX_TOTAL}
 use Rattle.lot_sizing.specs.Problem.{Problem, item_count}
 use Rattle.lot_sizing.specs.declared.Block.{Block}
 use Rattle.lot_sizing.specs.Single.{CoverFrom, Single, block_lot, lot_in, period_count, setup_in}
@@ -43,7 +44,7 @@ pub record IsRowSoFar (s : Single) (blocks : List Block) (k item : ℕ) (make_ol
   pub other_makes : OtherRowsSame make_old make item
   pub other_setups : OtherRowsSame setup_old setup item
   pub lots : (t : ℕ) → 1 ≤ t → t ≤ period_count s → table_of make item t + lot_in s (drop k blocks) t ≡ lot_in s blocks t
-  pub small : (t : ℕ) → 1 ≤ t → t ≤ period_count s → table_of make item t ≤ k * (120 * 10 ^ 12)
+  pub small : (t : ℕ) → 1 ≤ t → t ≤ period_count s → table_of make item t ≤ k * (MAX_PERIODS * MAX_TOTAL)
   pub setups : (t : ℕ) → 1 ≤ t → t ≤ period_count s → IsSetUpSoFar blocks (drop k blocks) t (table_of setup item t)
   pub cover : (p : ℕ) × CoverFrom s p (drop k blocks)
 
@@ -56,7 +57,7 @@ pub record IsPut (s : Single) (b : Block) (item : ℕ) (make_old setup_old make 
   pub other_makes : OtherRowsSame make_old make item
   pub other_setups : OtherRowsSame setup_old setup item
   pub lot_here : table_of make item b.server ≡ table_of make_old item b.server + block_lot s b
-  pub lot_small : block_lot s b ≤ 120 * 10 ^ 12
+  pub lot_small : block_lot s b ≤ MAX_PERIODS * MAX_TOTAL
   pub lots_apart : (t : ℕ) → 1 ≤ t → t ≤ period_count s → t ≢ b.server → table_of make item t ≡ table_of make_old item t
   pub setup_here : table_of setup item b.server ≡ 1
   pub setups_apart : (t : ℕ) → 1 ≤ t → t ≤ period_count s → t ≢ b.server → table_of setup item t ≡ table_of setup_old item t

@@ -1,5 +1,6 @@
 // The lots and setups of blocks.
-ghost use Rattle.std.specs.Prelude.{◌≡◌, ◌≤◌, ◌*◌, ◌^◌, ℕ};
+ghost use Rattle.std.specs.Prelude.{◌≡◌, ◌≤◌, ◌*◌, ℕ};
+ghost use Rattle.lot_sizing.specs.declared.limits.TheConstants.{MAX_PERIODS, MAX_TOTAL};
 ghost use Rattle.lot_sizing.specs.Single.{Cover, IsBlock, IsWithinBounds, block_lot, lot_in, period_count, positions, setup_in};
 ghost use Rattle.echelon.specs.Views.{single_of_item};
 ghost use Rattle.plan_rules.specs.Cells.{table_of};
@@ -15,7 +16,7 @@ fn block_lot(single: &SingleItem, needed: &[u32], block: Block) -> u64
     requires needed { needed.now ≡ positions (single_of_item single.now) }
     requires block { IsBlock (single_of_item single.now) block }
     ensures value { result ≡ block_lot (single_of_item single.now) block }
-    ensures small { result ≤ 120 * 10 ^ 12 }
+    ensures small { result ≤ MAX_PERIODS * MAX_TOTAL }
 {
     let mut lot = 0u64;
     for place in block.first..block.last + 1 {
@@ -39,7 +40,7 @@ fn set_block(
     requires block { IsBlock (single_of_item single.now) block }
     requires make { HasRow (period_count (single_of_item single.now)) item make.old }
     requires setup { HasRow (period_count (single_of_item single.now)) item setup.old }
-    requires small { table_of make.old item block.server ≤ 120 * (120 * 10 ^ 12) }
+    requires small { table_of make.old item block.server ≤ MAX_PERIODS * (MAX_PERIODS * MAX_TOTAL) }
     ensures { IsPut (single_of_item single.now) block item make.old setup.old make.new setup.new }
 {
     let lot = block_lot(single, needed, block);

@@ -1,26 +1,17 @@
-// The best plan of an instance whose items have nothing to do with each other.
-ghost use Rattle.std.specs.Prelude.{◌≡◌, ◌≤◌, ◌+◌, ◌<◌, ℕ, IfOk, IfSome, IfNone, OnOk};
+// The best plan of an uncoupled instance.
+ghost use Rattle.std.specs.Prelude.{◌≡◌, ◌≤◌, ◌+◌, ◌<◌, ◌^◌, IfOk, OnOk};
 ghost use Rattle.lot_sizing.specs.Problem.{IsUncoupled, item_count};
 ghost use Rattle.lot_sizing.specs.Plan.{cost};
 ghost use Rattle.lot_sizing.specs.Best.{IsBest, IsImpossible};
-ghost use Rattle.plan_rules.specs.Cells.{Fits};
 ghost use Rattle.plan_rules.specs.Held.{AllFit, plan_of};
+ghost use Rattle.plan_rules.specs.Rows.{IfFound, IfNoneFound};
 ghost use Rattle.uncoupled.specs.Rows.{AreBestBefore};
 
 use crate::lots::set_lots;
 use crate::room::have_room;
 use lot_model::Instance;
-use plan_rules::{Grid, Plan, complete, judge};
+use plan_rules::{Grid, Planned, complete_at_cost};
 use std::alloc::{AllocError, Global};
-
-/// A plan and what it costs.
-#[derive(Drop)]
-pub struct Planned {
-    /// The plan.
-    pub plan: Plan,
-    /// Its cost, in money.
-    pub cost: u128,
-}
 
 // Puts the lots and setups of a cheapest net plan in the row of an item.
 fn plan_item(
@@ -32,6 +23,7 @@ fn plan_item(
 ) -> Result<(), AllocError>
     requires low { 1 ≤ item }
     requires high { item ≤ item_count instance.now }
+    requires uncoupled { IsUncoupled instance.now }
     requires before { AreBestBefore instance.now make.old setup.old item }
     ensures { OnOk result (AreBestBefore instance.now make.new setup.new (item + 1)) }
 {
@@ -52,6 +44,7 @@ struct Lots {
 
 // The lots and setups of a cheapest net plan of each item.
 fn cheapest_lots(alloc: Global, instance: &Instance) -> Result<Lots, AllocError>
+    requires uncoupled { IsUncoupled instance.now }
     ensures { IfOk result (λ lots. AreBestBefore instance.now lots.make lots.setup (item_count instance.now + 1)) }
 {
     let mut make = Grid::filled(alloc, instance.items(), instance.periods(), 0)?;
@@ -62,27 +55,22 @@ fn cheapest_lots(alloc: Global, instance: &Instance) -> Result<Lots, AllocError>
     Ok(Lots { make, setup })
 }
 
-/// A best plan of an instance whose items have nothing to do with each other. None exactly where no plan
-/// is feasible.
+/// A best plan of an uncoupled instance and its cost, in money. None exactly where no plan is feasible:
+/// where what is left of an opening stock has no room in the end, which is found before memory is taken.
 ///
-/// It takes time in the number of items times the square of that of periods. The error is want of memory.
+/// It takes time in the number of items times the square of that of periods. The error is that memory
+/// ran out.
 pub fn plan_uncoupled(alloc: Global, instance: &Instance) -> Result<Option<Planned>, AllocError>
     requires { IsUncoupled instance.now }
-    ensures fits { IfOk result (λ found. IfSome found (λ planned. AllFit instance.now planned.plan)) }
-    ensures best { IfOk result (λ found. IfSome found (λ planned. IsBest instance.now (plan_of planned.plan))) }
-    ensures costs { IfOk result (λ found. IfSome found (λ planned. planned.cost ≡ cost instance.now (plan_of planned.plan))) }
-    ensures impossible { IfOk result (λ found. IfNone found (IsImpossible instance.now)) }
+    ensures fits { IfFound result (λ planned. AllFit instance.now planned.plan) }
+    ensures best { IfFound result (λ planned. IsBest instance.now (plan_of planned.plan)) }
+    ensures costs { IfFound result (λ planned. planned.cost ≡ cost instance.now (plan_of planned.plan)) }
+    ensures small { IfFound result (λ planned. planned.cost < 2 ^ 127) }
+    ensures impossible { IfNoneFound result (IsImpossible instance.now) }
 {
     if !have_room(instance) {
         return Ok(None);
     }
     let lots = cheapest_lots(alloc, instance)?;
-    let plan = match complete(alloc, instance, lots.make, lots.setup)? {
-        Some(plan) => plan,
-        None => return Ok(None),
-    };
-    match judge(instance, &plan) {
-        Ok(cost) => Ok(Some(Planned { plan, cost })),
-        Err(_) => Ok(None),
-    }
+    complete_at_cost(alloc, instance, lots.make, lots.setup)
 }

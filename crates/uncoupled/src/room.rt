@@ -1,8 +1,8 @@
 // Whether what is left of the opening stocks has room in the end.
 ghost use Rattle.std.specs.Prelude.{◌≡◌, ◌≤◌, ◌+◌, ◌↔◌, IsTrue};
 ghost use Rattle.lot_sizing.specs.Sums.{sum_to};
-ghost use Rattle.lot_sizing.specs.Problem.{demand, item_count};
-ghost use Rattle.lot_sizing.specs.Net.{EachItem, HasRoom};
+ghost use Rattle.lot_sizing.specs.Problem.{EachItem, demand, item_count};
+ghost use Rattle.lot_sizing.specs.Net.{HasRoom};
 ghost use Rattle.lot_model.specs.Views.{IsInstance};
 
 use lot_model::Instance;

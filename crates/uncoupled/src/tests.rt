@@ -1,5 +1,6 @@
 use crate::plan_uncoupled;
 use lot_model::{Draft, DraftItem, Instance, is_uncoupled};
+use lot_sizing::limits::MAX_ITEMS;
 use std::alloc::{AllocError, Global};
 use std::test::Fail;
 
@@ -15,6 +16,9 @@ fn item(alloc: Global, name: &str, opening: i64) -> Result<DraftItem, AllocError
         opening,
         end_min: 0,
         end_max: None,
+        lead: 0,
+        min_lot: 0,
+        max_lot: None,
         needs: Vec::new(alloc),
         uses: Vec::new(alloc),
     })
@@ -59,6 +63,57 @@ fn a_stock_without_room_has_no_plan(rt: HostRuntime) -> Result<(), Fail> {
     Ok(())
 }
 
+// The most periods that a draft may have.
+const PERIODS: u32 = 120;
+
+// As many items and periods as there may be. One unit of each is asked for in each period, and a setup
+// costs 5.
+fn largest(alloc: Global) -> Result<Instance, Fail> {
+    let mut items = Vec::new(alloc);
+    for number in 1u32..=MAX_ITEMS {
+        items.push(DraftItem {
+            name: number.to_string(alloc)?,
+            demand: times(alloc, PERIODS, 1)?,
+            unit_cost: times(alloc, PERIODS, 0)?,
+            setup_cost: times(alloc, PERIODS, 5)?,
+            hold_cost: times(alloc, PERIODS, 0)?,
+            backlog_cost: None,
+            opening: 0,
+            end_min: 0,
+            end_max: None,
+            lead: 0,
+            min_lot: 0,
+            max_lot: None,
+            needs: Vec::new(alloc),
+            uses: Vec::new(alloc),
+        })?;
+    }
+    let draft = Draft {
+        periods: i64::from(PERIODS),
+        resources: Vec::new(alloc),
+        items,
+    };
+    Ok(Instance::from_draft(alloc, draft).ok().ok_or("refused")?)
+}
+
+// So many times the same number.
+fn times(alloc: Global, periods: u32, value: i64) -> Result<Vec<i64>, AllocError> {
+    let mut list = Vec::new(alloc);
+    list.resize(periods as usize, value)?;
+    Ok(list)
+}
+
+#[test]
+fn the_most_items_are_planned(rt: HostRuntime) -> Result<(), Fail> {
+    let alloc = rt.alloc();
+    let instance = largest(alloc)?;
+    assert!(rt; is_uncoupled(&instance));
+    let planned = plan_uncoupled(alloc, &instance)?.ok_or("no plan")?;
+    // One setup of each item, in the first period.
+    assert_eq!(rt; planned.cost, 200);
+    Ok(())
+}
+
 // The least cost of an item over three periods, by the recursion and by the plain one.
 fn least_costs(
     alloc: Global,
@@ -78,6 +133,9 @@ fn least_costs(
         opening,
         end_min,
         end_max: None,
+        lead: 0,
+        min_lot: 0,
+        max_lot: None,
         needs: Vec::new(alloc),
         uses: Vec::new(alloc),
     };
@@ -87,8 +145,8 @@ fn least_costs(
         items: vec![in alloc; item]?,
     };
     let instance = Instance::from_draft(alloc, draft).ok().ok_or("refused")?;
-    if instance.items() != 1 {
-        return Err("not one item".into());
+    if instance.items() != 1 || !is_uncoupled(&instance) {
+        return Err("not one item by itself".into());
     }
     let single = echelon::single_of(alloc, &instance, 1)?;
     let found = backlog_dp::solve(alloc, &single)?;

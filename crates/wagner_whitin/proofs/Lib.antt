@@ -1,4 +1,13 @@
 pub mod Sums
-pub mod Steps
+pub mod Serving
 pub mod Tabled
 pub mod Summing
+pub mod Floors
+pub mod Reached
+pub mod Costs
+pub mod Kept
+pub mod Entries
+pub mod Nearest
+pub mod Progress
+pub mod Bits
+pub mod Adding

@@ -1,5 +1,5 @@
 -- Blocks that are added up position by position.
-use Rattle.std.proofs.Common.{◌≡◌, ◌≤◌, ◌+◌, ◌-◌, ◌*◌, ◌∙◌, ⊎_elim, ◌⊎◌, ℕ, suc, sym, ap, subst, arith, List, slice_index_or}
+use Rattle.std.proofs.Common.{◌≡◌, ◌≤◌, ◌+◌, ◌-◌, ◌*◌, ⊎_elim, ◌⊎◌, ℕ, suc, sym, ap, subst, arith, List, slice_index_or}
 use Rattle.lot_sizing.specs.Sums.{sum_from}
 use Rattle.lot_sizing.specs.Problem.{entry}
 use Rattle.lot_sizing.specs.declared.Block.{Block}
@@ -7,7 +7,7 @@ use Rattle.lot_sizing.specs.Single.{Single, IsWithinBounds, IsServer, IsBlock, p
 use Rattle.lot_sizing.proofs.Blocks.{periods_rise}
 use Rattle.wagner_whitin.specs.declared.plain.Candidate.{Candidate}
 use Rattle.wagner_whitin.specs.Tables.{IsCandidate, most_for_one}
-use Rattle.wagner_whitin.proofs.Steps.{period_in}
+use Rattle.wagner_whitin.proofs.Serving.{period_in}
 
 -- a position's period, in the list of periods
 pub record IsAt (s : Single) (p t : ℕ) : Type 0 where
@@ -52,12 +52,6 @@ pub record IsOffer (s : Single) (before first last : ℕ) (c : Candidate) : Type
 
 pub offer_of : (s : Single) (before first last : ℕ) (one other chosen : Candidate) → (chosen ≡ one) ⊎ (chosen ≡ other) → IsOffer s before first last one → IsOffer s before first last other → IsOffer s before first last chosen
 offer_of s before first last one other chosen either a b = ⊎_elim (λ same. subst (IsOffer s before first last) (sym same) a) (λ same. subst (IsOffer s before first last) (sym same) b) either
-
-pub potential_at : (g : List ℕ) (p : ℕ) → 2 ≤ p → potential g (p - 1) ≡ slice_index_or g (p - 2) 0
-potential_at g p low =
-    let e : p - 1 ≡ suc (p - 2) = omega (arith, low) in
-    let i : suc (p - 2) - 1 ≡ p - 2 = omega arith in
-    ap (potential g) e ∙ ap (λ k. slice_index_or g k 0) i
 
 -- a block that ends with position p, and what all up to it costs
 pub record IsLast (s : Single) (g : List ℕ) (p : ℕ) (c : Candidate) : Type 0 where

@@ -19,9 +19,6 @@ sums_more n x f sums table same = record {
       (cases_lt k (suc n));
 }
 
-pub first_sum : (f : ℕ → ℕ) → AreSums 0 f (0 ∷ [])
-first_sum f = record { size = refl; each = λ k high. let e : k ≡ 0 = omega (arith, high) in ap (λ j. slice_index_or (0 ∷ []) j 0) e ∙ ap (λ j. sum_to j f) (sym e) }
-
 -- a sum in two parts
 sum_parts : (a n : ℕ) (f : ℕ → ℕ) → sum_to (a + n) f ≡ sum_to a f + sum_from (suc a) n f
 sum_parts a zero f = let e : a + 0 ≡ a = omega arith in omega (arith, ap (λ k. sum_to k f) e)

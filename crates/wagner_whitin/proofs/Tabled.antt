@@ -1,28 +1,32 @@
 -- The table of least costs takes a position more.
-use Rattle.std.proofs.Common.{◌≡◌, ◌≤◌, ◌<◌, ◌+◌, ◌-◌, ◌*◌, ◌∙◌, ⊎_elim, inl, inr, ℕ, zero, suc, refl, sym, ap, subst, arith, List, [], ◌∷◌, ◌++◌, length, slice_index_or}
+use Rattle.std.proofs.Common.{◌≡◌, ◌≤◌, ◌<◌, ◌+◌, ◌-◌, ◌*◌, ◌∙◌, ⊎_elim, ℕ, zero, suc, refl, sym, ap, subst, arith, List, [], ◌∷◌, ◌++◌, length, slice_index_or, Option, Some, None}
 use Rattle.std.specs.Prelude.{◌↔◌}
-use Rattle.std.proofs.lemmas.List.{length_push, get_or_push, get_or_append_left}
+use Rattle.std.proofs.lemmas.List.{length_push, get_or_push, get_or_append_left, get_or_default}
 use Rattle.std.proofs.lemmas.Bool.{cases_lt}
+use Rattle.lot_sizing.specs.Problem.{AllAtMost}
 use Rattle.lot_sizing.specs.declared.Block.{Block}
 use Rattle.lot_sizing.specs.Laws.{BlocksServe, LastPotentialIsFloor}
 use Rattle.lot_sizing.specs.Single.{Single, IsWithinBounds, IsServer, ArePotentials, Cover, IsLeastNetCost, blocks_plan, blocks_cost, period_count, position_count, positions, period_of, block_cost, potential}
 use Rattle.lot_sizing.proofs.Blocks.{periods_rise}
 use Rattle.wagner_whitin.specs.declared.plain.Candidate.{Candidate}
 use Rattle.wagner_whitin.specs.declared.runs.Run.{Run}
-use Rattle.wagner_whitin.specs.Tables.{IsCheapestLast, IsRun, AreRuns, no_run, IsTable, IsLastBlock, most_for_one, last_block, no_block, run_of}
+use Rattle.wagner_whitin.specs.Solution.{IsSolution, most_cost}
+use Rattle.echelon.specs.declared.single.Blocks.{Blocks}
+use Rattle.wagner_whitin.specs.Tables.{IsCheapestLast, IsRun, IsRunOrNone, AreRuns, RunsAtMost, IsTable, IsLastBlock, most_for_one, last_block, no_block, run_of}
 use Rattle.wagner_whitin.proofs.Sums.{IsRead, read_is}
-use Rattle.wagner_whitin.proofs.Steps.{period_in}
+use Rattle.wagner_whitin.proofs.Serving.{period_in, positions_small}
 
 -- the potentials that were there stay
-potential_kept : (g : List ℕ) (x k : ℕ) → k ≤ length g → potential (g ++ x ∷ []) k ≡ potential g k
+pub potential_kept : (g : List ℕ) (x k : ℕ) → k ≤ length g → potential (g ++ x ∷ []) k ≡ potential g k
 potential_kept g x zero h = refl
 potential_kept g x (suc k) h = get_or_append_left g (x ∷ []) 0 (suc k - 1) (omega (arith, h))
 
-potential_new : (g : List ℕ) (x : ℕ) → potential (g ++ x ∷ []) (suc (length g)) ≡ x
+pub potential_new : (g : List ℕ) (x : ℕ) → potential (g ++ x ∷ []) (suc (length g)) ≡ x
 potential_new g x = get_or_push g x 0 (suc (length g) - 1) (omega arith)
 
 run_kept : (s : Single) (g : List ℕ) (x u p : ℕ) (run : Run) → p ≤ suc (length g) → IsRun s g u p run → IsRun s (g ++ x ∷ []) u p run
 run_kept s g x u p run h ran = record {
+  own = ran.own;
   low = ran.low;
   high = ran.high;
   server = ran.server;
@@ -31,24 +35,35 @@ run_kept s g x u p run h ran = record {
   small = ran.small;
 }
 
-pub runs_kept : (s : Single) (g : List ℕ) (x p : ℕ) (runs : List Run) → p ≤ suc (length g) → AreRuns s g p runs → AreRuns s (g ++ x ∷ []) p runs
+run_or_none_kept : (s : Single) (g : List ℕ) (x u p : ℕ) (old : Option Run) → p ≤ suc (length g) → IsRunOrNone s g u p old → IsRunOrNone s (g ++ x ∷ []) u p old
+run_or_none_kept s g x u p None h closed = closed
+run_or_none_kept s g x u p (Some run) h ran = run_kept s g x u p run h ran
+
+pub runs_kept : (s : Single) (g : List ℕ) (x p : ℕ) (runs : List (Option Run)) → p ≤ suc (length g) → AreRuns s g p runs → AreRuns s (g ++ x ∷ []) p runs
 runs_kept s g x p runs h are = record {
   size = are.size;
-  each = λ u low high. ⊎_elim (λ none. inl none) (λ ran. inr (run_kept s g x u p (run_of runs u) h ran)) (are.each u low high);
+  each = λ u low high. run_or_none_kept s g x u p (run_of runs u) h (are.each u low high);
 }
 
 -- the run of a server that may serve the position
-ran_at : (s : Single) (g : List ℕ) (p u : ℕ) (runs : List Run) → AreRuns s g p runs → 1 ≤ p → IsServer s u (period_of s p) → IsRun s g u p (run_of runs u)
-ran_at s g p u runs are low may = ⊎_elim (λ none. absurd (none.closed p low (omega arith) may)) (λ ran. ran) (are.each u may.low may.high)
+ran_at : (s : Single) (g : List ℕ) (p u : ℕ) (old : Option Run) → IsRunOrNone s g u p old → 1 ≤ p → IsServer s u (period_of s p) → (run : Run) × (old ≡ Some run) × IsRun s g u p run
+ran_at s g p u None closed low may = absurd (closed p low (omega arith) may)
+ran_at s g p u (Some run) ran low may = (run, refl, ran)
+
+-- some server has a run
+pub some_run : (s : Single) (g : List ℕ) (p u : ℕ) (runs : List (Option Run)) → AreRuns s g p runs → 1 ≤ p → IsServer s u (period_of s p) → (x : ℕ) × RunsAtMost (run_of runs u) x
+some_run s g p u runs are low may =
+    let ran = ran_at s g p u (run_of runs u) (are.each u may.low may.high) low may in
+    (ran.0.cost, subst (λ o. RunsAtMost o ran.0.cost) (sym ran.1) (omega arith))
 
 -- the cheapest run makes the next potential
-pub table_more : (s : Single) (p : ℕ) (g : List ℕ) (lasts : List Block) (runs : List Run) (t limit u : ℕ) → IsTable s p g lasts → p < position_count s → t ≡ period_of s (p + 1) → ((v : ℕ) → 1 ≤ v → (IsServer s v t ↔ (v ≤ limit))) → AreRuns s g (p + 1) runs → 1 ≤ u → u ≤ limit → ((v : ℕ) → 1 ≤ v → v ≤ limit → (run_of runs u).cost ≤ (run_of runs v).cost) → IsTable s (p + 1) (g ++ (run_of runs u).cost ∷ []) (lasts ++ record { first = (run_of runs u).first; last = p + 1; server = u } ∷ [])
-table_more s p g lasts runs t limit u table some same servers are low high least =
-    let run = run_of runs u in
+pub table_more : (s : Single) (p : ℕ) (g : List ℕ) (lasts : List Block) (runs : List (Option Run)) (t limit u : ℕ) (run : Run) → IsTable s p g lasts → p < position_count s → t ≡ period_of s (p + 1) → ((v : ℕ) → 1 ≤ v → (IsServer s v t ↔ (v ≤ limit))) → AreRuns s g (p + 1) runs → 1 ≤ u → u ≤ limit → run_of runs u ≡ Some run → ((v x : ℕ) → 1 ≤ v → v ≤ limit → RunsAtMost (run_of runs v) x → run.cost ≤ x) → IsTable s (p + 1) (g ++ run.cost ∷ []) (lasts ++ record { first = run.first; last = p + 1; server = run.server } ∷ [])
+table_more s p g lasts runs t limit u run table some same servers are low high kept least =
     let x = run.cost in
-    let b : Block = record { first = run.first; last = p + 1; server = u } in
+    let b : Block = record { first = run.first; last = p + 1; server = run.server } in
     let at = λ (v : ℕ) (v_low : 1 ≤ v) (v_high : v ≤ limit). subst (IsServer s v) same ((servers v v_low).1 v_high) in
-    let ran = ran_at s g (p + 1) u runs are (omega arith) (at u low high) in
+    let ran : IsRun s g u (p + 1) run = subst (IsRunOrNone s g u (p + 1)) kept (are.each u low (at u low high).high) in
+    let own_cost : block_cost s b ≡ block_cost s (record { first = run.first; last = p + 1; server = u }) = ap (λ k. block_cost s (record { first = run.first; last = p + 1; server = k })) ran.own in
     let e : suc (length g) ≡ p + 1 = omega (arith, table.size) in
     let new : potential (g ++ x ∷ []) (p + 1) ≡ x = ap (potential (g ++ x ∷ [])) (sym e) ∙ potential_new g x in
     record {
@@ -62,13 +77,13 @@ table_more s p g lasts runs t limit u table some same servers are low high least
           let rise = periods_rise s c.first (p + 1) is_block.low (omega (arith, is_block.order, last)) (omega (arith, some)) in
           let may : IsServer s v (period_of s (p + 1)) = record { low = is_block.server.low; high = is_block.server.high; in_time = λ none. omega (arith, is_block.server.in_time none, rise) } in
           let v_high = (servers v is_block.server.low).0 (subst (IsServer s v) (sym same) may) in
-          let ran_v = ran_at s g (p + 1) v runs are (omega arith) may in
+          let ran_v = ran_at s g (p + 1) v (run_of runs v) (are.each v may.low may.high) (omega arith) may in
           omega (
             arith,
             ap (potential (g ++ x ∷ [])) last,
             new,
-            least v is_block.server.low v_high,
-            ran_v.least c.first is_block.low (omega (arith, is_block.order, last)) is_block.server,
+            least v ran_v.0.cost is_block.server.low v_high (subst (λ o. RunsAtMost o ran_v.0.cost) (sym ran_v.1) (omega arith)),
+            ran_v.2.least c.first is_block.low (omega (arith, is_block.order, last)) is_block.server,
             potential_kept g x (c.first - 1) (omega (arith, is_block.order, last, table.size)),
             ap (λ k. block_cost s (record { first = c.first; last = k; server = v })) last,
           ))
@@ -82,9 +97,9 @@ table_more s p g lasts runs t limit u table some same servers are low high least
           let i : k ≡ p + 1 = omega (arith, no, k_high) in
           let here : last_block (lasts ++ b ∷ []) k ≡ b = get_or_push lasts b no_block (k - 1) (omega (arith, i, table.blocks)) in
           subst (IsLastBlock s (g ++ x ∷ []) k) (sym here) (record {
-            block = record { low = ran.low; order = ran.high; high = omega (arith, some); server = ran.server };
+            block = record { low = ran.low; order = ran.high; high = omega (arith, some); server = subst (λ k. IsServer s k (period_of s run.first)) (sym ran.own) ran.server };
             ends = sym i;
-            cost = omega (arith, ap (potential (g ++ x ∷ [])) i, new, ran.cost, potential_kept g x (run.first - 1) (omega (arith, ran.high, table.size)));
+            cost = omega (arith, ap (potential (g ++ x ∷ [])) i, new, ran.cost, own_cost, potential_kept g x (run.first - 1) (omega (arith, ran.high, table.size)));
           }))
           (cases_lt k (p + 1));
       small = λ k k_high. ⊎_elim
@@ -107,22 +122,6 @@ period_read s periods p t within same high read =
     let in_range = period_in s (p + 1) within (omega arith) (omega (arith, high)) in
     record { same = here; low = omega (arith, here, in_range.low); high = omega (arith, here, in_range.high) }
 
--- at first no server has a run, and the table is empty
-pub none_at_first : (s : Single) (runs : List Run) → length runs ≡ period_count s → ((i : ℕ) → i < length runs → (slice_index_or runs i no_run).first ≡ 0) → AreRuns s [] 0 runs
-none_at_first s runs size none = record {
-  size = size;
-  each = λ u low high. inl (record { none = none (u - 1) (omega (arith, low, high, size)); closed = λ a a_low a_high may. omega (arith, a_low, a_high) });
-}
-
-pub empty_table : (s : Single) → IsTable s 0 [] []
-empty_table s = record {
-  size = refl;
-  blocks = refl;
-  floor = λ b is_block last. absurd (omega (arith, is_block.low, is_block.order, last));
-  last = λ k low high. absurd (omega (arith, low, high));
-  small = λ k high. let e : k ≡ 0 = omega (arith, high) in omega (arith, ap (potential []) e);
-}
-
 -- the whole table proves its last potential a floor
 pub are_potentials : (s : Single) (g : List ℕ) (lasts : List Block) → IsTable s (position_count s) g lasts → ArePotentials s g
 are_potentials s g lasts table = record { size = table.size; blocks = λ b is_block. table.floor b is_block is_block.high }
@@ -140,6 +139,26 @@ least_is s g blocks cost pots cover costs last floor serve =
     record {
       some = (blocks_plan s blocks, served.0, omega (arith, served.1, costs, last, floor s g pots (blocks_plan s blocks) served.0));
       least = λ p plan. omega (arith, last, floor s g pots p plan);
+    }
+
+bounded_by : (s : Single) (g : List ℕ) (lasts : List Block) → IsWithinBounds s → IsTable s (position_count s) g lasts → AllAtMost most_cost g
+bounded_by s g lasts within table = λ k d h.
+    let e : suc k - 1 ≡ k = omega arith in
+    omega (arith, get_or_default g k d 0 h, ap (λ j. slice_index_or g j 0) e, table.small (suc k) (omega (arith, h, table.size)), positions_small s within, h, table.size)
+
+-- what the whole table and the blocks that are read off it give
+pub solution_is : (s : Single) (lasts : List Block) (found : Blocks) → IsWithinBounds s → IsTable s (position_count s) found.potentials.items lasts → Cover s found.blocks.items → blocks_cost s found.blocks.items ≡ potential found.potentials.items (position_count s) → potential found.potentials.items (position_count s) ≡ found.cost → LastPotentialIsFloor → BlocksServe → IsSolution s found
+solution_is s lasts found within table cover costs last floor serve =
+    let g = found.potentials.items in
+    let pots = are_potentials s g lasts table in
+    record {
+      least = least_is s g found.blocks.items found.cost pots cover (costs ∙ last) last floor serve;
+      cover = cover;
+      cost = costs ∙ last;
+      potentials = pots;
+      last = last;
+      small = omega (arith, last, table.small (position_count s) (omega arith), positions_small s within);
+      bounded = bounded_by s g lasts within table;
     }
 
 -- a cheapest last block makes the next potential

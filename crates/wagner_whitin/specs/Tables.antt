@@ -1,5 +1,5 @@
 -- What the tables of the recursion hold.
-use Rattle.std.specs.Prelude.{◌≡◌, ℕ, ◌+◌, ◌-◌, ◌*◌, ◌^◌, ◌≤◌, ◌⊎◌, List, length, IfSome, slice_index_or}
+use Rattle.std.specs.Prelude.{◌≡◌, ℕ, ◌+◌, ◌-◌, ◌*◌, ◌^◌, ◌≤◌, List, length, Option, None, Some, IfSome, slice_index_or}
 use Rattle.lot_sizing.specs.Sums.{sum_to}
 use Rattle.lot_sizing.specs.Problem.{entry}
 use Rattle.lot_sizing.specs.declared.Block.{Block}
@@ -21,34 +21,35 @@ pub record ArePrices (s : Single) (prices : Prices) : Type 0 where
 abbrev pub most_for_one : ℕ
 most_for_one = 2 * 10 ^ 23
 
-abbrev pub block_to : Run → ℕ → ℕ → Block
-block_to run u p = record { first = run.first; last = p; server = u }
-
 -- the cheapest last block of a server that ends with position p, and what all up to it costs
 pub record IsRun (s : Single) (g : List ℕ) (u p : ℕ) (run : Run) : Type 0 where
+  pub own : run.server ≡ u
   pub low : 1 ≤ run.first
   pub high : run.first ≤ p
   pub server : IsServer s u (period_of s run.first)
-  pub cost : run.cost ≡ potential g (run.first - 1) + block_cost s (block_to run u p)
+  pub cost : run.cost ≡ potential g (run.first - 1) + block_cost s (record { first = run.first; last = p; server = u })
   pub least : (a : ℕ) → 1 ≤ a → a ≤ p → IsServer s u (period_of s a) → run.cost ≤ potential g (a - 1) + block_cost s (record { first = a; last = p; server = u })
   pub small : run.cost ≤ p * most_for_one
 
--- no position up to p may be served
-pub record HasNoRun (s : Single) (u p : ℕ) (run : Run) : Type 0 where
-  pub none : run.first ≡ 0
-  pub closed : (a : ℕ) → 1 ≤ a → a ≤ p → IsServer s u (period_of s a) → ⊥
+-- the server may serve no position up to p
+abbrev pub IsClosed : Single → ℕ → ℕ → Type 0
+IsClosed s u p = (a : ℕ) → 1 ≤ a → a ≤ p → IsServer s u (period_of s a) → ⊥
 
-abbrev pub IsRunOrNone : Single → List ℕ → ℕ → ℕ → Run → Type 0
-IsRunOrNone s g u p run = HasNoRun s u p run ⊎ IsRun s g u p run
+-- the server's run, and none where it may serve no position up to p
+abbrev pub IsRunOrNone : Single → List ℕ → ℕ → ℕ → Option Run → Type 0
+IsRunOrNone s g u p None = IsClosed s u p
+IsRunOrNone s g u p (Some run) = IsRun s g u p run
 
-abbrev pub no_run : Run
-no_run = record { cost = 0; first = 0 }
+abbrev pub run_of : List (Option Run) → ℕ → Option Run
+run_of runs u = slice_index_or runs (u - 1) None
 
-abbrev pub run_of : List Run → ℕ → Run
-run_of runs u = slice_index_or runs (u - 1) no_run
+-- there is a run that costs at most so much
+abbrev pub RunsAtMost : Option Run → ℕ → Type 0
+RunsAtMost None x = ⊥
+RunsAtMost (Some run) x = run.cost ≤ x
 
 -- each server has its run
-pub record AreRuns (s : Single) (g : List ℕ) (p : ℕ) (runs : List Run) : Type 0 where
+pub record AreRuns (s : Single) (g : List ℕ) (p : ℕ) (runs : List (Option Run)) : Type 0 where
   pub size : length runs ≡ period_count s
   pub each : (u : ℕ) → 1 ≤ u → u ≤ period_count s → IsRunOrNone s g u p (run_of runs u)
 

@@ -35,7 +35,7 @@ pub struct Candidate {
     pub block: Block,
 }
 
-// The cheaper of two, the first where they cost the same.
+// The cheaper of two.
 fn cheaper(one: Candidate, other: Candidate) -> Candidate
     ensures either { (result ≡ one) ⊎ (result ≡ other) }
     ensures least { (result.cost ≤ one.cost) × (result.cost ≤ other.cost) }
@@ -148,15 +148,13 @@ fn plain_costs(alloc: Global, single: &SingleItem) -> Result<LeastCosts, AllocEr
 /// The least cost of serving an item, with or without backlog, by trying each last block of each server and
 /// adding it up anew: the plain form of `solve_over_servers`, for comparison.
 ///
-/// It takes time in the number of periods times the third power of that of positions. The error is want
-/// of memory.
+/// It takes time in the number of periods times the third power of that of positions. The one error is
+/// that memory runs out.
 pub fn plain_least_cost(alloc: Global, single: &SingleItem) -> Result<u128, AllocError>
     requires within { IsWithinBounds (single_of_item single.now) }
-    ensures { IfOk result (IsLeastNetCost (single_of_item single.now)) }
+    ensures least { IfOk result (IsLeastNetCost (single_of_item single.now)) }
 {
-    lot_sizing::last_potential_is_floor();
-    lot_sizing::blocks_serve();
     let table = plain_costs(alloc, single)?;
-    let _blocks = table::trace(alloc, single, &table)?;
-    Ok(last_potential(&table.potentials))
+    let found = table::solution(alloc, single, table)?;
+    Ok(found.cost)
 }

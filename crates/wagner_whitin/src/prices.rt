@@ -15,8 +15,8 @@ pub struct Prices {
     pub owed: Vec<u64>,
 }
 
-// The sums of the first numbers, that of none first.
-fn sums(alloc: Global, costs: &[u64]) -> Result<Vec<u64>, AllocError>
+/// The sums of the first numbers, that of none first.
+pub fn sums(alloc: Global, costs: &[u64]) -> Result<Vec<u64>, AllocError>
     requires count { length costs.now ≤ 120 }
     requires small { AllAtMost (10 ^ 9) costs.now }
     ensures { IfOk result (λ sums. AreSums (length costs.now) (entry costs.now) sums.items) }

@@ -1,18 +1,18 @@
 // The cheapest last block of each server.
-ghost use Rattle.std.specs.Prelude.{◌≡◌, ◌≤◌, ◌<◌, ◌+◌, ◌*◌, ◌^◌, ◌↔◌, ℕ, length};
+ghost use Rattle.std.specs.Prelude.{◌≡◌, ◌≤◌, ◌<◌, ◌+◌, ◌*◌, ◌^◌, ◌↔◌, ◌⊎◌, ℕ, length, Option, Some, IfSome};
 ghost use Rattle.lot_sizing.specs.Single.{IsWithinBounds, IsServer, net_demand, period_count, period_of, position_count, potential, unit_price};
 ghost use Rattle.echelon.specs.Views.{single_of_item};
-ghost use Rattle.wagner_whitin.specs.Tables.{ArePrices, AreRuns, IsRun, IsRunOrNone, most_for_one, run_of};
+ghost use Rattle.wagner_whitin.specs.Tables.{ArePrices, AreRuns, RunsAtMost, IsRun, IsRunOrNone, most_for_one, run_of};
 
 use crate::prices::Prices;
 use echelon::SingleItem;
 
-/// The cheapest last block of a server: what all up to its end costs, and its first position, which
-/// is 0 where there is none.
+/// The cheapest last block of a server that ends with a position, and what all up to it costs.
 #[derive(Clone, Copy)]
 pub struct Run {
     pub cost: u128,
     pub first: u32,
+    pub server: u32,
 }
 
 /// The potential of the last position, and 0 where there is none.
@@ -40,15 +40,25 @@ pub fn serving_cost(single: &SingleItem, prices: &Prices, server: u32, period: u
     net * price as u128
 }
 
-// A server's run with one position more: the run goes on, or begins with the position where that
-// costs less.
+// A run that goes on, or a fresh one where that costs less.
+fn cheaper_start(run: Option<Run>, fresh: Run) -> Run
+    ensures no_more { result.cost ≤ fresh.cost }
+    ensures start { ((result ≡ fresh) × IfSome run (λ old. fresh.cost ≤ old.cost)) ⊎ ((run ≡ Some result) × (result.cost ≤ fresh.cost)) }
+{
+    match run {
+        Some(old) if old.cost <= fresh.cost => old,
+        _ => fresh,
+    }
+}
+
+// A server's run with one position more: the run goes on, or begins with the position.
 fn extended(
     single: &SingleItem,
     prices: &Prices,
     potentials: &[u128],
     server: u32,
     period: u32,
-    run: Run,
+    run: Option<Run>,
 ) -> Run
     requires within { IsWithinBounds (single_of_item single.now) }
     requires prices { ArePrices (single_of_item single.now) prices.now }
@@ -63,17 +73,16 @@ fn extended(
 {
     let serving = serving_cost(single, prices, server, period);
     let setup = single.setup[(server - 1) as usize];
-    let fresh = last_potential(potentials) + setup as u128;
-    if run.first == 0 || fresh < run.cost {
-        Run {
-            cost: fresh + serving,
-            first: potentials.len() as u32 + 1,
-        }
-    } else {
-        Run {
-            cost: run.cost + serving,
-            first: run.first,
-        }
+    let fresh = Run {
+        cost: last_potential(potentials) + setup as u128,
+        first: potentials.len() as u32 + 1,
+        server,
+    };
+    let start = cheaper_start(run, fresh);
+    Run {
+        cost: start.cost + serving,
+        first: start.first,
+        server,
     }
 }
 
@@ -99,7 +108,7 @@ pub fn serve(
     potentials: &[u128],
     period: u32,
     limit: u32,
-    runs: &mut [Run],
+    runs: &mut [Option<Run>],
 )
     requires within { IsWithinBounds (single_of_item single.now) }
     requires prices { ArePrices (single_of_item single.now) prices.now }
@@ -116,24 +125,37 @@ pub fn serve(
 {
     for server in 1..limit + 1 {
         let run = runs[(server - 1) as usize];
-        runs[(server - 1) as usize] = extended(single, prices, potentials, server, period, run);
+        runs[(server - 1) as usize] = Some(extended(
+            single, prices, potentials, server, period, run,
+        ));
     }
 }
 
-/// The first of the cheapest runs of the first servers.
-pub fn cheapest(runs: &[Run], limit: u32) -> u32
-    requires some { 1 ≤ limit }
+// The cheaper of two runs, where there are both.
+fn cheaper(one: Option<Run>, other: Option<Run>) -> Option<Run>
+    ensures either { (result ≡ one) ⊎ (result ≡ other) }
+    ensures least { (x : ℕ) → RunsAtMost one x → RunsAtMost result x }
+    ensures least_other { (x : ℕ) → RunsAtMost other x → RunsAtMost result x }
+{
+    let Some(left) = one else {
+        return other;
+    };
+    let Some(right) = other else {
+        return one;
+    };
+    Some(if right.cost < left.cost { right } else { left })
+}
+
+/// The cheapest run of the first servers, if one of them has a run.
+pub fn cheapest(runs: &[Option<Run>], limit: u32) -> Option<Run>
     requires high { limit ≤ length runs.now }
     requires count { length runs.now ≤ 120 }
-    ensures low { 1 ≤ result }
-    ensures high { result ≤ limit }
-    ensures least { (server : ℕ) → 1 ≤ server → server ≤ limit → (run_of runs.now result).cost ≤ (run_of runs.now server).cost }
+    ensures kept { IfSome result (λ run. (server : ℕ) × (1 ≤ server) × (server ≤ limit) × (run_of runs.now server ≡ Some run)) }
+    ensures least { (server x : ℕ) → 1 ≤ server → server ≤ limit → RunsAtMost (run_of runs.now server) x → RunsAtMost result x }
 {
-    let mut best = 1;
-    for server in 2..limit + 1 {
-        if runs[(server - 1) as usize].cost < runs[(best - 1) as usize].cost {
-            best = server;
-        }
+    let mut best = None;
+    for server in 1..limit + 1 {
+        best = cheaper(best, runs[(server - 1) as usize]);
     }
     best
 }

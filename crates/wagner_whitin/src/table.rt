@@ -2,11 +2,12 @@
 ghost use Rattle.std.specs.Prelude.{◌≡◌, ℕ, length, IfOk};
 ghost use Rattle.lot_sizing.specs.Single.{IsWithinBounds, position_count, positions, potential, CoverFrom, blocks_cost};
 ghost use Rattle.echelon.specs.Views.{single_of_item};
-ghost use Rattle.wagner_whitin.specs.Tables.{ArePrices, AreRuns, IsTable, no_run};
+ghost use Rattle.wagner_whitin.specs.Solution.{IsSolution};
+ghost use Rattle.wagner_whitin.specs.Tables.{ArePrices, AreRuns, IsTable};
 
 use crate::prices::{self, Prices};
-use crate::runs::{self, Run};
-use echelon::{Block, SingleItem};
+use crate::runs;
+use echelon::{Block, Blocks, SingleItem};
 use std::alloc::{AllocError, Global};
 
 /// The least cost up to each position, and the last block of each.
@@ -23,31 +24,28 @@ pub fn least_costs(alloc: Global, single: &SingleItem) -> Result<LeastCosts, All
 {
     let needed = prices::needed(alloc, single)?;
     let prices = Prices::of(alloc, single)?;
-    let mut runs = vec![in alloc; Run { cost: 0, first: 0 }; single.net.len()]?;
+    let mut runs = vec![in alloc; None; single.net.len()]?;
     let mut potentials = Vec::with_capacity(alloc, needed.len())?;
     let mut lasts = Vec::with_capacity(alloc, needed.len())?;
     for place in 0..needed.len() {
         let period = needed[place];
         let limit = runs::last_server(single, period);
         runs::serve(single, &prices, &potentials, period, limit, &mut runs);
-        let server = runs::cheapest(&runs, limit);
-        let run = runs[(server - 1) as usize];
+        let Some(best) = runs::cheapest(&runs, limit) else {
+            unreachable!();
+        };
         lasts.push(Block {
-            first: run.first,
+            first: best.first,
             last: place as u32 + 1,
-            server,
+            server: best.server,
         })?;
-        potentials.push(run.cost)?;
+        potentials.push(best.cost)?;
     }
     Ok(LeastCosts { potentials, lasts })
 }
 
-/// The blocks of a cheapest way to serve all positions, found from the last one back.
-pub fn trace(
-    alloc: Global,
-    single: &SingleItem,
-    table: &LeastCosts,
-) -> Result<Vec<Block>, AllocError>
+// The blocks of a cheapest way to serve all positions, found from the last one back.
+fn trace(alloc: Global, single: &SingleItem, table: &LeastCosts) -> Result<Vec<Block>, AllocError>
     requires within { IsWithinBounds (single_of_item single.now) }
     requires table { IsTable (single_of_item single.now) (position_count (single_of_item single.now)) table.now.potentials.items table.now.lasts.items }
     ensures cover { IfOk result (λ blocks. CoverFrom (single_of_item single.now) 0 blocks.items) }
@@ -62,4 +60,21 @@ pub fn trace(
     }
     blocks.reverse();
     Ok(blocks)
+}
+
+/// What the table of all positions says: a cheapest way to serve them, with the potentials that prove it.
+pub fn solution(alloc: Global, single: &SingleItem, table: LeastCosts) -> Result<Blocks, AllocError>
+    requires within { IsWithinBounds (single_of_item single.now) }
+    requires table { IsTable (single_of_item single.now) (position_count (single_of_item single.now)) table.potentials.items table.lasts.items }
+    ensures { IfOk result (IsSolution (single_of_item single.now)) }
+{
+    lot_sizing::last_potential_is_floor();
+    lot_sizing::blocks_serve();
+    let blocks = trace(alloc, single, &table)?;
+    let cost = runs::last_potential(&table.potentials);
+    Ok(Blocks {
+        cost,
+        blocks,
+        potentials: table.potentials,
+    })
 }

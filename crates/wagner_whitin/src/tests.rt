@@ -1,6 +1,16 @@
-use crate::{Block, Blocks, SingleItem, plain_least_cost, solve, solve_over_servers};
+ghost use Rattle.std.specs.Prelude.{◌≡◌, ◌<◌, IfOk, IfSome};
+ghost use Rattle.lot_sizing.specs.Single.{IsLeastNetCost};
+ghost use Rattle.echelon.specs.Views.{single_of_item};
+
+use crate::laws::{lines_are_potentials, solve_plain};
+use crate::{
+    Block, Blocks, SingleItem, Steps, less_counted, plain_least_cost, solve, solve_counted,
+    solve_over_servers,
+};
 use echelon::is_within_bounds;
 use std::alloc::{AllocError, Global};
+use std::marker::Brand;
+use std::sync::ledger::{Blank, Ledger};
 use std::test::Fail;
 
 fn item(
@@ -32,6 +42,39 @@ fn blocks_of(alloc: Global, single: &SingleItem) -> Result<Blocks, Fail> {
         Some(_) => Ok(solve_over_servers(alloc, single)?),
         None => Ok(solve(alloc, single)?),
     }
+}
+
+// The least cost of an item without backlog; none where it isn't within bounds, or has backlog costs.
+fn least_cost(alloc: Global, single: &SingleItem) -> Result<Option<u128>, AllocError>
+    ensures least { IfOk result (λ found. IfSome found (IsLeastNetCost (single_of_item single.now))) }
+{
+    if !is_within_bounds(single) || single.back.is_some() {
+        return Ok(None);
+    }
+    Ok(Some(solve(alloc, single)?.cost))
+}
+
+// What the recursion over servers finds for an item within bounds, and that with counted steps where there
+// is no backlog.
+fn others_of<L: Ledger>(
+    alloc: Global,
+    single: &SingleItem,
+    blank: Blank,
+) -> Result<(Blocks, Blocks), Fail>
+    requires name { blank.name ≡ L.name }
+    requires parts { blank.parts ≡ L.parts }
+    requires some { 0 < L.parts }
+{
+    if !is_within_bounds(single) {
+        return Err("not within bounds".into());
+    }
+    if single.back.is_some() {
+        let found = solve_over_servers(alloc, single)?;
+        return Ok((found, solve_over_servers(alloc, single)?));
+    }
+    let mut steps = Steps::<L>::new(blank);
+    let counted = solve_counted(alloc, single, &mut steps)?;
+    Ok((solve_plain(alloc, single)?, counted))
 }
 
 // What the plain form finds for an item within bounds.
@@ -95,6 +138,29 @@ fn cost_of_setups(single: &SingleItem, mask: u64) -> Option<u128> {
     Some(cost)
 }
 
+// Whether each of two numbers is less than the other one, as two steps.
+fn both_ways<L: Ledger>(left: i128, right: i128, blank: Blank) -> (bool, bool)
+    requires name { blank.name ≡ L.name }
+    requires parts { blank.parts ≡ L.parts }
+    requires some { 0 < L.parts }
+{
+    let mut steps = Steps::<L>::new(blank);
+    let one = less_counted(left, right, &mut steps);
+    (one, less_counted(right, left, &mut steps))
+}
+
+#[test]
+fn numbers_are_compared(rt: HostRuntime) -> Result<(), Fail> {
+    lines_are_potentials();
+    assert_eq!(rt; both_ways::<Brand>(-1, 0, Blank::new(1)), (true, false));
+    assert_eq!(rt;
+        both_ways::<Brand>(i128::MIN, i128::MAX, Blank::new(1)),
+        (true, false)
+    );
+    assert_eq!(rt; both_ways::<Brand>(7, 7, Blank::new(1)), (false, false));
+    Ok(())
+}
+
 // The least cost over all ways to place setups.
 fn least_of_all_setups(single: &SingleItem) -> Option<u128> {
     let mut best: Option<u128> = None;
@@ -115,6 +181,10 @@ fn twelve_periods(rt: HostRuntime) -> Result<(), Fail> {
     let found = blocks_of(alloc, &single)?;
     assert_eq!(rt; found.cost, 864);
     assert_eq!(rt; found.potentials.last().copied(), Some(864));
+    let (plain, counted) = others_of::<Brand>(alloc, &single, Blank::new(1))?;
+    assert_eq!(rt; (plain.cost, counted.cost), (864, 864));
+    assert!(rt; plain.blocks == found.blocks && counted.blocks == found.blocks);
+    assert!(rt; plain.potentials == found.potentials && counted.potentials == found.potentials);
     let blocks = [
         (1u32, 2u32, 1u32),
         (3, 4, 3),
@@ -156,7 +226,7 @@ fn known_items(rt: HostRuntime) -> Result<(), Fail> {
         &[1u64, 1],
         None,
     )?;
-    assert_eq!(rt; blocks_of(alloc, &two)?.cost, 106);
+    assert_eq!(rt; least_cost(alloc, &two)?, Some(106));
     let late = item(
         alloc,
         &[4u128, 6],
@@ -165,6 +235,7 @@ fn known_items(rt: HostRuntime) -> Result<(), Fail> {
         &[1u64, 1],
         Some(&[2u64, 2]),
     )?;
+    assert_eq!(rt; least_cost(alloc, &late)?, None);
     let found = blocks_of(alloc, &late)?;
     assert_eq!(rt; found.cost, 28);
     assert_eq!(rt;
@@ -181,7 +252,7 @@ fn known_items(rt: HostRuntime) -> Result<(), Fail> {
 #[test]
 fn numbers_at_their_limits(rt: HostRuntime) -> Result<(), Fail> {
     let alloc = rt.alloc();
-    let single = SingleItem {
+    let mut single = SingleItem {
         net: vec![in alloc; 8_333_333_333u128; 120]?,
         setup: vec![in alloc; 1_000_000_000u64; 120]?,
         unit: vec![in alloc; 1_000_000_000u64; 120]?,
@@ -194,6 +265,12 @@ fn numbers_at_their_limits(rt: HostRuntime) -> Result<(), Fail> {
         found.cost,
         120 * (1_000_000_000 + 8_333_333_333 * 1_000_000_000)
     );
+    single.back = None;
+    assert_eq!(rt; blocks_of(alloc, &single)?.cost, found.cost);
+    assert_eq!(rt;
+        others_of::<Brand>(alloc, &single, Blank::new(1))?.0.cost,
+        found.cost
+    );
     Ok(())
 }
 
@@ -205,6 +282,10 @@ fn compare(alloc: Global, single: &SingleItem) -> Result<(), Fail> {
     }
     if plain_of(alloc, single)? != cost {
         return Err("another cost than that of the plain form".into());
+    }
+    let (plain, counted) = others_of::<Brand>(alloc, single, Blank::new(1))?;
+    if plain.cost != cost || counted.cost != cost {
+        return Err("another cost than that of the other recursions".into());
     }
     Ok(())
 }

@@ -1,11 +1,11 @@
-use Rattle.std.proofs.Common.{◌≡◌, length, map}
+use Rattle.std.proofs.Common.{◌≡◌, length}
 use Rattle.bill.specs.Lines.{bill_of_lines}
 use Rattle.bill.specs.Sets.{AllGoInto, HasLinesOf, missing}
 use Rattle.bill.proofs.reach.components.Given as goal
 
 abbrev pub invariant-loop : goal.invariant-loop
 invariant-loop l =
-    let b = bill_of_lines (map (λ v. v.items) l.lines) in
+    let b = bill_of_lines l.lines in
     record {
       size : length l.set.items ≡ length l.lines;
       sound : AllGoInto b l.item l.set.items;

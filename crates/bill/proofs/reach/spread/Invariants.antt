@@ -1,11 +1,11 @@
-use Rattle.std.proofs.Common.{◌≡◌, ◌≤◌, ◌<◌, ℕ, length, map, true, false}
+use Rattle.std.proofs.Common.{◌≡◌, ◌≤◌, ◌<◌, ℕ, length, true, false}
 use Rattle.bill.specs.Lines.{bill_of_lines}
 use Rattle.bill.specs.Sets.{AllGoInto, HasLinesOf, has, missing}
 use Rattle.bill.proofs.reach.spread.Given as goal
 
 abbrev pub invariant-loop-item : goal.invariant-loop-item
 invariant-loop-item l =
-    let b = bill_of_lines (map (λ v. v.items) l.lines) in
+    let b = bill_of_lines l.lines in
     record {
       size : length l.set ≡ length l.fn.set;
       keeps : (i : ℕ) → has l.fn.set i ≡ true → has l.set i ≡ true;

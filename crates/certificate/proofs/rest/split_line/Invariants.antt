@@ -1,5 +1,5 @@
 use Rattle.std.proofs.Common.{take}
-use Rattle.certificate.specs.Rest.{HasNoFeed}
+use Rattle.cert_lines.specs.Text.{HasNoFeed}
 use Rattle.certificate.proofs.rest.split_line.Given as goal
 
 abbrev pub invariant-loop-at : goal.invariant-loop-at

@@ -1,7 +1,8 @@
 use Rattle.std.proofs.Common.{◌++◌, ◌∙◌, ap, string_bytes}
 use Rattle.std.proofs.lemmas.List.{take_all}
 use Rattle.std.specs.List.{flat_map}
-use Rattle.certificate.proofs.Joins.{cut_text, cuts_text, grows}
+use Rattle.cert_lines.proofs.Joins.{grows}
+use Rattle.certificate.proofs.Joins.{cut_text, cuts_text}
 use Rattle.certificate.proofs.writing.add_cuts.Goals as goal
 
 pub loop-cut-preserved : goal.loop-cut-preserved

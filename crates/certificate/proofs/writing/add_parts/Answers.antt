@@ -1,7 +1,8 @@
 use Rattle.std.proofs.Common.{◌++◌, ◌∙◌, ap, string_bytes}
 use Rattle.std.proofs.lemmas.List.{take_all}
 use Rattle.std.specs.List.{flat_map}
-use Rattle.certificate.proofs.Joins.{grows, no_part, part_text, parts_text}
+use Rattle.cert_lines.proofs.Joins.{grows}
+use Rattle.certificate.proofs.Joins.{no_part, part_text, parts_text}
 use Rattle.certificate.proofs.writing.add_parts.Goals as goal
 
 pub loop-part-preserved : goal.loop-part-preserved

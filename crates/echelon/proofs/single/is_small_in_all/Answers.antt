@@ -5,10 +5,10 @@ use Rattle.lot_sizing.proofs.Sums.{sum_to-front}
 use Rattle.echelon.specs.Views.{single_of_item}
 use Rattle.echelon.proofs.single.is_small_in_all.Goals as goal
 
-pub returns-then-net-sum : goal.returns-then-net-sum
-returns-then-net-sum c =
+pub returns-then-net-from : goal.returns-then-net-from
+returns-then-net-from c =
     let s = single_of_item c.args.single.now in
     let t = c.loop-period.period in
     let net = c.index-net.ensures ∙ get_or_default_zero s.net t c.index-net.result.now (omega arith) in
     let e : suc t - 1 ≡ t = omega arith in
-    (λ no. cc no, λ small. absurd (omega (arith, small, net, ap (λ k. slice_index_or s.net k 0) e, c.loop-period.invariant.sum, c.if-net-sum.true, sum_to-front (suc t) (period_count s) (net_demand s) (omega arith))))
+    (λ no. cc no, λ small. absurd (omega (arith, small, net, ap (λ k. slice_index_or s.net k 0) e, c.loop-period.invariant.sum, c.if-net-from.true, c.from.ensures, sum_to-front (suc t) (period_count s) (net_demand s) (omega arith))))

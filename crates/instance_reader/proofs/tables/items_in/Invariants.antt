@@ -7,4 +7,4 @@ use Rattle.instance_reader.proofs.Lists.{IsSoFar}
 use Rattle.instance_reader.proofs.tables.items_in.Given as goal
 
 abbrev pub invariant-loop-value : goal.invariant-loop-value
-invariant-loop-value l = (l.number ≡ l.value-index) × IsSoFar (table_read (item_read l.periods) (no_tables Root key.Item)) (map raw_item l.items.items) l.value-index l.list
+invariant-loop-value l = (l.number ≡ l.value-index) × IsSoFar (table_read (item_read l.version l.periods) (no_tables Root key.Item)) (map raw_item l.items.items) l.value-index l.list

@@ -1,16 +1,13 @@
-use Rattle.std.proofs.Common.{inl, inr, sym, refl, subst, map}
-use Rattle.bill.specs.Lines.{bill_of_lines}
-use Rattle.bill.specs.Sets.{IsCycleFault, IsFirstOnCycle}
-use Rattle.bill.specs.declared.ranking.CycleFault.TheVariants.{Cycle}
-use Rattle.lot_draft.specs.Raw.{raw_model}
-use Rattle.lot_draft.specs.Meaning.{problem_of}
-use Rattle.lot_model.specs.Held.{IsUnmade}
-use Rattle.lot_model.proofs.Bills.{bill_is}
+use Rattle.std.proofs.Common.{◌∙◌, arith}
+use Rattle.lot_sizing.specs.Bill.{bill_of}
 use Rattle.lot_model.proofs.making.ranks.Goals as goal
 
-pub returns-in-Err-Cycle-clause-refused : goal.returns-in-Err-Cycle-clause-refused
-returns-in-Err-Cycle-clause-refused c =
-    let p = problem_of (raw_model c.args.draft.now) in
-    let found : IsCycleFault (bill_of_lines (map (λ v. v.items) c.args.lines.now)) (Cycle c.in-Err-Cycle.item) = subst (IsCycleFault (bill_of_lines (map (λ v. v.items) c.args.lines.now))) c.in-Err-Cycle.field-0-is c.in-Err-Cycle.ensures.refused in
-    let first = subst (λ b. IsFirstOnCycle b c.in-Err-Cycle.item) (bill_is p (map (λ v. v.items) c.args.lines.now) c.requires.lines) found in
-    subst (IsUnmade (raw_model c.args.draft.now)) (sym c.at_item.ensures) (inr (c.requires.plain, inl (c.in-Err-Cycle.item, first, refl)))
+pub returns-in-Ok-clause-ranks : goal.returns-in-Ok-clause-ranks
+returns-in-Ok-clause-ranks c = λ p reach. record {
+  size = c.in-Ok.ensures.size ∙ reach.size;
+  small = λ i. omega (arith, c.in-Ok.ensures.small i, reach.size);
+  ranks = c.in-Ok.ensures.ranks (bill_of p) reach;
+}
+
+pub returns-in-Err-clause-refused : goal.returns-in-Err-clause-refused
+returns-in-Err-clause-refused c = λ p reach. (c.in-Err.fault.item, c.in-Err.ensures.refused (bill_of p) reach, c.at_item.ensures)

@@ -6,12 +6,12 @@ use Rattle.plan_file.specs.Faults.{IsFirstBad}
 use Rattle.plan_file.proofs.Places.{IsHere, here, not_row, put_from}
 use Rattle.plan_file.proofs.reading.read_record.Goals as goal
 
-pub returns-then-not-branch-clause-refused : goal.returns-then-not-branch-clause-refused
-returns-then-not-branch-clause-refused c =
+pub returns-then-not-is_row-clause-refused : goal.returns-then-not-is_row-clause-refused
+returns-then-not-is_row-clause-refused c =
     let m = c.args.instance.now in
     let r = fields_of c.index-rows-number.result in
     let at : IsHere m (map fields_of c.args.rows.now) c.args.item c.args.period ((c.args.item - 1) * c.periods.result + c.args.period) r = here m c.args.rows.now c.args.item c.args.period c.periods.result ((c.args.item - 1) * c.periods.result + c.args.period) c.index-rows-number.result c.periods.ensures.value refl c.requires.low c.if-number-rows.false c.index-rows-number.is in
-    (at.number, at.there, λ yes. not_row m c.args.item c.args.period r (sym c.in_ok-is_row.ensures ∙ c.if-not-branch.true) (subst (λ a. IsTrue (is_row m c.args.item c.args.period a)) at.same yes))
+    (at.number, at.there, λ yes. not_row m c.args.item c.args.period r (sym c.is_row.ensures ∙ c.if-not-is_row.true) (subst (λ a. IsTrue (is_row m c.args.item c.args.period a)) at.same yes))
 
 pub returns-in-Ok-clause-read : goal.returns-in-Ok-clause-read
 returns-in-Ok-clause-read c =
@@ -19,7 +19,7 @@ returns-in-Ok-clause-read c =
     let r = fields_of c.index-rows-number.result in
     let n = (c.args.item - 1) * c.periods.result + c.args.period in
     let at : IsHere m (map fields_of c.args.rows.now) c.args.item c.args.period n r = here m c.args.rows.now c.args.item c.args.period c.periods.result n c.index-rows-number.result c.periods.ensures.value refl c.requires.low c.if-number-rows.false c.index-rows-number.is in
-    put_from m (map fields_of c.args.rows.now) c.args.item c.args.period n r (plan_of c.args.plan.now) (plan_of c.put.new.plan) c.in-Ok.numbers at (sym c.in_ok-is_row.ensures ∙ c.if-not-branch.false) c.in-Ok.ensures.ok c.put.ensures.put
+    put_from m (map fields_of c.args.rows.now) c.args.item c.args.period n r (plan_of c.args.plan.now) (plan_of c.put.new.plan) c.in-Ok.numbers at (sym c.is_row.ensures ∙ c.if-not-is_row.false) c.in-Ok.ensures.ok c.put.ensures.put
 
 pub returns-in-Err-clause-refused : goal.returns-in-Err-clause-refused
 returns-in-Err-clause-refused c =
@@ -27,4 +27,4 @@ returns-in-Err-clause-refused c =
     let r = fields_of c.index-rows-number.result in
     let n = (c.args.item - 1) * c.periods.result + c.args.period in
     let at : IsHere m (map fields_of c.args.rows.now) c.args.item c.args.period n r = here m c.args.rows.now c.args.item c.args.period c.periods.result n c.index-rows-number.result c.periods.ensures.value refl c.requires.low c.if-number-rows.false c.index-rows-number.is in
-    (at.number, at.there, subst (λ a. IsTrue (is_row m c.args.item c.args.period a)) (sym at.same) (sym c.in_ok-is_row.ensures ∙ c.if-not-branch.false), subst (λ a. IsFirstBad a c.in-Err.column) (sym at.same) c.in-Err.ensures.bad)
+    (at.number, at.there, subst (λ a. IsTrue (is_row m c.args.item c.args.period a)) (sym at.same) (sym c.is_row.ensures ∙ c.if-not-is_row.false), subst (λ a. IsFirstBad a c.in-Err.column) (sym at.same) c.in-Err.ensures.bad)

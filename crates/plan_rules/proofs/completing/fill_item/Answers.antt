@@ -11,7 +11,7 @@ pub returns-then-left-clause-too_large : goal.returns-then-left-clause-too_large
 returns-then-left-clause-too_large c = λ _.
     let m = c.args.instance.now in
     let make = table_of c.args.make.now in
-    let in_ : c.loop-period.supply + c.get.result ≡ supply m make c.args.item c.loop-period.period = omega (arith, supply_more m make c.args.item c.loop-period.period (omega arith)) in
+    let in_ : c.loop-period.supply + c.arriving.result ≡ supply m make c.args.item c.loop-period.period = omega (arith, supply_more m make c.args.item c.loop-period.period (omega arith)) in
     let out : c.loop-period.outflow + (c.demand.result + c.used_up.result) ≡ outflow m make c.args.item c.loop-period.period = omega (arith, outflow_more m make c.args.item c.loop-period.period (omega arith)) in
     (c.loop-period.period, omega arith, omega arith, elim c.then-left.branch [ then-left-via-then-left w ↦ inl (omega arith) | then-left-via-else-left+then-owed w ↦ inr (omega arith) ])
 
@@ -22,7 +22,7 @@ loop-period-preserved c =
     let i = c.args.item in
     let now = c.loop-period.period in
     let next : now + 1 - 1 ≡ now = omega arith in
-    let in_ : c.loop-period.supply + c.get.result ≡ supply m make i now = omega (arith, supply_more m make i now (omega arith)) in
+    let in_ : c.loop-period.supply + c.arriving.result ≡ supply m make i now = omega (arith, supply_more m make i now (omega arith)) in
     let out : c.loop-period.outflow + (c.demand.result + c.used_up.result) ≡ outflow m make i now = omega (arith, outflow_more m make i now (omega arith)) in
     record {
       stock = record { items = omega arith; periods = omega arith };

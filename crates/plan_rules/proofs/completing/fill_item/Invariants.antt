@@ -1,4 +1,6 @@
 use Rattle.std.proofs.Common.{◌≡◌, ◌≤◌, ◌<◌, ◌+◌, ◌-◌, ◌*◌, ◌^◌, ℕ}
+use Rattle.lot_sizing.specs.declared.limits.TheConstants.{MAX_AMOUNT}
+use Rattle.plan_rules.specs.Held.{most_used_up}
 use Rattle.lot_sizing.specs.Least.{supply, outflow}
 use Rattle.plan_rules.specs.Cells.{Fits, table_of}
 use Rattle.plan_rules.specs.Rows.{HasLeast, OtherRowsSame}
@@ -11,7 +13,7 @@ invariant-loop-period l = record {
   supply : l.supply ≡ supply l.instance (table_of l.make) l.item (l.period - 1);
   outflow : l.outflow ≡ outflow l.instance (table_of l.make) l.item (l.period - 1);
   supply_small : l.supply ≤ l.period * 2 ^ 64;
-  outflow_small : l.outflow ≤ l.period * (10 ^ 9 + 40 * (400 * 10 ^ 6 * 2 ^ 64));
+  outflow_small : l.outflow ≤ l.period * (MAX_AMOUNT + most_used_up);
   row : (t : ℕ) → 1 ≤ t → t < l.period → HasLeast l.instance (table_of l.make) (table_of l.stock) (table_of l.backlog) l.item t;
   other_stocks : OtherRowsSame l.fn.stock l.stock l.item;
   other_backlogs : OtherRowsSame l.fn.backlog l.backlog l.item;

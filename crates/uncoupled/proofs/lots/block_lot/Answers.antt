@@ -1,8 +1,8 @@
-use Rattle.std.proofs.Common.{◌≡◌, ◌≤◌, ◌+◌, ◌-◌, ◌∙◌, arith, slice_index_or}
+use Rattle.std.proofs.Common.{◌≡◌, ◌-◌, ◌∙◌, arith, slice_index_or}
 use Rattle.std.proofs.lemmas.Grind.{get_or_default_zero}
 use Rattle.lot_sizing.specs.Single.{net_demand}
 use Rattle.echelon.specs.Views.{single_of_item}
-use Rattle.wagner_whitin.proofs.Steps.{positions_small}
+use Rattle.wagner_whitin.proofs.Serving.{positions_small}
 use Rattle.wagner_whitin.proofs.Summing.{IsAt, period_at}
 use Rattle.uncoupled.proofs.Blocks.{lot_more, net_at_most}
 use Rattle.uncoupled.proofs.lots.block_lot.Goals as goal

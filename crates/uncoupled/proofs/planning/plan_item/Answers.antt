@@ -4,7 +4,6 @@ use Rattle.lot_sizing.specs.Net.{IsBestChoice, IsSingleOf, choice}
 use Rattle.plan_rules.specs.Cells.{table_of}
 use Rattle.echelon.specs.Views.{single_in, single_of_item}
 use Rattle.echelon.proofs.Singles.{is_single}
-use Rattle.uncoupled.specs.Rows.{IsBestRow}
 use Rattle.uncoupled.proofs.Items.{blocks_best, next_best, same_best}
 use Rattle.uncoupled.proofs.planning.plan_item.Goals as goal
 
@@ -27,9 +26,9 @@ returns c =
     let s = single_of_item c.in_ok-single.single in
     let same : s ≡ single_in m i = c.in_ok-single.ensures.single in
     let blocks = c.deref-2.result.now in
-    let cover : Cover s blocks = subst (Cover s) (sym c.deref-2.ensures.value) c.in_ok-found.ensures.cover in
-    let costs = ap (blocks_cost s) c.deref-2.ensures.value ∙ c.in_ok-found.ensures.cost in
+    let cover : Cover s blocks = subst (Cover s) (sym c.deref-2.ensures.value) c.in_ok-found.ensures.solution.cover in
+    let costs = ap (blocks_cost s) c.deref-2.ensures.value ∙ c.in_ok-found.ensures.solution.cost in
     let single : IsSingleOf m i s = subst (IsSingleOf m i) (sym same) (is_single m i) in
     let row = choice (table_of c.set_lots.new.make) (table_of c.set_lots.new.setup) i in
-    let best = same_best m i s (blocks_plan s blocks) row (record { make = c.set_lots.ensures.make; setup = c.set_lots.ensures.setup }) (blocks_best m i s blocks c.in_ok-found.found.cost c.blocks_serve.ensures single cover c.in_ok-found.ensures.least costs) in
+    let best = same_best m i s (blocks_plan s blocks) row (record { make = c.set_lots.ensures.make; setup = c.set_lots.ensures.setup }) (blocks_best m i s blocks c.in_ok-found.found.cost c.blocks_serve.ensures single cover c.in_ok-found.ensures.solution.least costs) in
     next_best m c.args.make.now c.args.setup.now c.set_lots.new.make c.set_lots.new.setup i c.requires.before c.requires.high c.set_lots.ensures.make_items c.set_lots.ensures.make_periods c.set_lots.ensures.setup_items c.set_lots.ensures.setup_periods c.set_lots.ensures.other_makes c.set_lots.ensures.other_setups (subst (λ x. IsBestChoice m i x row) same best)

@@ -1,6 +1,6 @@
 use Rattle.std.proofs.Common.{arith}
 use Rattle.echelon.specs.Views.{single_of_item}
-use Rattle.wagner_whitin.proofs.Steps.{positions_small}
+use Rattle.wagner_whitin.proofs.Serving.{positions_small}
 use Rattle.wagner_whitin.proofs.Summing.{may_serve, period_at, sum_more}
 use Rattle.wagner_whitin.proofs.plain.block_cost.Goals as goal
 

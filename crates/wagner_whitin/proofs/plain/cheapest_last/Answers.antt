@@ -2,7 +2,7 @@ use Rattle.std.proofs.Common.{◌+◌, ◌-◌, ⊎_elim, inl, inr, ap, subst, a
 use Rattle.std.proofs.lemmas.Bool.{cases_eq}
 use Rattle.lot_sizing.specs.Single.{IsServer, block_cost, period_of, potential}
 use Rattle.echelon.specs.Views.{single_of_item}
-use Rattle.wagner_whitin.proofs.Steps.{positions_small}
+use Rattle.wagner_whitin.proofs.Serving.{positions_small}
 use Rattle.wagner_whitin.proofs.Summing.{candidate_last, last_of}
 use Rattle.wagner_whitin.proofs.plain.cheapest_last.Goals as goal
 

@@ -1,8 +1,8 @@
-use Rattle.std.proofs.Common.{◌≡◌, ◌+◌, ◌-◌, ⊎_elim, subst, sym, arith, length, slice_set}
+use Rattle.std.proofs.Common.{◌≡◌, ◌+◌, ◌-◌, ⊎_elim, subst, sym, arith, length, slice_set, Some}
 use Rattle.std.proofs.lemmas.Bool.{cases_lt}
 use Rattle.echelon.specs.Views.{single_of_item}
-use Rattle.wagner_whitin.specs.Tables.{IsRun, IsRunOrNone, run_of}
-use Rattle.wagner_whitin.proofs.Steps.{closed_runs, run_here, run_other, set_length}
+use Rattle.wagner_whitin.specs.Tables.{IsRunOrNone, run_of}
+use Rattle.wagner_whitin.proofs.Serving.{closed_runs, run_here, run_other, set_length}
 use Rattle.wagner_whitin.proofs.runs.serve.Goals as goal
 
 pub extended-requires-clause-server : goal.extended-requires-clause-server
@@ -14,15 +14,15 @@ loop-server-preserved c =
     let g = c.args.potentials.now in
     let v = c.loop-server.server in
     let runs = c.loop-server.runs in
-    let next = slice_set runs (v - 1) c.extended.result in
+    let next = slice_set runs (v - 1) (Some c.extended.result) in
     let inv = c.loop-server.invariant in
     record {
-      size = omega (arith, set_length runs (v - 1) c.extended.result, inv.size);
+      size = omega (arith, set_length runs (v - 1) (Some c.extended.result), inv.size);
       done = λ u low high. ⊎_elim
-          (λ before. subst (IsRun s g u (length g + 1)) (sym (run_other runs v u c.extended.result c.loop-server.auto.server low (λ same. omega (arith, same, before)))) (inv.done u low before))
-          (λ no. let e : u ≡ v = omega (arith, no, high) in subst (λ k. IsRun s g k (length g + 1) (run_of next k)) (sym e) (subst (IsRun s g v (length g + 1)) (sym (run_here runs v c.extended.result c.loop-server.auto.server (omega (arith, inv.size)))) c.extended.ensures))
+          (λ before. subst (IsRunOrNone s g u (length g + 1)) (sym (run_other runs v u (Some c.extended.result) c.loop-server.auto.server low (λ same. omega (arith, same, before)))) (inv.done u low before))
+          (λ no. let e : u ≡ v = omega (arith, no, high) in subst (λ k. IsRunOrNone s g k (length g + 1) (run_of next k)) (sym e) (subst (IsRunOrNone s g v (length g + 1)) (sym (run_here runs v (Some c.extended.result) c.loop-server.auto.server (omega (arith, inv.size)))) c.extended.ensures))
           (cases_lt u v);
-      rest = λ u low high. subst (IsRunOrNone s g u (length g)) (sym (run_other runs v u c.extended.result c.loop-server.auto.server (omega (arith, low)) (λ same. omega (arith, same, low)))) (inv.rest u (omega (arith, low)) high);
+      rest = λ u low high. subst (IsRunOrNone s g u (length g)) (sym (run_other runs v u (Some c.extended.result) c.loop-server.auto.server (omega (arith, low)) (λ same. omega (arith, same, low)))) (inv.rest u (omega (arith, low)) high);
     }
 
 pub returns : goal.returns

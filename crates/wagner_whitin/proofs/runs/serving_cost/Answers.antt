@@ -1,6 +1,6 @@
 use Rattle.std.proofs.Common.{arith}
 use Rattle.echelon.specs.Views.{single_of_item}
-use Rattle.wagner_whitin.proofs.Steps.{net_small, serving_small}
+use Rattle.wagner_whitin.proofs.Serving.{net_small, serving_small}
 use Rattle.wagner_whitin.proofs.runs.serving_cost.Goals as goal
 
 pub overflow_mul-result : goal.overflow_mul-result

@@ -1,4 +1,4 @@
-use Rattle.std.proofs.Common.{◌≡◌, ⊎_elim, length, map, ap, subst, sym, arith}
+use Rattle.std.proofs.Common.{◌≡◌, ⊎_elim, length, ap, subst, sym, arith}
 use Rattle.std.proofs.lemmas.List.{length_push}
 use Rattle.std.proofs.lemmas.Bool.{cases_lt}
 use Rattle.bill.specs.Lines.{bill_of_lines}
@@ -8,7 +8,7 @@ use Rattle.bill.proofs.ranking.Reach.of.Goals as goal
 
 pub loop-item-preserved : goal.loop-item-preserved
 loop-item-preserved c =
-    let b = bill_of_lines (map (λ v. v.items) c.args.lines.now) in
+    let b = bill_of_lines c.args.lines.now in
     let vs = c.loop-item.sets.items in
     let v = c.in_ok-components.field-0 in
     let inv = c.loop-item.invariant in

@@ -6,5 +6,5 @@ use Rattle.bill.proofs.ranking.Reach.of.Given as goal
 abbrev pub invariant-loop-item : goal.invariant-loop-item
 invariant-loop-item l = record {
   size : length l.sets.items + 1 ≡ l.item;
-  each : (j : ℕ) → 1 ≤ j → j < l.item → AreComponents (bill_of_lines (map (λ v. v.items) l.lines)) j (set_of (map (λ v. v.items) l.sets.items) j);
+  each : (j : ℕ) → 1 ≤ j → j < l.item → AreComponents (bill_of_lines l.lines) j (set_of (map (λ v. v.items) l.sets.items) j);
 }

@@ -1,7 +1,6 @@
 use Rattle.std.proofs.Common.{◌∙◌, sym, ap, subst, arith}
 use Rattle.lot_sizing.specs.Problem.{item_count}
 use Rattle.lot_sizing.specs.Bill.{AreWeights, bill_of}
-use Rattle.lot_model.specs.Views.{IsInstance}
 use Rattle.lot_model.proofs.instance.Instance.weight.Goals as goal
 
 pub weight-requires-clause-high : goal.weight-requires-clause-high
@@ -18,9 +17,6 @@ returns-clause-value c weight is =
     let totals = c.self.invariant.instance.totals in
     let known = c.self.invariant.all totals.0 weight totals.1 (subst (λ m. AreWeights (bill_of m) weight) (sym c.self.view_is) is) in
     c.weight.ensures ∙ (known.known c.args.item c.requires.low (omega (arith, c.requires.high, count))).each c.args.other c.requires.other_low (omega (arith, c.requires.other_high, count))
-
-pub returns-clause-instance : goal.returns-clause-instance
-returns-clause-instance c = subst IsInstance c.self.view_is c.self.invariant.instance
 
 pub returns-clause-small : goal.returns-clause-small
 returns-clause-small c =

@@ -1,0 +1,11 @@
+pub mod Joins
+pub mod Digits
+pub mod Numerals
+pub mod Splits
+pub mod Runs
+pub mod Stands
+pub mod Spelled
+pub mod Meant
+pub mod Feeds
+pub mod Heads
+pub mod Alike

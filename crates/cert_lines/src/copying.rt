@@ -1,0 +1,73 @@
+// Copies of cuts and leaves.
+ghost use Rattle.std.specs.Prelude.{◌≡◌, IfOk};
+ghost use Rattle.cert_lines.specs.Shapes.{block_lists, cut_shape, leaf_shape, price_lists};
+
+use crate::{Cut, Leaf};
+use lin_rows::{Potentials, Prices};
+use std::alloc::{AllocError, Global};
+
+// A copy of the lists of a price row.
+fn copy_prices(alloc: Global, prices: &Prices) -> Result<Prices, AllocError>
+    ensures { IfOk result (λ copy. price_lists copy ≡ price_lists prices.now) }
+{
+    Ok(Prices {
+        price: prices.price.to_vec(alloc)?,
+        unit: prices.unit.to_vec(alloc)?,
+        hold: prices.hold.to_vec(alloc)?,
+        back: prices.back.to_vec(alloc)?,
+    })
+}
+
+// A copy of the lists of a block row.
+fn copy_potentials(alloc: Global, potentials: &Potentials) -> Result<Potentials, AllocError>
+    ensures { IfOk result (λ copy. block_lists copy ≡ block_lists potentials.now) }
+{
+    Ok(Potentials {
+        setup: potentials.setup.to_vec(alloc)?,
+        unit: potentials.unit.to_vec(alloc)?,
+        hold: potentials.hold.to_vec(alloc)?,
+        back: potentials.back.to_vec(alloc)?,
+        steps: potentials.steps.to_vec(alloc)?,
+    })
+}
+
+/// A copy of a cut. The error is out of memory.
+pub fn copy_cut(alloc: Global, cut: &Cut) -> Result<Cut, AllocError>
+    ensures { IfOk result (λ copy. cut_shape copy ≡ cut_shape cut.now) }
+{
+    match cut {
+        Cut::Ls { item, last, chosen } => Ok(Cut::Ls {
+            item: *item,
+            last: *last,
+            chosen: chosen.to_vec(alloc)?,
+        }),
+        Cut::Price { item, prices } => Ok(Cut::Price {
+            item: *item,
+            prices: copy_prices(alloc, prices)?,
+        }),
+        Cut::Block { item, potentials } => Ok(Cut::Block {
+            item: *item,
+            potentials: copy_potentials(alloc, potentials)?,
+        }),
+        Cut::Round { divisor, parts } => Ok(Cut::Round {
+            divisor: *divisor,
+            parts: parts.to_vec(alloc)?,
+        }),
+    }
+}
+
+/// A copy of a leaf. The error is out of memory.
+pub fn copy_leaf(alloc: Global, leaf: &Leaf) -> Result<Leaf, AllocError>
+    ensures { IfOk result (λ copy. leaf_shape copy ≡ leaf_shape leaf.now) }
+{
+    match leaf {
+        Leaf::Linear { den, parts } => Ok(Leaf::Linear {
+            den: *den,
+            parts: parts.to_vec(alloc)?,
+        }),
+        Leaf::Farkas { parts } => Ok(Leaf::Farkas {
+            parts: parts.to_vec(alloc)?,
+        }),
+        Leaf::Point => Ok(Leaf::Point),
+    }
+}

@@ -1,7 +1,0 @@
-use Rattle.std.proofs.Common.{◌^◌}
-use Rattle.certificate.proofs.Splits.{words_in}
-use Rattle.certificate.proofs.Runs.{IsListTo}
-use Rattle.certificate.proofs.lists.numbers_from.Given as goal
-
-abbrev pub invariant-loop-place : goal.invariant-loop-place
-invariant-loop-place l = IsListTo (words_in l.words) (2 ^ 64) l.from l.place l.list.items

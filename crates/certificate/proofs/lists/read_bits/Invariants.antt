@@ -1,6 +1,0 @@
-use Rattle.std.proofs.Common.{◌≡◌, take}
-use Rattle.certificate.specs.Text.{bits_text}
-use Rattle.certificate.proofs.lists.read_bits.Given as goal
-
-abbrev pub invariant-loop-place : goal.invariant-loop-place
-invariant-loop-place l = take l.place l.word ≡ bits_text l.bits.items

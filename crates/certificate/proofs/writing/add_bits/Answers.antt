@@ -1,7 +1,0 @@
-use Rattle.std.proofs.Common.{string_bytes, false}
-use Rattle.certificate.specs.Text.{bit_text}
-use Rattle.certificate.proofs.Joins.{grows}
-use Rattle.certificate.proofs.writing.add_bits.Goals as goal
-
-pub loop-bit-preserved : goal.loop-bit-preserved
-loop-bit-preserved c = grows bit_text c.args.bits.now c.loop-bit.bit-index false (string_bytes c.args.text.now) (string_bytes c.loop-bit.text) (string_bytes c.add_bit.new.text) c.loop-bit-test.true c.loop-bit.invariant c.in_ok-add_bit.ensures

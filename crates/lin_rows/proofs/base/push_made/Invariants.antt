@@ -1,7 +1,0 @@
-use Rattle.std.proofs.Common.{◌-◌}
-use Rattle.lin_rows.specs.Base.{made_term, terms_to}
-use Rattle.lin_rows.specs.Made.{PutTerms}
-use Rattle.lin_rows.proofs.base.push_made.Given as goal
-
-abbrev pub invariant-loop-other : goal.invariant-loop-other
-invariant-loop-other l = PutTerms l.fn.terms.items (terms_to (l.other - 1) (made_term l.instance l.item l.period)) l.terms.items

@@ -1,7 +1,0 @@
-use Rattle.std.proofs.Common.{◌-◌}
-use Rattle.lin_rows.specs.Base.{setup_term, terms_to}
-use Rattle.lin_rows.specs.Made.{PutTerms}
-use Rattle.lin_rows.proofs.base.push_setup_times.Given as goal
-
-abbrev pub invariant-loop-item : goal.invariant-loop-item
-invariant-loop-item l = PutTerms l.fn.terms.items (terms_to (l.item - 1) (setup_term l.instance l.resource l.period)) l.terms.items

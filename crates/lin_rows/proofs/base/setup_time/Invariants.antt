@@ -1,9 +1,0 @@
-use Rattle.std.proofs.Common.{◌≡◌, ◌≤◌, ◌*◌, ◌^◌, ◌==◌, take, if◌then◌else◌}
-use Rattle.std.specs.List.{sum_by}
-use Rattle.lin_rows.proofs.base.setup_time.Given as goal
-
-abbrev pub invariant-loop-usage : goal.invariant-loop-usage
-invariant-loop-usage l = record {
-  total : l.total ≡ sum_by (λ usage. if usage.resource == l.resource then usage.setup else 0) (take l.usage-index l.usage-items);
-  small : l.total ≤ l.usage-index * 10 ^ 9;
-}

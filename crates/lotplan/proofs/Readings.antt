@@ -1,0 +1,52 @@
+-- What the reading of files leaves, and why it stops.
+use Rattle.std.proofs.Common.{◌≡◌, ◌≢◌, ◌≤◌, ℕ, List, IsTrue, None, refl, sym, subst, arith}
+use Rattle.lot_io.specs.Outside.{Files, OnlyReads, Shelved}
+use Rattle.lotplan.specs.Status.{code_of}
+use Rattle.lotplan.specs.Reading.{FileExplains, IsTooLong, ModelExplains, ReadAnswer, refused, missing, unread, too_long, read_status}
+use Rattle.lotplan.specs.Held.{IsStop}
+use Rattle.lotplan.specs.declared.model_file.Stop.{Stop}
+use Rattle.lotplan.specs.declared.model_file.Stop.TheVariants.{Answered, Memory}
+use Rattle.lotplan.specs.Held.{read_meant}
+
+-- what shows the same was only read
+pub same_reads : (old new : Shelved) → new ≡ old → OnlyReads old new
+same_reads old new same = subst (λ s. OnlyReads old s) (sym same) (record {
+  told = refl;
+  files = refl;
+  starts = refl;
+  appends = refl;
+  write_faults = refl;
+  faults = omega arith;
+  misses = omega arith;
+  given = omega arith;
+})
+
+-- a model file is a file
+pub model_stops : (m : List ℕ) (old new : Shelved) (why : ReadAnswer) → FileExplains m old new why → ModelExplains m old new why
+model_stops m old new (refused fault) x = absurd x
+model_stops m old new (missing file) x = x
+model_stops m old new (unread file) x = x
+model_stops m old new (too_long file) x = x
+
+pub stop_of_model : (m : List ℕ) (old new : Shelved) (stop : Stop) → IsStop (FileExplains m old new) stop → IsStop (ModelExplains m old new) stop
+stop_of_model m old new (Answered why) x = model_stops m old new (read_meant why) x
+stop_of_model m old new Memory x = tt
+
+-- a file that is read after others
+pub stops_after : (p : List ℕ) (old mid new : Shelved) (why : ReadAnswer) → OnlyReads old mid → FileExplains p mid new why → FileExplains p old new why
+stops_after p old mid new (refused fault) reads x = absurd x
+stops_after p old mid new (missing file) reads x = (x.0, omega (arith, x.1, reads.misses), λ t. subst (λ (f : Files). f p ≡ None) reads.files (x.2 (subst IsTrue (sym reads.told) t)))
+stops_after p old mid new (unread file) reads x = (x.0, omega (arith, x.1, reads.faults))
+stops_after p old mid new (too_long file) reads x = (x.0, omega (arith, x.1, reads.given), λ t. subst (λ (f : Files). IsTooLong f p) reads.files (x.2 (subst IsTrue (sym reads.told) t)))
+
+-- the numbers of these stops
+pub record IsReading (code : ℕ) : Type 0 where
+  pub low : 5 ≤ code
+  pub high : code ≤ 11
+  pub other : code ≢ 8
+
+pub reading : (why : ReadAnswer) (code : ℕ) → code ≡ code_of (read_status why) → IsReading code
+reading (refused fault) code is = record { low = omega (arith, is); high = omega (arith, is); other = λ e. omega (arith, is, e) }
+reading (missing file) code is = record { low = omega (arith, is); high = omega (arith, is); other = λ e. omega (arith, is, e) }
+reading (unread file) code is = record { low = omega (arith, is); high = omega (arith, is); other = λ e. omega (arith, is, e) }
+reading (too_long file) code is = record { low = omega (arith, is); high = omega (arith, is); other = λ e. omega (arith, is, e) }

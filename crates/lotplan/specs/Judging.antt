@@ -1,0 +1,149 @@
+-- What `judge` answers, and why.
+use Rattle.std.specs.Prelude.{◌≡◌, ◌≢◌, ◌⊎◌, ◌<◌, ◌≤◌, ℕ, List, ◌++◌, length, codes, decimal, IsTrue, Option, Some, None, Ok, Err, ⊤}
+use Rattle.lot_sizing.specs.Problem.{Problem}
+use Rattle.lot_sizing.specs.Plan.{IsFeasible, Plan, cost}
+use Rattle.lot_io.specs.Outside.{Files, Printed, Shelved}
+use Rattle.lot_draft.specs.declared.fault.ModelFault.{ModelFault}
+use Rattle.instance_reader.specs.Model.{BytesMean}
+use Rattle.plan_rules.specs.Broken.{IsBroken}
+use Rattle.plan_rules.specs.Texts.{broken_text}
+use Rattle.plan_rules.specs.declared.broken.Broken.{Broken}
+use Rattle.plan_file.specs.Records.{IsPlanOf, records_of}
+use Rattle.plan_file.specs.Faults.{IsPlanFault}
+use Rattle.plan_file.specs.Texts.{plan_fault_text}
+use Rattle.plan_file.specs.declared.fault.PlanFault.{PlanFault}
+use Rattle.plan_file.specs.declared.fault.PlanFault.TheVariants.{Memory}
+use Rattle.lotplan.specs.Command.{Asked, judging}
+use Rattle.lotplan.specs.Reading.{FileExplains, HoldsProblem, ModelExplains, OfFile, OfModel, ReadAnswer, file_limit, read_line, read_status}
+use Rattle.lotplan.specs.Saying.{Gains, IsSaid}
+use Rattle.lotplan.specs.declared.said.Said.{Said}
+use Rattle.lotplan.specs.declared.status.Status.{Status}
+use Rattle.lotplan.specs.declared.status.Status.TheVariants as status
+
+-- ---- answers
+pub data JudgeAnswer : Type 0 where
+  -- the plan is feasible, and costs this
+  feasible : ℕ → JudgeAnswer
+  -- the plan file holds no plan
+  no_plan : PlanFault → JudgeAnswer
+  -- the plan breaks this rule first
+  broken : Broken → JudgeAnswer
+  -- the model file gave no problem, or the plan file no bytes
+  stopped : ReadAnswer → JudgeAnswer
+
+abbrev pub judge_status : JudgeAnswer → Status
+judge_status (feasible amount) = status.Done
+judge_status (no_plan fault) = status.Faulty
+judge_status (broken rule) = status.Faulty
+judge_status (stopped why) = read_status why
+
+abbrev pub judge_line : JudgeAnswer → List ℕ
+judge_line (feasible amount) = codes "feasible " ++ (decimal amount ++ codes "\n")
+judge_line (no_plan fault) = plan_fault_text fault ++ codes "\n"
+judge_line (broken rule) = broken_text rule ++ codes "\n"
+judge_line (stopped why) = read_line why
+
+-- ---- causes
+-- bytes hold a feasible plan, which costs this
+pub record AreFeasible (problem : Problem) (bytes : List ℕ) (amount : ℕ) : Type 0 where
+  pub plan : Plan
+  pub is : IsPlanOf problem (records_of bytes) plan
+  pub feasible : IsFeasible problem plan
+  pub costs : cost problem plan ≡ amount
+
+-- they hold a plan that breaks this rule first
+pub record AreBroken (problem : Problem) (bytes : List ℕ) (rule : Broken) : Type 0 where
+  pub plan : Plan
+  pub is : IsPlanOf problem (records_of bytes) plan
+  pub infeasible : IsFeasible problem plan → ⊥
+  pub breaks : IsBroken problem plan rule
+
+-- they hold no plan, for this fault
+pub record AreNoPlan (problem : Problem) (bytes : List ℕ) (fault : PlanFault) : Type 0 where
+  pub cause : fault ≢ Memory
+  pub is : IsPlanFault problem (records_of bytes) fault
+
+-- what the bytes of a plan file are, where it holds some
+abbrev pub BytesAre : Problem → JudgeAnswer → List ℕ → Type 0
+BytesAre problem (feasible amount) bytes = AreFeasible problem bytes amount
+BytesAre problem (no_plan fault) bytes = AreNoPlan problem bytes fault
+BytesAre problem (broken rule) bytes = AreBroken problem bytes rule
+BytesAre problem (stopped why) bytes = ⊥
+
+-- why judging a plan file of a problem ends in this answer
+abbrev pub PlanFileExplains : Problem → List ℕ → Shelved → Shelved → JudgeAnswer → Type 0
+PlanFileExplains problem p old new (feasible amount) = IsTrue old.told → OfFile old.file p (BytesAre problem (feasible amount))
+PlanFileExplains problem p old new (no_plan fault) = IsTrue old.told → OfFile old.file p (BytesAre problem (no_plan fault))
+PlanFileExplains problem p old new (broken rule) = IsTrue old.told → OfFile old.file p (BytesAre problem (broken rule))
+PlanFileExplains problem p old new (stopped why) = FileExplains p old new why
+
+-- the model file means a problem, whose plan file these bytes are
+abbrev pub FilesAre : Files → List ℕ → List ℕ → JudgeAnswer → Type 0
+FilesAre before m p answer = OfModel before m (λ problem. OfFile before p (BytesAre problem answer))
+
+-- why the reading of the two files ends in this answer: by the model file, or by the plan file of the problem that it means
+abbrev pub FilesStop : List ℕ → List ℕ → Shelved → Shelved → ReadAnswer → Type 0
+FilesStop m p old new why = ModelExplains m old new why ⊎ ((problem : Problem) × (IsTrue old.told → HoldsProblem old.file m problem) × FileExplains p old new why)
+
+-- why judging these files ends in this answer
+abbrev pub JudgeExplains : List ℕ → List ℕ → Shelved → Shelved → JudgeAnswer → Type 0
+JudgeExplains m p old new (feasible amount) = IsTrue old.told → FilesAre old.file m p (feasible amount)
+JudgeExplains m p old new (no_plan fault) = IsTrue old.told → FilesAre old.file m p (no_plan fault)
+JudgeExplains m p old new (broken rule) = IsTrue old.told → FilesAre old.file m p (broken rule)
+JudgeExplains m p old new (stopped why) = FilesStop m p old new why
+
+-- what is said is an answer that has its cause
+abbrev pub BytesSay : Problem → List ℕ → Said → Type 0
+BytesSay problem bytes said = (answer : JudgeAnswer) × BytesAre problem answer bytes × IsSaid (judge_line answer) (judge_status answer) said
+
+abbrev pub PlanFileSays : Problem → List ℕ → Shelved → Shelved → Said → Type 0
+PlanFileSays problem p old new said = (answer : JudgeAnswer) × PlanFileExplains problem p old new answer × IsSaid (judge_line answer) (judge_status answer) said
+
+abbrev pub JudgeSays : List ℕ → List ℕ → Shelved → Shelved → Said → Type 0
+JudgeSays m p old new said = (answer : JudgeAnswer) × JudgeExplains m p old new answer × IsSaid (judge_line answer) (judge_status answer) said
+
+-- ---- the status that the two files call for, faults and want of memory aside
+-- for a plan file of a problem 6 where it is absent, 11 where it is too long, 0 where it holds a feasible plan, and else 3
+abbrev pub PlanCallsFor : Problem → Option (List ℕ) → ℕ → Type 0
+PlanCallsFor problem None status = status ≡ 6
+PlanCallsFor problem (Some bytes) status =
+    ((file_limit < length bytes) × (status ≡ 11))
+    ⊎ ((length bytes ≤ file_limit)
+    × (((amount : ℕ) × AreFeasible problem bytes amount × (status ≡ 0))
+    ⊎ (((rule : Broken) × AreBroken problem bytes rule × (status ≡ 3))
+    ⊎ ((fault : PlanFault) × AreNoPlan problem bytes fault × (status ≡ 3)))))
+
+abbrev pub JudgeCallsFor : Option (List ℕ) → Option (List ℕ) → ℕ → Type 0
+JudgeCallsFor None plan status = status ≡ 6
+JudgeCallsFor (Some bytes) plan status =
+    ((file_limit < length bytes) × (status ≡ 11))
+    ⊎ ((length bytes ≤ file_limit)
+    × (((fault : ModelFault) × BytesMean bytes (Err fault) × (status ≡ 5)) ⊎ ((problem : Problem) × BytesMean bytes (Ok problem) × PlanCallsFor problem plan status)))
+
+-- ---- what each status says
+-- the words ask to judge a plan file
+pub record IsJudged (asked : Option Asked) (model_file plan_file : List ℕ) : Type 0 where
+  pub is : asked ≡ Some (judging model_file plan_file)
+
+-- they ask to judge a plan that is feasible, and the line has its cost
+pub record FindsFeasible (before : Files) (model_file plan_file : List ℕ) (out_old out_new : Printed) : Type 0 where
+  pub amount : ℕ
+  pub holds : FilesAre before model_file plan_file (feasible amount)
+  pub line : Gains (judge_line (feasible amount)) out_old out_new
+
+-- the answer names the fault of a plan file
+abbrev pub IsFault : JudgeAnswer → Type 0
+IsFault (feasible amount) = ⊥
+IsFault (no_plan fault) = ⊤
+IsFault (broken rule) = ⊤
+IsFault (stopped why) = ⊥
+
+-- they ask to judge a plan file that holds no plan, or one that breaks a rule, and the line names the first fault
+pub record FindsFault (asked : Option Asked) (before : Files) (out_old out_new : Printed) : Type 0 where
+  pub model_file : List ℕ
+  pub plan_file : List ℕ
+  pub words : IsJudged asked model_file plan_file
+  pub answer : JudgeAnswer
+  pub fault : IsFault answer
+  pub holds : FilesAre before model_file plan_file answer
+  pub line : Gains (judge_line answer) out_old out_new

@@ -1,0 +1,28 @@
+-- What a run says at its end, and how that is printed.
+use Rattle.std.specs.Prelude.{◌≡◌, ◌⊎◌, ℕ, List, ◌++◌, IsTrue, Result, Ok, Err, string_bytes}
+use Rattle.std.specs.declared.alloc.AllocError.{AllocError}
+use Rattle.lot_io.specs.Outside.{AppendsSome, Printed, Rose}
+use Rattle.lotplan.specs.Status.{code_of}
+use Rattle.lotplan.specs.declared.said.Said.{Said}
+use Rattle.lotplan.specs.declared.status.Status.{Status}
+use Rattle.lotplan.specs.declared.status.Status.TheVariants.{Unprinted, NoMemory}
+
+-- what is said has this line and this status
+pub record IsSaid (text : List ℕ) (ending : Status) (said : Said) : Type 0 where
+  pub line : string_bytes said.line ≡ text
+  pub status : said.status ≡ ending
+
+-- where it tells, the output gained this line and nothing else
+abbrev pub Gains : List ℕ → Printed → Printed → Type 0
+Gains text old new = IsTrue old.told → new.bytes ≡ old.bytes ++ text
+
+-- the line was printed and the number is that of the status, or printing failed after some of it
+abbrev pub Prints : List ℕ → Status → ℕ → Printed → Printed → Type 0
+Prints text ending code old new =
+    ((code ≡ code_of ending) × Gains text old new)
+    ⊎ ((code ≡ code_of Unprinted) × Rose old.faults new.faults × (IsTrue old.told → AppendsSome text old.bytes new.bytes))
+
+-- what is said is printed; where memory ran out nothing is
+abbrev pub Ends : Result Said AllocError → ℕ → Printed → Printed → Type 0
+Ends (Ok said) code old new = Prints (string_bytes said.line) said.status code old new
+Ends (Err e) code old new = (code ≡ code_of NoMemory) × (new ≡ old)

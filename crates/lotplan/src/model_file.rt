@@ -1,0 +1,105 @@
+// Reading files, and the model in one.
+ghost use Rattle.std.specs.Prelude.{◌≡◌, ◌≤◌, ◌+◌, length, string_bytes, IsTrue, Some, IfOk, IfErr};
+ghost use Rattle.lot_io.specs.Outside.{OnlyReads, piece_size};
+ghost use Rattle.lotplan.specs.Held.{IsStop, read_meant};
+ghost use Rattle.lotplan.specs.Reading.{FileExplains, HoldsProblem, ModelExplains, file_limit, read_line, read_status};
+
+use crate::status::Status;
+use instance_reader::{ReadModelFault, read_instance};
+use lot_io::{ReadFault, Shelf, read_file};
+use lot_model::{Instance, ModelFault};
+use std::alloc::{AllocError, Global};
+
+/// The longest file that is read, in bytes.
+pub const FILE_LIMIT: u64 = 16_777_216;
+
+/// Why the files of a command gave nothing to go on with, with the name of the file that it concerns.
+#[derive(Clone, Copy, Debug, PartialEq, Eq)]
+pub enum ReadAnswer<'a> {
+    /// The model is refused.
+    Refused(ModelFault),
+    /// The file is absent.
+    Missing(&'a str),
+    /// The file could not be read.
+    Unread(&'a str),
+    /// The file is too long.
+    TooLong(&'a str),
+}
+
+impl ReadAnswer<'_> {
+    /// The status.
+    pub fn status(&self) -> Status
+        ensures { result ≡ read_status (read_meant self.now) }
+    {
+        match self {
+            ReadAnswer::Refused(_) => Status::Refused,
+            ReadAnswer::Missing(_) => Status::Missing,
+            ReadAnswer::Unread(_) => Status::Unread,
+            ReadAnswer::TooLong(_) => Status::TooLong,
+        }
+    }
+
+    /// The line that is printed, with its line feed.
+    pub fn line(&self, alloc: Global) -> Result<String, AllocError>
+        ensures { IfOk result (λ line. string_bytes line ≡ read_line (read_meant self.now)) }
+    {
+        match self {
+            ReadAnswer::Refused(fault) => format!(in alloc; "refused model {fault}\n"),
+            ReadAnswer::Missing(file) => format!(in alloc; "refused missing {file}\n"),
+            ReadAnswer::Unread(file) => format!(in alloc; "refused read {file}\n"),
+            ReadAnswer::TooLong(file) => format!(in alloc; "refused long {file}\n"),
+        }
+    }
+}
+
+/// Why a command can't go on.
+#[derive(Clone, Copy, Debug, PartialEq, Eq)]
+pub enum Stop<'a> {
+    /// What the run answers.
+    Answered(ReadAnswer<'a>),
+    /// Memory ran out.
+    Memory,
+}
+
+/// The bytes of a file that a command reads.
+pub fn read_bytes<'a, S: Shelf>(
+    alloc: Global,
+    name: &'a str,
+    shelf: &mut S,
+) -> Result<Vec<u8>, Stop<'a>>
+    ensures bytes { IfOk result (λ bytes. IsTrue (S.shown shelf.old).told → (S.shown shelf.old).file name.entry.now ≡ Some bytes.items) }
+    ensures short { IfOk result (λ bytes. length bytes.items ≤ file_limit) }
+    ensures stop { IfErr result (IsStop (FileExplains name.entry.now (S.shown shelf.old) (S.shown shelf.new))) }
+    ensures reads { OnlyReads (S.shown shelf.old) (S.shown shelf.new) }
+    ensures given { (S.shown shelf.new).given ≤ (S.shown shelf.old).given + (file_limit + piece_size) }
+{
+    match read_file(alloc, shelf, name, FILE_LIMIT) {
+        Ok(bytes) => Ok(bytes),
+        Err(ReadFault::Missing) => Err(Stop::Answered(ReadAnswer::Missing(name))),
+        Err(ReadFault::Failed) => Err(Stop::Answered(ReadAnswer::Unread(name))),
+        Err(ReadFault::TooLong) => Err(Stop::Answered(ReadAnswer::TooLong(name))),
+        Err(ReadFault::Memory) => Err(Stop::Memory),
+    }
+}
+
+/// The instance in a model file.
+pub fn read_model<'a, S: Shelf>(
+    alloc: Global,
+    model: &'a str,
+    shelf: &mut S,
+) -> Result<Instance, Stop<'a>>
+    ensures ok { IfOk result (λ instance. IsTrue (S.shown shelf.old).told → HoldsProblem (S.shown shelf.old).file model.entry.now instance) }
+    ensures stop { IfErr result (IsStop (ModelExplains model.entry.now (S.shown shelf.old) (S.shown shelf.new))) }
+    ensures reads { OnlyReads (S.shown shelf.old) (S.shown shelf.new) }
+    ensures given { (S.shown shelf.new).given ≤ (S.shown shelf.old).given + (file_limit + piece_size) }
+{
+    let bytes = match read_bytes(alloc, model, shelf) {
+        Ok(bytes) => bytes,
+        Err(stop) => return Err(stop),
+    };
+    match read_instance(alloc, bytes.as_slice()) {
+        Ok(instance) => Ok(instance),
+        Err(ReadModelFault::Refused(fault)) => Err(Stop::Answered(ReadAnswer::Refused(fault))),
+        Err(ReadModelFault::Memory) => Err(Stop::Memory),
+    }
+}

@@ -1,0 +1,126 @@
+// The least cost up to each position, by the cheapest line there.
+ghost use Rattle.std.specs.Prelude.{◌≡◌, ◌+◌, ◌-◌, ◌*◌, ◌^◌, ◌<◌, ◌≤◌, ℕ, length, IfOk, IsNone};
+ghost use Rattle.lot_sizing.specs.Single.{IsWithinBounds, period_count, period_of, position_count, positions, potential};
+ghost use Rattle.echelon.specs.Views.{single_of_item};
+ghost use Rattle.wagner_whitin.specs.Tables.{IsTable, most_for_one};
+ghost use Rattle.wagner_whitin.specs.Lines.{AreLineSums, IsCheapest, IsHull, entry_of, line_cost};
+
+use crate::counting::Steps;
+use crate::hull;
+use crate::lines::{self, Line, LineSums};
+use crate::runs::last_potential;
+use crate::table::LeastCosts;
+use echelon::{Block, SingleItem};
+use std::alloc::{AllocError, Global};
+use std::sync::ledger::Ledger;
+
+// Puts the lines of the servers after the first ones up to another one, which begin with the next position.
+fn enter<L: Ledger>(
+    single: &SingleItem,
+    sums: &LineSums,
+    potentials: &[u128],
+    entered: u32,
+    last: u32,
+    level: u32,
+    slots: &mut [Option<Line>],
+    steps: &mut Steps<L>,
+)
+    requires within { IsWithinBounds (single_of_item single.now) }
+    requires no_backlog { IsNone (single_of_item single.now).back }
+    requires sums { AreLineSums (single_of_item single.now) sums.now }
+    requires some { length potentials.now < position_count (single_of_item single.now) }
+    requires small { potential potentials.now (length potentials.now) ≤ 120 * most_for_one }
+    requires order { entered ≤ last }
+    requires high { last ≤ period_count (single_of_item single.now) }
+    requires entries { (u : ℕ) → entered < u → u ≤ last → entry_of (single_of_item single.now) u ≡ length potentials.now + 1 }
+    requires level { position_count (single_of_item single.now) < 2 ^ level }
+    requires hull { IsHull (single_of_item single.now) potentials.now entered (length potentials.now + 1) level slots.old }
+    ensures hull { IsHull (single_of_item single.now) potentials.now last (length potentials.now + 1) level slots.new }
+    ensures steps { steps.new ≤ steps.old + (last - entered) * level }
+{
+    let first = potentials.len() as u32 + 1;
+    let before = last_potential(potentials);
+    let end = slots.len() as u32 + 1;
+    for server in entered + 1..last + 1 {
+        let line = Line {
+            before: before + single.setup[(server - 1) as usize] as u128,
+            first,
+            server,
+        };
+        hull::insert(single, sums, slots, line, first, level, 1, end, steps);
+    }
+}
+
+// The cheapest line at the next position.
+fn cheapest_line<L: Ledger>(
+    single: &SingleItem,
+    sums: &LineSums,
+    potentials: &[u128],
+    period: u32,
+    level: u32,
+    slots: &[Option<Line>],
+    steps: &mut Steps<L>,
+) -> Line
+    requires within { IsWithinBounds (single_of_item single.now) }
+    requires no_backlog { IsNone (single_of_item single.now).back }
+    requires sums { AreLineSums (single_of_item single.now) sums.now }
+    requires some { length potentials.now < position_count (single_of_item single.now) }
+    requires period { period ≡ period_of (single_of_item single.now) (length potentials.now + 1) }
+    requires level { position_count (single_of_item single.now) < 2 ^ level }
+    requires hull { IsHull (single_of_item single.now) potentials.now period (length potentials.now + 1) level slots.now }
+    ensures cheapest { IsCheapest (single_of_item single.now) potentials.now (length potentials.now + 1) result }
+    ensures steps { steps.new ≤ steps.old + level }
+{
+    let position = potentials.len() as u32 + 1;
+    let end = slots.len() as u32 + 1;
+    match hull::cheapest(single, sums, slots, position, level, 1, end, steps) {
+        Some(line) => line,
+        None => unreachable!(),
+    }
+}
+
+/// The table of all positions.
+pub fn least_costs<L: Ledger>(
+    alloc: Global,
+    single: &SingleItem,
+    sums: &LineSums,
+    needed: &[u32],
+    level: u32,
+    steps: &mut Steps<L>,
+) -> Result<LeastCosts, AllocError>
+    requires within { IsWithinBounds (single_of_item single.now) }
+    requires no_backlog { IsNone (single_of_item single.now).back }
+    requires sums { AreLineSums (single_of_item single.now) sums.now }
+    requires needed { needed.now ≡ positions (single_of_item single.now) }
+    requires level { position_count (single_of_item single.now) < 2 ^ level }
+    ensures table { IfOk result (λ table. IsTable (single_of_item single.now) (position_count (single_of_item single.now)) table.potentials.items table.lasts.items) }
+    ensures steps { steps.new ≤ steps.old + (period_count (single_of_item single.now) + position_count (single_of_item single.now)) * level }
+{
+    let mut slots = vec![in alloc; None; needed.len()]?;
+    let mut potentials = Vec::with_capacity(alloc, needed.len())?;
+    let mut lasts = Vec::with_capacity(alloc, needed.len())?;
+    let mut entered = 0;
+    for place in 0..needed.len() {
+        let period = needed[place];
+        enter(
+            single,
+            sums,
+            &potentials,
+            entered,
+            period,
+            level,
+            &mut slots,
+            steps,
+        );
+        let line = cheapest_line(single, sums, &potentials, period, level, &slots, steps);
+        let last = place as u32 + 1;
+        lasts.push(Block {
+            first: line.first,
+            last,
+            server: line.server,
+        })?;
+        potentials.push(lines::cost_at(single, sums, line, last))?;
+        entered = period;
+    }
+    Ok(LeastCosts { potentials, lasts })
+}

@@ -1,0 +1,14 @@
+//! Whole numbers in texts.
+//!
+//! Family: the outside. Stands on nothing; used by `lot_io`, `plan_file` and `certificate`.
+//!
+//! `read_whole` reads decimal digits as the number that they write, if it is at most a limit, and
+//! names the first fault otherwise. `specs/Digits` says which texts are whole numbers.
+#![tactic(auto)]
+
+mod digits;
+
+pub use digits::{NumberFault, read_whole};
+
+#[cfg(test)]
+mod tests;
