@@ -7,19 +7,22 @@ use Rattle.lot_io.specs.Outside.{GrewBy, OnlyReads, Printed, Rose, Shelved}
 use Rattle.lotplan.specs.declared.said.Said.{Said}
 use Rattle.lotplan.specs.declared.status.Status.{Status}
 use Rattle.lotplan.specs.declared.status.Status.TheVariants.{Done, NoCommand}
-use Rattle.lotplan.specs.Command.{Asked, version, planning, judging}
+use Rattle.lotplan.specs.Command.{Asked, version, planning, judging, upgrading}
 use Rattle.lotplan.specs.Status.{code_of}
 use Rattle.lotplan.specs.Saying.{Ends, Gains, Prints}
 use Rattle.lotplan.specs.Reading.{ReadAnswer, refused, missing, unread, too_long, read_status}
-use Rattle.lotplan.specs.Planning.{CannotPlan, FailsToWrite, FindsNoPlan, PlanAnswer, PlanExplains, PlansBest, StartsAtMost, plan_line, plan_status}
+use Rattle.lotplan.specs.Planning.{CannotPlan, FindsNoPlan, PlanAnswer, PlanExplains, PlansBest, StartsAtMost, plan_line, plan_status}
 use Rattle.lotplan.specs.Planning as plan
 use Rattle.lotplan.specs.Judging.{FindsFault, FindsFeasible, JudgeAnswer, JudgeExplains, judge_line, judge_status}
 use Rattle.lotplan.specs.Judging as judge
-use Rattle.lotplan.specs.Run.{CallFor, HadNoFault, IsNoCommand, IsRun, ran_out, runs, Leaves, RunsAs, SaysFor, Stops, refused_line, version_line}
+use Rattle.lotplan.specs.Upgrading.{UpgradeAnswer, UpgradeExplains, Upgrades, upgrade_line, upgrade_status}
+use Rattle.lotplan.specs.Upgrading as upgrade
+use Rattle.lotplan.specs.Run.{CallFor, CannotWrite, HadNoFault, IsNoCommand, IsRun, ran_out, runs, Leaves, RunsAs, SaysFor, Stops, refused_line, version_line}
 use Rattle.lotplan.proofs.Outputs.{printed, prints_as}
 use Rattle.lotplan.proofs.Readings.{IsReading, reading, same_reads}
 use Rattle.lotplan.proofs.Planned as planned
 use Rattle.lotplan.proofs.Judged as judged
+use Rattle.lotplan.proofs.Upgraded as upgraded
 
 -- ---- from what is said and printed to the run
 runs_as : (asked : Option Asked) (code : ℕ) (old new : Shelved) (out_old out_new : Printed) (said : Said) → SaysFor asked old new said → Ends (Ok said) code out_old out_new → RunsAs asked code old new out_old out_new
@@ -27,6 +30,7 @@ runs_as None code old new out_old out_new said (same, says) done = (same, prints
 runs_as (Some version) code old new out_old out_new said (same, says) done = (same, prints_as version_line Done said code out_old out_new says done)
 runs_as (Some (planning m p c)) code old new out_old out_new said (answer, x, says) done = (answer, x, prints_as (plan_line answer) (plan_status answer) said code out_old out_new says done)
 runs_as (Some (judging m p)) code old new out_old out_new said ((answer, x, says), reads) done = (answer, x, reads, prints_as (judge_line answer) (judge_status answer) said code out_old out_new says done)
+runs_as (Some (upgrading m n)) code old new out_old out_new said (answer, x, says) done = (answer, x, prints_as (upgrade_line answer) (upgrade_status answer) said code out_old out_new says done)
 
 pub is_run : (asked : Option Asked) (code : ℕ) (old new : Shelved) (out_old out_new : Printed) (r : Result Said AllocError) → IfOk r (SaysFor asked old new) → OnErr r (Leaves asked old new) → Ends r code out_old out_new → IsRun asked code old new out_old out_new
 is_run asked code old new out_old out_new (Ok said) says left done = runs (runs_as asked code old new out_old out_new said says done)
@@ -40,6 +44,8 @@ EndsAs (Some (planning m p c)) code old new out_old out_new =
     (answer : PlanAnswer) × PlanExplains m p old new answer × (code ≡ code_of (plan_status answer)) × Gains (plan_line answer) out_old out_new
 EndsAs (Some (judging m p)) code old new out_old out_new =
     (answer : JudgeAnswer) × JudgeExplains m p old new answer × OnlyReads old new × (code ≡ code_of (judge_status answer)) × Gains (judge_line answer) out_old out_new
+EndsAs (Some (upgrading m n)) code old new out_old out_new =
+    (answer : UpgradeAnswer) × UpgradeExplains m n old new answer × (code ≡ code_of (upgrade_status answer)) × Gains (upgrade_line answer) out_old out_new
 
 ends_by : (asked : Option Asked) (code : ℕ) (old new : Shelved) (out_old out_new : Printed) → RunsAs asked code old new out_old out_new → code ≢ 9 → EndsAs asked code old new out_old out_new
 ends_by None code old new out_old out_new x other =
@@ -52,6 +58,9 @@ ends_by (Some (planning m p c)) code old new out_old out_new (answer, x, done) o
 ends_by (Some (judging m p)) code old new out_old out_new (answer, x, reads, done) other =
     let d = printed (judge_line answer) (judge_status answer) code out_old out_new done other in
     (answer, x, reads, d.0, d.1)
+ends_by (Some (upgrading m n)) code old new out_old out_new (answer, x, done) other =
+    let d = printed (upgrade_line answer) (upgrade_status answer) code out_old out_new done other in
+    (answer, x, d.0, d.1)
 
 ends : (asked : Option Asked) (code : ℕ) (old new : Shelved) (out_old out_new : Printed) → IsRun asked code old new out_old out_new → code ≢ 10 → code ≢ 9 → EndsAs asked code old new out_old out_new
 ends asked code old new out_old out_new (ran_out x) some other = absurd (some x.is)
@@ -76,6 +85,19 @@ feasible asked code old new out_old out_new run m p is zero t =
     let (answer, why, reads, number, line) = subst (λ a. EndsAs a code old new out_old out_new) is (ends asked code old new out_old out_new run (λ e. omega (arith, e, zero)) (λ e. omega (arith, e, zero))) in
     judged.feasible_at m p code old new out_old out_new answer why number line zero t
 
+upgraded_by : (asked : Option Asked) (code : ℕ) (old new : Shelved) (out_old out_new : Printed) (m n : List ℕ) → asked ≡ Some (upgrading m n) → EndsAs asked code old new out_old out_new → code ≡ 0 → (IsTrue old.told → Upgrades old.file new.file m n out_old out_new) × GrewBy 1 old.starts new.starts
+upgraded_by asked code old new out_old out_new m n is x none =
+    let (answer, why, number, line) = subst (λ a. EndsAs a code old new out_old out_new) is x in
+    upgraded.upgraded_at m n code old new out_old out_new answer why number line none
+
+pub upgrades : (asked : Option Asked) (code : ℕ) (old new : Shelved) (out_old out_new : Printed) → IsRun asked code old new out_old out_new → (m n : List ℕ) → asked ≡ Some (upgrading m n) → code ≡ 0 → IsTrue old.told → Upgrades old.file new.file m n out_old out_new
+upgrades asked code old new out_old out_new run m n is none t =
+    (upgraded_by asked code old new out_old out_new m n is (ends asked code old new out_old out_new run (λ e. omega (arith, e, none)) (λ e. omega (arith, e, none))) none).0 t
+
+pub rewrote : (asked : Option Asked) (code : ℕ) (old new : Shelved) (out_old out_new : Printed) → IsRun asked code old new out_old out_new → (m n : List ℕ) → asked ≡ Some (upgrading m n) → code ≡ 0 → GrewBy 1 old.starts new.starts
+rewrote asked code old new out_old out_new run m n is none =
+    (upgraded_by asked code old new out_old out_new m n is (ends asked code old new out_old out_new run (λ e. omega (arith, e, none)) (λ e. omega (arith, e, none))) none).1
+
 infeasible_by : (asked : Option Asked) (code : ℕ) (old new : Shelved) (out_old out_new : Printed) → EndsAs asked code old new out_old out_new → code ≡ 1 → IsTrue old.told → FindsNoPlan asked old.file out_old out_new
 infeasible_by None code old new out_old out_new x one t = absurd (omega (arith, x.1, one))
 infeasible_by (Some version) code old new out_old out_new x one t = absurd (omega (arith, x.1, one))
@@ -83,6 +105,7 @@ infeasible_by (Some (planning m p c)) code old new out_old out_new (answer, why,
     let found = planned.impossible_at m p code old new out_old out_new answer why number line one t in
     record { model_file = m; plan_file = p; words = record { certificate_file = c; is = refl }; holds = found.0; line = found.1 }
 infeasible_by (Some (judging m p)) code old new out_old out_new (answer, why, reads, number, line) one t = absurd ((judged.numbers answer code number).one one)
+infeasible_by (Some (upgrading m n)) code old new out_old out_new (answer, why, number, line) one t = absurd ((upgraded.numbers answer code number).one one)
 
 pub infeasible : (asked : Option Asked) (code : ℕ) (old new : Shelved) (out_old out_new : Printed) → IsRun asked code old new out_old out_new → code ≡ 1 → IsTrue old.told → FindsNoPlan asked old.file out_old out_new
 infeasible asked code old new out_old out_new run is t = infeasible_by asked code old new out_old out_new (ends asked code old new out_old out_new run (λ e. omega (arith, e, is)) (λ e. omega (arith, e, is))) is t
@@ -94,6 +117,7 @@ coupled_by (Some (planning m p c)) code old new out_old out_new (answer, why, nu
     let found = planned.coupled_at m p code old new out_old out_new answer why number line twelve t in
     record { model_file = m; plan_file = p; words = record { certificate_file = c; is = refl }; holds = found.0; line = found.1 }
 coupled_by (Some (judging m p)) code old new out_old out_new (answer, why, reads, number, line) twelve t = absurd ((judged.numbers answer code number).twelve twelve)
+coupled_by (Some (upgrading m n)) code old new out_old out_new (answer, why, number, line) twelve t = absurd ((upgraded.numbers answer code number).twelve twelve)
 
 pub not_built : (asked : Option Asked) (code : ℕ) (old new : Shelved) (out_old out_new : Printed) → IsRun asked code old new out_old out_new → code ≡ 12 → IsTrue old.told → CannotPlan asked old.file out_old out_new
 not_built asked code old new out_old out_new run is t = coupled_by asked code old new out_old out_new (ends asked code old new out_old out_new run (λ e. omega (arith, e, is)) (λ e. omega (arith, e, is))) is t
@@ -103,17 +127,19 @@ faulty_by None code old new out_old out_new x three t = absurd (omega (arith, x.
 faulty_by (Some version) code old new out_old out_new x three t = absurd (omega (arith, x.1, three))
 faulty_by (Some (planning m p c)) code old new out_old out_new (answer, why, number, line) three t = planned.not_three answer code number three
 faulty_by (Some (judging m p)) code old new out_old out_new (answer, why, reads, number, line) three t = judged.fault_at m p code old new out_old out_new answer why number line three t
+faulty_by (Some (upgrading m n)) code old new out_old out_new (answer, why, number, line) three t = absurd ((upgraded.numbers answer code number).three three)
 
 pub faulty : (asked : Option Asked) (code : ℕ) (old new : Shelved) (out_old out_new : Printed) → IsRun asked code old new out_old out_new → code ≡ 3 → IsTrue old.told → FindsFault asked old.file out_old out_new
 faulty asked code old new out_old out_new run is t = faulty_by asked code old new out_old out_new (ends asked code old new out_old out_new run (λ e. omega (arith, e, is)) (λ e. omega (arith, e, is))) is t
 
-unwritten_by : (asked : Option Asked) (code : ℕ) (old new : Shelved) (out_old out_new : Printed) → EndsAs asked code old new out_old out_new → code ≡ 8 → FailsToWrite asked old new out_old out_new
+unwritten_by : (asked : Option Asked) (code : ℕ) (old new : Shelved) (out_old out_new : Printed) → EndsAs asked code old new out_old out_new → code ≡ 8 → CannotWrite asked old new out_old out_new
 unwritten_by None code old new out_old out_new x eight = absurd (omega (arith, x.1, eight))
 unwritten_by (Some version) code old new out_old out_new x eight = absurd (omega (arith, x.1, eight))
-unwritten_by (Some (planning m p c)) code old new out_old out_new (answer, why, number, line) eight = planned.unwritten_at m p c code old new out_old out_new answer why number line eight
+unwritten_by (Some (planning m p c)) code old new out_old out_new (answer, why, number, line) eight = inl (planned.unwritten_at m p c code old new out_old out_new answer why number line eight)
 unwritten_by (Some (judging m p)) code old new out_old out_new (answer, why, reads, number, line) eight = absurd ((judged.numbers answer code number).eight eight)
+unwritten_by (Some (upgrading m n)) code old new out_old out_new (answer, why, number, line) eight = inr (upgraded.unwritten_at m n code old new out_old out_new answer why number line eight)
 
-pub unwritten : (asked : Option Asked) (code : ℕ) (old new : Shelved) (out_old out_new : Printed) → IsRun asked code old new out_old out_new → code ≡ 8 → FailsToWrite asked old new out_old out_new
+pub unwritten : (asked : Option Asked) (code : ℕ) (old new : Shelved) (out_old out_new : Printed) → IsRun asked code old new out_old out_new → code ≡ 8 → CannotWrite asked old new out_old out_new
 unwritten asked code old new out_old out_new run is = unwritten_by asked code old new out_old out_new (ends asked code old new out_old out_new run (λ e. omega (arith, e, is)) (λ e. omega (arith, e, is))) is
 
 plan_not_four : {A : Type 0} (answer : PlanAnswer) (code : ℕ) → code ≡ code_of (plan_status answer) → code ≡ 4 → A
@@ -134,6 +160,7 @@ no_command_by None code old new out_old out_new x four = record { is = refl; lin
 no_command_by (Some version) code old new out_old out_new x four = absurd (omega (arith, x.1, four))
 no_command_by (Some (planning m p c)) code old new out_old out_new (answer, why, number, line) four = plan_not_four answer code number four
 no_command_by (Some (judging m p)) code old new out_old out_new (answer, why, reads, number, line) four = judge_not_four answer code number four
+no_command_by (Some (upgrading m n)) code old new out_old out_new (answer, why, number, line) four = absurd ((upgraded.numbers answer code number).four four)
 
 pub no_command : (asked : Option Asked) (code : ℕ) (old new : Shelved) (out_old out_new : Printed) → IsRun asked code old new out_old out_new → code ≡ 4 → IsNoCommand asked out_old out_new
 no_command asked code old new out_old out_new run is = no_command_by asked code old new out_old out_new (ends asked code old new out_old out_new run (λ e. omega (arith, e, is)) (λ e. omega (arith, e, is))) is
@@ -155,11 +182,17 @@ judge_stop m p code old new out_old out_new (judge.no_plan fault) x is line r = 
 judge_stop m p code old new out_old out_new (judge.broken rule) x is line r = absurd (omega (arith, is, r.low))
 judge_stop m p code old new out_old out_new (judge.stopped why) x is line r = (why, record { cause = x; line = line }, is)
 
+upgrade_stop : (m n : List ℕ) (code : ℕ) (old new : Shelved) (out_old out_new : Printed) (answer : UpgradeAnswer) → UpgradeExplains m n old new answer → code ≡ code_of (upgrade_status answer) → Gains (upgrade_line answer) out_old out_new → IsReading code → SomeStop (Some (upgrading m n)) code old new out_old out_new
+upgrade_stop m n code old new out_old out_new (upgrade.written file) x is line r = absurd (omega (arith, is, r.low))
+upgrade_stop m n code old new out_old out_new (upgrade.unwritten file) x is line r = absurd (r.other is)
+upgrade_stop m n code old new out_old out_new (upgrade.stopped why) x is line r = (why, record { cause = x.0; line = line }, is)
+
 stop_by : (asked : Option Asked) (code : ℕ) (old new : Shelved) (out_old out_new : Printed) → EndsAs asked code old new out_old out_new → IsReading code → SomeStop asked code old new out_old out_new
 stop_by None code old new out_old out_new x r = absurd (omega (arith, x.1, r.low))
 stop_by (Some version) code old new out_old out_new x r = absurd (omega (arith, x.1, r.low))
 stop_by (Some (planning m p c)) code old new out_old out_new (answer, why, number, line) r = plan_stop m p c code old new out_old out_new answer why number line r
 stop_by (Some (judging m p)) code old new out_old out_new (answer, why, reads, number, line) r = judge_stop m p code old new out_old out_new answer why number line r
+stop_by (Some (upgrading m n)) code old new out_old out_new (answer, why, number, line) r = upgrade_stop m n code old new out_old out_new answer why number line r
 
 stop : (asked : Option Asked) (code : ℕ) (old new : Shelved) (out_old out_new : Printed) → IsRun asked code old new out_old out_new → IsReading code → code ≢ 9 → code ≢ 10 → SomeStop asked code old new out_old out_new
 stop asked code old new out_old out_new run r nine ten = stop_by asked code old new out_old out_new (ends asked code old new out_old out_new run ten nine) r
@@ -224,6 +257,11 @@ judge_shown (judge.no_plan fault) = record { nine = λ e. omega (arith, e); ten 
 judge_shown (judge.broken rule) = record { nine = λ e. omega (arith, e); ten = λ e. omega (arith, e) }
 judge_shown (judge.stopped why) = read_shown why
 
+upgrade_shown : (answer : UpgradeAnswer) → IsShown (code_of (upgrade_status answer))
+upgrade_shown (upgrade.written file) = record { nine = λ e. omega (arith, e); ten = λ e. omega (arith, e) }
+upgrade_shown (upgrade.unwritten file) = record { nine = λ e. omega (arith, e); ten = λ e. omega (arith, e) }
+upgrade_shown (upgrade.stopped why) = read_shown why
+
 -- a failed print raised its count, and no print ends with the number of memory
 pub record IsPrint (code : ℕ) (old new : Printed) : Type 0 where
   pub failed : code ≡ 9 → Rose old.faults new.faults
@@ -240,6 +278,7 @@ print_by None code old new out_old out_new x = print_of refused_line NoCommand c
 print_by (Some version) code old new out_old out_new x = print_of version_line Done code out_old out_new (record { nine = λ e. omega (arith, e); ten = λ e. omega (arith, e) }) x.1
 print_by (Some (planning m p c)) code old new out_old out_new (answer, x, done) = print_of (plan_line answer) (plan_status answer) code out_old out_new (plan_shown answer) done
 print_by (Some (judging m p)) code old new out_old out_new (answer, x, reads, done) = print_of (judge_line answer) (judge_status answer) code out_old out_new (judge_shown answer) done
+print_by (Some (upgrading m n)) code old new out_old out_new (answer, x, done) = print_of (upgrade_line answer) (upgrade_status answer) code out_old out_new (upgrade_shown answer) done
 
 pub unprinted : (asked : Option Asked) (code : ℕ) (old new : Shelved) (out_old out_new : Printed) → IsRun asked code old new out_old out_new → code ≡ 9 → Rose out_old.faults out_new.faults
 unprinted asked code old new out_old out_new (ran_out x) nine = absurd (omega (arith, x.is, nine))
@@ -255,12 +294,14 @@ leaves_reads None old new x = same_reads old new x
 leaves_reads (Some version) old new x = same_reads old new x
 leaves_reads (Some (planning m p c)) old new x = x
 leaves_reads (Some (judging m p)) old new x = x
+leaves_reads (Some (upgrading m n)) old new x = x
 
 quiet_by : (asked : Option Asked) (code : ℕ) (old new : Shelved) (out_old out_new : Printed) → EndsAs asked code old new out_old out_new → code ≢ 0 → code ≢ 8 → OnlyReads old new
 quiet_by None code old new out_old out_new x some eight = same_reads old new x.0
 quiet_by (Some version) code old new out_old out_new x some eight = same_reads old new x.0
 quiet_by (Some (planning m p c)) code old new out_old out_new (answer, why, number, line) some eight = planned.quiet_at m p code old new answer why number some eight
 quiet_by (Some (judging m p)) code old new out_old out_new (answer, why, reads, number, line) some eight = reads
+quiet_by (Some (upgrading m n)) code old new out_old out_new (answer, why, number, line) some eight = upgraded.quiet_at m n code old new answer why number some eight
 
 pub quiet : (asked : Option Asked) (code : ℕ) (old new : Shelved) (out_old out_new : Printed) → IsRun asked code old new out_old out_new → code ≢ 0 → code ≢ 8 → code ≢ 9 → OnlyReads old new
 quiet asked code old new out_old out_new (ran_out x) some eight nine = leaves_reads asked old new x.left
@@ -272,6 +313,13 @@ others_by code old new out_old out_new m p c (runs (answer, x, done)) = (planned
 
 pub others : (asked : Option Asked) (code : ℕ) (old new : Shelved) (out_old out_new : Printed) → IsRun asked code old new out_old out_new → (m p c : List ℕ) → asked ≡ Some (planning m p c) → StartsAtMost p old new
 others asked code old new out_old out_new run m p c is = others_by code old new out_old out_new m p c (subst (λ a. IsRun a code old new out_old out_new) is run)
+
+new_by : (code : ℕ) (old new : Shelved) (out_old out_new : Printed) (m n : List ℕ) → IsRun (Some (upgrading m n)) code old new out_old out_new → StartsAtMost n old new
+new_by code old new out_old out_new m n (ran_out x) = planned.reads_at_most n old new x.left
+new_by code old new out_old out_new m n (runs (answer, x, done)) = (upgraded.others_at m n old new answer x).0
+
+pub upgrade_others : (asked : Option Asked) (code : ℕ) (old new : Shelved) (out_old out_new : Printed) → IsRun asked code old new out_old out_new → (m n : List ℕ) → asked ≡ Some (upgrading m n) → StartsAtMost n old new
+upgrade_others asked code old new out_old out_new run m n is = new_by code old new out_old out_new m n (subst (λ a. IsRun a code old new out_old out_new) is run)
 
 judging_by : (code : ℕ) (old new : Shelved) (out_old out_new : Printed) (m p : List ℕ) → IsRun (Some (judging m p)) code old new out_old out_new → OnlyReads old new
 judging_by code old new out_old out_new m p (ran_out x) = x.left
@@ -292,6 +340,7 @@ told_by None code old new out_old out_new x = (same_reads old new x.0).told
 told_by (Some version) code old new out_old out_new x = (same_reads old new x.0).told
 told_by (Some (planning m p c)) code old new out_old out_new (answer, x, done) = (planned.others_at m p old new answer x).1
 told_by (Some (judging m p)) code old new out_old out_new (answer, x, reads, done) = reads.told
+told_by (Some (upgrading m n)) code old new out_old out_new (answer, x, done) = (upgraded.others_at m n old new answer x).1
 
 pub tells : (asked : Option Asked) (code : ℕ) (old new : Shelved) (out_old out_new : Printed) → IsRun asked code old new out_old out_new → new.told ≡ old.told
 tells asked code old new out_old out_new (ran_out x) = (leaves_reads asked old new x.left).told
@@ -303,6 +352,7 @@ called_by None code old new out_old out_new fine t x = x.1
 called_by (Some version) code old new out_old out_new fine t x = x.1
 called_by (Some (planning m p c)) code old new out_old out_new fine t (answer, x, number, line) = planned.called_at m p code old new out_old out_new fine t answer x number
 called_by (Some (judging m p)) code old new out_old out_new fine t (answer, x, reads, number, line) = judged.called_at m p code old new out_old out_new fine t answer x number
+called_by (Some (upgrading m n)) code old new out_old out_new fine t (answer, x, number, line) = upgraded.called_at m n code old new out_old out_new fine t answer x number
 
 pub called : (asked : Option Asked) (code : ℕ) (old new : Shelved) (out_old out_new : Printed) → IsRun asked code old new out_old out_new → IsTrue old.told → HadNoFault old new out_old out_new → (code ≡ 10) ⊎ CallFor asked old.file code
 called asked code old new out_old out_new (ran_out x) t fine = inl x.is

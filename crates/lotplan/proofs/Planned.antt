@@ -14,7 +14,7 @@ use Rattle.lotplan.specs.Run.{HadNoFault}
 use Rattle.lotplan.proofs.Readings.{reading}
 
 -- ---- from the problem to the model file
-starts_after : (p : List ℕ) (old mid new : Shelved) → OnlyReads old mid → StartsOnly p mid new → StartsOnly p old new
+pub starts_after : (p : List ℕ) (old mid new : Shelved) → OnlyReads old mid → StartsOnly p mid new → StartsOnly p old new
 starts_after p old mid new reads x = record {
   told = x.told ∙ reads.told;
   others = λ t other apart. x.others (subst IsTrue (sym reads.told) t) other apart ∙ ap (λ (f : Files). f other) reads.files;
@@ -99,7 +99,7 @@ quiet_at m p code old new (stopped why) x is some other = x.1
 pub reads_at_most : (p : List ℕ) (old new : Shelved) → OnlyReads old new → StartsAtMost p old new
 reads_at_most p old new reads = record { others = λ t other apart. ap (λ (f : Files). f other) reads.files; starts = omega (arith, reads.starts) }
 
-starts_at_most : (p : List ℕ) (old new : Shelved) → StartsOnly p old new → StartsAtMost p old new
+pub starts_at_most : (p : List ℕ) (old new : Shelved) → StartsOnly p old new → StartsAtMost p old new
 starts_at_most p old new x = record { others = x.others; starts = x.starts.1 }
 
 pub others_at : (m p : List ℕ) (old new : Shelved) (answer : PlanAnswer) → PlanExplains m p old new answer → StartsAtMost p old new × (new.told ≡ old.told)

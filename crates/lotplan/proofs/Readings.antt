@@ -2,7 +2,7 @@
 use Rattle.std.proofs.Common.{◌≡◌, ◌≢◌, ◌≤◌, ℕ, List, IsTrue, None, refl, sym, subst, arith}
 use Rattle.lot_io.specs.Outside.{Files, OnlyReads, Shelved}
 use Rattle.lotplan.specs.Status.{code_of}
-use Rattle.lotplan.specs.Reading.{FileExplains, IsTooLong, ModelExplains, ReadAnswer, refused, missing, unread, too_long, read_status}
+use Rattle.lotplan.specs.Reading.{FileExplains, FirstExplains, IsTooLong, ModelExplains, ReadAnswer, refused, missing, unread, too_long, read_status}
 use Rattle.lotplan.specs.Held.{IsStop}
 use Rattle.lotplan.specs.declared.model_file.Stop.{Stop}
 use Rattle.lotplan.specs.declared.model_file.Stop.TheVariants.{Answered, Memory}
@@ -31,6 +31,17 @@ model_stops m old new (too_long file) x = x
 pub stop_of_model : (m : List ℕ) (old new : Shelved) (stop : Stop) → IsStop (FileExplains m old new) stop → IsStop (ModelExplains m old new) stop
 stop_of_model m old new (Answered why) x = model_stops m old new (read_meant why) x
 stop_of_model m old new Memory x = tt
+
+-- and so is a model file of the first version
+first_stops : (m : List ℕ) (old new : Shelved) (why : ReadAnswer) → FileExplains m old new why → FirstExplains m old new why
+first_stops m old new (refused fault) x = absurd x
+first_stops m old new (missing file) x = x
+first_stops m old new (unread file) x = x
+first_stops m old new (too_long file) x = x
+
+pub stop_of_first : (m : List ℕ) (old new : Shelved) (stop : Stop) → IsStop (FileExplains m old new) stop → IsStop (FirstExplains m old new) stop
+stop_of_first m old new (Answered why) x = first_stops m old new (read_meant why) x
+stop_of_first m old new Memory x = tt
 
 -- a file that is read after others
 pub stops_after : (p : List ℕ) (old mid new : Shelved) (why : ReadAnswer) → OnlyReads old mid → FileExplains p mid new why → FileExplains p old new why

@@ -9,14 +9,15 @@ use Rattle.lot_sizing.proofs.Same.{SamePlan, feasible_same}
 use Rattle.lot_io.specs.Outside.{Files}
 use Rattle.lot_draft.specs.declared.fault.ModelFault.{ModelFault}
 use Rattle.lot_draft.proofs.Limits.{plain}
-use Rattle.instance_reader.specs.Model.{BytesMean}
-use Rattle.instance_reader.specs.declared.versions.TheConstants.{NEWEST_VERSION}
+use Rattle.instance_reader.specs.Model.{BytesMean, FirstVersionMeans}
+use Rattle.instance_reader.specs.declared.versions.TheConstants.{FIRST_VERSION, NEWEST_VERSION}
 use Rattle.instance_reader.proofs.Meanings.{bytes_one}
 use Rattle.plan_file.specs.Records.{IsPlanOf, records_of}
 use Rattle.plan_file.proofs.Meanings.{means_one}
-use Rattle.lotplan.specs.Command.{Asked, version, planning, judging}
+use Rattle.lotplan.specs.Command.{Asked, version, planning, judging, upgrading}
 use Rattle.lotplan.specs.Planning.{BytesCallFor, FileCallsFor, ProblemCallsFor}
 use Rattle.lotplan.specs.Judging.{AreBroken, AreFeasible, AreNoPlan, JudgeCallsFor, PlanCallsFor}
+use Rattle.lotplan.specs.Upgrading.{UpgradeCallsFor}
 use Rattle.lotplan.specs.Run.{CallFor}
 
 problem_one : (m : Problem) (s t : ℕ) → ProblemCallsFor m s → ProblemCallsFor m t → s ≡ t
@@ -132,8 +133,31 @@ judge_call (Some bytes) plan s t a b = ⊎_elim
         d)
         c
 
+upgrade_call : (file : Option (List ℕ)) (s t : ℕ) → UpgradeCallsFor file s → UpgradeCallsFor file t → s ≡ t
+upgrade_call None s t a b = a ∙ sym b
+upgrade_call (Some bytes) s t a b = ⊎_elim
+    (λ x. ⊎_elim (λ y. x.1 ∙ sym y.1) (λ y. absurd (omega (arith, x.0, y.0))) b)
+    (λ x. ⊎_elim (λ y. absurd (omega (arith, x.0, y.0))) (λ y. means x.1 y.1) b)
+    a
+  where
+    no_both : (m : Problem) (f : ModelFault) → FirstVersionMeans bytes (Ok m) → FirstVersionMeans bytes (Err f) → ⊥
+    no_both m f c d = let same = bytes_one FIRST_VERSION bytes (Ok m) (Err f) c d in cc same
+
+    means : ((m : Problem) × FirstVersionMeans bytes (Ok m) × (s ≡ 0)) ⊎ ((f : ModelFault) × FirstVersionMeans bytes (Err f) × (s ≡ 5)) → ((m : Problem) × FirstVersionMeans bytes (Ok m) × (t ≡ 0)) ⊎ ((f : ModelFault) × FirstVersionMeans bytes (Err f) × (t ≡ 5)) → s ≡ t
+    means c d = ⊎_elim
+        (λ x. let (m, reads, is) = x in ⊎_elim
+        (λ y. let (n, also, other) = y in is ∙ sym other)
+        (λ y. let (f, also, other) = y in absurd (no_both m f reads also))
+        d)
+        (λ x. let (f, reads, is) = x in ⊎_elim
+        (λ y. let (m, also, other) = y in absurd (no_both m f also reads))
+        (λ y. let (g, also, other) = y in is ∙ sym other)
+        d)
+        c
+
 pub call_one : (asked : Option Asked) (file : Files) (s t : ℕ) → CallFor asked file s → CallFor asked file t → s ≡ t
 call_one None file s t a b = a ∙ sym b
 call_one (Some version) file s t a b = a ∙ sym b
 call_one (Some (planning m p c)) file s t a b = file_call (file m) s t a b
 call_one (Some (judging m p)) file s t a b = judge_call (file m) (file p) s t a b
+call_one (Some (upgrading m n)) file s t a b = upgrade_call (file m) s t a b

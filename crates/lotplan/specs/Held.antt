@@ -4,8 +4,9 @@ use Rattle.lotplan.specs.Command as command
 use Rattle.lotplan.specs.Reading as reading
 use Rattle.lotplan.specs.Planning as planning
 use Rattle.lotplan.specs.Judging as judging
+use Rattle.lotplan.specs.Upgrading as upgrading
 use Rattle.lotplan.specs.declared.command.Command.{Command}
-use Rattle.lotplan.specs.declared.command.Command.TheVariants.{Name, Plan, Judge}
+use Rattle.lotplan.specs.declared.command.Command.TheVariants.{Name, Plan, Judge, Upgrade}
 use Rattle.lotplan.specs.declared.model_file.ReadAnswer.{ReadAnswer}
 use Rattle.lotplan.specs.declared.model_file.ReadAnswer.TheVariants.{Refused, Missing, Unread, TooLong}
 use Rattle.lotplan.specs.declared.model_file.Stop.{Stop}
@@ -14,11 +15,14 @@ use Rattle.lotplan.specs.declared.commands.plan.PlanAnswer.{PlanAnswer}
 use Rattle.lotplan.specs.declared.commands.plan.PlanAnswer.TheVariants as plan
 use Rattle.lotplan.specs.declared.commands.judge.JudgeAnswer.{JudgeAnswer}
 use Rattle.lotplan.specs.declared.commands.judge.JudgeAnswer.TheVariants as judge
+use Rattle.lotplan.specs.declared.commands.upgrade.UpgradeAnswer.{UpgradeAnswer}
+use Rattle.lotplan.specs.declared.commands.upgrade.UpgradeAnswer.TheVariants as upgrade
 
 -- what a command asks for
 abbrev pub asked_by : Command → command.Asked
 asked_by Name = command.version
 asked_by (Judge names) = command.judging names.model.now names.plan.now
+asked_by (Upgrade names) = command.upgrading names.model.now names.upgraded.now
 asked_by (Plan names) = command.planning names.model.now names.plan.now names.certificate.now
 
 -- answers
@@ -40,6 +44,11 @@ judge_meant (judge.Feasible amount) = judging.feasible amount
 judge_meant (judge.NoPlan fault) = judging.no_plan fault
 judge_meant (judge.Broken rule) = judging.broken rule
 judge_meant (judge.Stopped why) = judging.stopped (read_meant why)
+
+abbrev pub upgrade_meant : UpgradeAnswer → upgrading.UpgradeAnswer
+upgrade_meant (upgrade.Written file) = upgrading.written file.now
+upgrade_meant (upgrade.Unwritten file) = upgrading.unwritten file.now
+upgrade_meant (upgrade.Stopped why) = upgrading.stopped (read_meant why)
 
 -- the answer has its cause; want of memory needs none
 abbrev pub IsStop : (reading.ReadAnswer → Type 0) → Stop → Type 0

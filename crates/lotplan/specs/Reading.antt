@@ -4,7 +4,7 @@ use Rattle.lot_sizing.specs.Problem.{Problem}
 use Rattle.lot_io.specs.Outside.{Files, Rose, RoseBy, Shelved}
 use Rattle.lot_draft.specs.declared.fault.ModelFault.{ModelFault}
 use Rattle.lot_draft.specs.Faults.{fault_text}
-use Rattle.instance_reader.specs.Model.{BytesMean}
+use Rattle.instance_reader.specs.Model.{BytesMean, FirstVersionMeans}
 use Rattle.lotplan.specs.declared.status.Status.{Status}
 use Rattle.lotplan.specs.declared.status.Status.TheVariants as status
 
@@ -33,6 +33,20 @@ pub record HoldsNone (before : Files) (model_file : List ℕ) (fault : ModelFaul
   pub read : before model_file ≡ Some bytes
   pub short : length bytes ≤ file_limit
   pub means : BytesMean bytes (Err fault)
+
+-- the model file is one of the first version, and means the problem
+pub record HoldsFirst (before : Files) (model_file : List ℕ) (problem : Problem) : Type 0 where
+  pub bytes : List ℕ
+  pub read : before model_file ≡ Some bytes
+  pub short : length bytes ≤ file_limit
+  pub means : FirstVersionMeans bytes (Ok problem)
+
+-- as one of the first version it means no problem, for this fault
+pub record HoldsNoFirst (before : Files) (model_file : List ℕ) (fault : ModelFault) : Type 0 where
+  pub bytes : List ℕ
+  pub read : before model_file ≡ Some bytes
+  pub short : length bytes ≤ file_limit
+  pub means : FirstVersionMeans bytes (Err fault)
 
 -- the file is longer than the limit
 pub record IsTooLong (before : Files) (file : List ℕ) : Type 0 where
@@ -77,3 +91,10 @@ ModelExplains m old new (refused fault) = IsTrue old.told → HoldsNone old.file
 ModelExplains m old new (missing file) = FileExplains m old new (missing file)
 ModelExplains m old new (unread file) = FileExplains m old new (unread file)
 ModelExplains m old new (too_long file) = FileExplains m old new (too_long file)
+
+-- why the reading of a model of the first version ends in this answer
+abbrev pub FirstExplains : List ℕ → Shelved → Shelved → ReadAnswer → Type 0
+FirstExplains m old new (refused fault) = IsTrue old.told → HoldsNoFirst old.file m fault
+FirstExplains m old new (missing file) = FileExplains m old new (missing file)
+FirstExplains m old new (unread file) = FileExplains m old new (unread file)
+FirstExplains m old new (too_long file) = FileExplains m old new (too_long file)

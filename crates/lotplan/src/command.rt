@@ -12,6 +12,8 @@ pub enum Command<'a> {
     Plan(Names<'a>),
     /// To judge a plan file.
     Judge(TwoNames<'a>),
+    /// To write a model of the first version as one of the newest.
+    Upgrade(UpgradeNames<'a>),
 }
 
 /// The names of the files of a plan, no two of them the same.
@@ -32,6 +34,15 @@ pub struct TwoNames<'a> {
     pub model: &'a str,
     /// The plan file, which is read.
     pub plan: &'a str,
+}
+
+/// The names of the files of an upgrade, which aren't the same.
+#[derive(Clone, Copy, Debug, PartialEq, Eq)]
+pub struct UpgradeNames<'a> {
+    /// The model file, which is read.
+    pub model: &'a str,
+    /// The new file, which is written.
+    pub upgraded: &'a str,
 }
 
 // Whether a text is the name of a file.
@@ -69,13 +80,15 @@ pub fn read_words<'a>(words: &'a [String]) -> Option<Command<'a>>
 {
     match words {
         [] => Some(Command::Name),
-        [word, model, plan] => {
-            let names = TwoNames {
-                model: model.as_str(),
-                plan: plan.as_str(),
-            };
-            if word.as_str() == "judge" && are_two_names(names.model, names.plan) {
-                Some(Command::Judge(names))
+        [word, model, other] => {
+            let (model, other) = (model.as_str(), other.as_str());
+            if word.as_str() == "judge" && are_two_names(model, other) {
+                Some(Command::Judge(TwoNames { model, plan: other }))
+            } else if word.as_str() == "upgrade" && are_two_names(model, other) {
+                Some(Command::Upgrade(UpgradeNames {
+                    model,
+                    upgraded: other,
+                }))
             } else {
                 None
             }

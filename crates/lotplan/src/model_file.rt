@@ -2,10 +2,10 @@
 ghost use Rattle.std.specs.Prelude.{◌≡◌, ◌≤◌, ◌+◌, length, string_bytes, IsTrue, Some, IfOk, IfErr};
 ghost use Rattle.lot_io.specs.Outside.{OnlyReads, piece_size};
 ghost use Rattle.lotplan.specs.Held.{IsStop, read_meant};
-ghost use Rattle.lotplan.specs.Reading.{FileExplains, HoldsProblem, ModelExplains, file_limit, read_line, read_status};
+ghost use Rattle.lotplan.specs.Reading.{FileExplains, FirstExplains, HoldsFirst, HoldsProblem, ModelExplains, file_limit, read_line, read_status};
 
 use crate::status::Status;
-use instance_reader::{ReadModelFault, read_instance};
+use instance_reader::{ReadModelFault, read_first_version, read_instance};
 use lot_io::{ReadFault, Shelf, read_file};
 use lot_model::{Instance, ModelFault};
 use std::alloc::{AllocError, Global};
@@ -98,6 +98,28 @@ pub fn read_model<'a, S: Shelf>(
         Err(stop) => return Err(stop),
     };
     match read_instance(alloc, bytes.as_slice()) {
+        Ok(instance) => Ok(instance),
+        Err(ReadModelFault::Refused(fault)) => Err(Stop::Answered(ReadAnswer::Refused(fault))),
+        Err(ReadModelFault::Memory) => Err(Stop::Memory),
+    }
+}
+
+/// The instance in a model file of the first version.
+pub fn read_first_model<'a, S: Shelf>(
+    alloc: Global,
+    model: &'a str,
+    shelf: &mut S,
+) -> Result<Instance, Stop<'a>>
+    ensures ok { IfOk result (λ instance. IsTrue (S.shown shelf.old).told → HoldsFirst (S.shown shelf.old).file model.entry.now instance) }
+    ensures stop { IfErr result (IsStop (FirstExplains model.entry.now (S.shown shelf.old) (S.shown shelf.new))) }
+    ensures reads { OnlyReads (S.shown shelf.old) (S.shown shelf.new) }
+    ensures given { (S.shown shelf.new).given ≤ (S.shown shelf.old).given + (file_limit + piece_size) }
+{
+    let bytes = match read_bytes(alloc, model, shelf) {
+        Ok(bytes) => bytes,
+        Err(stop) => return Err(stop),
+    };
+    match read_first_version(alloc, bytes.as_slice()) {
         Ok(instance) => Ok(instance),
         Err(ReadModelFault::Refused(fault)) => Err(Stop::Answered(ReadAnswer::Refused(fault))),
         Err(ReadModelFault::Memory) => Err(Stop::Memory),

@@ -2,16 +2,18 @@
 ghost use Rattle.std.specs.Prelude.{◌≡◌, ◌≢◌, ◌⊎◌, ◌≤◌, ◌+◌, ◌*◌, ℕ, List, IsTrue, Some, None, map, string_bytes, IfOk, OnErr};
 ghost use Rattle.lot_draft.specs.declared.fault.ModelFault.{ModelFault};
 ghost use Rattle.lot_io.specs.Outside.{GrewBy, OnlyReads, Rose, piece_size};
-ghost use Rattle.lotplan.specs.Command.{command_of, judging, planning};
+ghost use Rattle.lotplan.specs.Command.{command_of, judging, planning, upgrading};
 ghost use Rattle.lotplan.specs.Saying.{Ends};
 ghost use Rattle.lotplan.specs.Reading.{file_limit, missing, refused, too_long, unread};
-ghost use Rattle.lotplan.specs.Planning.{CannotPlan, FailsToWrite, FindsNoPlan, PlansBest, StartsAtMost};
+ghost use Rattle.lotplan.specs.Planning.{CannotPlan, FindsNoPlan, PlansBest, StartsAtMost};
 ghost use Rattle.lotplan.specs.Judging.{FindsFault, FindsFeasible};
-ghost use Rattle.lotplan.specs.Run.{CallFor, HadNoFault, IsNoCommand, IsRun, Leaves, SaysFor, Stops};
+ghost use Rattle.lotplan.specs.Upgrading.{Upgrades};
+ghost use Rattle.lotplan.specs.Run.{CallFor, CannotWrite, HadNoFault, IsNoCommand, IsRun, Leaves, SaysFor, Stops};
 
 use crate::command::{Command, read_words};
 use crate::commands::judge::judge_files;
 use crate::commands::plan::plan_files;
+use crate::commands::upgrade::upgrade_files;
 use crate::said::Said;
 use crate::status::Status;
 use lot_io::{Shelf, Sink};
@@ -20,7 +22,7 @@ use std::alloc::{AllocError, Global};
 /// Does what the words ask for, prints one line, and gives the number of the status.
 ///
 /// `words` are those after the program's name: none for the program's name and version,
-/// `plan MODEL PLAN CERTIFICATE` or `judge MODEL PLAN`. The numbers are 0 done, 1 no plan is feasible,
+/// `plan MODEL PLAN CERTIFICATE`, `judge MODEL PLAN` or `upgrade MODEL NEW`. The numbers are 0 done, 1 no plan is feasible,
 /// 3 the plan file holds no plan or one that breaks a rule, 4 no command, 5 the model is refused, 6 a
 /// file is absent, 7 it could not be read, 8 it could not be written, 9 the line could not be printed,
 /// 10 out of memory, 11 a file is longer than 16,777,216 bytes, 12 the model can't be planned yet. All
@@ -39,6 +41,11 @@ pub fn run<S: Shelf, K: Sink>(alloc: Global, words: &[String], shelf: &mut S, ou
         → IsTrue (S.shown shelf.old).told
         → FindsFeasible (S.shown shelf.old).file m p (K.shown out.old) (K.shown out.new) }
 
+    // After `upgrade` with status 0 the new file means the problem of the model file.
+    ensures upgraded { (m n : List ℕ) → command_of (map string_bytes words.now) ≡ Some (upgrading m n) → result ≡ 0
+        → IsTrue (S.shown shelf.old).told
+        → Upgrades (S.shown shelf.old).file (S.shown shelf.new).file m n (K.shown out.old) (K.shown out.new) }
+
     // Without a fault the status is 10, or exactly what the words and the files call for.
     ensures called_for { IsTrue (S.shown shelf.old).told
         → HadNoFault (S.shown shelf.old) (S.shown shelf.new) (K.shown out.old) (K.shown out.new)
@@ -56,7 +63,7 @@ pub fn run<S: Shelf, K: Sink>(alloc: Global, words: &[String], shelf: &mut S, ou
         (S.shown shelf.old) (S.shown shelf.new) (K.shown out.old) (K.shown out.new) (missing file) }
     ensures unread { result ≡ 7 → (file : List ℕ) × Stops (command_of (map string_bytes words.now))
         (S.shown shelf.old) (S.shown shelf.new) (K.shown out.old) (K.shown out.new) (unread file) }
-    ensures unwritten { result ≡ 8 → FailsToWrite (command_of (map string_bytes words.now))
+    ensures unwritten { result ≡ 8 → CannotWrite (command_of (map string_bytes words.now))
         (S.shown shelf.old) (S.shown shelf.new) (K.shown out.old) (K.shown out.new) }
     ensures unprinted { result ≡ 9 → Rose (K.shown out.old).faults (K.shown out.new).faults }
     ensures too_long { result ≡ 11 → (file : List ℕ) × Stops (command_of (map string_bytes words.now))
@@ -64,12 +71,16 @@ pub fn run<S: Shelf, K: Sink>(alloc: Global, words: &[String], shelf: &mut S, ou
     ensures not_built { result ≡ 12 → IsTrue (S.shown shelf.old).told
         → CannotPlan (command_of (map string_bytes words.now)) (S.shown shelf.old).file (K.shown out.old) (K.shown out.new) }
 
-    // What is written: nothing on a status but 0, 8 and 9, and by `plan` alone; never another file.
+    // What is written: nothing on a status but 0, 8 and 9, and by `plan` and `upgrade` alone; never another file.
     ensures quiet { result ≢ 0 → result ≢ 8 → result ≢ 9 → OnlyReads (S.shown shelf.old) (S.shown shelf.new) }
     ensures wrote { (m p c : List ℕ) → command_of (map string_bytes words.now) ≡ Some (planning m p c) → result ≡ 0
         → GrewBy 1 (S.shown shelf.old).starts (S.shown shelf.new).starts }
     ensures others { (m p c : List ℕ) → command_of (map string_bytes words.now) ≡ Some (planning m p c)
         → StartsAtMost p (S.shown shelf.old) (S.shown shelf.new) }
+    ensures rewrote { (m n : List ℕ) → command_of (map string_bytes words.now) ≡ Some (upgrading m n) → result ≡ 0
+        → GrewBy 1 (S.shown shelf.old).starts (S.shown shelf.new).starts }
+    ensures upgrade_others { (m n : List ℕ) → command_of (map string_bytes words.now) ≡ Some (upgrading m n)
+        → StartsAtMost n (S.shown shelf.old) (S.shown shelf.new) }
     ensures judge_only_reads { (m p : List ℕ) → command_of (map string_bytes words.now) ≡ Some (judging m p)
         → OnlyReads (S.shown shelf.old) (S.shown shelf.new) }
 
@@ -117,5 +128,6 @@ fn said<S: Shelf>(alloc: Global, words: &[String], shelf: &mut S) -> Result<Said
         Some(Command::Name) => Said::new(alloc, "lotplan 1\n", Status::Done),
         Some(Command::Plan(names)) => plan_files(alloc, names.model, names.plan, shelf),
         Some(Command::Judge(names)) => judge_files(alloc, names.model, names.plan, shelf),
+        Some(Command::Upgrade(names)) => upgrade_files(alloc, names.model, names.upgraded, shelf),
     }
 }

@@ -495,6 +495,71 @@ fn lead_times_and_lots_are_refused(rt: HostRuntime) -> Result<(), Fail> {
     Ok(())
 }
 
+// Whether an upgrade ends with this status, prints this line and leaves this text in the new file, which
+// is absent where there is none.
+fn upgraded_as(
+    alloc: Global,
+    model: &str,
+    status: u8,
+    line: &str,
+    text: &str,
+) -> Result<bool, AllocError> {
+    let words = texts(alloc, &["upgrade", "m", "n"])?;
+    let mut shelf = shelf_with(alloc, model.as_bytes(), &[], &[], &[])?;
+    let mut out = MemorySink::new(alloc, Vec::new(alloc));
+    let ended = run(alloc, words.as_slice(), &mut shelf, &mut out);
+    let kept = if text.is_empty() {
+        shelf.files.len() == 1 && shelf.starts == 0
+    } else {
+        shelf.files.len() == 2 && holds(&shelf, "n", text)
+    };
+    let said = ended == status && out.bytes.as_slice() == line.as_bytes();
+    Ok(said && kept && holds(&shelf, "m", model))
+}
+
+// The text that the model of a loaf is upgraded to.
+const LOAF: &str =
+    "periods = 1\nversion = 2\n\n[[item]]\ndemand = [10]\nend_max = 0\nend_min = 0\nhold_cost = [0]\nlead = 0\nmin_lot = 0\nname = \"A\"\nopening = 0\nsetup_cost = [5]\nunit_cost = [2]\n";
+
+#[test]
+fn models_are_upgraded(rt: HostRuntime) -> Result<(), Fail> {
+    let alloc = rt.alloc();
+    let model = one_item(alloc, 1, "demand = [10]\nunit_cost = 2\nsetup_cost = 5")?;
+    assert!(rt; upgraded_as(alloc, model.as_str(), 0, "written n\n", LOAF)?);
+    for text in [model.as_str(), LOAF] {
+        assert!(rt; ends_in(alloc, text, 0, "optimal 25\n", "A,1,10,1,0,0\n")?);
+    }
+    let newest = "refused model M14 root version\n";
+    assert!(rt; upgraded_as(alloc, LOAF, 5, newest, "")?);
+    let crossed = one_item(alloc, 1, "demand = [10]\nend_min = 2\nend_max = 1")?;
+    let line = "refused model M13 item 1\n";
+    assert!(rt; upgraded_as(alloc, crossed.as_str(), 5, line, "")?);
+    Ok(())
+}
+
+#[test]
+fn upgrades_name_the_faults_of_the_outside(rt: HostRuntime) -> Result<(), Fail> {
+    let alloc = rt.alloc();
+    let cases: [(&str, &[u64], &[u64], u8, &str); 3] = [
+        ("o", &[], &[], 6, "refused missing o\n"),
+        ("m", &[1], &[], 7, "refused read m\n"),
+        ("m", &[], &[1], 8, "refused write n\n"),
+    ];
+    for (model, fetch, start, status, line) in cases {
+        let mut shelf = shelf_with(alloc, TEN.as_bytes(), fetch, start, &[])?;
+        let mut out = MemorySink::new(alloc, Vec::new(alloc));
+        let words = texts(alloc, &["upgrade", model, "n"])?;
+        assert_eq!(rt;
+            run(alloc, words.as_slice(), &mut shelf, &mut out),
+            status,
+            "{line}"
+        );
+        assert!(rt; out.bytes.as_slice() == line.as_bytes(), "{line}");
+        assert!(rt; holds(&shelf, "m", TEN), "{line}");
+    }
+    Ok(())
+}
+
 // The texts of `examples/`, and the lines that the README shows for them.
 const BAKERY: &str =
     "version = 1\nperiods = 6\n\n[[item]]\nname = \"bread\"\ndemand = [40, 35, 50, 0, 60, 45]\nunit_cost = 2\nsetup_cost = [30, 30, 30, 30, 45, 45]\nhold_cost = 1\nopening = 10\n\n[[item]]\nname = \"cake\"\ndemand = [4, 0, 6, 2, 0, 12]\nunit_cost = 9\nsetup_cost = 50\nhold_cost = 3\nbacklog_cost = 5\nend_min = 2\nend_max = 4\n";
@@ -542,7 +607,7 @@ fn a_judgement_names_the_file_that_is_absent(rt: HostRuntime) -> Result<(), Fail
 #[test]
 fn words_are_refused(rt: HostRuntime) -> Result<(), Fail> {
     let alloc = rt.alloc();
-    let cases: [(&[&str], u8, &str); 11] = [
+    let cases: [(&[&str], u8, &str); 14] = [
         (&[], 0, "lotplan 1\n"),
         (&["judge", "m", "m"], 4, "refused words\n"),
         (&["judge", "m", "p", "c"], 4, "refused words\n"),
@@ -553,6 +618,9 @@ fn words_are_refused(rt: HostRuntime) -> Result<(), Fail> {
         (&["plan", "-m", "p", "c"], 4, "refused words\n"),
         (&["plan", "m", "", "c"], 4, "refused words\n"),
         (&["plans", "m", "p", "c"], 4, "refused words\n"),
+        (&["upgrade", "m"], 4, "refused words\n"),
+        (&["upgrade", "m", "m"], 4, "refused words\n"),
+        (&["upgrade", "m", "n", "c"], 4, "refused words\n"),
         (&["plan", "m", "p", "c", "--nodes"], 4, "refused words\n"),
     ];
     for (words, status, line) in cases {

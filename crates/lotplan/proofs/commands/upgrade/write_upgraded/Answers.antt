@@ -1,0 +1,22 @@
+use Rattle.std.proofs.Common.{refl, sym, subst}
+use Rattle.instance_reader.specs.Written.{IsModelText}
+use Rattle.lotplan.specs.Upgrading.{written}
+use Rattle.lotplan.proofs.commands.upgrade.write_upgraded.Goals as goal
+
+pub returns-in-Ok-clause-said : goal.returns-in-Ok-clause-said
+returns-in-Ok-clause-said g c =
+    let m = c.args.instance.now in
+    let text = subst (λ b. IsModelText m b) (sym c.as_slice.ensures.value) c.in_ok-bytes.ensures in (
+      written c.args.upgraded.now,
+      (
+        refl,
+        λ t. record {
+          bytes = c.as_slice.result.now;
+          written = c.in-Ok.ensures.written t;
+          text = text;
+          means = c.texts_mean_it.ensures c.as_slice.result.now text;
+        },
+        record { told = c.write_file.ensures.writes.told; others = c.write_file.ensures.writes.others; starts = c.write_file.ensures.starts },
+      ),
+      c.in_ok-written.ensures,
+    )

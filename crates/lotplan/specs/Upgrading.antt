@@ -1,0 +1,98 @@
+-- What `upgrade` answers, why, and what it leaves.
+use Rattle.std.specs.Prelude.{◌≡◌, ◌⊎◌, ◌<◌, ◌≤◌, ℕ, List, ◌++◌, length, codes, IsTrue, Option, Some, None, Ok, Err}
+use Rattle.lot_sizing.specs.Problem.{Problem}
+use Rattle.lot_io.specs.Outside.{Files, OnlyReads, Printed, Rose, Shelved}
+use Rattle.lot_draft.specs.declared.fault.ModelFault.{ModelFault}
+use Rattle.instance_reader.specs.Model.{BytesMean, FirstVersionMeans}
+use Rattle.instance_reader.specs.Written.{IsModelText}
+use Rattle.lotplan.specs.Command.{Asked, upgrading}
+use Rattle.lotplan.specs.Reading.{FirstExplains, HoldsFirst, HoldsProblem, ReadAnswer, file_limit, read_line, read_status}
+use Rattle.lotplan.specs.Planning.{StartsOnly, unwritten_line}
+use Rattle.lotplan.specs.Saying.{Gains, IsSaid}
+use Rattle.lotplan.specs.declared.said.Said.{Said}
+use Rattle.lotplan.specs.declared.status.Status.{Status}
+use Rattle.lotplan.specs.declared.status.Status.TheVariants as status
+
+-- ---- answers
+pub data UpgradeAnswer : Type 0 where
+  -- the model was written to the file of this name
+  written : List ℕ → UpgradeAnswer
+  -- the file of this name could not be written
+  unwritten : List ℕ → UpgradeAnswer
+  -- the model file gave no problem
+  stopped : ReadAnswer → UpgradeAnswer
+
+abbrev pub upgrade_status : UpgradeAnswer → Status
+upgrade_status (written file) = status.Done
+upgrade_status (unwritten file) = status.Unwritten
+upgrade_status (stopped why) = read_status why
+
+abbrev pub written_line : List ℕ → List ℕ
+written_line file = codes "written " ++ (file ++ codes "\n")
+
+abbrev pub upgrade_line : UpgradeAnswer → List ℕ
+upgrade_line (written file) = written_line file
+upgrade_line (unwritten file) = unwritten_line file
+upgrade_line (stopped why) = read_line why
+
+-- ---- causes
+-- the new file's bytes are a text of the problem, and mean it
+pub record WritesModel (after : Files) (problem : Problem) (new_file : List ℕ) : Type 0 where
+  pub bytes : List ℕ
+  pub written : after new_file ≡ Some bytes
+  pub text : IsModelText problem bytes
+  pub means : BytesMean bytes (Ok problem)
+
+-- the model file is one of the first version, and the new file means the same problem
+pub record HoldsUpgrade (before after : Files) (model_file new_file : List ℕ) : Type 0 where
+  pub problem : Problem
+  pub first : HoldsFirst before model_file problem
+  pub holds : HoldsProblem before model_file problem
+  pub writes : WritesModel after problem new_file
+
+-- the model file is one of the first version, and means some problem
+abbrev pub HoldsSomeFirst : Files → List ℕ → Type 0
+HoldsSomeFirst before model_file = (problem : Problem) × HoldsFirst before model_file problem
+
+-- why the writing of a problem ends in this answer, and what it leaves
+abbrev pub RewriteExplains : Problem → List ℕ → Shelved → Shelved → UpgradeAnswer → Type 0
+RewriteExplains problem n old new (written file) = (file ≡ n) × (IsTrue old.told → WritesModel new.file problem n) × StartsOnly n old new
+RewriteExplains problem n old new (unwritten file) = (file ≡ n) × Rose old.write_faults new.write_faults × StartsOnly n old new
+RewriteExplains problem n old new (stopped why) = ⊥
+
+-- why the upgrade of these files ends in this answer, and what it leaves
+abbrev pub UpgradeExplains : List ℕ → List ℕ → Shelved → Shelved → UpgradeAnswer → Type 0
+UpgradeExplains m n old new (written file) = (file ≡ n) × (IsTrue old.told → HoldsUpgrade old.file new.file m n) × StartsOnly n old new
+UpgradeExplains m n old new (unwritten file) = (file ≡ n) × (IsTrue old.told → HoldsSomeFirst old.file m) × Rose old.write_faults new.write_faults × StartsOnly n old new
+UpgradeExplains m n old new (stopped why) = FirstExplains m old new why × OnlyReads old new
+
+-- what is said is an answer that has its cause
+abbrev pub RewriteSays : Problem → List ℕ → Shelved → Shelved → Said → Type 0
+RewriteSays problem n old new said = (answer : UpgradeAnswer) × RewriteExplains problem n old new answer × IsSaid (upgrade_line answer) (upgrade_status answer) said
+
+abbrev pub UpgradeSays : List ℕ → List ℕ → Shelved → Shelved → Said → Type 0
+UpgradeSays m n old new said = (answer : UpgradeAnswer) × UpgradeExplains m n old new answer × IsSaid (upgrade_line answer) (upgrade_status answer) said
+
+-- ---- the status that the model file calls for, faults and want of memory aside
+-- 0 for a model of the first version, 5 for one that is refused as such, 6 where it is absent, 11 where it is too long
+abbrev pub UpgradeCallsFor : Option (List ℕ) → ℕ → Type 0
+UpgradeCallsFor None status = status ≡ 6
+UpgradeCallsFor (Some bytes) status =
+    ((file_limit < length bytes) × (status ≡ 11))
+    ⊎ ((length bytes ≤ file_limit)
+    × (((problem : Problem) × FirstVersionMeans bytes (Ok problem) × (status ≡ 0)) ⊎ ((fault : ModelFault) × FirstVersionMeans bytes (Err fault) × (status ≡ 5))))
+
+-- ---- what each status says
+-- the new file means the problem of the model file, which is one of the first version, and the line names it
+pub record Upgrades (before after : Files) (model_file new_file : List ℕ) (out_old out_new : Printed) : Type 0 where
+  pub holds : HoldsUpgrade before after model_file new_file
+  pub line : Gains (written_line new_file) out_old out_new
+
+-- they ask to upgrade a model of the first version, the new file could not be written, and the line names it
+pub record FailsToUpgrade (asked : Option Asked) (old new : Shelved) (out_old out_new : Printed) : Type 0 where
+  pub model_file : List ℕ
+  pub new_file : List ℕ
+  pub words : asked ≡ Some (upgrading model_file new_file)
+  pub holds : IsTrue old.told → HoldsSomeFirst old.file model_file
+  pub failed : Rose old.write_faults new.write_faults
+  pub line : Gains (unwritten_line new_file) out_old out_new

@@ -1,0 +1,109 @@
+// `upgrade`: writes the model in a file of the first version to another, as one of the newest.
+ghost use Rattle.std.specs.Prelude.{◌≡◌, ◌≤◌, ◌+◌, ℕ, List, Ok, string_bytes, IfOk, OnErr};
+ghost use Rattle.instance_reader.specs.Model.{BytesMean};
+ghost use Rattle.instance_reader.specs.Written.{IsModelText};
+ghost use Rattle.lot_io.specs.Outside.{OnlyReads, piece_size};
+ghost use Rattle.lotplan.specs.Held.{upgrade_meant};
+ghost use Rattle.lotplan.specs.Reading.{file_limit};
+ghost use Rattle.lotplan.specs.Saying.{IsSaid};
+ghost use Rattle.lotplan.specs.Upgrading.{RewriteSays, UpgradeSays, upgrade_line, upgrade_status};
+
+use crate::model_file::{ReadAnswer, Stop, read_first_model};
+use crate::said::Said;
+use crate::status::Status;
+use instance_reader::{model_texts_are_read, write_model};
+use lot_io::{Shelf, write_file};
+use lot_model::Instance;
+use std::alloc::{AllocError, Global};
+
+/// What `upgrade` answers.
+#[derive(Clone, Copy, Debug, PartialEq, Eq)]
+pub enum UpgradeAnswer<'a> {
+    /// The model was written to the file of this name.
+    Written(&'a str),
+    /// The file of this name could not be written.
+    Unwritten(&'a str),
+    /// The model file gave no instance.
+    Stopped(ReadAnswer<'a>),
+}
+
+impl UpgradeAnswer<'_> {
+    /// The line and the status.
+    pub fn said(&self, alloc: Global) -> Result<Said, AllocError>
+        ensures { IfOk result (IsSaid (upgrade_line (upgrade_meant self.now)) (upgrade_status (upgrade_meant self.now))) }
+    {
+        Ok(Said {
+            line: self.line(alloc)?,
+            status: self.status(),
+        })
+    }
+
+    /// The status.
+    pub fn status(&self) -> Status
+        ensures { result ≡ upgrade_status (upgrade_meant self.now) }
+    {
+        match self {
+            UpgradeAnswer::Written(_) => Status::Done,
+            UpgradeAnswer::Unwritten(_) => Status::Unwritten,
+            UpgradeAnswer::Stopped(why) => why.status(),
+        }
+    }
+
+    /// The line that is printed, with its line feed.
+    pub fn line(&self, alloc: Global) -> Result<String, AllocError>
+        ensures { IfOk result (λ line. string_bytes line ≡ upgrade_line (upgrade_meant self.now)) }
+    {
+        match self {
+            UpgradeAnswer::Written(file) => format!(in alloc; "written {file}\n"),
+            UpgradeAnswer::Unwritten(file) => format!(in alloc; "refused write {file}\n"),
+            UpgradeAnswer::Stopped(why) => why.line(alloc),
+        }
+    }
+}
+
+// Each text of an instance means its problem.
+fn texts_mean_it(instance: &Instance)
+    ensures { (bytes : List ℕ) → IsModelText instance.now bytes → BytesMean bytes (Ok instance.now) }
+{
+    instance.periods();
+    model_texts_are_read();
+}
+
+// Writes an instance as a model. All memory is taken before the file is started.
+fn write_upgraded<S: Shelf>(
+    alloc: Global,
+    instance: &Instance,
+    upgraded: &str,
+    shelf: &mut S,
+) -> Result<Said, AllocError>
+    ensures said { IfOk result (RewriteSays instance.now upgraded.now (S.shown shelf.old) (S.shown shelf.new)) }
+    ensures memory { OnErr result (S.shown shelf.new ≡ S.shown shelf.old) }
+    ensures given { (S.shown shelf.new).given ≡ (S.shown shelf.old).given }
+{
+    texts_mean_it(instance);
+    let bytes = write_model(alloc, instance)?;
+    let written = UpgradeAnswer::Written(upgraded).said(alloc)?;
+    let unwritten = UpgradeAnswer::Unwritten(upgraded).said(alloc)?;
+    match write_file(shelf, upgraded, bytes.as_slice()) {
+        Ok(()) => Ok(written),
+        Err(_) => Ok(unwritten),
+    }
+}
+
+/// Writes the model in a file of the first version to another, as one of the newest.
+pub fn upgrade_files<S: Shelf>(
+    alloc: Global,
+    model: &str,
+    upgraded: &str,
+    shelf: &mut S,
+) -> Result<Said, AllocError>
+    ensures said { IfOk result (UpgradeSays model.now upgraded.now (S.shown shelf.old) (S.shown shelf.new)) }
+    ensures memory { OnErr result (OnlyReads (S.shown shelf.old) (S.shown shelf.new)) }
+    ensures given { (S.shown shelf.new).given ≤ (S.shown shelf.old).given + (file_limit + piece_size) }
+{
+    match read_first_model(alloc, model, shelf) {
+        Ok(instance) => write_upgraded(alloc, &instance, upgraded, shelf),
+        Err(Stop::Answered(why)) => UpgradeAnswer::Stopped(why).said(alloc),
+        Err(Stop::Memory) => Err(AllocError),
+    }
+}
