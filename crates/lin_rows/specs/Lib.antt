@@ -4,4 +4,8 @@ pub mod Held
 pub mod Base
 pub mod Made
 pub mod Sums
+pub mod Costs
+pub mod Combining
+pub mod Points
+pub mod Bounds
 pub mod Texts

@@ -1,13 +1,17 @@
 //! The linear model of an instance: its columns, its rows, and sums of rows.
 //!
-//! Family: rows. It stands on `algebra`, `lot_sizing` and `lot_model`; cuts, `certificate`, its checker and
-//! the search stand on it.
+//! Family: rows. It stands on `algebra`, `rational`, `frac128`, `lot_sizing` and `lot_model`; cuts,
+//! `certificate`, its checker and the search stand on it.
 //!
 //! A `Column` is what a plan has of an item in a period: units made (`X`), a setup (`Y`), the stock at
 //! the end of the period (`S`) and the backlog there (`R`). A `Row` says that a sum of multiples of
 //! columns is at least its right side, or equal to it. `base_row` gives the rows that the rules of plans
 //! make, by their names; each holds at every feasible plan. `Sums` adds multiples of rows, column by
-//! column, as a proof by multipliers needs it; `Total` does so for one sum.
+//! column, as a proof by multipliers needs it; `Total` does so for one sum. What such sums prove is said by the
+//! laws `sums_hold`, `sums_bound` and `sums_refute`, and `plans_cost` ties the columns' costs to a plan's cost.
+//!
+//! `Bound` is what a side of a branch says of a column, with its row. `Point` has a fraction for each column: a
+//! solution of the relaxation, read by columns.
 //!
 //! `Prices` and `Potentials` are the lists that cuts of an item are made of, and `CutFault` says why there
 //! is no cut.
@@ -18,9 +22,12 @@
 
 mod adding;
 mod base;
+mod bound;
 mod column;
 mod fault;
+mod laws;
 mod numbers;
+mod point;
 mod prices;
 mod row;
 mod row_terms;
@@ -28,9 +35,12 @@ mod sums;
 mod total;
 
 pub use base::{RowName, base_row};
+pub use bound::Bound;
 pub use column::Column;
 pub use fault::{CutFault, RowFault};
+pub use laws::{plans_cost, sums_bound, sums_hold, sums_refute};
 pub use numbers::{column_at, column_cost, column_count, column_number};
+pub use point::Point;
 pub use prices::{Potentials, Prices};
 pub use row::{Row, Term};
 pub use sums::{SumFault, Sums};

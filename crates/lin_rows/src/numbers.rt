@@ -10,7 +10,7 @@ use crate::Column;
 use lot_model::Instance;
 
 // 1 where an item has a backlog cost, and 0 otherwise.
-fn owes(instance: &Instance, item: u32) -> u32
+pub(crate) fn owes(instance: &Instance, item: u32) -> u32
     requires low { 1 ≤ item }
     requires high { item ≤ item_count instance.now }
     ensures value { result ≡ owes instance.now item }

@@ -80,7 +80,7 @@ fn period(column: Column) -> u32
 }
 
 // Whether a column is one of so many items and periods.
-fn is_within(items: u32, periods: u32, column: Column) -> bool
+pub(crate) fn is_within(items: u32, periods: u32, column: Column) -> bool
     ensures { result ≡ is_within items periods column }
 {
     let (item, period) = (item(column), period(column));

@@ -1,7 +1,8 @@
 use crate::{
-    Column, CutFault, Row, RowFault, RowName, SumFault, Sums, Term, base_row, column_at,
-    column_cost, column_count, column_number,
+    Bound, Column, CutFault, Point, Row, RowFault, RowName, SumFault, Sums, Term, base_row,
+    column_at, column_cost, column_count, column_number,
 };
+use frac128::Frac;
 use lot_model::{Draft, DraftItem, DraftNeed, DraftResource, DraftUse, Instance};
 use lot_sizing::limits::{MAX_AMOUNT, MAX_END_STOCK, MAX_ITEMS};
 use std::alloc::{AllocError, Global};
@@ -494,5 +495,71 @@ fn texts_of_columns_and_names(rt: HostRuntime) -> Result<(), Fail> {
     ] {
         assert_eq!(rt; format!(in alloc; "{name}")?.as_str(), text);
     }
+    Ok(())
+}
+
+// The point at which the value of each column is its number.
+fn numbered(alloc: Global, instance: &Instance) -> Result<Point, Fail> {
+    let mut values = Vec::new(alloc);
+    for before in 0..column_count(instance) {
+        values.push(Frac::from(before as u64 + 1))?;
+    }
+    if values.len() != column_count(instance) as usize {
+        return Err("another number of values".into());
+    }
+    Ok(Point::new(instance, values))
+}
+
+#[test]
+fn values_with_backlogs(rt: HostRuntime) -> Result<(), Fail> {
+    let alloc = rt.alloc();
+    let point = numbered(alloc, &tables(alloc)?)?;
+    for (term, value) in [
+        (x(1, 1, 1), 1u64),
+        (x(2, 2, 1), 4),
+        (y(1, 1, 1), 5),
+        (s(2, 2, 1), 12),
+        (r(1, 1, 1), 13),
+        (r(1, 2, 1), 0),
+        (r(2, 1, 1), 0),
+        (x(3, 1, 1), 0),
+        (y(1, 3, 1), 0),
+        (s(0, 1, 1), 0),
+    ] {
+        assert!(rt; point.value(term.column) == Frac::from(value));
+    }
+    Ok(())
+}
+
+#[test]
+fn values_without_backlogs(rt: HostRuntime) -> Result<(), Fail> {
+    let alloc = rt.alloc();
+    let point = numbered(alloc, &shop(alloc)?)?;
+    assert!(rt; point.value(s(1, 2, 1).column) == Frac::from(6u64));
+    assert!(rt; point.value(r(1, 1, 1).column) == Frac::from(0u64));
+    assert_eq!(rt; (point.values().len(), point.into_values().len()), (6, 6));
+    Ok(())
+}
+
+#[test]
+fn rows_of_bounds(rt: HostRuntime) -> Result<(), Fail> {
+    let alloc = rt.alloc();
+    let column = x(1, 2, 1).column;
+    let most = Bound {
+        column,
+        most: true,
+        number: 7,
+    }
+    .row(alloc)?;
+    assert!(rt; most.terms() == &[x(1, 2, -1)][..]);
+    assert_eq!(rt; (most.right(), most.is_equal()), (-7, false));
+    let least = Bound {
+        column,
+        most: false,
+        number: 8,
+    }
+    .row(alloc)?;
+    assert!(rt; least.terms() == &[x(1, 2, 1)][..]);
+    assert_eq!(rt; (least.right(), least.is_equal()), (8, false));
     Ok(())
 }
