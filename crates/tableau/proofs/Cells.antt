@@ -144,6 +144,9 @@ lower_stays d best i some lower = inr (refl, (λ negative. (some, lower)), λ ze
 pub better_skip : (d : Dictionary) (k j t : ℕ) (y : ℚ) → cell d k t ≤ℚ zero_ℚ → IsBetter d k j y t j y
 better_skip d k j t y le = inl (refl, refl, λ candidate. candidate.positive le)
 
+pub better_constant : (d : Dictionary) (k j t : ℕ) (y : ℚ) → t ≡ 0 → IsBetter d k j y t j y
+better_constant d k j t y is = inl (refl, refl, λ candidate. omega (arith, is, candidate.low))
+
 pub same_ratio : (d : Dictionary) (k t : ℕ) (a b : ℚ) → a ≡ cell d 0 t → b ≡ cell d k t → divided_ℚ a b ≡ ratio_at d k t
 same_ratio d k t a b top bottom = ap (λ x. divided_ℚ x b) top ∙ ap (divided_ℚ (cell d 0 t)) bottom
 

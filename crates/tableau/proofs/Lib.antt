@@ -12,4 +12,6 @@ pub mod Wholes
 pub mod Stepwise
 pub mod Duality
 pub mod More
-pub mod Skips
+pub mod Columns
+pub mod Apart
+pub mod LeastCommon

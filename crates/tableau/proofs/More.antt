@@ -1,5 +1,5 @@
 -- Programs with a further row.
-use Rattle.std.proofs.Common.{◌≡◌, ◌<◌, ◌+◌, ◌^◌, ◌-◌, ℕ, arith, length, List, [], ◌∷◌, ◌++◌}
+use Rattle.std.proofs.Common.{◌<◌, ◌+◌, ℕ, arith, List, [], ◌∷◌, ◌++◌}
 use Rattle.std.proofs.lemmas.List.{length-append}
 use Rattle.tableau.specs.Program.{AreRows, Inequality, IsProgram, IsRow, Program, column_count, row_count, with_row}
 

@@ -9,7 +9,7 @@ use Rattle.tableau.specs.Dictionary.{Dictionary, width}
 use Rattle.tableau.specs.Run.{IsFittingStep, IsLast, IsLeaving, IsStep, Runs}
 use Rattle.tableau.specs.Steps.{HasNoneTo}
 use Rattle.tableau.specs.Outcomes.{GivesEmpty, GivesLeast, GoesOn, IsCertain, IsOutcome}
-use Rattle.tableau.specs.Stepwise.{DoesSay, HasEnded, IsAtEnd, IsEndAfter, IsEndOf, State, TellsEnd, at, passed}
+use Rattle.tableau.specs.Stepwise.{DoesSay, HasEnded, IsAtEnd, IsEndAfter, IsEndOf, State, TellsEnd, at}
 use Rattle.tableau.specs.RunHeld.{state_of}
 use Rattle.tableau.proofs.Single.{one_leaving}
 use Rattle.tableau.proofs.Steps.{empty_given, least_given, run_is, run_more}

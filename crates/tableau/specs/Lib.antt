@@ -12,3 +12,4 @@ pub mod Stepwise
 pub mod RunHeld
 pub mod PlainHeld
 pub mod Proves
+pub mod Denominators

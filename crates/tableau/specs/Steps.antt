@@ -1,5 +1,5 @@
 -- The steps by which a dictionary is searched and changed.
-use Rattle.std.specs.Prelude.{◌≡◌, ◌≢◌, ◌⊎◌, ◌≤◌, ◌<◌, ◌-ℤ◌, ℕ, List, length, slice_index_or}
+use Rattle.std.specs.Prelude.{◌≡◌, ◌≢◌, ◌⊎◌, ◌≤◌, ◌<◌, ◌+◌, ◌-ℤ◌, ℕ, zero, suc, List, length, slice_index_or}
 use Rattle.rational.specs.Rational.{ℚ, inv_ℚ, neg_ℚ, ◌*ℚ◌, ◌-ℚ◌, ◌≤ℚ◌}
 use Rattle.frac128.specs.Limits.{divided_ℚ, Fits, SumFits}
 use Rattle.tableau.specs.Program.{zero_ℚ}
@@ -87,7 +87,25 @@ pub record IsSkip (d : Dictionary) (k from to : ℕ) : Type 0 where
   pub low : from ≤ to
   pub zero : (u : ℕ) → from ≤ u → u < to → u < width d → cell d k u ≡ zero_ℚ
 
--- a list gives for each column, and for the end, the next one that may not be 0
-pub record AreSkips (d : Dictionary) (k : ℕ) (list : List ℕ) : Type 0 where
-  pub room : width d < length list
-  pub each : (t : ℕ) → t ≤ width d → IsSkip d k t (slice_index_or list t 0)
+-- where the search goes on after the first so many columns of a list
+abbrev pub from_place : List ℕ → ℕ → ℕ
+from_place list zero = 0
+from_place list (suc j) = slice_index_or list j 0 + 1
+
+-- the first so many of a list rise and are below a column, and between them and up to it the row has 0
+pub record AreListed (d : Dictionary) (k : ℕ) (list : List ℕ) (count to : ℕ) : Type 0 where
+  pub few : count ≤ to
+  pub below : (j : ℕ) → j < count → slice_index_or list j 0 < to
+  pub between : (j : ℕ) → j < count → IsSkip d k (from_place list j) (slice_index_or list j 0)
+  pub last : IsSkip d k (from_place list count) to
+
+-- the columns of a row but for some that have 0, in order
+abbrev pub AreColumns : Dictionary → ℕ → List ℕ → Type 0
+AreColumns d k list = AreListed d k list (length list) (width d)
+
+abbrev pub AreBelow : ℕ → List ℕ → Type 0
+AreBelow to list = (j : ℕ) → j < length list → slice_index_or list j 0 < to
+
+-- the cells of a row in the first so many columns of a list
+abbrev pub AreCopied : Dictionary → ℕ → List ℕ → ℕ → List ℚ → Type 0
+AreCopied d i list count copies = (j : ℕ) → j < count → slice_index_or copies j zero_ℚ ≡ cell d i (slice_index_or list j 0)

@@ -1,6 +1,7 @@
 // Laws of runs.
 ghost use Rattle.tableau.specs.Laws.{DictionariesAreKept, OutcomesAreOne, RunsAreOne, SmallNumbersFit, StopsExactly};
 ghost use Rattle.tableau.specs.Leaves.{AllLeavesProve};
+ghost use Rattle.tableau.specs.Denominators.{AllLeavesAreOne};
 ghost use Rattle.tableau.specs.Proves.{AllOutcomesProve};
 
 /// Each dictionary says what its program says and has no negative reduced cost, by whatever rule pivots are chosen, if
@@ -32,6 +33,11 @@ pub fn outcomes_are_one()
 /// Multipliers times their least common denominator, which are whole, prove what the multipliers prove.
 pub fn leaves_prove()
     ensures { AllLeavesProve }
+{}
+
+/// Fractions have one least common denominator, and one numerator each over it.
+pub fn leaves_are_one()
+    ensures { AllLeavesAreOne }
 {}
 
 /// No point that meets all rows costs less than the value that a point and multipliers give, and multipliers that leave

@@ -14,12 +14,16 @@
 //! where the run would make one more pivot than it may, `Passed` where a ratio or a cell of the next pivot doesn't fit 128
 //! bits. What a run comes to is laid down: two runs of one length end alike (`runs_are_one`), a run has one outcome
 //! (`outcomes_are_one`), which is `Stopped` where it could go on (`stops_exactly`), and none has `Passed` while numerators
-//! and denominators are below 2^31 (`small_numbers_fit`). Multipliers times their least common denominator are whole and
-//! prove the same (`leaves_prove`). All of it rests on dictionaries that say what their program says, which pivots keep
-//! by whatever rule they are chosen (`dictionaries_are_kept`).
+//! and denominators are below 2^31 (`small_numbers_fit`). All of it rests on dictionaries that say what their program
+//! says, which pivots keep by whatever rule they are chosen (`dictionaries_are_kept`).
+//!
+//! A certificate has whole multipliers. `whole_multipliers` gives fractions over their least common denominator, which is
+//! one (`leaves_are_one`), where all of it is below 2^127; they prove what the fractions prove (`leaves_prove`).
 #![tactic(auto)]
 
+mod denominators;
 mod laws;
+mod marks;
 mod outcome;
 pub mod plain;
 mod program;
@@ -29,9 +33,10 @@ mod start;
 mod step;
 mod tableau;
 
+pub use denominators::{WholeMultipliers, whole_multipliers};
 pub use laws::{
-    dictionaries_are_kept, leaves_prove, outcomes_are_one, outcomes_prove, runs_are_one,
-    small_numbers_fit, stops_exactly,
+    dictionaries_are_kept, leaves_are_one, leaves_prove, outcomes_are_one, outcomes_prove,
+    runs_are_one, small_numbers_fit, stops_exactly,
 };
 pub use outcome::Outcome;
 pub use program::{Lp, LpRow, LpTerm, is_program};

@@ -3,9 +3,11 @@ ghost use Rattle.tableau.specs.Stepwise.{DoesSay, IsAtEnd, IsEndAfter, IsEndOf, 
 ghost use Rattle.tableau.specs.Outcomes.{IsCertain, IsOutcome};
 ghost use Rattle.std.specs.Prelude.{IfOk, ℕ};
 
+use crate::start::zeros;
 use crate::step::Step;
 use crate::tableau::Tableau;
 use crate::{Lp, Outcome};
+use frac128::Frac;
 use std::alloc::{AllocError, Global};
 use std::marker::Model;
 
@@ -30,8 +32,9 @@ pub enum StepSays {
 pub struct Run {
     tableau: Tableau,
     refused: Option<(u32, u32)>,
-    // For each column the next one that may not have 0 in the pivot row.
-    skips: Vec<usize>,
+    // The columns that don't have 0 in the pivot row, and their cells in another row, of one pivot.
+    columns: Vec<usize>,
+    copies: Vec<Frac>,
 }
 
 impl Model for Run {
@@ -51,12 +54,14 @@ impl Run {
         ensures { IfOk result (IsStarted lp.now) }
     {
         let tableau = Tableau::start(alloc, lp)?;
-        let mut skips = Vec::new(alloc);
-        skips.resize(lp.costs.len() + 2, 0)?;
+        let mut columns = Vec::new(alloc);
+        columns.resize(lp.costs.len() + 1, 0)?;
+        let copies = zeros(alloc, lp.costs.len() + 1)?;
         Ok(Run {
             tableau,
             refused: None,
-            skips,
+            columns,
+            copies,
         })
     }
 
@@ -67,7 +72,7 @@ impl Run {
         if let Some((row, column)) = self.refused {
             return StepSays::Passed { row, column };
         }
-        match self.tableau.step(&mut self.skips) {
+        match self.tableau.step(&mut self.columns, &mut self.copies) {
             Step::Pivoted => StepSays::Moved,
             Step::Last => StepSays::Ended,
             Step::Empty(_) => StepSays::Ended,

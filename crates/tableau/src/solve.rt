@@ -129,8 +129,9 @@ impl Lp {
     /// that of the least ratio of reduced cost to coefficient, by number where ratios are equal; variables are the
     /// columns and then the slacks of the rows.
     ///
-    /// It takes memory for one dictionary, `cells` fractions, and for the outcome, and no more in a pivot. A pivot
-    /// passes over rows and columns with 0 in the pivot column and row. The error is want of memory.
+    /// It takes memory for one dictionary, `cells` fractions and a bit for each, for two lists of a row and for the outcome,
+    /// and no more in a pivot. A pivot passes over rows and columns with 0 in the pivot column and row. The error is want
+    /// of memory.
     pub fn solve(&self, alloc: Global, pivots: u32) -> Result<Outcome, AllocError>
         ensures outcome { IfOk result (IsOutcome self.now pivots) }
         ensures certain { IfOk result (IsCertain self.now) }

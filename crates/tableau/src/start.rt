@@ -4,9 +4,11 @@ ghost use Rattle.tableau.specs.Program.{IsRow, column_count, zero_ℚ};
 ghost use Rattle.tableau.specs.Dictionary.{IsStart, cell, height, width};
 ghost use Rattle.tableau.specs.Starts.{AreVariables, HasCosts, HasRow, IsBlank};
 ghost use Rattle.tableau.specs.Held.{inequality_of};
+ghost use Rattle.tableau.specs.Outcomes.{number_at};
 
 use crate::tableau::{Tableau, opposite, whole};
 use crate::{Lp, LpRow};
+use frac128::Frac;
 use std::alloc::{AllocError, Global};
 
 // So many numbers from one on.
@@ -21,6 +23,16 @@ fn numbers(alloc: Global, first: usize, count: usize) -> Result<Vec<u32>, AllocE
     Ok(list)
 }
 
+// So many fractions that are 0.
+pub(crate) fn zeros(alloc: Global, count: usize) -> Result<Vec<Frac>, AllocError>
+    ensures size { IfOk result (λ list. length list.items ≡ count) }
+    ensures zero { IfOk result (λ list. (place : ℕ) → number_at list.items place ≡ zero_ℚ) }
+{
+    let mut list = Vec::new(alloc);
+    list.resize(count, whole(0))?;
+    Ok(list)
+}
+
 impl Tableau {
     // The variables of the first dictionary, and 0 in each cell.
     fn blank(alloc: Global, lp: &Lp) -> Result<Tableau, AllocError>
@@ -31,12 +43,16 @@ impl Tableau {
         let mut basic = numbers(alloc, columns, rows + 1)?;
         basic[0] = (columns + 1 + rows) as u32;
         let nonbasic = numbers(alloc, 0, columns + 1)?;
-        let mut cells = Vec::new(alloc);
-        cells.resize((rows + 1) * (columns + 1), whole(0))?;
+        let constants = zeros(alloc, rows + 1)?;
+        let cells = zeros(alloc, (rows + 1) * columns)?;
+        let mut marks = Vec::new(alloc);
+        marks.resize((rows + 1) * (columns + 1) / 64 + 1, 0)?;
         Ok(Tableau {
             basic,
             nonbasic,
+            constants,
             cells,
+            marks,
         })
     }
 

@@ -1,23 +1,27 @@
 // Dictionaries and their pivots.
-ghost use Rattle.std.specs.Prelude.{◌≡◌, ◌≢◌, ◌≤◌, ◌<◌, ◌+◌, ◌^◌, ℕ, unsigned_abs, false, ◌↔◌, IfErr, IfOk, IfSome, IsNone, IsTrue, length, OnOk};
+ghost use Rattle.std.specs.Prelude.{◌≡◌, ◌≢◌, ◌≤◌, ◌<◌, ◌+◌, ◌*◌, ◌^◌, ℕ, unsigned_abs, false, ◌↔◌, IfErr, IfOk, IfSome, IsNone, IsTrue, length, OnOk};
 ghost use Rattle.rational.specs.Rational.{whole, neg_ℚ, ◌*ℚ◌, ◌-ℚ◌, ◌≤ℚ◌};
 ghost use Rattle.frac128.specs.Limits.{Fits, divided_ℚ};
 ghost use Rattle.tableau.specs.Program.{zero_ℚ};
 ghost use Rattle.tableau.specs.Dictionary.{IsPivoted, basic_at, cell, height, nonbasic_at, width};
 ghost use Rattle.tableau.specs.Run.{IsCandidate, IsEntering, IsLast, IsLeaving, IsNegative, IsPositive, OtherFits, RatioFits, RowFits, UpdateFits};
-ghost use Rattle.tableau.specs.Steps.{AreExchanged, CellFits, GoesBefore, HasNoneTo, HasSameNames, IsBetter, IsDivided, IsLower, IsRefusedRatio, IsRowUpdated, IsSet, IsSkip, AreSkips, RatiosFitTo, UpdatesFit};
+ghost use Rattle.tableau.specs.Steps.{AreExchanged, CellFits, GoesBefore, HasNoneTo, HasSameNames, IsBetter, IsDivided, IsLower, IsRefusedRatio, IsRowUpdated, IsSet, AreBelow, AreColumns, AreCopied, AreListed, RatiosFitTo, UpdatesFit};
 
+use crate::marks::{is_marked, mark};
 use frac128::{Frac, Ratio};
 use std::cmp::Ordering;
 use std::marker::Model;
 
-// A dictionary: the numbers of the variables of rows and columns, and the cells row by row. Row 0 is the cost's,
-// and column 0 has the constants.
+// A dictionary: the numbers of the variables of rows and columns, and the cells. Row 0 is the cost's, and column 0 has
+// the constants, which stand in a list of their own; the cells of the other columns stand row by row. A cell that isn't 0
+// has a mark, by its row and column, so that a search for such cells reads a bit of each.
 #[derive(Debug, Drop)]
 pub struct Tableau {
     pub(crate) basic: Vec<u32>,
     pub(crate) nonbasic: Vec<u32>,
+    pub(crate) constants: Vec<Frac>,
     pub(crate) cells: Vec<Frac>,
+    pub(crate) marks: Vec<u64>,
 }
 
 impl Model for Tableau {
@@ -108,7 +112,10 @@ impl Tableau {
         requires column { column < width self.now }
         ensures { result ≡ cell self.now row column }
     {
-        self.cells[row * self.nonbasic.len() + column]
+        if column == 0 {
+            return self.constants[row];
+        }
+        self.cells[row * (self.nonbasic.len() - 1) + (column - 1)]
     }
 
     // The value of a row's variable where the nonbasic ones are 0.
@@ -116,7 +123,29 @@ impl Tableau {
         requires row { row < height self.now }
         ensures { result ≡ cell self.now row 0 }
     {
-        self.cells[row * self.nonbasic.len()]
+        self.constants[row]
+    }
+
+    // The place of a cell's mark.
+    fn mark_place(&self, row: usize, column: usize) -> usize
+        requires row { row < height self.now }
+        requires column { column < width self.now }
+        ensures { result ≡ row * width self.now + column }
+    {
+        row * self.nonbasic.len() + column
+    }
+
+    // Whether a cell isn't 0. A cell without a mark is not read.
+    fn has(&self, row: usize, column: usize) -> bool
+        requires row { row < height self.now }
+        requires column { column < width self.now }
+        ensures yes { IsTrue result → cell self.now row column ≢ zero_ℚ }
+        ensures no { result ≡ false → cell self.now row column ≡ zero_ℚ }
+    {
+        if !is_marked(&self.marks, self.mark_place(row, column)) {
+            return false;
+        }
+        !is_zero(self.cell(row, column))
     }
 
     pub(crate) fn set(&mut self, row: usize, column: usize, value: Frac)
@@ -125,7 +154,13 @@ impl Tableau {
         ensures { IsSet self.old row column value self.new }
     {
         let width = self.nonbasic.len();
-        self.cells[row * width + column] = value;
+        let place = self.mark_place(row, column);
+        mark(&mut self.marks, place);
+        if column == 0 {
+            self.constants[row] = value;
+        } else {
+            self.cells[row * (width - 1) + (column - 1)] = value;
+        }
     }
 
     // Of a row and the best before it, 0 standing for none, the one of the least-numbered variable of those with
@@ -191,12 +226,14 @@ impl Tableau {
     fn better(&self, row: usize, best: usize, least: Ratio, column: usize) -> Option<(usize, Ratio)>
         requires row { row < height self.now }
         requires best { best < width self.now }
-        requires low { 1 ≤ column }
         requires column { column < width self.now }
         ensures some { IfSome result (λ p. IsBetter self.now row best least column p.0 p.1) }
         ensures high { IfSome result (λ p. p.0 < width self.now) }
         ensures none { IsNone result → IsRefusedRatio self.now row column }
     {
+        if column == 0 {
+            return Some((best, least));
+        }
         let coefficient = self.cell(row, column);
         if !is_positive(coefficient) {
             return Some((best, least));
@@ -211,9 +248,10 @@ impl Tableau {
     }
 
     // The column of least ratio of reduced cost to coefficient among the candidates of a row, by number where
-    // ratios are equal; or the column whose ratio doesn't fit.
-    pub(crate) fn entering(&self, row: usize) -> Result<Option<usize>, usize>
+    // ratios are equal; or the column whose ratio doesn't fit. The columns are those of the row that don't have 0.
+    pub(crate) fn entering(&self, row: usize, columns: &[usize]) -> Result<Option<usize>, usize>
         requires row { row < height self.now }
+        requires columns { AreColumns self.now row columns.now }
         ensures column { IfOk result (λ found. IfSome found (IsEntering self.now row)) }
         ensures fit { IfOk result (λ found. RatiosFitTo self.now row (width self.now)) }
         ensures none { IfOk result (λ found. IsNone found → HasNoneTo self.now row (width self.now)) }
@@ -221,23 +259,62 @@ impl Tableau {
     {
         let mut best = 0;
         let mut least = Ratio::from(whole(0));
-        for column in 1..self.width() {
-            match self.better(row, best, least, column) {
+        for place in 0..columns.len() {
+            match self.better(row, best, least, columns[place]) {
                 Some(found) => {
                     best = found.0;
                     least = found.1;
                 }
-                None => return Err(column),
+                None => return Err(columns[place]),
             }
         }
         if best == 0 { Ok(None) } else { Ok(Some(best)) }
     }
 
-    // Takes a multiple of a cell of the pivot row from that of another row, or is false where that doesn't fit.
-    fn reduce(&mut self, pivot_row: usize, row: usize, column: usize, factor: Frac) -> bool
+    // Lists the columns of a row that don't have 0, in order, and says how many they are.
+    pub(crate) fn list_columns(&self, row: usize, columns: &mut [usize]) -> usize
+        requires row { row < height self.now }
+        requires room { width self.now ≤ length columns.old }
+        ensures size { length columns.new ≡ length columns.old }
+        ensures listed { AreListed self.now row columns.new result (width self.now) }
+    {
+        let mut count = 0;
+        for column in 0..self.width() {
+            if self.has(row, column) {
+                columns[count] = column;
+                count += 1;
+            }
+        }
+        count
+    }
+
+    // Copies the cells of a row in some columns. They lie far apart, so that they are read at one go.
+    fn copy_row(&self, row: usize, columns: &[usize], copies: &mut [Frac])
+        requires row { row < height self.now }
+        requires columns { AreBelow (width self.now) columns.now }
+        requires room { length columns.now ≤ length copies.old }
+        ensures size { length copies.new ≡ length copies.old }
+        ensures copied { AreCopied self.now row columns.now (length columns.now) copies.new }
+    {
+        for place in 0..columns.len() {
+            copies[place] = self.cell(row, columns[place]);
+        }
+    }
+
+    // Takes a multiple of a cell of the pivot row from that of another row, which is known, or is false where that doesn't
+    // fit.
+    fn reduce(
+        &mut self,
+        pivot_row: usize,
+        row: usize,
+        column: usize,
+        old: Frac,
+        factor: Frac,
+    ) -> bool
         requires pivot_row { pivot_row < height self.old }
         requires row { row < height self.old }
         requires column { column < width self.old }
+        requires old { old ≡ cell self.old row column }
         ensures done { IsTrue result → IsSet self.old row column (cell self.old row column -ℚ factor *ℚ cell self.old pivot_row column) self.new }
         ensures fits { IsTrue result → CellFits self.old pivot_row row column factor }
         ensures refused { result ≡ false → (cell self.old pivot_row column ≢ zero_ℚ) × (CellFits self.old pivot_row row column factor → ⊥) }
@@ -250,73 +327,50 @@ impl Tableau {
         let Some(product) = factor.mul(source) else {
             return false;
         };
-        let Some(difference) = self.cell(row, column).sub(product) else {
+        let Some(difference) = old.sub(product) else {
             return false;
         };
         self.set(row, column, difference);
         true
     }
 
-    // The first column from one on that may not have 0 in a row, if it is known from the next one on.
-    fn skip(&self, row: usize, column: usize, next: usize) -> usize
-        requires row { row < height self.now }
-        requires column { column < width self.now }
-        requires next { IsSkip self.now row (column + 1) next }
-        ensures { IsSkip self.now row column result }
-    {
-        if is_zero(self.cell(row, column)) {
-            return next;
-        }
-        column
-    }
-
-    // Lists for each column of a row the first one from it on that doesn't have 0, and at the end the end.
-    pub(crate) fn list_skips(&self, row: usize, skips: &mut [usize])
-        requires row { row < height self.now }
-        requires room { width self.now < length skips.old }
-        ensures { AreSkips self.now row skips.new }
-    {
-        let width = self.width();
-        skips[width] = width;
-        for done in 0..width {
-            let column = width - 1 - done;
-            skips[column] = self.skip(row, column, skips[column + 1]);
-        }
-    }
-
     // Takes a multiple of the pivot row from another row, so that its cell in the pivot column becomes its factor;
-    // or the column whose cell doesn't fit. Columns with 0 in the pivot row are not visited.
+    // or the column whose cell doesn't fit. The columns are those of the pivot row that don't have 0.
     fn update_row(
         &mut self,
         pivot_row: usize,
         pivot_column: usize,
         row: usize,
-        skips: &[usize],
+        columns: &[usize],
+        copies: &mut [Frac],
     ) -> Result<(), usize>
         requires pivot_row { pivot_row < height self.old }
         requires pivot_column { pivot_column < width self.old }
         requires row { row < height self.old }
         requires apart { row ≢ pivot_row }
         requires some { cell self.old pivot_row pivot_column ≢ zero_ℚ }
-        requires skips { AreSkips self.old pivot_row skips.now }
+        requires columns { AreColumns self.old pivot_row columns.now }
+        requires room { length columns.now ≤ length copies.old }
         ensures updated { OnOk result (IsRowUpdated self.old pivot_row pivot_column row self.new) }
         ensures refused { IfErr result (λ t. (t < width self.old) × (OtherFits self.old pivot_row pivot_column row t → ⊥)) }
         ensures names { HasSameNames self.old self.new }
+        ensures size { length copies.new ≡ length copies.old }
     {
-        let old = self.cell(row, pivot_column);
-        if is_zero(old) {
+        if !self.has(row, pivot_column) {
             return Ok(());
         }
+        let old = self.cell(row, pivot_column);
         let Some(factor) = old.div(self.cell(pivot_row, pivot_column)) else {
             return Err(pivot_column);
         };
-        let width = self.width();
-        let mut column = skips[0];
-        while column < width {
-            if column != pivot_column && !self.reduce(pivot_row, row, column, factor) {
+        self.copy_row(row, columns, copies);
+        for place in 0..columns.len() {
+            let column = columns[place];
+            if column != pivot_column
+                && !self.reduce(pivot_row, row, column, copies[place], factor)
+            {
                 return Err(column);
             }
-            column = skips[column + 1];
         }
         self.set(row, pivot_column, factor);
         Ok(())
@@ -342,11 +396,18 @@ impl Tableau {
         true
     }
 
-    // Solves the pivot row for the entering variable; or the column whose cell doesn't fit.
-    fn divide_row(&mut self, pivot_row: usize, pivot_column: usize) -> Result<(), usize>
+    // Solves the pivot row for the entering variable; or the column whose cell doesn't fit. The columns are those of the
+    // row that don't have 0.
+    fn divide_row(
+        &mut self,
+        pivot_row: usize,
+        pivot_column: usize,
+        columns: &[usize],
+    ) -> Result<(), usize>
         requires pivot_row { pivot_row < height self.old }
         requires pivot_column { pivot_column < width self.old }
         requires some { cell self.old pivot_row pivot_column ≢ zero_ℚ }
+        requires columns { AreColumns self.old pivot_row columns.now }
         ensures divided { OnOk result (IsDivided self.old pivot_row pivot_column self.new) }
         ensures refused { IfErr result (λ t. (t < width self.old) × (RowFits self.old pivot_row pivot_column t → ⊥)) }
         ensures names { HasSameNames self.old self.new }
@@ -355,7 +416,8 @@ impl Tableau {
             return Err(pivot_column);
         };
         let factor = opposite(corner);
-        for column in 0..self.width() {
+        for place in 0..columns.len() {
+            let column = columns[place];
             if column != pivot_column && !self.multiply(pivot_row, column, factor) {
                 return Err(column);
             }
@@ -381,12 +443,14 @@ impl Tableau {
         &mut self,
         row: usize,
         column: usize,
-        skips: &[usize],
+        columns: &[usize],
+        copies: &mut [Frac],
     ) -> Result<(), (usize, usize)>
         requires row { row < height self.old }
         requires column { column < width self.old }
         requires some { cell self.old row column ≢ zero_ℚ }
-        requires skips { AreSkips self.old row skips.now }
+        requires columns { AreColumns self.old row columns.now }
+        requires room { length columns.now ≤ length copies.old }
         ensures pivoted { OnOk result (IsPivoted self.old row column self.new) }
         ensures fits { OnOk result (UpdatesFit self.old row column) }
         ensures refused { IfErr result (λ p. (p.0 < height self.old) × (p.1 < width self.old) × (UpdateFits self.old row column p.0 p.1 → ⊥)) }
@@ -394,13 +458,13 @@ impl Tableau {
     {
         for other in 0..self.height() {
             if other != row {
-                match self.update_row(row, column, other, skips) {
+                match self.update_row(row, column, other, columns, copies) {
                     Ok(()) => {}
                     Err(refused) => return Err((other, refused)),
                 }
             }
         }
-        match self.divide_row(row, column) {
+        match self.divide_row(row, column, columns) {
             Ok(()) => {}
             Err(refused) => return Err((row, refused)),
         }

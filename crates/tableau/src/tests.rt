@@ -1,4 +1,7 @@
-use crate::{Lp, LpRow, LpTerm, Outcome, Run, StepSays, is_program, plain};
+use crate::{
+    Lp, LpRow, LpTerm, Outcome, Run, StepSays, WholeMultipliers, is_program, plain,
+    whole_multipliers,
+};
 use frac128::Frac;
 use std::alloc::{AllocError, Global};
 use std::test::Fail;
@@ -280,6 +283,54 @@ fn a_row_is_added(rt: HostRuntime) -> Result<(), Fail> {
             (320, 1)
         )?
     );
+    Ok(())
+}
+
+// The least common denominator of these fractions and their numerators over it.
+fn over_one(alloc: Global, parts: &[(i128, i128)]) -> Result<Option<WholeMultipliers>, AllocError> {
+    let mut fractions = Vec::new(alloc);
+    for part in parts {
+        if let Some(fraction) = Frac::new(part.0, part.1) {
+            fractions.push(fraction)?;
+        }
+    }
+    whole_multipliers(alloc, &fractions)
+}
+
+// The denominators 6, 4 and 1 have the least common multiple 12, and none at all has 1.
+#[test]
+fn fractions_over_one_denominator(rt: HostRuntime) -> Result<(), Fail> {
+    let alloc = rt.alloc();
+    match over_one(alloc, &[(1, 6), (-3, 4), (2, 1)])? {
+        Some(whole) => {
+            assert!(rt; whole.den == 12 && whole.numerators.as_slice() == &[2i128, -9, 24][..]);
+        }
+        None => return Err("12 is small".into()),
+    }
+    match over_one(alloc, &[])? {
+        Some(whole) => assert!(rt; whole.den == 1 && whole.numerators.is_empty()),
+        None => return Err("1 is small".into()),
+    }
+    Ok(())
+}
+
+// 2^64 times 3^41 passes 2^127, and so does 3 times 2^126. 2^63 times 2^63 would be a product of denominators, but 2^63
+// is their least common multiple.
+#[test]
+fn denominators_and_numerators_that_pass(rt: HostRuntime) -> Result<(), Fail> {
+    let alloc = rt.alloc();
+    let den = over_one(
+        alloc,
+        &[(1, 18446744073709551616), (1, 36472996377170786403)],
+    )?;
+    assert!(rt; den.is_none());
+    let numerator = over_one(
+        alloc,
+        &[(85070591730234615865843651857942052864, 1), (1, 3)],
+    )?;
+    assert!(rt; numerator.is_none());
+    let same = over_one(alloc, &[(1, 9223372036854775808), (3, 9223372036854775808)])?;
+    assert!(rt; same.is_some());
     Ok(())
 }
 

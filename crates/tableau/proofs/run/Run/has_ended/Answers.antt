@@ -1,4 +1,4 @@
-use Rattle.std.proofs.Common.{inl, inr, refl}
+use Rattle.std.proofs.Common.{inr, refl}
 use Rattle.tableau.proofs.Stepwise.{told_end, told_on}
 use Rattle.tableau.proofs.run.Run.has_ended.Goals as goal
 

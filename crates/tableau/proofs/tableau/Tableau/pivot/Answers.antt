@@ -1,10 +1,9 @@
-use Rattle.std.proofs.Common.{◌<◌, ◌≤◌, ◌+◌, arith, subst, sym}
+use Rattle.std.proofs.Common.{◌<◌, ◌+◌, arith, subst, sym}
 use Rattle.tableau.specs.Dictionary.{height}
-use Rattle.tableau.proofs.Cells.{is_pivoted, rows_next, rows_skip}
+use Rattle.tableau.proofs.Cells.{rows_next, rows_skip}
 use Rattle.tableau.proofs.tableau.Tableau.pivot.Goals.{then-other-row+in-Ok, else-other-row}
 use Rattle.tableau.proofs.tableau.Tableau.pivot.Goals as goal
 use Rattle.tableau.proofs.Loops.{AreRowsTo}
-use Rattle.tableau.proofs.Skips.{skips_kept}
 
 pub loop-other-preserved : goal.loop-other-preserved
 loop-other-preserved c =
@@ -14,12 +13,3 @@ loop-other-preserved c =
       | then-other-row+in-Ok w ↦ subst (AreRowsTo d c.args.row c.args.column (c.loop-other.other + 1)) (sym w.self-is) (rows_next d c.loop-other.self c.args.row c.args.column c.loop-other.other c.requires.row c.requires.column high c.loop-other.invariant w.update_row.new.self w.if-other-row.true w.in-Ok.ensures.updated)
       | else-other-row w ↦ subst (AreRowsTo d c.args.row c.args.column (c.loop-other.other + 1)) (sym w.self-is) (rows_skip d c.loop-other.self c.args.row c.args.column c.loop-other.other w.if-other-row.false c.loop-other.invariant)
     ]
-
-pub returns-clause-pivoted : goal.returns-clause-pivoted
-returns-clause-pivoted c =
-    let d = c.args.self.now in
-    let all : height d ≤ c.loop-other.other = omega (arith, c.loop-other-test.false, c.height-other-end.ensures.value) in
-    is_pivoted d c.loop-other.self c.divide_row.new.self c.exchange.new.self c.args.row c.args.column c.loop-other.other c.requires.row c.requires.column all c.loop-other.invariant c.in-Ok-divide_row.ensures.divided c.exchange.ensures
-
-pub update_row-requires-clause-skips : goal.update_row-requires-clause-skips
-update_row-requires-clause-skips c = skips_kept c.args.self.now c.loop-other.self c.args.row c.args.column c.loop-other.other c.args.skips.now c.loop-other.invariant c.requires.skips

@@ -23,10 +23,10 @@ returns-in_default-clause-refused c = λ _.
 pub returns-in_default-sub-clause-refused : goal.returns-in_default-sub-clause-refused
 returns-in_default-sub-clause-refused c = λ _.
     let some : cell c.args.self.now c.args.pivot_row c.args.column ≢ zero_ℚ = λ e. c.if-is_zero.ensures.no refl (c.cell-source.ensures ∙ e) in
-    (some, λ fits. c.in_default-sub.ensures (subst (λ y. SumFits ◌-ℤ◌ y c.in-Some.product) (sym c.cell.ensures) (subst (SumFits ◌-ℤ◌ (cell c.args.self.now c.args.row c.args.column)) (sym c.in-Some.ensures.1) (subst (λ x. SumFits ◌-ℤ◌ (cell c.args.self.now c.args.row c.args.column) (c.args.factor *ℚ x)) (sym c.cell-source.ensures) (fits.difference some)))))
+    (some, λ fits. c.in_default-sub.ensures (subst (λ y. SumFits ◌-ℤ◌ y c.in-Some.product) (sym c.requires.old) (subst (SumFits ◌-ℤ◌ (cell c.args.self.now c.args.row c.args.column)) (sym c.in-Some.ensures.1) (subst (λ x. SumFits ◌-ℤ◌ (cell c.args.self.now c.args.row c.args.column) (c.args.factor *ℚ x)) (sym c.cell-source.ensures) (fits.difference some)))))
 
 pub returns-clause-fits : goal.returns-clause-fits
 returns-clause-fits c = λ _. record {
   product = λ some. subst (λ x. Fits (c.args.factor *ℚ x)) c.cell-source.ensures c.in-Some.ensures.0;
-  difference = λ some. subst (λ x. SumFits ◌-ℤ◌ (cell c.args.self.now c.args.row c.args.column) (c.args.factor *ℚ x)) c.cell-source.ensures (subst (SumFits ◌-ℤ◌ (cell c.args.self.now c.args.row c.args.column)) c.in-Some.ensures.1 (subst (λ y. SumFits ◌-ℤ◌ y c.in-Some.product) c.cell.ensures c.in-Some-sub.ensures.0));
+  difference = λ some. subst (λ x. SumFits ◌-ℤ◌ (cell c.args.self.now c.args.row c.args.column) (c.args.factor *ℚ x)) c.cell-source.ensures (subst (SumFits ◌-ℤ◌ (cell c.args.self.now c.args.row c.args.column)) c.in-Some.ensures.1 (subst (λ y. SumFits ◌-ℤ◌ y c.in-Some.product) c.requires.old c.in-Some-sub.ensures.0));
 }

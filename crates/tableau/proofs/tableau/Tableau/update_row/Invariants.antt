@@ -1,10 +1,6 @@
-use Rattle.tableau.proofs.tableau.Tableau.update_row.Given as goal
-use Rattle.std.specs.Prelude.{◌-◌}
-use Rattle.tableau.specs.Dictionary.{width}
+use Rattle.tableau.specs.Steps.{from_place}
 use Rattle.tableau.proofs.Loops.{IsRowTo}
+use Rattle.tableau.proofs.tableau.Tableau.update_row.Given as goal
 
-abbrev pub invariant-loop-column : goal.invariant-loop-column
-invariant-loop-column l = IsRowTo l.fn.self l.pivot_row l.pivot_column l.row l.factor l.column l.self
-
-abbrev pub decreases-loop-column : goal.decreases-loop-column
-decreases-loop-column l = width l.fn.self - l.column
+abbrev pub invariant-loop-place : goal.invariant-loop-place
+invariant-loop-place l = IsRowTo l.fn.self l.pivot_row l.pivot_column l.row l.factor (from_place l.columns l.place) l.self
