@@ -1,0 +1,5 @@
+pub mod Stretches
+pub mod Starts
+pub mod Serving
+pub mod Firsts
+pub mod Testing

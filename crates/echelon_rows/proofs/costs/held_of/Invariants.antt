@@ -1,0 +1,11 @@
+use Rattle.std.proofs.Common.{◌≡◌, ◌≤◌, ◌-◌, ◌*◌}
+use Rattle.lot_sizing.specs.Sums.{sum_to}
+use Rattle.lot_sizing.specs.Problem.{entry}
+use Rattle.echelon_rows.specs.declared.limits.TheConstants.{MAX_STEP}
+use Rattle.echelon_rows.proofs.costs.held_of.Given as goal
+
+abbrev pub invariant-loop-period : goal.invariant-loop-period
+invariant-loop-period l = record {
+  sum : l.sum ≡ sum_to (l.period - 1) (λ t. entry l.hold t * entry l.left t);
+  small : l.sum ≤ (l.period - 1) * MAX_STEP;
+}

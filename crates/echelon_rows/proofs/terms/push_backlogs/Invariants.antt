@@ -1,0 +1,12 @@
+use Rattle.std.proofs.Common.{◌-◌, ◌*◌, length}
+use Rattle.std.specs.Prelude.{pos}
+use Rattle.lot_sizing.specs.Problem.{entry}
+use Rattle.echelon.specs.Views.{marked}
+use Rattle.lin_rows.specs.Base.{term}
+use Rattle.lin_rows.specs.Made.{PutTerms}
+use Rattle.lin_rows.specs.declared.column.Column.TheVariants.{R}
+use Rattle.echelon_rows.specs.Rows.{cells_to, owed_by}
+use Rattle.echelon_rows.proofs.terms.push_backlogs.Given as goal
+
+abbrev pub invariant-loop-item : goal.invariant-loop-item
+invariant-loop-item l = PutTerms l.fn.terms.items (cells_to (l.item - 1) (length l.times) (λ j t. term (R j t) (pos (entry l.times t * owed_by l.periods (marked l.backs j) (entry l.weights j) t)))) l.terms.items

@@ -1,0 +1,10 @@
+pub mod Sides
+pub mod Shapes
+pub mod Least
+pub mod Separating
+pub mod Fitting
+pub mod Evaluating
+pub mod Listed
+pub mod Exact
+pub mod Terms
+pub mod Alike

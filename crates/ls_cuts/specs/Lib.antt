@@ -1,0 +1,4 @@
+pub mod Rows
+pub mod Points
+pub mod Steps
+pub mod Laws

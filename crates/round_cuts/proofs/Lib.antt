@@ -1,0 +1,4 @@
+mod Pairs
+mod Runs
+mod Ceilings
+mod Unique

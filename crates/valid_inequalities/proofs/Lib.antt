@@ -1,0 +1,3 @@
+pub mod Ls
+pub mod Nets
+pub mod Prices

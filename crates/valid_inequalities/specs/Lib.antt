@@ -1,0 +1,3 @@
+pub mod Trajectory
+pub mod Inequalities
+pub mod Laws
