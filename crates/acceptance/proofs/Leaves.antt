@@ -1,0 +1,178 @@
+-- What leaves say is so of each feasible plan that lies in them.
+use Rattle.std.proofs.Common.{◌≡◌, ◌≤◌, ◌<◌, ◌-◌, ℕ, zero, suc, refl, sym, subst, arith, Bool, true, false, List, [], ◌∷◌, length, slice_index_or}
+use Rattle.std.specs.Prelude.{ℤ, pos, negsuc, neg_ℤ, ◌+ℤ◌, ◌*ℤ◌, ◌≤ℤ◌}
+use Rattle.std.specs.List.{All}
+use Rattle.std.proofs.lemmas.List.Elements.{All-cons, All-filter, All-head, All-nil, All-tail}
+use Rattle.algebra.proofs.Integers.{minus_one, mul_one}
+use Rattle.algebra.proofs.Order.{linear}
+use Rattle.lot_sizing.specs.Problem.{Problem}
+use Rattle.lot_sizing.specs.Plan.{Plan, IsFeasible, cost}
+use Rattle.lot_sizing.specs.Laws.{BoundsTotals}
+use Rattle.lot_sizing.specs.Least.{HasChoice}
+use Rattle.lot_sizing.specs.Totals.{AreLargestTotals, IsRanking}
+use Rattle.lin_rows.specs.declared.bound.Bound.{Bound}
+use Rattle.lin_rows.specs.declared.column.Column.{Column}
+use Rattle.lin_rows.specs.declared.column.Column.TheVariants.{X, Y, S, R}
+use Rattle.lin_rows.specs.declared.base.RowName.{RowName}
+use Rattle.lin_rows.specs.declared.base.RowName.TheVariants.{Balance, Link, Capacity, EndMin, EndMax, Top, Least, Late, Path, Cut}
+use Rattle.lin_rows.specs.Base.{HasRow, all_terms, is_some_term, row_of}
+use Rattle.lin_rows.specs.Bounds.{IsWithinNumber, bound_right, bound_row, bound_times}
+use Rattle.lin_rows.specs.Columns.{IsColumn, column_cost, value_in}
+use Rattle.lin_rows.specs.Combining.{AllHold, AreOfProblem, AreSigned, SumsBoundPlans, SumsRefute}
+use Rattle.lin_rows.specs.Rows.{HoldsAt, HoldsIn, LinPoint, LinRow, Values, whole_point}
+use Rattle.lin_rows.proofs.Columns.{base_exists}
+use Rattle.lin_rows.proofs.Holding.{row_holds}
+use Rattle.cert_lines.specs.declared.parts.Part.{Part}
+use Rattle.cert_lines.specs.Shapes.{LeafShape, LinearLeaf, FarkasLeaf, PointLeaf}
+use Rattle.split_trees.specs.Laws.{RangesAreLeft}
+use Rattle.split_trees.specs.Ranges.{IsChoice, IsWithin, Ranges}
+use Rattle.split_trees.specs.Paths.{AreChoices, AreMet, IsMet, no_bound}
+use Rattle.acceptance.specs.declared.says.LeafSays.{LeafSays}
+use Rattle.acceptance.specs.declared.says.LeafSays.TheVariants.{NoPlan, AtLeast}
+use Rattle.acceptance.specs.Named.{IsNamed, Named, no_row, row_named}
+use Rattle.acceptance.specs.Parts.{AreParts, IsPart, rows_of, sum_of_column, sum_of_right, times_of}
+use Rattle.acceptance.specs.Says.{IsFarkas, IsLinear, IsPoint, IsSoOf, Says, point_make, point_setup}
+
+-- what is known of a problem in which no item is its own component, and of its largest totals
+pub record IsKnown (m : Problem) (total : ℕ → ℕ) : Type 0 where
+  pub some : 1 ≤ m.periods
+  pub rank : ℕ → ℕ
+  pub ranks : IsRanking m rank
+  pub totals : AreLargestTotals m total
+
+-- what holds of each row of a list holds of the one at a place
+hold_at : (q : LinPoint) (rows : List LinRow) (k : ℕ) → k < length rows → AllHold q rows → HoldsAt q (slice_index_or rows k no_row)
+hold_at q [] k less hold = absurd (omega (arith, less))
+hold_at q (r ∷ rows) zero less hold = hold.0
+hold_at q (r ∷ rows) (suc k) less hold = hold_at q rows k (omega (arith, less)) hold.1
+
+columns_at : (m : Problem) (rows : List LinRow) (k : ℕ) → k < length rows → AreOfProblem m rows → All (λ a. IsColumn m a.column) (slice_index_or rows k no_row).terms
+columns_at m [] k less are = absurd (omega (arith, less))
+columns_at m (r ∷ rows) zero less are = are.0
+columns_at m (r ∷ rows) (suc k) less are = columns_at m rows k (omega (arith, less)) are.1
+
+-- the row of a bound that is met holds
+met_row : (b : Bool) (n x : ℕ) → IsWithinNumber b n x → (bound_right b n *ℤ pos 1) ≤ℤ (bound_times b *ℤ pos x +ℤ pos 0)
+met_row true n x met = omega (arith, linear, met, mul_one (neg_ℤ (pos n)), minus_one (pos x))
+met_row false n x met = omega (arith, linear, met)
+
+bound_holds : (v : Values) (b : Bound) → IsMet v b → HoldsAt (whole_point v) (bound_row b)
+bound_holds v b met = met_row b.most b.number (v b.column) met
+
+-- a quantity or a setup is a column
+choice_column : (m : Problem) (c : Column) → IsChoice m c → IsColumn m c
+choice_column m (X i t) is = is
+choice_column m (Y i t) is = is
+choice_column m (S i t) is = absurd is
+choice_column m (R i t) is = absurd is
+
+bound_columns : (m : Problem) (b : Bound) → IsChoice m b.column → All (λ a. IsColumn m a.column) (bound_row b).terms
+bound_columns m b is = All-cons (λ a. IsColumn m a.column) _ [] (choice_column m b.column is) (All-nil (λ a. IsColumn m a.column))
+
+-- what is known of the rows that can be named, at a plan
+pub record AreRowsAt (n : Named) (p : Plan) : Type 0 where
+  pub known : IsKnown n.problem n.total
+  pub feasible : IsFeasible n.problem p
+  pub cuts : AllHold (whole_point (value_in p)) n.cuts
+  pub met : AreMet (value_in p) n.path
+
+-- and of their columns
+pub record AreColumnsOf (n : Named) : Type 0 where
+  pub some : 1 ≤ n.problem.periods
+  pub cuts : AreOfProblem n.problem n.cuts
+  pub path : AreChoices n.problem n.path
+
+module _ (bounds : BoundsTotals) where
+  base_is : (n : Named) (p : Plan) (name : RowName) → AreRowsAt n p → HasRow n.problem name → HoldsIn p (row_of n.problem n.total name)
+  base_is n p name are has =
+      let known = are.known in
+      row_holds n.problem p n.total name are.feasible known.some (λ i low high. bounds n.problem known.rank n.total known.some known.ranks known.totals p are.feasible i low high) has
+
+  named_holds : (n : Named) (p : Plan) (name : RowName) → AreRowsAt n p → IsNamed n name → HoldsIn p (row_named n name)
+  named_holds n p (Balance i t) are has = base_is n p (Balance i t) are has
+  named_holds n p (Link i t) are has = base_is n p (Link i t) are has
+  named_holds n p (Capacity k t) are has = base_is n p (Capacity k t) are has
+  named_holds n p (EndMin i) are has = base_is n p (EndMin i) are has
+  named_holds n p (EndMax i) are has = base_is n p (EndMax i) are has
+  named_holds n p (Top i t) are has = base_is n p (Top i t) are has
+  named_holds n p (Least i t) are has = base_is n p (Least i t) are has
+  named_holds n p (Late i t) are has = base_is n p (Late i t) are has
+  named_holds n p (Path k) are has = bound_holds (value_in p) (slice_index_or n.path (k - 1) no_bound) (are.met (k - 1) no_bound (omega (arith, has.0, has.1)))
+  named_holds n p (Cut k) are has = hold_at (whole_point (value_in p)) n.cuts (k - 1) (omega (arith, has.0, has.1)) are.cuts
+
+  pub parts_hold : (n : Named) (p : Plan) (parts : List Part) → AreRowsAt n p → AreParts n parts → AllHold (whole_point (value_in p)) (rows_of n parts)
+  parts_hold n p [] are has = tt
+  parts_hold n p (a ∷ parts) are has =
+      (named_holds n p a.row are (All-head (IsPart n) a parts has).named, parts_hold n p parts are (All-tail (IsPart n) a parts has))
+
+base_columns : (n : Named) (name : RowName) → 1 ≤ n.problem.periods → HasRow n.problem name → All (λ a. IsColumn n.problem a.column) (row_of n.problem n.total name).terms
+base_columns n name some has = All-filter (λ a. is_some_term a.times) (λ a. IsColumn n.problem a.column) (all_terms n.problem n.total name) (base_exists n.problem n.total name some has)
+
+named_columns : (n : Named) (name : RowName) → AreColumnsOf n → IsNamed n name → All (λ a. IsColumn n.problem a.column) (row_named n name).terms
+named_columns n (Balance i t) are has = base_columns n (Balance i t) are.some has
+named_columns n (Link i t) are has = base_columns n (Link i t) are.some has
+named_columns n (Capacity k t) are has = base_columns n (Capacity k t) are.some has
+named_columns n (EndMin i) are has = base_columns n (EndMin i) are.some has
+named_columns n (EndMax i) are has = base_columns n (EndMax i) are.some has
+named_columns n (Top i t) are has = base_columns n (Top i t) are.some has
+named_columns n (Least i t) are has = base_columns n (Least i t) are.some has
+named_columns n (Late i t) are has = base_columns n (Late i t) are.some has
+named_columns n (Path k) are has = bound_columns n.problem (slice_index_or n.path (k - 1) no_bound) (are.path (k - 1) no_bound (omega (arith, has.0, has.1)))
+named_columns n (Cut k) are has = columns_at n.problem n.cuts (k - 1) (omega (arith, has.0, has.1)) are.cuts
+
+pub parts_columns : (n : Named) (parts : List Part) → AreColumnsOf n → AreParts n parts → AreOfProblem n.problem (rows_of n parts)
+parts_columns n [] are has = tt
+parts_columns n (a ∷ parts) are has =
+    (named_columns n a.row are (All-head (IsPart n) a parts has).named, parts_columns n parts are (All-tail (IsPart n) a parts has))
+
+pub parts_signed : (n : Named) (parts : List Part) → AreParts n parts → AreSigned (rows_of n parts) (times_of parts)
+parts_signed n [] has = tt
+parts_signed n (a ∷ parts) has = ((All-head (IsPart n) a parts has).signed, parts_signed n parts (All-tail (IsPart n) a parts has))
+
+-- a denominator
+natural : (z : ℤ) → pos 1 ≤ℤ z → (k : ℕ) × (z ≡ pos k)
+natural (pos k) some = (k, refl)
+natural (negsuc k) some = absurd (omega (arith, linear, some))
+
+-- the laws on which leaves rest
+pub record Grounds : Type 0 where
+  pub totals : BoundsTotals
+  pub bound : SumsBoundPlans
+  pub refute : SumsRefute
+  pub left : RangesAreLeft
+
+module _ (by : Grounds) where
+  linear_says : (n : Named) (den : ℤ) (parts : List Part) (bound : ℕ) (p : Plan) → IsLinear n den parts bound → AreColumnsOf n → AreRowsAt n p → bound ≤ cost n.problem p
+  linear_says n den parts bound p is columns are =
+      let m = n.problem in
+      let (k, e) = natural den is.positive in
+      let named = is.parts_exist in
+      let most = by.bound m (rows_of n parts) (times_of parts) k (parts_signed n parts named) (parts_columns n parts columns named)
+      (λ c has. subst (λ d. sum_of_column n parts c ≤ℤ (d *ℤ pos (column_cost m c))) e (is.columns c has)) p are.feasible (parts_hold by.totals n p parts are named) in
+      is.right.least (cost m p) (subst (λ d. sum_of_right n parts ≤ℤ (d *ℤ pos (cost m p))) (sym e) most)
+
+  farkas_says : (n : Named) (parts : List Part) (p : Plan) → IsFarkas n parts → AreColumnsOf n → AreRowsAt n p → ⊥
+  farkas_says n parts p is columns are =
+      let named = is.parts_exist in
+      by.refute n.problem (rows_of n parts) (times_of parts) (parts_signed n parts named) (parts_columns n parts columns named) is.columns is.right (whole_point (value_in p)) (parts_hold by.totals n p parts are named)
+
+  -- a plan that lies where each quantity and setup is left one value has these values
+  has_point : (n : Named) (ranges : Ranges) (p : Plan) → IsPoint n ranges → AreChoices n.problem n.path → AreMet (value_in p) n.path → IsWithin n.problem ranges p → HasChoice n.problem (point_make n ranges) (point_setup n ranges) p
+  has_point n ranges p is choices met within =
+      let left = (by.left n.problem ranges n.path choices p).1 (within, met) in
+      record {
+        make = λ i t low high t_low t_high.
+            let kept = (left i t low high t_low t_high).0 in
+            omega (arith, kept.0, kept.1, (is i t low high t_low t_high).0);
+        setup = λ i t low high t_low t_high.
+            let kept = (left i t low high t_low t_high).1 in
+            omega (arith, kept.0, kept.1, (is i t low high t_low t_high).1);
+      }
+
+  pub leaf_is_so : (n : Named) (ranges : Ranges) (leaf : LeafShape) (says : LeafSays) (p : Plan) → Says n ranges leaf says → AreColumnsOf n → AreRowsAt n p → IsWithin n.problem ranges p → IsSoOf n.problem says p
+  leaf_is_so n ranges (LinearLeaf den parts) NoPlan p is columns are within = absurd is
+  leaf_is_so n ranges (LinearLeaf den parts) (AtLeast bound) p is columns are within = linear_says n den parts bound p is columns are
+  leaf_is_so n ranges (FarkasLeaf parts) NoPlan p is columns are within = farkas_says n parts p is columns are
+  leaf_is_so n ranges (FarkasLeaf parts) (AtLeast bound) p is columns are within = absurd is
+  leaf_is_so n ranges PointLeaf NoPlan p is columns are within = is.1 p are.feasible (has_point n ranges p is.0 columns.path are.met within)
+  leaf_is_so n ranges PointLeaf (AtLeast bound) p is columns are within = is.1.least p are.feasible (has_point n ranges p is.0 columns.path are.met within)

@@ -1,0 +1,10 @@
+mod Leaves
+mod Echelons
+mod Cuts
+mod Places
+mod Whole
+mod Once
+mod Agreeing
+mod Whichever
+mod Examples
+mod Cutting

@@ -1,0 +1,7 @@
+pub mod Named
+pub mod Parts
+pub mod Says
+pub mod CutRows
+pub mod Accepts
+pub mod Laws
+pub mod Worked

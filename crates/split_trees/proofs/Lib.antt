@@ -1,0 +1,5 @@
+pub mod Left
+pub mod Walk
+mod Counting
+mod Places
+mod Plans

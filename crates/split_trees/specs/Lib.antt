@@ -1,0 +1,5 @@
+pub mod Spans
+pub mod Ranges
+pub mod Paths
+pub mod Trees
+pub mod Laws
