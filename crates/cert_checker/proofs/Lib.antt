@@ -1,0 +1,15 @@
+mod Sums
+mod Firsts
+mod Leaves
+mod LeafBounds
+mod LeafPoints
+mod CutWeights
+mod CutKinds
+mod CutParts
+mod CheckCuts
+mod CheckKinds
+mod CheckLines
+mod CheckNever
+mod CheckOnce
+mod CheckRefusals
+mod CheckWhole

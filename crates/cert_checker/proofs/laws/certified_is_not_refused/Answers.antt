@@ -1,0 +1,6 @@
+use Rattle.cert_checker.proofs.CheckNever.{no_fault}
+use Rattle.cert_checker.proofs.laws.certified_is_not_refused.Goals as goal
+
+pub returns : goal.returns
+returns c m total weight limits cert given at w =
+    no_fault m total weight c.judgement_is_one.ensures c.cut_rows_go_on.ensures.places c.cut_rows_are_one.ensures c.says_are_one.ensures limits cert given at w

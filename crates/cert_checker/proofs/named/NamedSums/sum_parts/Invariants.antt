@@ -1,0 +1,13 @@
+use Rattle.std.proofs.Common.{take}
+use Rattle.split_trees.specs.Ranges.{WithTotals}
+use Rattle.acceptance.specs.Named.{names}
+use Rattle.acceptance.specs.Parts.{AreSmall}
+use Rattle.cert_checker.specs.Named.{AreSumsOf, IsReadyFor}
+use Rattle.cert_checker.proofs.named.NamedSums.sum_parts.Given as goal
+
+abbrev pub invariant-loop-place : goal.invariant-loop-place
+invariant-loop-place l = record {
+  ready : IsReadyFor l.instance l.self;
+  so_far : WithTotals l.instance (λ total. AreSumsOf (names l.instance total l.cuts l.path) (take l.place l.parts) l.self.sums);
+  small : WithTotals l.instance (λ total. AreSmall (names l.instance total l.cuts l.path) (take l.place l.parts));
+}

@@ -1,0 +1,5 @@
+pub mod Named
+pub mod Leaves
+pub mod Cuts
+pub mod Checks
+pub mod Laws

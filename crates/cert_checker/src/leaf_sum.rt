@@ -1,0 +1,136 @@
+// What a leaf says by a sum of multiples of rows.
+ghost use Rattle.std.specs.Prelude.{◌≡◌, ◌+◌, ◌<◌, ◌^◌, ◌≤ℤ◌, pos, length, IfErr, IfOk};
+ghost use Rattle.lin_rows.specs.Combining.{AreOfProblem};
+ghost use Rattle.cert_lines.specs.Shapes.{FarkasLeaf, LinearLeaf};
+ghost use Rattle.split_trees.specs.Paths.{AreChoices};
+ghost use Rattle.split_trees.specs.Ranges.{WithTotals, whole_ranges};
+ghost use Rattle.acceptance.specs.Accepts.{IsSmallLeaf};
+ghost use Rattle.acceptance.specs.Named.{names};
+ghost use Rattle.acceptance.specs.Parts.{sum_of_right};
+ghost use Rattle.acceptance.specs.Says.{IsRoundedUp, Says};
+ghost use Rattle.cert_checker.specs.Named.{IsReadyFor};
+ghost use Rattle.cert_checker.specs.Leaves.{IfRejected, IsFarkasFault, IsGoodSum, IsSumFault, linear_most};
+
+use crate::columns::first_large;
+use crate::named::AddFault;
+use crate::parts::test_parts;
+use crate::{CheckFault, NamedSums, Rejected, Why};
+use acceptance::LeafSays;
+use certificate::Part;
+use lin_rows::{Bound, Row};
+use lot_model::Instance;
+use std::alloc::Global;
+
+// A sum divided by a denominator and rounded up, and 0 where that is negative.
+fn rounded_up(sum: i128, den: i128) -> u128
+    requires { pos 1 ≤ℤ den }
+    ensures { IsRoundedUp den sum result }
+{
+    if sum <= 0 {
+        return 0;
+    }
+    sum.unsigned_abs().div_ceil(den.unsigned_abs())
+}
+
+// Sums parts, no column more often than `den` times its cost. It is refused by the first of these that holds: a
+// part may not be taken, the amounts are too large, or the sum of a column is.
+fn summed(
+    alloc: Global,
+    instance: &Instance,
+    named: &mut NamedSums,
+    cuts: &[Row],
+    path: &[Bound],
+    den: i128,
+    parts: &[Part],
+    line: u64,
+) -> Result<i128, CheckFault>
+    requires ready { IsReadyFor instance.now named.old }
+    requires cuts { AreOfProblem instance.now cuts.now }
+    requires path { AreChoices instance.now path.now }
+    requires den { pos 0 ≤ℤ den }
+    requires lines { line + length parts.now < 2 ^ 64 }
+    ensures ready { IsReadyFor instance.now named.new }
+    ensures good { IfOk result (λ _. WithTotals instance.now (λ total. IsGoodSum (names instance.now total cuts.now path.now) (linear_most (names instance.now total cuts.now path.now) den) parts.now)) }
+    ensures right { IfOk result (λ right. WithTotals instance.now (λ total. right ≡ sum_of_right (names instance.now total cuts.now path.now) parts.now)) }
+    ensures fault { IfErr result (λ fault. IfRejected fault (λ at why. WithTotals instance.now (λ total. IsSumFault (names instance.now total cuts.now path.now) (linear_most (names instance.now total cuts.now path.now) den) parts.now line at why))) }
+{
+    match test_parts(instance, cuts, path, parts, line) {
+        Ok(()) => {}
+        Err(rejected) => return Err(CheckFault::Rejected(rejected)),
+    }
+    match named.sum_parts(alloc, instance, cuts, path, parts) {
+        Ok(()) => {}
+        Err(AddFault::TooLarge) => {
+            let why = Why::TooLarge;
+            return Err(CheckFault::Rejected(Rejected { line, why }));
+        }
+        Err(AddFault::Memory) => return Err(CheckFault::Memory),
+    }
+    match first_large(instance, &named.sums, den) {
+        Some(column) => {
+            let why = Why::Column(column);
+            Err(CheckFault::Rejected(Rejected { line, why }))
+        }
+        None => Ok(named.sums.right()),
+    }
+}
+
+// What a leaf says by linear duality: the sum takes no column more often than `den` times its cost, so each plan
+// that lies in the leaf costs at least the right side over `den`, rounded up.
+pub(crate) fn linear_leaf(
+    alloc: Global,
+    instance: &Instance,
+    named: &mut NamedSums,
+    cuts: &[Row],
+    path: &[Bound],
+    den: i128,
+    parts: &[Part],
+    line: u64,
+) -> Result<LeafSays, CheckFault>
+    requires ready { IsReadyFor instance.now named.old }
+    requires cuts { AreOfProblem instance.now cuts.now }
+    requires path { AreChoices instance.now path.now }
+    requires den { pos 1 ≤ℤ den }
+    requires lines { line + length parts.now < 2 ^ 64 }
+    ensures ready { IsReadyFor instance.now named.new }
+    ensures says { IfOk result (λ says. WithTotals instance.now (λ total. Says (names instance.now total cuts.now path.now) (whole_ranges total) (LinearLeaf den parts.now) says)) }
+    ensures small { IfOk result (λ _. WithTotals instance.now (λ total. IsSmallLeaf (names instance.now total cuts.now path.now) (LinearLeaf den parts.now))) }
+    ensures fault { IfErr result (λ fault. IfRejected fault (λ at why. WithTotals instance.now (λ total. IsSumFault (names instance.now total cuts.now path.now) (linear_most (names instance.now total cuts.now path.now) den) parts.now line at why))) }
+{
+    let right = match summed(alloc, instance, named, cuts, path, den, parts, line) {
+        Ok(right) => right,
+        Err(fault) => return Err(fault),
+    };
+    Ok(LeafSays::AtLeast(rounded_up(right, den)))
+}
+
+// What a leaf says by Farkas' lemma: the sum takes no column a positive number of times and its right side is
+// positive, so no plan lies in the leaf.
+pub(crate) fn farkas_leaf(
+    alloc: Global,
+    instance: &Instance,
+    named: &mut NamedSums,
+    cuts: &[Row],
+    path: &[Bound],
+    parts: &[Part],
+    line: u64,
+) -> Result<LeafSays, CheckFault>
+    requires ready { IsReadyFor instance.now named.old }
+    requires cuts { AreOfProblem instance.now cuts.now }
+    requires path { AreChoices instance.now path.now }
+    requires lines { line + length parts.now < 2 ^ 64 }
+    ensures ready { IsReadyFor instance.now named.new }
+    ensures says { IfOk result (λ says. WithTotals instance.now (λ total. Says (names instance.now total cuts.now path.now) (whole_ranges total) (FarkasLeaf parts.now) says)) }
+    ensures small { IfOk result (λ _. WithTotals instance.now (λ total. IsSmallLeaf (names instance.now total cuts.now path.now) (FarkasLeaf parts.now))) }
+    ensures fault { IfErr result (λ fault. IfRejected fault (λ at why. WithTotals instance.now (λ total. IsFarkasFault (names instance.now total cuts.now path.now) parts.now line at why))) }
+{
+    let right = match summed(alloc, instance, named, cuts, path, 0, parts, line) {
+        Ok(right) => right,
+        Err(fault) => return Err(fault),
+    };
+    if right <= 0 {
+        let why = Why::Short { says: 0 };
+        return Err(CheckFault::Rejected(Rejected { line, why }));
+    }
+    Ok(LeafSays::NoPlan)
+}
