@@ -1,0 +1,143 @@
+-- Lines that run as they are needed are those of a certificate.
+use Rattle.std.proofs.Common.{◌≡◌, ◌≤◌, ◌+◌, ◌∙◌, ℕ, zero, suc, refl, sym, ap, subst, arith, List, [], ◌∷◌, ◌++◌, append_assoc, append-nil, length}
+use Rattle.std.specs.Prelude.{replicate}
+use Rattle.std.proofs.lemmas.List.{length-append}
+use Rattle.cert_lines.specs.declared.limits.TheConstants.{MAX_BRANCHES}
+use Rattle.cert_lines.specs.declared.parts.Part.{Part}
+use Rattle.cert_lines.specs.Shapes.{BlockCut, BranchLine, CutLine, CutShape, EndLine, FarkasLeaf, FarkasLine, LinearLeaf, LinearLine, LsCut, PartLine, PointLeaf, PointLine, PriceCut, RoundCut, RoundLine}
+use Rattle.certificate.specs.Shapes.{End, Split, TreeShape}
+use Rattle.certificate.specs.Counts.{longest_path}
+use Rattle.certificate.specs.Values.{AreLines, Values, all_cut_values, cut_values, part_values, tree_values}
+use Rattle.certificate.specs.Needs.{Need, Runs, a_cut, a_part, a_tree, after, the_end}
+use Rattle.certificate.specs.Faults.{body_needs}
+use Rattle.certificate.proofs.Shorts.{lines_split}
+use Rattle.cert_stream.specs.Laws.{IsBody}
+
+-- lines that meet some needs and then others are those of the first, and then those of the others
+record AreSplit (xs ys : List Need) (ls : Values) : Type 0 where
+  first : Values
+  later : Values
+  is : ls ≡ first ++ later
+  first_runs : Runs xs first []
+  later_runs : Runs ys later []
+
+runs_split : (xs ys : List Need) (ls : Values) → Runs (xs ++ ys) ls [] → AreSplit xs ys ls
+runs_split [] ys ls runs = record { first = []; later = ls; is = refl; first_runs = refl; later_runs = runs }
+runs_split (x ∷ xs) ys [] runs = absurd (cc runs)
+runs_split (x ∷ xs) ys (l ∷ ls) runs =
+    let rest = runs_split (after x l ++ xs) ys ls (subst (λ ns. Runs ns ls []) (sym (append_assoc (after x l) xs ys)) runs.2) in
+    record {
+      first = l ∷ rest.first;
+      later = rest.later;
+      is = ap (λ t. l ∷ t) rest.is;
+      first_runs = (runs.0, runs.1, rest.first_runs);
+      later_runs = rest.later_runs;
+    }
+
+no_lines : (ls : Values) → Runs [] ls [] → ls ≡ []
+no_lines [] runs = refl
+no_lines (l ∷ ls) runs = absurd runs
+
+-- the lines of so many parts
+record AreParts (count : ℕ) (ls : Values) : Type 0 where
+  parts : List Part
+  count_is : length parts ≡ count
+  values : ls ≡ part_values parts
+
+parts_of : (count : ℕ) (ls : Values) → Runs (replicate count a_part) ls [] → AreParts count ls
+parts_of zero ls runs = record { parts = []; count_is = refl; values = no_lines ls runs }
+parts_of (suc count) [] runs = absurd (cc runs)
+parts_of (suc count) (PartLine part ∷ ls) runs =
+    let rest = parts_of count ls runs.2 in
+    record { parts = part ∷ rest.parts; count_is = ap suc rest.count_is; values = ap (λ t. PartLine part ∷ t) rest.values }
+parts_of (suc count) (_ ∷ ls) runs = absurd runs.0
+
+-- the needs after a line stand alone
+alone : (needs : List Need) (ls : Values) → Runs (needs ++ []) ls [] → Runs needs ls []
+alone needs ls runs = subst (λ ns. Runs ns ls []) (append-nil needs) runs
+
+-- the lines of a cut
+record IsCut (ls : Values) : Type 0 where
+  cut : CutShape
+  values : ls ≡ cut_values cut
+
+cut_of : (version : ℕ) (ls : Values) → AreLines version ls → Runs (a_cut ∷ []) ls [] → IsCut ls
+cut_of version [] lines runs = absurd (cc runs)
+cut_of version (CutLine (LsCut item last chosen) ∷ ls) lines runs = record { cut = LsCut item last chosen; values = ap (λ t. CutLine (LsCut item last chosen) ∷ t) (no_lines ls runs.2) }
+cut_of version (CutLine (PriceCut item lists) ∷ ls) lines runs = record { cut = PriceCut item lists; values = ap (λ t. CutLine (PriceCut item lists) ∷ t) (no_lines ls runs.2) }
+cut_of version (CutLine (BlockCut item lists) ∷ ls) lines runs = record { cut = BlockCut item lists; values = ap (λ t. CutLine (BlockCut item lists) ∷ t) (no_lines ls runs.2) }
+cut_of version (CutLine (RoundCut divisor parts) ∷ ls) lines runs = absurd lines.0.form.small
+cut_of version (RoundLine divisor count ∷ ls) lines runs =
+    let rest = parts_of count ls (alone (replicate count a_part) ls runs.2) in
+    record { cut = RoundCut divisor rest.parts; values = ap (λ t. RoundLine divisor count ∷ t) rest.values ∙ ap (λ n. RoundLine divisor n ∷ part_values rest.parts) (sym rest.count_is) }
+cut_of version (_ ∷ ls) lines runs = absurd runs.0
+
+-- the lines of so many cuts
+record AreCuts (count : ℕ) (ls : Values) : Type 0 where
+  cuts : List CutShape
+  count_is : length cuts ≡ count
+  values : ls ≡ all_cut_values cuts
+
+cuts_of : (version count : ℕ) (ls : Values) → AreLines version ls → Runs (replicate count a_cut) ls [] → AreCuts count ls
+cuts_of version zero ls lines runs = record { cuts = []; count_is = refl; values = no_lines ls runs }
+cuts_of version (suc count) ls lines runs =
+    let split = runs_split (a_cut ∷ []) (replicate count a_cut) ls runs in
+    let apart = lines_split version split.first split.later (subst (AreLines version) split.is lines) in
+    let one = cut_of version split.first apart.0 split.first_runs in
+    let rest = cuts_of version count split.later apart.1 split.later_runs in
+    record {
+      cuts = one.cut ∷ rest.cuts;
+      count_is = ap suc rest.count_is;
+      values = split.is ∙ ap (λ t. t ++ split.later) one.values ∙ ap (λ t. cut_values one.cut ++ t) rest.values;
+    }
+
+-- the lines of a tree with so many branches above it
+record IsTree (above : ℕ) (ls : Values) : Type 0 where
+  tree : TreeShape
+  values : ls ≡ tree_values tree
+  paths : above + longest_path tree ≤ MAX_BRANCHES
+
+tree_of : (most above : ℕ) (ls : Values) → length ls ≤ most → above ≤ MAX_BRANCHES → Runs (a_tree above ∷ []) ls [] → IsTree above ls
+tree_of most above [] short high runs = absurd (cc runs)
+tree_of zero above (l ∷ ls) short high runs = absurd (omega (arith, short))
+tree_of (suc most) above (BranchLine column at ∷ ls) short high runs =
+    let next = a_tree (above + 1) in
+    let split = runs_split (next ∷ []) (next ∷ []) ls runs.2 in
+    let both : length ls ≡ length split.first + length split.later = ap length split.is ∙ length-append split.first split.later in
+    let room : above + 1 ≤ MAX_BRANCHES = omega (arith, runs.1) in
+    let low = tree_of most (above + 1) split.first (omega (arith, short, both)) room split.first_runs in
+    let high_side = tree_of most (above + 1) split.later (omega (arith, short, both)) room split.later_runs in
+    record {
+      tree = Split column at low.tree high_side.tree;
+      values = ap (λ t. BranchLine column at ∷ t) (split.is ∙ ap (λ t. t ++ split.later) low.values ∙ ap (λ t. tree_values low.tree ++ t) high_side.values);
+      paths = omega (arith, low.paths, high_side.paths);
+    }
+tree_of (suc most) above (LinearLine den count ∷ ls) short high runs =
+    let rest = parts_of count ls (alone (replicate count a_part) ls runs.2) in
+    record { tree = End (LinearLeaf den rest.parts); values = ap (λ t. LinearLine den count ∷ t) rest.values ∙ ap (λ n. LinearLine den n ∷ part_values rest.parts) (sym rest.count_is); paths = omega (arith, high) }
+tree_of (suc most) above (FarkasLine count ∷ ls) short high runs =
+    let rest = parts_of count ls (alone (replicate count a_part) ls runs.2) in
+    record { tree = End (FarkasLeaf rest.parts); values = ap (λ t. FarkasLine count ∷ t) rest.values ∙ ap (λ n. FarkasLine n ∷ part_values rest.parts) (sym rest.count_is); paths = omega (arith, high) }
+tree_of (suc most) above (PointLine ∷ ls) short high runs = record { tree = End PointLeaf; values = ap (λ t. PointLine ∷ t) (no_lines ls runs.2); paths = omega (arith, high) }
+tree_of (suc most) above (_ ∷ ls) short high runs = absurd runs.0
+
+end_of : (ls : Values) → Runs (the_end ∷ []) ls [] → ls ≡ EndLine ∷ []
+end_of [] runs = absurd (cc runs)
+end_of (EndLine ∷ ls) runs = ap (λ t. EndLine ∷ t) (no_lines ls runs.2)
+end_of (_ ∷ ls) runs = absurd runs.0
+
+pub body_of : (version count : ℕ) (ls : Values) → AreLines version ls → Runs (body_needs count) ls [] → IsBody count ls
+body_of version count ls lines runs =
+    let split = runs_split (replicate count a_cut) (a_tree 0 ∷ the_end ∷ []) ls runs in
+    let apart = lines_split version split.first split.later (subst (AreLines version) split.is lines) in
+    let cuts = cuts_of version count split.first apart.0 split.first_runs in
+    let ends = runs_split (a_tree 0 ∷ []) (the_end ∷ []) split.later split.later_runs in
+    let tree = tree_of (length ends.first) 0 ends.first (omega arith) (omega arith) ends.first_runs in
+    let last = end_of ends.later ends.later_runs in
+    record {
+      cuts = cuts.cuts;
+      tree = tree.tree;
+      count_is = cuts.count_is;
+      values = split.is ∙ ap (λ t. t ++ split.later) cuts.values ∙ ap (λ t. all_cut_values cuts.cuts ++ t) (ends.is ∙ ap (λ t. t ++ ends.later) tree.values ∙ ap (λ t. tree_values tree.tree ++ t) last);
+      paths = omega (arith, tree.paths);
+    }
