@@ -1,0 +1,10 @@
+pub mod Ways
+pub mod Lines
+pub mod Stack
+pub mod Forest
+pub mod Walk
+pub mod Cuts
+pub mod Parts
+pub mod Heads
+pub mod Whole
+pub mod Files

@@ -1,0 +1,65 @@
+use Rattle.std.proofs.Common.{◌≡◌, ◌∙◌, ◌++◌, ℕ, List, [], ap, refl, rules, subst, sym}
+use Rattle.std.specs.Prelude.{FitsSigned}
+use mir.Syntax.{w128}
+use mir.Val.{of_z, to_z}
+use mir.Facts.{to_z-of_z}
+use Rattle.cert_lines.specs.declared.parts.Part.{Part}
+use Rattle.cert_lines.specs.declared.parts.Leaf.TheVariants as leaf
+use Rattle.cert_lines.specs.Shapes.{FarkasLeaf, LinearLeaf, PointLeaf, line_shape}
+use Rattle.certificate.specs.Shapes.{TreeShape}
+use Rattle.certificate.specs.Values.{Values, tree_values}
+use Rattle.stream_check.specs.Passes.{Awaits, IsRefusal}
+use Rattle.stream_check.specs.Streams.{never_refused}
+use Rattle.stream_check.proofs.Lines.{other_tree, same_branch, same_farkas, same_linear, same_point, tree_first, tree_lines, tree_rest, whole_leaf}
+use Rattle.stream_check.proofs.Ways.{awaits_same}
+use Rattle.stream_check.proofs.units.read_node.Goals.{in-Branch, in-Linear+in_ok-parts-in-Linear, in-Farkas+in_ok-parts-in-Farkas, in-Point, in_default}
+use Rattle.stream_check.proofs.units.read_node.Goals as goal
+
+pub returns-in_err-column-clause-awaited : goal.returns-in_err-column-clause-awaited
+returns-in_err-column-clause-awaited g c =
+    let why : (t : TreeShape) (ls : Values) → Awaits (g.S.Shelf.shown c.args.shelf.now) c.args.name.now c.args.reader.now c.args.version (tree_values t ++ ls) → IsRefusal never_refused c.in_err-column.field-0.0 = λ t ls awaits.
+    c.in_err-column.ensures.awaited (tree_first t) (tree_rest t ++ ls) (awaits_same (ap (λ vs. vs ++ ls) (tree_lines t)) awaits) in
+    search (rules, why)
+
+pub returns-in_err-parts-in-Linear-clause-awaited : goal.returns-in_err-parts-in-Linear-clause-awaited
+returns-in_err-parts-in-Linear-clause-awaited g c =
+    let why : (t : TreeShape) (ls : Values) → Awaits (g.S.Shelf.shown c.args.shelf.now) c.args.name.now c.args.reader.now c.args.version (tree_values t ++ ls) → IsRefusal never_refused c.in_err-parts-in-Linear.field-0.0 = λ t ls awaits.
+    let given = c.in_ok-column.ensures.awaited (tree_first t) (tree_rest t ++ ls) (awaits_same (ap (λ vs. vs ++ ls) (tree_lines t)) awaits) in
+    let same = same_linear c.in-Linear.den c.in-Linear.count t (sym (ap line_shape c.in-Linear.is) ∙ given.0) in
+    c.in_err-parts-in-Linear.ensures.awaited same.0 ls same.2 (awaits_same (ap (λ vs. vs ++ ls) same.3) given.1) in
+    search (rules, why)
+
+pub returns-in_err-parts-in-Farkas-clause-awaited : goal.returns-in_err-parts-in-Farkas-clause-awaited
+returns-in_err-parts-in-Farkas-clause-awaited g c =
+    let why : (t : TreeShape) (ls : Values) → Awaits (g.S.Shelf.shown c.args.shelf.now) c.args.name.now c.args.reader.now c.args.version (tree_values t ++ ls) → IsRefusal never_refused c.in_err-parts-in-Farkas.field-0.0 = λ t ls awaits.
+    let given = c.in_ok-column.ensures.awaited (tree_first t) (tree_rest t ++ ls) (awaits_same (ap (λ vs. vs ++ ls) (tree_lines t)) awaits) in
+    let same = same_farkas c.in-Farkas.count t (sym (ap line_shape c.in-Farkas.is) ∙ given.0) in
+    c.in_err-parts-in-Farkas.ensures.awaited same.0 ls same.2 (awaits_same (ap (λ vs. vs ++ ls) same.3) given.1) in
+    search (rules, why)
+
+pub returns-clause-awaited : goal.returns-clause-awaited
+returns-clause-awaited g c =
+    elim c.match-branch-2.branch [
+      | in-Branch w ↦ rw (w.result-is, w.reader-is, w.shelf-is) (λ t ls awaits.
+          let given = c.in_ok-column.ensures.awaited (tree_first t) (tree_rest t ++ ls) (awaits_same (ap (λ vs. vs ++ ls) (tree_lines t)) awaits) in
+          (tree_rest t, same_branch w.in-Branch.column w.in-Branch.at t (sym (ap line_shape w.in-Branch.is) ∙ given.0), given.1))
+      | in-Linear+in_ok-parts-in-Linear w ↦ rw (w.result-is, w.reader-is, w.shelf-is) (λ t ls awaits.
+          let given = c.in_ok-column.ensures.awaited (tree_first t) (tree_rest t ++ ls) (awaits_same (ap (λ vs. vs ++ ls) (tree_lines t)) awaits) in
+          let same = same_linear w.in-Linear.den w.in-Linear.count t (sym (ap line_shape w.in-Linear.is) ∙ given.0) in
+          let parts = w.in_ok-parts-in-Linear.ensures.awaited same.0 ls same.2 (awaits_same (ap (λ vs. vs ++ ls) same.3) given.1) in
+          let fits : FitsSigned w128 w.in-Linear.den = search rules in
+          let den : to_z w128 (of_z w128 w.in-Linear.den) ≡ w.in-Linear.den = simp (to_z-of_z fits) in
+          ([], whole_leaf (leaf.Linear (to_z w128 (of_z w128 w.in-Linear.den)) w.in_ok-parts-in-Linear.parts) t (LinearLeaf w.in-Linear.den same.0) same.1 (ap (λ z. LinearLeaf z w.in_ok-parts-in-Linear.parts.items) den ∙ ap (λ ps. LinearLeaf w.in-Linear.den ps) parts.0), parts.1))
+      | in-Farkas+in_ok-parts-in-Farkas w ↦ rw (w.result-is, w.reader-is, w.shelf-is) (λ t ls awaits.
+          let given = c.in_ok-column.ensures.awaited (tree_first t) (tree_rest t ++ ls) (awaits_same (ap (λ vs. vs ++ ls) (tree_lines t)) awaits) in
+          let same = same_farkas w.in-Farkas.count t (sym (ap line_shape w.in-Farkas.is) ∙ given.0) in
+          let parts = w.in_ok-parts-in-Farkas.ensures.awaited same.0 ls same.2 (awaits_same (ap (λ vs. vs ++ ls) same.3) given.1) in
+          ([], whole_leaf (leaf.Farkas w.in_ok-parts-in-Farkas.parts) t (FarkasLeaf same.0) same.1 (ap (λ ps. FarkasLeaf ps) parts.0), parts.1))
+      | in-Point w ↦ rw (w.result-is, w.reader-is, w.shelf-is) (λ t ls awaits.
+          let given = c.in_ok-column.ensures.awaited (tree_first t) (tree_rest t ++ ls) (awaits_same (ap (λ vs. vs ++ ls) (tree_lines t)) awaits) in
+          let same = same_point t (sym (ap line_shape w.in-Point.is) ∙ given.0) in
+          ([], whole_leaf leaf.Point t PointLeaf same.0 refl, awaits_same (ap (λ vs. vs ++ ls) same.1) given.1))
+      | in_default w ↦ rw w.result-is (λ t ls awaits.
+          let given = c.in_ok-column.ensures.awaited (tree_first t) (tree_rest t ++ ls) (awaits_same (ap (λ vs. vs ++ ls) (tree_lines t)) awaits) in
+          other_tree c.in_ok-column.field-0 t w.in_default.not-Branch w.in_default.not-Linear w.in_default.not-Farkas w.in_default.not-Point given.0)
+    ]

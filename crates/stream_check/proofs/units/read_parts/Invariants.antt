@@ -1,0 +1,16 @@
+use Rattle.std.proofs.Common.{◌≡◌, ◌+◌, ◌++◌, ◌≤◌, List, length}
+use Rattle.cert_lines.specs.declared.parts.Part.{Part}
+use Rattle.certificate.specs.Values.{Values, part_values}
+use Rattle.cert_stream.specs.Reader.{left_of}
+use Rattle.stream_check.specs.Passes.{Awaits, IsOn}
+use Rattle.stream_check.proofs.units.read_parts.Given as goal
+
+abbrev pub invariant-loop : goal.invariant-loop
+invariant-loop g l = record {
+  on : IsOn l.name (g.S.Shelf.shown l.fn.shelf) (g.S.Shelf.shown l.shelf) l.fn.reader l.reader;
+  count : length l.parts.items ≡ l.counter;
+  number : l.reader.number ≡ l.fn.reader.number + l.counter;
+  left : left_of l.reader ≤ left_of l.fn.reader;
+  awaited : (parts : List Part) (ls : Values) → length parts ≡ l.count → Awaits (g.S.Shelf.shown l.fn.shelf) l.name l.fn.reader l.version (part_values parts ++ ls)
+      → (more : List Part) × (parts ≡ l.parts.items ++ more) × Awaits (g.S.Shelf.shown l.shelf) l.name l.reader l.version (part_values more ++ ls);
+}

@@ -1,0 +1,54 @@
+-- What the file of a certificate holds, and why it may give nothing to go on with.
+use Rattle.std.specs.Prelude.{◌≡◌, ◌≢◌, ◌+◌, ◌-◌, ◌<◌, ◌^◌, ℕ, List, length, IsTrue, Option, Some, None, ⊤}
+use Rattle.lot_io.specs.Outside.{Rose, RoseBy, Shelved, piece_size}
+use Rattle.certificate.specs.declared.fault.CertTextFault.TheVariants as text
+use Rattle.certificate.specs.Faults.{IsCertTextFault}
+use Rattle.certificate.specs.Limits.{IsTextOf}
+use Rattle.certificate.specs.Shapes.{Shape}
+use Rattle.cert_checker.specs.declared.fault.Why.{Why}
+use Rattle.stream_check.specs.declared.fault.StreamFault.{StreamFault}
+use Rattle.stream_check.specs.declared.fault.StreamFault.TheVariants as stream
+
+-- the first length, in bytes, at which a file is too long
+abbrev pub too_many : ℕ
+too_many = 2 ^ 63
+
+-- the most bytes that a pass over a file is given
+abbrev pub pass_size : ℕ
+pass_size = too_many + piece_size
+
+-- a file has bytes of which this holds, and not too many
+abbrev pub OfBytes : Option (List ℕ) → (List ℕ → Type 0) → Type 0
+OfBytes file P = (bytes : List ℕ) × (file ≡ Some bytes) × (length bytes < too_many) × P bytes
+
+-- it has too many
+abbrev pub IsTooLong : Option (List ℕ) → Type 0
+IsTooLong file = (bytes : List ℕ) × (file ≡ Some bytes) × (too_many - 1 < length bytes)
+
+-- they are the text of a certificate of which this holds
+abbrev pub OfCertificate : Option (List ℕ) → (Shape → Type 0) → Type 0
+OfCertificate file P = OfBytes file (λ bytes. (c : Shape) × IsTextOf bytes c × P c)
+
+-- why the file of this name gave no answer: it is absent, a fetch failed, it is too long, its text is no certificate's, or the certificate is refused; memory may always be wanting
+abbrev pub IsStreamFault : List ℕ → Shelved → Shelved → (ℕ → Why → Type 0) → StreamFault → Type 0
+IsStreamFault name old new P stream.Missing = Rose old.misses new.misses × (IsTrue old.told → old.file name ≡ None)
+IsStreamFault name old new P stream.Failed = Rose old.faults new.faults
+IsStreamFault name old new P stream.TooLong =
+    RoseBy too_many old.given new.given × (IsTrue old.told → IsTooLong (old.file name))
+IsStreamFault name old new P (stream.Text fault) =
+    (fault ≢ text.Memory) × (IsTrue old.told → OfBytes (old.file name) (λ bytes. IsCertTextFault bytes fault))
+IsStreamFault name old new P (stream.Rejected r) = P r.line r.why
+IsStreamFault name old new P stream.Memory = ⊤
+
+-- no certificate is refused where its claim alone is read
+abbrev pub never_refused : ℕ → Why → Type 0
+never_refused at w = ⊥
+
+-- bytes are the text of no certificate, for this cause
+abbrev pub IsTextRefused : List ℕ → StreamFault → Type 0
+IsTextRefused bytes stream.Missing = ⊥
+IsTextRefused bytes stream.Failed = ⊥
+IsTextRefused bytes stream.TooLong = ⊥
+IsTextRefused bytes (stream.Text fault) = (fault ≢ text.Memory) × IsCertTextFault bytes fault
+IsTextRefused bytes (stream.Rejected r) = ⊥
+IsTextRefused bytes stream.Memory = ⊤

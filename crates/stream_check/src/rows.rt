@@ -1,0 +1,88 @@
+// The rows of a certificate's cuts, each cut read from its lines and let go.
+ghost use Rattle.std.specs.Prelude.{◌≡◌, ℕ, ◌+◌, ◌++◌, IfErr, IfOk, List, OnOk, length};
+ghost use Rattle.std.specs.List.{All};
+ghost use Rattle.lot_sizing.specs.Plan.{Plan, IsFeasible};
+ghost use Rattle.echelon.specs.Weights.{IsExplosionOf};
+ghost use Rattle.lin_rows.specs.Columns.{IsColumn, value_in};
+ghost use Rattle.lin_rows.specs.Combining.{AllHold, AreOfProblem};
+ghost use Rattle.lin_rows.specs.Rows.{HoldsIn, whole_point};
+ghost use Rattle.cert_lines.specs.Limits.{IsVersion};
+ghost use Rattle.cert_lines.specs.Shapes.{CutShape};
+ghost use Rattle.certificate.specs.Values.{Values, all_cut_values, cut_values};
+ghost use Rattle.acceptance.specs.Laws.{HoldAtPlans};
+ghost use Rattle.cert_checker.specs.Cuts.{IsCutFault, OfProblem};
+ghost use Rattle.cert_checker.specs.Checks.{AreGoodCuts, IsCutsFault, first_line};
+ghost use Rattle.cert_stream.specs.Reader.{IsSound};
+ghost use Rattle.stream_check.specs.Passes.{Awaits, Gives, IsOn, IsStopped};
+ghost use Rattle.stream_check.specs.Rows.{IsRowOf};
+
+use crate::StreamFault;
+use crate::units::read_cut;
+use acceptance::cut_rows_go_on;
+use cert_checker::cut_row_in;
+use cert_stream::LineReader;
+use echelon::Explosion;
+use lin_rows::Row;
+use lot_io::Shelf;
+use lot_model::Instance;
+use std::alloc::Global;
+
+// The row of the next cut, which is made of the rows of the earlier ones.
+fn read_row<S: Shelf>(
+    alloc: Global,
+    instance: &Instance,
+    explosion: &Explosion,
+    earlier: &[Row],
+    reader: &mut LineReader,
+    shelf: &mut S,
+    name: &str,
+    version: u32,
+) -> Result<Row, StreamFault>
+    requires explosion { IsExplosionOf instance.now explosion.now }
+    requires earlier { AreOfProblem instance.now earlier.now }
+    requires sound { IsSound reader.old }
+    requires version { IsVersion version }
+    ensures holds { IfOk result (λ row. (p : Plan) → IsFeasible instance.now p → AllHold (whole_point (value_in p)) earlier.now → HoldsIn p row) }
+    ensures columns_exist { IfOk result (λ row. All (λ a. IsColumn instance.now a.column) row.terms) }
+    ensures awaited { (cut : CutShape) (ls : Values) → Awaits (S.shown shelf.old) name.now reader.old version (cut_values cut ++ ls)
+        → Gives (λ row. IsRowOf instance.now earlier.now cut row × (reader.new.number ≡ reader.old.number + length (cut_values cut)) × Awaits (S.shown shelf.new) name.now reader.new version ls) (λ at why. OfProblem instance.now (λ total weight. IsCutFault instance.now total weight earlier.now cut reader.old.number at why)) result }
+    ensures on { OnOk result (IsOn name.now (S.shown shelf.old) (S.shown shelf.new) reader.old reader.new) }
+    ensures stopped { IfErr result (IsStopped name.now reader.old.at (S.shown shelf.old) (S.shown shelf.new)) }
+{
+    let line = reader.number;
+    let cut = read_cut(alloc, reader, shelf, name, version)?;
+    Ok(cut_row_in(alloc, instance, explosion, earlier, &cut, line)?)
+}
+
+// The rows of so many cuts, in their order.
+pub fn read_rows<S: Shelf>(
+    alloc: Global,
+    instance: &Instance,
+    explosion: &Explosion,
+    reader: &mut LineReader,
+    shelf: &mut S,
+    name: &str,
+    version: u32,
+    count: u32,
+) -> Result<Vec<Row>, StreamFault>
+    requires explosion { IsExplosionOf instance.now explosion.now }
+    requires sound { IsSound reader.old }
+    requires version { IsVersion version }
+    requires first { reader.old.number ≡ first_line }
+    ensures hold { IfOk result (λ rows. HoldAtPlans instance.now rows.items) }
+    ensures columns_exist { IfOk result (λ rows. AreOfProblem instance.now rows.items) }
+    ensures awaited { (cuts : List CutShape) (ls : Values) → length cuts ≡ count → Awaits (S.shown shelf.old) name.now reader.old version (all_cut_values cuts ++ ls)
+        → Gives (λ rows. OfProblem instance.now (λ total weight. AreGoodCuts instance.now total weight cuts rows.items) × (reader.new.number ≡ first_line + length (all_cut_values cuts)) × Awaits (S.shown shelf.new) name.now reader.new version ls) (λ at why. OfProblem instance.now (λ total weight. IsCutsFault instance.now total weight cuts at why)) result }
+    ensures on { OnOk result (IsOn name.now (S.shown shelf.old) (S.shown shelf.new) reader.old reader.new) }
+    ensures stopped { IfErr result (IsStopped name.now reader.old.at (S.shown shelf.old) (S.shown shelf.new)) }
+{
+    cut_rows_go_on();
+    let mut rows = Vec::new(alloc);
+    for _ in 0..count {
+        let row = read_row(
+            alloc, instance, explosion, &rows, reader, shelf, name, version,
+        )?;
+        rows.push(row)?;
+    }
+    Ok(rows)
+}

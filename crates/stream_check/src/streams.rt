@@ -1,0 +1,57 @@
+// Certificates in files.
+ghost use Rattle.std.specs.Prelude.{◌≡◌, ◌≤◌, ◌+◌, ◌*◌, IfErr, IfOk, IsTrue, option_copied};
+ghost use Rattle.lot_io.specs.Outside.{OnlyReads};
+ghost use Rattle.acceptance.specs.Accepts.{IsTrueOf};
+ghost use Rattle.cert_checker.specs.Cuts.{OfProblem};
+ghost use Rattle.cert_checker.specs.Checks.{IsCertified, IsCheckFault, plan_given};
+ghost use Rattle.stream_check.specs.Streams.{IsStreamFault, OfCertificate, never_refused, pass_size};
+
+use crate::StreamFault;
+use crate::pass::check_text;
+use cert_stream::LineReader;
+use certificate::Claim;
+use lot_io::Shelf;
+use lot_model::Instance;
+use plan_rules::Plan;
+use std::alloc::Global;
+
+/// What a certificate in a file claims, which is not checked. Its text is read to the end, once.
+///
+/// The refusals come in this order: `Missing` only where the shelf has no such file, `Failed` only where a fetch failed,
+/// `TooLong` only where the file has 2^63 bytes or more; then `Text` exactly as `read_certificate` refuses the
+/// bytes. It takes time in the length of the file, and memory for one piece of it, one line, and the branches of a path.
+pub fn read_claim<S: Shelf>(alloc: Global, shelf: &mut S, name: &str) -> Result<Claim, StreamFault>
+    ensures claim { IfOk result (λ claim. IsTrue (S.shown shelf.old).told → OfCertificate ((S.shown shelf.old).file name.now) (λ c. c.claim ≡ claim)) }
+    ensures fault { IfErr result (IsStreamFault name.now (S.shown shelf.old) (S.shown shelf.new) never_refused) }
+    ensures reads { OnlyReads (S.shown shelf.old) (S.shown shelf.new) }
+    ensures given { (S.shown shelf.new).given ≤ (S.shown shelf.old).given + pass_size }
+{
+    Ok(cert_stream::read_claim(alloc, shelf, name)?)
+}
+
+/// Whether the certificate in a file is accepted, and what it claims. The answer is that of `read_certificate` on the
+/// file's bytes, followed by `check`.
+///
+/// Whatever the file holds, the claim is true of the instance (`claim`): with an optimal cost also the plan is best
+/// and costs it. The refusals come in this order: those of `read_claim`, in a first pass, then `Rejected` exactly as
+/// `check` refuses the certificate, in a second one.
+///
+/// No tree is kept. It takes memory for the rows of all cuts, the bounds of one path, one cut or leaf with its parts, one
+/// piece of the file and one line; and time in the length of the file, read twice, beside that of `check`.
+pub fn check_stream<S: Shelf>(
+    alloc: Global,
+    instance: &Instance,
+    shelf: &mut S,
+    name: &str,
+    plan: Option<&Plan>,
+) -> Result<Claim, StreamFault>
+    ensures claim { IfOk result (λ claim. IsTrueOf instance.now claim (plan_given (option_copied plan.entry))) }
+    ensures certified { IfOk result (λ claim. IsTrue (S.shown shelf.old).told → OfCertificate ((S.shown shelf.old).file name.now) (λ c. (c.claim ≡ claim) × OfProblem instance.now (λ total weight. IsCertified instance.now total weight c (option_copied plan.entry)))) }
+    ensures fault { IfErr result (IsStreamFault name.now (S.shown shelf.old) (S.shown shelf.new) (λ at w. IsTrue (S.shown shelf.old).told → OfCertificate ((S.shown shelf.old).file name.now) (λ c. OfProblem instance.now (λ total weight. IsCheckFault instance.now total weight c (option_copied plan.entry) at w)))) }
+    ensures reads { OnlyReads (S.shown shelf.old) (S.shown shelf.new) }
+    ensures given { (S.shown shelf.new).given ≤ (S.shown shelf.old).given + 2 * pass_size }
+{
+    read_claim(alloc, shelf, name)?;
+    let mut reader = LineReader::new(alloc)?;
+    check_text(alloc, instance, &mut reader, shelf, name, plan)
+}
