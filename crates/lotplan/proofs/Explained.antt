@@ -7,21 +7,24 @@ use Rattle.lot_io.specs.Outside.{GrewBy, OnlyReads, Printed, Rose, Shelved}
 use Rattle.lotplan.specs.declared.said.Said.{Said}
 use Rattle.lotplan.specs.declared.status.Status.{Status}
 use Rattle.lotplan.specs.declared.status.Status.TheVariants.{Done, NoCommand}
-use Rattle.lotplan.specs.Command.{Asked, version, planning, judging, upgrading}
+use Rattle.lotplan.specs.Command.{Asked, version, planning, judging, checking, upgrading}
 use Rattle.lotplan.specs.Status.{code_of}
 use Rattle.lotplan.specs.Saying.{Ends, Gains, Prints}
 use Rattle.lotplan.specs.Reading.{ReadAnswer, refused, missing, unread, too_long, read_status}
 use Rattle.lotplan.specs.Planning.{CannotPlan, FindsNoPlan, PlanAnswer, PlanExplains, PlansBest, StartsAtMost, plan_line, plan_status}
 use Rattle.lotplan.specs.Planning as plan
-use Rattle.lotplan.specs.Judging.{FindsFault, FindsFeasible, JudgeAnswer, JudgeExplains, judge_line, judge_status}
+use Rattle.lotplan.specs.Judging.{FindsFeasible, JudgeAnswer, JudgeExplains, judge_line, judge_status}
 use Rattle.lotplan.specs.Judging as judge
+use Rattle.lotplan.specs.Checking.{Accepts, CheckAnswer, CheckExplains, check_line, check_status}
+use Rattle.lotplan.specs.Checking as check
 use Rattle.lotplan.specs.Upgrading.{UpgradeAnswer, UpgradeExplains, Upgrades, upgrade_line, upgrade_status}
 use Rattle.lotplan.specs.Upgrading as upgrade
-use Rattle.lotplan.specs.Run.{CallFor, CannotWrite, HadNoFault, IsNoCommand, IsRun, ran_out, runs, Leaves, RunsAs, SaysFor, Stops, refused_line, version_line}
+use Rattle.lotplan.specs.Run.{CallFor, CannotWrite, HadNoFault, IsFaulty, IsNoCommand, IsRun, ran_out, runs, Leaves, RunsAs, SaysFor, Stops, refused_line, version_line}
 use Rattle.lotplan.proofs.Outputs.{printed, prints_as}
 use Rattle.lotplan.proofs.Readings.{IsReading, reading, same_reads}
 use Rattle.lotplan.proofs.Planned as planned
 use Rattle.lotplan.proofs.Judged as judged
+use Rattle.lotplan.proofs.Checked as checked
 use Rattle.lotplan.proofs.Upgraded as upgraded
 
 -- ---- from what is said and printed to the run
@@ -30,6 +33,7 @@ runs_as None code old new out_old out_new said (same, says) done = (same, prints
 runs_as (Some version) code old new out_old out_new said (same, says) done = (same, prints_as version_line Done said code out_old out_new says done)
 runs_as (Some (planning m p c)) code old new out_old out_new said (answer, x, says) done = (answer, x, prints_as (plan_line answer) (plan_status answer) said code out_old out_new says done)
 runs_as (Some (judging m p)) code old new out_old out_new said ((answer, x, says), reads) done = (answer, x, reads, prints_as (judge_line answer) (judge_status answer) said code out_old out_new says done)
+runs_as (Some (checking m p c)) code old new out_old out_new said ((answer, x, says), reads) done = (answer, x, reads, prints_as (check_line answer) (check_status answer) said code out_old out_new says done)
 runs_as (Some (upgrading m n)) code old new out_old out_new said (answer, x, says) done = (answer, x, prints_as (upgrade_line answer) (upgrade_status answer) said code out_old out_new says done)
 
 pub is_run : (asked : Option Asked) (code : ℕ) (old new : Shelved) (out_old out_new : Printed) (r : Result Said AllocError) → IfOk r (SaysFor asked old new) → OnErr r (Leaves asked old new) → Ends r code out_old out_new → IsRun asked code old new out_old out_new
@@ -44,6 +48,8 @@ EndsAs (Some (planning m p c)) code old new out_old out_new =
     (answer : PlanAnswer) × PlanExplains m p old new answer × (code ≡ code_of (plan_status answer)) × Gains (plan_line answer) out_old out_new
 EndsAs (Some (judging m p)) code old new out_old out_new =
     (answer : JudgeAnswer) × JudgeExplains m p old new answer × OnlyReads old new × (code ≡ code_of (judge_status answer)) × Gains (judge_line answer) out_old out_new
+EndsAs (Some (checking m p c)) code old new out_old out_new =
+    (answer : CheckAnswer) × CheckExplains m p c old new answer × OnlyReads old new × (code ≡ code_of (check_status answer)) × Gains (check_line answer) out_old out_new
 EndsAs (Some (upgrading m n)) code old new out_old out_new =
     (answer : UpgradeAnswer) × UpgradeExplains m n old new answer × (code ≡ code_of (upgrade_status answer)) × Gains (upgrade_line answer) out_old out_new
 
@@ -57,6 +63,9 @@ ends_by (Some (planning m p c)) code old new out_old out_new (answer, x, done) o
     (answer, x, d.0, d.1)
 ends_by (Some (judging m p)) code old new out_old out_new (answer, x, reads, done) other =
     let d = printed (judge_line answer) (judge_status answer) code out_old out_new done other in
+    (answer, x, reads, d.0, d.1)
+ends_by (Some (checking m p c)) code old new out_old out_new (answer, x, reads, done) other =
+    let d = printed (check_line answer) (check_status answer) code out_old out_new done other in
     (answer, x, reads, d.0, d.1)
 ends_by (Some (upgrading m n)) code old new out_old out_new (answer, x, done) other =
     let d = printed (upgrade_line answer) (upgrade_status answer) code out_old out_new done other in
@@ -85,6 +94,11 @@ feasible asked code old new out_old out_new run m p is zero t =
     let (answer, why, reads, number, line) = subst (λ a. EndsAs a code old new out_old out_new) is (ends asked code old new out_old out_new run (λ e. omega (arith, e, zero)) (λ e. omega (arith, e, zero))) in
     judged.feasible_at m p code old new out_old out_new answer why number line zero t
 
+pub accepts : (asked : Option Asked) (code : ℕ) (old new : Shelved) (out_old out_new : Printed) → IsRun asked code old new out_old out_new → (m p c : List ℕ) → asked ≡ Some (checking m p c) → code ≡ 0 → IsTrue old.told → Accepts old.file m p c out_old out_new
+accepts asked code old new out_old out_new run m p c is none t =
+    let (answer, why, reads, number, line) = subst (λ a. EndsAs a code old new out_old out_new) is (ends asked code old new out_old out_new run (λ e. omega (arith, e, none)) (λ e. omega (arith, e, none))) in
+    checked.accepts_at m p c code old new out_old out_new answer why number line none t
+
 upgraded_by : (asked : Option Asked) (code : ℕ) (old new : Shelved) (out_old out_new : Printed) (m n : List ℕ) → asked ≡ Some (upgrading m n) → EndsAs asked code old new out_old out_new → code ≡ 0 → (IsTrue old.told → Upgrades old.file new.file m n out_old out_new) × GrewBy 1 old.starts new.starts
 upgraded_by asked code old new out_old out_new m n is x none =
     let (answer, why, number, line) = subst (λ a. EndsAs a code old new out_old out_new) is x in
@@ -105,6 +119,7 @@ infeasible_by (Some (planning m p c)) code old new out_old out_new (answer, why,
     let found = planned.impossible_at m p code old new out_old out_new answer why number line one t in
     record { model_file = m; plan_file = p; words = record { certificate_file = c; is = refl }; holds = found.0; line = found.1 }
 infeasible_by (Some (judging m p)) code old new out_old out_new (answer, why, reads, number, line) one t = absurd ((judged.numbers answer code number).one one)
+infeasible_by (Some (checking m p c)) code old new out_old out_new (answer, why, reads, number, line) one t = absurd ((checked.numbers answer code number).one one)
 infeasible_by (Some (upgrading m n)) code old new out_old out_new (answer, why, number, line) one t = absurd ((upgraded.numbers answer code number).one one)
 
 pub infeasible : (asked : Option Asked) (code : ℕ) (old new : Shelved) (out_old out_new : Printed) → IsRun asked code old new out_old out_new → code ≡ 1 → IsTrue old.told → FindsNoPlan asked old.file out_old out_new
@@ -117,19 +132,21 @@ coupled_by (Some (planning m p c)) code old new out_old out_new (answer, why, nu
     let found = planned.coupled_at m p code old new out_old out_new answer why number line twelve t in
     record { model_file = m; plan_file = p; words = record { certificate_file = c; is = refl }; holds = found.0; line = found.1 }
 coupled_by (Some (judging m p)) code old new out_old out_new (answer, why, reads, number, line) twelve t = absurd ((judged.numbers answer code number).twelve twelve)
+coupled_by (Some (checking m p c)) code old new out_old out_new (answer, why, reads, number, line) twelve t = absurd ((checked.numbers answer code number).twelve twelve)
 coupled_by (Some (upgrading m n)) code old new out_old out_new (answer, why, number, line) twelve t = absurd ((upgraded.numbers answer code number).twelve twelve)
 
 pub not_built : (asked : Option Asked) (code : ℕ) (old new : Shelved) (out_old out_new : Printed) → IsRun asked code old new out_old out_new → code ≡ 12 → IsTrue old.told → CannotPlan asked old.file out_old out_new
 not_built asked code old new out_old out_new run is t = coupled_by asked code old new out_old out_new (ends asked code old new out_old out_new run (λ e. omega (arith, e, is)) (λ e. omega (arith, e, is))) is t
 
-faulty_by : (asked : Option Asked) (code : ℕ) (old new : Shelved) (out_old out_new : Printed) → EndsAs asked code old new out_old out_new → code ≡ 3 → IsTrue old.told → FindsFault asked old.file out_old out_new
+faulty_by : (asked : Option Asked) (code : ℕ) (old new : Shelved) (out_old out_new : Printed) → EndsAs asked code old new out_old out_new → code ≡ 3 → IsTrue old.told → IsFaulty asked old.file out_old out_new
 faulty_by None code old new out_old out_new x three t = absurd (omega (arith, x.1, three))
 faulty_by (Some version) code old new out_old out_new x three t = absurd (omega (arith, x.1, three))
 faulty_by (Some (planning m p c)) code old new out_old out_new (answer, why, number, line) three t = planned.not_three answer code number three
-faulty_by (Some (judging m p)) code old new out_old out_new (answer, why, reads, number, line) three t = judged.fault_at m p code old new out_old out_new answer why number line three t
+faulty_by (Some (judging m p)) code old new out_old out_new (answer, why, reads, number, line) three t = inl (judged.fault_at m p code old new out_old out_new answer why number line three t)
+faulty_by (Some (checking m p c)) code old new out_old out_new (answer, why, reads, number, line) three t = inr (checked.refused_at m p c code old new out_old out_new answer why number line three t)
 faulty_by (Some (upgrading m n)) code old new out_old out_new (answer, why, number, line) three t = absurd ((upgraded.numbers answer code number).three three)
 
-pub faulty : (asked : Option Asked) (code : ℕ) (old new : Shelved) (out_old out_new : Printed) → IsRun asked code old new out_old out_new → code ≡ 3 → IsTrue old.told → FindsFault asked old.file out_old out_new
+pub faulty : (asked : Option Asked) (code : ℕ) (old new : Shelved) (out_old out_new : Printed) → IsRun asked code old new out_old out_new → code ≡ 3 → IsTrue old.told → IsFaulty asked old.file out_old out_new
 faulty asked code old new out_old out_new run is t = faulty_by asked code old new out_old out_new (ends asked code old new out_old out_new run (λ e. omega (arith, e, is)) (λ e. omega (arith, e, is))) is t
 
 unwritten_by : (asked : Option Asked) (code : ℕ) (old new : Shelved) (out_old out_new : Printed) → EndsAs asked code old new out_old out_new → code ≡ 8 → CannotWrite asked old new out_old out_new
@@ -137,6 +154,7 @@ unwritten_by None code old new out_old out_new x eight = absurd (omega (arith, x
 unwritten_by (Some version) code old new out_old out_new x eight = absurd (omega (arith, x.1, eight))
 unwritten_by (Some (planning m p c)) code old new out_old out_new (answer, why, number, line) eight = inl (planned.unwritten_at m p c code old new out_old out_new answer why number line eight)
 unwritten_by (Some (judging m p)) code old new out_old out_new (answer, why, reads, number, line) eight = absurd ((judged.numbers answer code number).eight eight)
+unwritten_by (Some (checking m p c)) code old new out_old out_new (answer, why, reads, number, line) eight = absurd ((checked.numbers answer code number).eight eight)
 unwritten_by (Some (upgrading m n)) code old new out_old out_new (answer, why, number, line) eight = inr (upgraded.unwritten_at m n code old new out_old out_new answer why number line eight)
 
 pub unwritten : (asked : Option Asked) (code : ℕ) (old new : Shelved) (out_old out_new : Printed) → IsRun asked code old new out_old out_new → code ≡ 8 → CannotWrite asked old new out_old out_new
@@ -160,6 +178,7 @@ no_command_by None code old new out_old out_new x four = record { is = refl; lin
 no_command_by (Some version) code old new out_old out_new x four = absurd (omega (arith, x.1, four))
 no_command_by (Some (planning m p c)) code old new out_old out_new (answer, why, number, line) four = plan_not_four answer code number four
 no_command_by (Some (judging m p)) code old new out_old out_new (answer, why, reads, number, line) four = judge_not_four answer code number four
+no_command_by (Some (checking m p c)) code old new out_old out_new (answer, why, reads, number, line) four = absurd ((checked.numbers answer code number).four four)
 no_command_by (Some (upgrading m n)) code old new out_old out_new (answer, why, number, line) four = absurd ((upgraded.numbers answer code number).four four)
 
 pub no_command : (asked : Option Asked) (code : ℕ) (old new : Shelved) (out_old out_new : Printed) → IsRun asked code old new out_old out_new → code ≡ 4 → IsNoCommand asked out_old out_new
@@ -182,6 +201,13 @@ judge_stop m p code old new out_old out_new (judge.no_plan fault) x is line r = 
 judge_stop m p code old new out_old out_new (judge.broken rule) x is line r = absurd (omega (arith, is, r.low))
 judge_stop m p code old new out_old out_new (judge.stopped why) x is line r = (why, record { cause = x; line = line }, is)
 
+check_stop : (m p c : List ℕ) (code : ℕ) (old new : Shelved) (out_old out_new : Printed) (answer : CheckAnswer) → CheckExplains m p c old new answer → code ≡ code_of (check_status answer) → Gains (check_line answer) out_old out_new → IsReading code → SomeStop (Some (checking m p c)) code old new out_old out_new
+check_stop m p c code old new out_old out_new (check.accepted claim) x is line r = absurd (omega (arith, is, r.low))
+check_stop m p c code old new out_old out_new (check.no_certificate fault) x is line r = absurd (omega (arith, is, r.low))
+check_stop m p c code old new out_old out_new (check.no_plan fault) x is line r = absurd (omega (arith, is, r.low))
+check_stop m p c code old new out_old out_new (check.rejected at w) x is line r = absurd (omega (arith, is, r.low))
+check_stop m p c code old new out_old out_new (check.stopped w) x is line r = (w, record { cause = x; line = line }, is)
+
 upgrade_stop : (m n : List ℕ) (code : ℕ) (old new : Shelved) (out_old out_new : Printed) (answer : UpgradeAnswer) → UpgradeExplains m n old new answer → code ≡ code_of (upgrade_status answer) → Gains (upgrade_line answer) out_old out_new → IsReading code → SomeStop (Some (upgrading m n)) code old new out_old out_new
 upgrade_stop m n code old new out_old out_new (upgrade.written file) x is line r = absurd (omega (arith, is, r.low))
 upgrade_stop m n code old new out_old out_new (upgrade.unwritten file) x is line r = absurd (r.other is)
@@ -192,6 +218,7 @@ stop_by None code old new out_old out_new x r = absurd (omega (arith, x.1, r.low
 stop_by (Some version) code old new out_old out_new x r = absurd (omega (arith, x.1, r.low))
 stop_by (Some (planning m p c)) code old new out_old out_new (answer, why, number, line) r = plan_stop m p c code old new out_old out_new answer why number line r
 stop_by (Some (judging m p)) code old new out_old out_new (answer, why, reads, number, line) r = judge_stop m p code old new out_old out_new answer why number line r
+stop_by (Some (checking m p c)) code old new out_old out_new (answer, why, reads, number, line) r = check_stop m p c code old new out_old out_new answer why number line r
 stop_by (Some (upgrading m n)) code old new out_old out_new (answer, why, number, line) r = upgrade_stop m n code old new out_old out_new answer why number line r
 
 stop : (asked : Option Asked) (code : ℕ) (old new : Shelved) (out_old out_new : Printed) → IsRun asked code old new out_old out_new → IsReading code → code ≢ 9 → code ≢ 10 → SomeStop asked code old new out_old out_new
@@ -257,6 +284,13 @@ judge_shown (judge.no_plan fault) = record { nine = λ e. omega (arith, e); ten 
 judge_shown (judge.broken rule) = record { nine = λ e. omega (arith, e); ten = λ e. omega (arith, e) }
 judge_shown (judge.stopped why) = read_shown why
 
+check_shown : (answer : CheckAnswer) → IsShown (code_of (check_status answer))
+check_shown (check.accepted claim) = record { nine = λ e. omega (arith, e); ten = λ e. omega (arith, e) }
+check_shown (check.no_certificate fault) = record { nine = λ e. omega (arith, e); ten = λ e. omega (arith, e) }
+check_shown (check.no_plan fault) = record { nine = λ e. omega (arith, e); ten = λ e. omega (arith, e) }
+check_shown (check.rejected at w) = record { nine = λ e. omega (arith, e); ten = λ e. omega (arith, e) }
+check_shown (check.stopped w) = read_shown w
+
 upgrade_shown : (answer : UpgradeAnswer) → IsShown (code_of (upgrade_status answer))
 upgrade_shown (upgrade.written file) = record { nine = λ e. omega (arith, e); ten = λ e. omega (arith, e) }
 upgrade_shown (upgrade.unwritten file) = record { nine = λ e. omega (arith, e); ten = λ e. omega (arith, e) }
@@ -278,6 +312,7 @@ print_by None code old new out_old out_new x = print_of refused_line NoCommand c
 print_by (Some version) code old new out_old out_new x = print_of version_line Done code out_old out_new (record { nine = λ e. omega (arith, e); ten = λ e. omega (arith, e) }) x.1
 print_by (Some (planning m p c)) code old new out_old out_new (answer, x, done) = print_of (plan_line answer) (plan_status answer) code out_old out_new (plan_shown answer) done
 print_by (Some (judging m p)) code old new out_old out_new (answer, x, reads, done) = print_of (judge_line answer) (judge_status answer) code out_old out_new (judge_shown answer) done
+print_by (Some (checking m p c)) code old new out_old out_new (answer, x, reads, done) = print_of (check_line answer) (check_status answer) code out_old out_new (check_shown answer) done
 print_by (Some (upgrading m n)) code old new out_old out_new (answer, x, done) = print_of (upgrade_line answer) (upgrade_status answer) code out_old out_new (upgrade_shown answer) done
 
 pub unprinted : (asked : Option Asked) (code : ℕ) (old new : Shelved) (out_old out_new : Printed) → IsRun asked code old new out_old out_new → code ≡ 9 → Rose out_old.faults out_new.faults
@@ -294,6 +329,7 @@ leaves_reads None old new x = same_reads old new x
 leaves_reads (Some version) old new x = same_reads old new x
 leaves_reads (Some (planning m p c)) old new x = x
 leaves_reads (Some (judging m p)) old new x = x
+leaves_reads (Some (checking m p c)) old new x = x
 leaves_reads (Some (upgrading m n)) old new x = x
 
 quiet_by : (asked : Option Asked) (code : ℕ) (old new : Shelved) (out_old out_new : Printed) → EndsAs asked code old new out_old out_new → code ≢ 0 → code ≢ 8 → OnlyReads old new
@@ -301,6 +337,7 @@ quiet_by None code old new out_old out_new x some eight = same_reads old new x.0
 quiet_by (Some version) code old new out_old out_new x some eight = same_reads old new x.0
 quiet_by (Some (planning m p c)) code old new out_old out_new (answer, why, number, line) some eight = planned.quiet_at m p code old new answer why number some eight
 quiet_by (Some (judging m p)) code old new out_old out_new (answer, why, reads, number, line) some eight = reads
+quiet_by (Some (checking m p c)) code old new out_old out_new (answer, why, reads, number, line) some eight = reads
 quiet_by (Some (upgrading m n)) code old new out_old out_new (answer, why, number, line) some eight = upgraded.quiet_at m n code old new answer why number some eight
 
 pub quiet : (asked : Option Asked) (code : ℕ) (old new : Shelved) (out_old out_new : Printed) → IsRun asked code old new out_old out_new → code ≢ 0 → code ≢ 8 → code ≢ 9 → OnlyReads old new
@@ -328,6 +365,13 @@ judging_by code old new out_old out_new m p (runs (answer, x, reads, done)) = re
 pub judge_reads : (asked : Option Asked) (code : ℕ) (old new : Shelved) (out_old out_new : Printed) → IsRun asked code old new out_old out_new → (m p : List ℕ) → asked ≡ Some (judging m p) → OnlyReads old new
 judge_reads asked code old new out_old out_new run m p is = judging_by code old new out_old out_new m p (subst (λ a. IsRun a code old new out_old out_new) is run)
 
+checking_by : (code : ℕ) (old new : Shelved) (out_old out_new : Printed) (m p c : List ℕ) → IsRun (Some (checking m p c)) code old new out_old out_new → OnlyReads old new
+checking_by code old new out_old out_new m p c (ran_out x) = x.left
+checking_by code old new out_old out_new m p c (runs (answer, x, reads, done)) = reads
+
+pub check_reads : (asked : Option Asked) (code : ℕ) (old new : Shelved) (out_old out_new : Printed) → IsRun asked code old new out_old out_new → (m p c : List ℕ) → asked ≡ Some (checking m p c) → OnlyReads old new
+check_reads asked code old new out_old out_new run m p c is = checking_by code old new out_old out_new m p c (subst (λ a. IsRun a code old new out_old out_new) is run)
+
 idle_by : (code : ℕ) (old new : Shelved) (out_old out_new : Printed) → IsRun None code old new out_old out_new → new ≡ old
 idle_by code old new out_old out_new (ran_out x) = x.left
 idle_by code old new out_old out_new (runs x) = x.0
@@ -340,6 +384,7 @@ told_by None code old new out_old out_new x = (same_reads old new x.0).told
 told_by (Some version) code old new out_old out_new x = (same_reads old new x.0).told
 told_by (Some (planning m p c)) code old new out_old out_new (answer, x, done) = (planned.others_at m p old new answer x).1
 told_by (Some (judging m p)) code old new out_old out_new (answer, x, reads, done) = reads.told
+told_by (Some (checking m p c)) code old new out_old out_new (answer, x, reads, done) = reads.told
 told_by (Some (upgrading m n)) code old new out_old out_new (answer, x, done) = (upgraded.others_at m n old new answer x).1
 
 pub tells : (asked : Option Asked) (code : ℕ) (old new : Shelved) (out_old out_new : Printed) → IsRun asked code old new out_old out_new → new.told ≡ old.told
@@ -352,6 +397,7 @@ called_by None code old new out_old out_new fine t x = x.1
 called_by (Some version) code old new out_old out_new fine t x = x.1
 called_by (Some (planning m p c)) code old new out_old out_new fine t (answer, x, number, line) = planned.called_at m p code old new out_old out_new fine t answer x number
 called_by (Some (judging m p)) code old new out_old out_new fine t (answer, x, reads, number, line) = judged.called_at m p code old new out_old out_new fine t answer x number
+called_by (Some (checking m p c)) code old new out_old out_new fine t (answer, x, reads, number, line) = checked.called_at m p c code old new out_old out_new fine t answer x number
 called_by (Some (upgrading m n)) code old new out_old out_new fine t (answer, x, number, line) = upgraded.called_at m n code old new out_old out_new fine t answer x number
 
 pub called : (asked : Option Asked) (code : ℕ) (old new : Shelved) (out_old out_new : Printed) → IsRun asked code old new out_old out_new → IsTrue old.told → HadNoFault old new out_old out_new → (code ≡ 10) ⊎ CallFor asked old.file code

@@ -2,6 +2,8 @@ pub mod Outputs
 pub mod Readings
 pub mod Planned
 pub mod Judged
+pub mod Checked
 pub mod Upgraded
 pub mod Explained
+pub mod Certified
 pub mod Statuses

@@ -1,7 +1,19 @@
 -- The words and the files call for one status.
-use Rattle.std.proofs.Common.{◌≡◌, ◌⊎◌, ◌≤◌, ◌∙◌, ⊎_elim, ℕ, sym, subst, arith, List, Option, Some, None}
+use Rattle.std.proofs.Common.{◌≡◌, ◌≢◌, ◌⊎◌, ◌≤◌, ◌∙◌, ⊎_elim, ℕ, sym, subst, arith, List, Option, Some, None}
 use Rattle.std.specs.Prelude.{Ok, Err}
+use Rattle.bill.specs.Laws.{TotalsExist, WeightsExist}
+use Rattle.plan_rules.specs.Held.{AllFit, plan_of}
 use Rattle.plan_rules.specs.declared.broken.Broken.{Broken}
+use Rattle.plan_rules.specs.declared.plan.Plan as grids
+use Rattle.cert_lines.specs.declared.parts.Claim.{Claim}
+use Rattle.cert_lines.specs.declared.parts.Claim.TheVariants.{Optimal, Infeasible, Bound as BoundOf}
+use Rattle.certificate.specs.declared.fault.CertTextFault.{CertTextFault}
+use Rattle.certificate.specs.declared.fault.CertTextFault.TheVariants as text
+use Rattle.certificate.specs.Faults.{IsCertTextFault}
+use Rattle.certificate.specs.Laws.{TextsMeanOneThing}
+use Rattle.certificate.specs.Limits.{IsTextOf}
+use Rattle.certificate.specs.Shapes.{Shape}
+use Rattle.cert_checker.specs.Laws.{CertifiedIsNotRefused}
 use Rattle.plan_file.specs.declared.fault.PlanFault.{PlanFault}
 use Rattle.lot_sizing.specs.Problem.{Problem}
 use Rattle.lot_sizing.specs.Plan.{IsFeasible, Plan}
@@ -14,11 +26,13 @@ use Rattle.instance_reader.specs.declared.versions.TheConstants.{FIRST_VERSION, 
 use Rattle.instance_reader.proofs.Meanings.{bytes_one}
 use Rattle.plan_file.specs.Records.{IsPlanOf, records_of}
 use Rattle.plan_file.proofs.Meanings.{means_one}
-use Rattle.lotplan.specs.Command.{Asked, version, planning, judging, upgrading}
+use Rattle.lotplan.specs.Command.{Asked, version, planning, judging, checking, upgrading}
 use Rattle.lotplan.specs.Planning.{BytesCallFor, FileCallsFor, ProblemCallsFor}
 use Rattle.lotplan.specs.Judging.{AreBroken, AreFeasible, AreNoPlan, JudgeCallsFor, PlanCallsFor}
+use Rattle.lotplan.specs.Checking.{CheckCallsFor, ClaimCallsFor, GivenCallsFor, PlannedCallsFor, ProofCallsFor}
 use Rattle.lotplan.specs.Upgrading.{UpgradeCallsFor}
 use Rattle.lotplan.specs.Run.{CallFor}
+use Rattle.lotplan.proofs.Certified.{IsMeant, given_call, meant, planned_call}
 
 problem_one : (m : Problem) (s t : ℕ) → ProblemCallsFor m s → ProblemCallsFor m t → s ≡ t
 problem_one m s t a b = ⊎_elim
@@ -155,9 +169,96 @@ upgrade_call (Some bytes) s t a b = ⊎_elim
         d)
         c
 
-pub call_one : (asked : Option Asked) (file : Files) (s t : ℕ) → CallFor asked file s → CallFor asked file t → s ≡ t
-call_one None file s t a b = a ∙ sym b
-call_one (Some version) file s t a b = a ∙ sym b
-call_one (Some (planning m p c)) file s t a b = file_call (file m) s t a b
-call_one (Some (judging m p)) file s t a b = judge_call (file m) (file p) s t a b
-call_one (Some (upgrading m n)) file s t a b = upgrade_call (file m) s t a b
+-- the laws below that say so of certificates
+pub record AreLaws : Type 0 where
+  pub totals : TotalsExist
+  pub weights : WeightsExist
+  pub texts : TextsMeanOneThing
+  pub checks : CertifiedIsNotRefused
+
+-- what the bytes of a plan file, of a certificate file and of a model file may be
+abbrev HasPlan : Problem → Shape → List ℕ → ℕ → Type 0
+HasPlan m c bytes u = (plan : grids.Plan) × AllFit m plan × IsPlanOf m (records_of bytes) (plan_of plan) × GivenCallsFor m c (Some plan) u
+
+abbrev HasNoPlan : Problem → List ℕ → ℕ → Type 0
+HasNoPlan m bytes u = (fault : PlanFault) × AreNoPlan m bytes fault × (u ≡ 3)
+
+abbrev HasText : Problem → Option (List ℕ) → List ℕ → ℕ → Type 0
+HasText m plan bytes u = (c : Shape) × IsTextOf bytes c × ClaimCallsFor m c c.claim plan u
+
+abbrev HasNoText : List ℕ → ℕ → Type 0
+HasNoText bytes u = (fault : CertTextFault) × (fault ≢ text.Memory) × IsCertTextFault bytes fault × (u ≡ 3)
+
+abbrev HasModel : Option (List ℕ) → Option (List ℕ) → List ℕ → ℕ → Type 0
+HasModel plan certificate bytes u = (m : Problem) × BytesMean bytes (Ok m) × ProofCallsFor m plan certificate u
+
+abbrev HasNoModel : List ℕ → ℕ → Type 0
+HasNoModel bytes u = (fault : ModelFault) × BytesMean bytes (Err fault) × (u ≡ 5)
+
+module _ (laws : AreLaws) (m : Problem) (known : IsMeant m) where
+  planned_file : (c : Shape) (file : Option (List ℕ)) (s t : ℕ) → PlannedCallsFor m c file s → PlannedCallsFor m c file t → s ≡ t
+  planned_file c None s t a b = a ∙ sym b
+  planned_file c (Some bytes) s t a b = ⊎_elim
+      (λ x. ⊎_elim (λ y. x.1 ∙ sym y.1) (λ y. absurd (omega (arith, x.0, y.0))) b)
+      (λ x. ⊎_elim (λ y. absurd (omega (arith, x.0, y.0))) (λ y. plans x.1 y.1) b)
+      a
+    where
+      apart_from : (u v : ℕ) → HasNoPlan m bytes u → HasPlan m c bytes v → ⊥
+      apart_from u v none plan = none.1.cause ((means_one m (records_of bytes)).plan_or_fault (plan_of plan.0) none.0 plan.2 none.1.is)
+
+      plans : HasNoPlan m bytes s ⊎ HasPlan m c bytes s → HasNoPlan m bytes t ⊎ HasPlan m c bytes t → s ≡ t
+      plans x y = ⊎_elim
+          (λ d. ⊎_elim (λ e. d.2 ∙ sym e.2) (λ e. absurd (apart_from s t d e)) y)
+          (λ d. ⊎_elim
+          (λ e. absurd (apart_from t s e d))
+          (λ e. planned_call laws.checks m known c d.0 e.0 s t (same_plan m known.some_period bytes (plan_of d.0) (plan_of e.0) d.2 e.2) (same_plan m known.some_period bytes (plan_of e.0) (plan_of d.0) e.2 d.2) d.1 e.1 d.3 e.3)
+          y)
+          x
+
+  claim_call : (c : Shape) (claim : Claim) (plan : Option (List ℕ)) (s t : ℕ) → ClaimCallsFor m c claim plan s → ClaimCallsFor m c claim plan t → s ≡ t
+  claim_call c (Optimal amount) plan s t a b = planned_file c plan s t a b
+  claim_call c Infeasible plan s t a b = given_call laws.checks m known c None s t a b
+  claim_call c (BoundOf amount) plan s t a b = given_call laws.checks m known c None s t a b
+
+  proof_call : (plan file : Option (List ℕ)) (s t : ℕ) → ProofCallsFor m plan file s → ProofCallsFor m plan file t → s ≡ t
+  proof_call plan None s t a b = a ∙ sym b
+  proof_call plan (Some bytes) s t a b = ⊎_elim
+      (λ x. ⊎_elim (λ y. x.1 ∙ sym y.1) (λ y. absurd (omega (arith, x.0, y.0))) b)
+      (λ x. ⊎_elim (λ y. absurd (omega (arith, x.0, y.0))) (λ y. certificates x.1 y.1) b)
+      a
+    where
+      apart_from : (u v : ℕ) → HasNoText bytes u → HasText m plan bytes v → ⊥
+      apart_from u v none c = none.1 ((laws.texts bytes).certificate_or_fault c.0 none.0 c.1 none.2)
+
+      certificates : HasNoText bytes s ⊎ HasText m plan bytes s → HasNoText bytes t ⊎ HasText m plan bytes t → s ≡ t
+      certificates x y = ⊎_elim
+          (λ d. ⊎_elim (λ e. d.3 ∙ sym e.3) (λ e. absurd (apart_from s t d e)) y)
+          (λ d. ⊎_elim
+          (λ e. absurd (apart_from t s e d))
+          (λ e. claim_call d.0 d.0.claim plan s t d.2 (subst (λ c. ClaimCallsFor m c c.claim plan t) ((laws.texts bytes).one_certificate e.0 d.0 e.1 d.1) e.2))
+          y)
+          x
+
+check_call : AreLaws → (file plan certificate : Option (List ℕ)) (s t : ℕ) → CheckCallsFor file plan certificate s → CheckCallsFor file plan certificate t → s ≡ t
+check_call laws None plan certificate s t a b = a ∙ sym b
+check_call laws (Some bytes) plan certificate s t a b = ⊎_elim
+    (λ x. ⊎_elim (λ y. x.1 ∙ sym y.1) (λ y. absurd (omega (arith, x.0, y.0))) b)
+    (λ x. ⊎_elim (λ y. absurd (omega (arith, x.0, y.0))) (λ y. means x.1 y.1) b)
+    a
+  where
+    means : HasNoModel bytes s ⊎ HasModel plan certificate bytes s → HasNoModel bytes t ⊎ HasModel plan certificate bytes t → s ≡ t
+    means c d = ⊎_elim
+        (λ x. ⊎_elim (λ y. x.2 ∙ sym y.2) (λ y. absurd (no_fault bytes y.0 x.0 y.1 x.1)) d)
+        (λ x. ⊎_elim
+        (λ y. absurd (no_fault bytes x.0 y.0 x.1 y.1))
+        (λ y. proof_call laws x.0 (meant laws.totals laws.weights bytes x.0 x.1) plan certificate s t x.2 (subst (λ m. ProofCallsFor m plan certificate t) (one_problem bytes y.0 x.0 y.1 x.1) y.2))
+        d)
+        c
+
+pub call_one : AreLaws → (asked : Option Asked) (file : Files) (s t : ℕ) → CallFor asked file s → CallFor asked file t → s ≡ t
+call_one laws None file s t a b = a ∙ sym b
+call_one laws (Some version) file s t a b = a ∙ sym b
+call_one laws (Some (planning m p c)) file s t a b = file_call (file m) s t a b
+call_one laws (Some (judging m p)) file s t a b = judge_call (file m) (file p) s t a b
+call_one laws (Some (checking m p c)) file s t a b = check_call laws (file m) (file p) (file c) s t a b
+call_one laws (Some (upgrading m n)) file s t a b = upgrade_call (file m) s t a b

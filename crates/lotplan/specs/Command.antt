@@ -9,6 +9,8 @@ pub data Asked : Type 0 where
   planning : List ℕ → List ℕ → List ℕ → Asked
   -- to judge a plan file, with the names of the model file and the plan file
   judging : List ℕ → List ℕ → Asked
+  -- to check a certificate file, with the names of the model file, the plan file and the certificate file
+  checking : List ℕ → List ℕ → List ℕ → Asked
   -- to write a model of the first version as one of the newest, with the names of the model file and the new file
   upgrading : List ℕ → List ℕ → Asked
 
@@ -25,11 +27,13 @@ are_file_names m p c = is_file_name m && (is_file_name p && (is_file_name c && (
 abbrev pub are_two_names : List ℕ → List ℕ → Bool
 are_two_names m p = is_file_name m && (is_file_name p && not (bytes_eq m p))
 
--- no words, or `judge` or `upgrade` and two names, or `plan` and three
+-- no words, or `judge` or `upgrade` and two names, or `plan` or `check` and three
 abbrev pub command_of : List (List ℕ) → Option Asked
 command_of [] = Some version
 command_of (word ∷ m ∷ p ∷ []) =
     if bytes_eq word (codes "judge") && are_two_names m p then Some (judging m p)
     else (if bytes_eq word (codes "upgrade") && are_two_names m p then Some (upgrading m p) else None)
-command_of (word ∷ m ∷ p ∷ c ∷ []) = if bytes_eq word (codes "plan") && are_file_names m p c then Some (planning m p c) else None
+command_of (word ∷ m ∷ p ∷ c ∷ []) =
+    if bytes_eq word (codes "plan") && are_file_names m p c then Some (planning m p c)
+    else (if bytes_eq word (codes "check") && are_file_names m p c then Some (checking m p c) else None)
 command_of _ = None

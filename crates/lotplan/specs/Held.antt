@@ -4,9 +4,10 @@ use Rattle.lotplan.specs.Command as command
 use Rattle.lotplan.specs.Reading as reading
 use Rattle.lotplan.specs.Planning as planning
 use Rattle.lotplan.specs.Judging as judging
+use Rattle.lotplan.specs.Checking as checking
 use Rattle.lotplan.specs.Upgrading as upgrading
 use Rattle.lotplan.specs.declared.command.Command.{Command}
-use Rattle.lotplan.specs.declared.command.Command.TheVariants.{Name, Plan, Judge, Upgrade}
+use Rattle.lotplan.specs.declared.command.Command.TheVariants.{Name, Plan, Judge, Check, Upgrade}
 use Rattle.lotplan.specs.declared.model_file.ReadAnswer.{ReadAnswer}
 use Rattle.lotplan.specs.declared.model_file.ReadAnswer.TheVariants.{Refused, Missing, Unread, TooLong}
 use Rattle.lotplan.specs.declared.model_file.Stop.{Stop}
@@ -15,6 +16,10 @@ use Rattle.lotplan.specs.declared.commands.plan.PlanAnswer.{PlanAnswer}
 use Rattle.lotplan.specs.declared.commands.plan.PlanAnswer.TheVariants as plan
 use Rattle.lotplan.specs.declared.commands.judge.JudgeAnswer.{JudgeAnswer}
 use Rattle.lotplan.specs.declared.commands.judge.JudgeAnswer.TheVariants as judge
+use Rattle.lotplan.specs.declared.commands.check.CheckAnswer.{CheckAnswer}
+use Rattle.lotplan.specs.declared.commands.check.CheckAnswer.TheVariants as check
+use Rattle.lotplan.specs.declared.commands.check.CheckStop.{CheckStop}
+use Rattle.lotplan.specs.declared.commands.check.CheckStop.TheVariants as check_stop
 use Rattle.lotplan.specs.declared.commands.upgrade.UpgradeAnswer.{UpgradeAnswer}
 use Rattle.lotplan.specs.declared.commands.upgrade.UpgradeAnswer.TheVariants as upgrade
 
@@ -22,6 +27,7 @@ use Rattle.lotplan.specs.declared.commands.upgrade.UpgradeAnswer.TheVariants as 
 abbrev pub asked_by : Command → command.Asked
 asked_by Name = command.version
 asked_by (Judge names) = command.judging names.model.now names.plan.now
+asked_by (Check names) = command.checking names.model.now names.plan.now names.certificate.now
 asked_by (Upgrade names) = command.upgrading names.model.now names.upgraded.now
 asked_by (Plan names) = command.planning names.model.now names.plan.now names.certificate.now
 
@@ -45,6 +51,13 @@ judge_meant (judge.NoPlan fault) = judging.no_plan fault
 judge_meant (judge.Broken rule) = judging.broken rule
 judge_meant (judge.Stopped why) = judging.stopped (read_meant why)
 
+abbrev pub check_meant : CheckAnswer → checking.CheckAnswer
+check_meant (check.Accepted claim) = checking.accepted claim
+check_meant (check.NoCertificate fault) = checking.no_certificate fault
+check_meant (check.NoPlan fault) = checking.no_plan fault
+check_meant (check.Rejected r) = checking.rejected r.line r.why
+check_meant (check.Stopped why) = checking.stopped (read_meant why)
+
 abbrev pub upgrade_meant : UpgradeAnswer → upgrading.UpgradeAnswer
 upgrade_meant (upgrade.Written file) = upgrading.written file.now
 upgrade_meant (upgrade.Unwritten file) = upgrading.unwritten file.now
@@ -54,3 +67,7 @@ upgrade_meant (upgrade.Stopped why) = upgrading.stopped (read_meant why)
 abbrev pub IsStop : (reading.ReadAnswer → Type 0) → Stop → Type 0
 IsStop P (Answered why) = P (read_meant why)
 IsStop P Memory = ⊤
+
+abbrev pub IsCheckStop : (checking.CheckAnswer → Type 0) → CheckStop → Type 0
+IsCheckStop P (check_stop.Answered answer) = P (check_meant answer)
+IsCheckStop P check_stop.Memory = ⊤

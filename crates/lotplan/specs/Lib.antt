@@ -4,6 +4,7 @@ pub mod Saying
 pub mod Reading
 pub mod Planning
 pub mod Judging
+pub mod Checking
 pub mod Upgrading
 pub mod Run
 pub mod Held

@@ -1,12 +1,14 @@
 -- What a run does to files and to the output, and why it answers what it does.
-use Rattle.std.specs.Prelude.{◌≡◌, ◌⊎◌, ℕ, List, codes, Option, Some, None}
-use Rattle.lot_io.specs.Outside.{Files, OnlyReads, Printed, Rose, Shelved}
-use Rattle.lotplan.specs.Command.{Asked, version, planning, judging, upgrading}
+use Rattle.std.specs.Prelude.{◌≡◌, ◌⊎◌, ◌+◌, ◌*◌, ℕ, List, codes, Option, Some, None}
+use Rattle.lot_io.specs.Outside.{Files, OnlyReads, Printed, Rose, Shelved, piece_size}
+use Rattle.stream_check.specs.Streams.{pass_size}
+use Rattle.lotplan.specs.Command.{Asked, version, planning, judging, checking, upgrading}
 use Rattle.lotplan.specs.Status.{code_of}
 use Rattle.lotplan.specs.Saying.{Gains, IsSaid, Prints}
-use Rattle.lotplan.specs.Reading.{FirstExplains, ModelExplains, ReadAnswer, read_line}
+use Rattle.lotplan.specs.Reading.{FirstExplains, ModelExplains, ReadAnswer, file_limit, read_line}
 use Rattle.lotplan.specs.Planning.{FailsToWrite, FileCallsFor, PlanAnswer, PlanExplains, PlanSays, plan_line, plan_status}
-use Rattle.lotplan.specs.Judging.{FilesStop, JudgeAnswer, JudgeCallsFor, JudgeExplains, JudgeSays, judge_line, judge_status}
+use Rattle.lotplan.specs.Judging.{FilesStop, FindsFault, JudgeAnswer, JudgeCallsFor, JudgeExplains, JudgeSays, judge_line, judge_status}
+use Rattle.lotplan.specs.Checking.{CheckAnswer, CheckCallsFor, CheckExplains, CheckSays, CheckStops, FindsRefused, check_line, check_status}
 use Rattle.lotplan.specs.Upgrading.{FailsToUpgrade, UpgradeAnswer, UpgradeCallsFor, UpgradeExplains, UpgradeSays, upgrade_line, upgrade_status}
 use Rattle.lotplan.specs.declared.said.Said.{Said}
 use Rattle.lotplan.specs.declared.status.Status.TheVariants.{Done, NoCommand, NoMemory}
@@ -24,6 +26,7 @@ SaysFor None old new said = (new ≡ old) × IsSaid refused_line NoCommand said
 SaysFor (Some version) old new said = (new ≡ old) × IsSaid version_line Done said
 SaysFor (Some (planning m p c)) old new said = PlanSays m p old new said
 SaysFor (Some (judging m p)) old new said = JudgeSays m p old new said × OnlyReads old new
+SaysFor (Some (checking m p c)) old new said = CheckSays m p c old new said × OnlyReads old new
 SaysFor (Some (upgrading m n)) old new said = UpgradeSays m n old new said
 
 -- what is left where memory ran out
@@ -32,6 +35,7 @@ Leaves None old new = new ≡ old
 Leaves (Some version) old new = new ≡ old
 Leaves (Some (planning m p c)) old new = OnlyReads old new
 Leaves (Some (judging m p)) old new = OnlyReads old new
+Leaves (Some (checking m p c)) old new = OnlyReads old new
 Leaves (Some (upgrading m n)) old new = OnlyReads old new
 
 -- what a run did, printed and gave, where memory didn't run out
@@ -42,6 +46,8 @@ RunsAs (Some (planning m p c)) code old new out_old out_new =
     (answer : PlanAnswer) × PlanExplains m p old new answer × Prints (plan_line answer) (plan_status answer) code out_old out_new
 RunsAs (Some (judging m p)) code old new out_old out_new =
     (answer : JudgeAnswer) × JudgeExplains m p old new answer × OnlyReads old new × Prints (judge_line answer) (judge_status answer) code out_old out_new
+RunsAs (Some (checking m p c)) code old new out_old out_new =
+    (answer : CheckAnswer) × CheckExplains m p c old new answer × OnlyReads old new × Prints (check_line answer) (check_status answer) code out_old out_new
 RunsAs (Some (upgrading m n)) code old new out_old out_new =
     (answer : UpgradeAnswer) × UpgradeExplains m n old new answer × Prints (upgrade_line answer) (upgrade_status answer) code out_old out_new
 
@@ -62,7 +68,18 @@ CallFor None file status = status ≡ 4
 CallFor (Some version) file status = status ≡ 0
 CallFor (Some (planning m p c)) file status = FileCallsFor (file m) status
 CallFor (Some (judging m p)) file status = JudgeCallsFor (file m) (file p) status
+CallFor (Some (checking m p c)) file status = CheckCallsFor (file m) (file p) (file c) status
 CallFor (Some (upgrading m n)) file status = UpgradeCallsFor (file m) status
+
+-- ---- how many bytes are read
+-- two files within the limit, and where a certificate is checked three passes over its file
+abbrev pub most_given : Option Asked → ℕ
+most_given None = 2 * (file_limit + piece_size)
+most_given (Some version) = 2 * (file_limit + piece_size)
+most_given (Some (planning m p c)) = 2 * (file_limit + piece_size)
+most_given (Some (judging m p)) = 2 * (file_limit + piece_size)
+most_given (Some (checking m p c)) = 2 * (file_limit + piece_size) + 3 * pass_size
+most_given (Some (upgrading m n)) = 2 * (file_limit + piece_size)
 
 -- no call on files or output failed
 pub record HadNoFault (old new : Shelved) (out_old out_new : Printed) : Type 0 where
@@ -76,6 +93,10 @@ pub record IsNoCommand (asked : Option Asked) (out_old out_new : Printed) : Type
   pub is : asked ≡ None
   pub line : Gains refused_line out_old out_new
 
+-- a plan that was judged, or a certificate that was checked, has a fault, and the line names the first
+abbrev pub IsFaulty : Option Asked → Files → Printed → Printed → Type 0
+IsFaulty asked before out_old out_new = FindsFault asked before out_old out_new ⊎ FindsRefused asked before out_old out_new
+
 -- the plan file, or the new model file, could not be written, and the line names it
 abbrev pub CannotWrite : Option Asked → Shelved → Shelved → Printed → Printed → Type 0
 CannotWrite asked old new out_old out_new = FailsToWrite asked old new out_old out_new ⊎ FailsToUpgrade asked old new out_old out_new
@@ -86,6 +107,7 @@ StopsFor None old new why = ⊥
 StopsFor (Some version) old new why = ⊥
 StopsFor (Some (planning m p c)) old new why = ModelExplains m old new why
 StopsFor (Some (judging m p)) old new why = FilesStop m p old new why
+StopsFor (Some (checking m p c)) old new why = CheckStops m p c old new why
 StopsFor (Some (upgrading m n)) old new why = FirstExplains m old new why
 
 -- they did for this cause, and the line names it

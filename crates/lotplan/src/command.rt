@@ -1,5 +1,5 @@
 // What the words of a command line ask for.
-ghost use Rattle.std.specs.Prelude.{◌≡◌, map, option_map, string_bytes};
+ghost use Rattle.std.specs.Prelude.{◌≡◌, [], ◌∷◌, map, option_map, string_bytes};
 ghost use Rattle.lotplan.specs.Command.{are_file_names, are_two_names, command_of, is_file_name};
 ghost use Rattle.lotplan.specs.Held.{asked_by};
 
@@ -12,18 +12,20 @@ pub enum Command<'a> {
     Plan(Names<'a>),
     /// To judge a plan file.
     Judge(TwoNames<'a>),
+    /// To check a certificate file.
+    Check(Names<'a>),
     /// To write a model of the first version as one of the newest.
     Upgrade(UpgradeNames<'a>),
 }
 
-/// The names of the files of a plan, no two of them the same.
+/// The names of the files of a plan or of a check, no two of them the same.
 #[derive(Clone, Copy, Debug, PartialEq, Eq)]
 pub struct Names<'a> {
     /// The model file, which is read.
     pub model: &'a str,
-    /// The plan file, which is written.
+    /// The plan file, which is written, or read by a check.
     pub plan: &'a str,
-    /// The certificate file.
+    /// The certificate file, which a check reads.
     pub certificate: &'a str,
 }
 
@@ -74,6 +76,20 @@ fn are_two_names(model: &str, plan: &str) -> bool
     is_file_name(model) && is_file_name(plan) && model != plan
 }
 
+// What a word asks for with three texts after it.
+fn with_names<'a>(word: &str, names: Names<'a>) -> Option<Command<'a>>
+    ensures { option_map asked_by result ≡ command_of (word.now ∷ names.entry.model.now ∷ names.entry.plan.now ∷ names.entry.certificate.now ∷ []) }
+{
+    let are_names = are_file_names(names.model, names.plan, names.certificate);
+    if word == "plan" && are_names {
+        Some(Command::Plan(names))
+    } else if word == "check" && are_names {
+        Some(Command::Check(names))
+    } else {
+        None
+    }
+}
+
 /// What the words ask for, if they are a command.
 pub fn read_words<'a>(words: &'a [String]) -> Option<Command<'a>>
     ensures { option_map asked_by result ≡ command_of (map string_bytes words.entry.now) }
@@ -99,13 +115,7 @@ pub fn read_words<'a>(words: &'a [String]) -> Option<Command<'a>>
                 plan: plan.as_str(),
                 certificate: certificate.as_str(),
             };
-            if word.as_str() == "plan"
-                && are_file_names(names.model, names.plan, names.certificate)
-            {
-                Some(Command::Plan(names))
-            } else {
-                None
-            }
+            with_names(word.as_str(), names)
         }
         _ => None,
     }

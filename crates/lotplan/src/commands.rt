@@ -1,4 +1,5 @@
 // The commands, a file each.
+pub mod check;
 pub mod judge;
 pub mod plan;
 pub mod upgrade;

@@ -1,16 +1,18 @@
 // The top call.
-ghost use Rattle.std.specs.Prelude.{◌≡◌, ◌≢◌, ◌⊎◌, ◌≤◌, ◌+◌, ◌*◌, ℕ, List, IsTrue, Some, None, map, string_bytes, IfOk, OnErr};
+ghost use Rattle.std.specs.Prelude.{◌≡◌, ◌≢◌, ◌⊎◌, ◌≤◌, ◌+◌, ℕ, List, IsTrue, Some, None, map, string_bytes, IfOk, OnErr};
 ghost use Rattle.lot_draft.specs.declared.fault.ModelFault.{ModelFault};
-ghost use Rattle.lot_io.specs.Outside.{GrewBy, OnlyReads, Rose, piece_size};
-ghost use Rattle.lotplan.specs.Command.{command_of, judging, planning, upgrading};
+ghost use Rattle.lot_io.specs.Outside.{GrewBy, OnlyReads, Rose};
+ghost use Rattle.lotplan.specs.Command.{checking, command_of, judging, planning, upgrading};
 ghost use Rattle.lotplan.specs.Saying.{Ends};
-ghost use Rattle.lotplan.specs.Reading.{file_limit, missing, refused, too_long, unread};
+ghost use Rattle.lotplan.specs.Reading.{missing, refused, too_long, unread};
 ghost use Rattle.lotplan.specs.Planning.{CannotPlan, FindsNoPlan, PlansBest, StartsAtMost};
-ghost use Rattle.lotplan.specs.Judging.{FindsFault, FindsFeasible};
+ghost use Rattle.lotplan.specs.Judging.{FindsFeasible};
+ghost use Rattle.lotplan.specs.Checking.{Accepts};
 ghost use Rattle.lotplan.specs.Upgrading.{Upgrades};
-ghost use Rattle.lotplan.specs.Run.{CallFor, CannotWrite, HadNoFault, IsNoCommand, IsRun, Leaves, SaysFor, Stops};
+ghost use Rattle.lotplan.specs.Run.{CallFor, CannotWrite, HadNoFault, IsFaulty, IsNoCommand, IsRun, Leaves, SaysFor, Stops, most_given};
 
 use crate::command::{Command, read_words};
+use crate::commands::check::check_files;
 use crate::commands::judge::judge_files;
 use crate::commands::plan::plan_files;
 use crate::commands::upgrade::upgrade_files;
@@ -22,10 +24,11 @@ use std::alloc::{AllocError, Global};
 /// Does what the words ask for, prints one line, and gives the number of the status.
 ///
 /// `words` are those after the program's name: none for the program's name and version,
-/// `plan MODEL PLAN CERTIFICATE`, `judge MODEL PLAN` or `upgrade MODEL NEW`. The numbers are 0 done, 1 no plan is feasible,
-/// 3 the plan file holds no plan or one that breaks a rule, 4 no command, 5 the model is refused, 6 a
-/// file is absent, 7 it could not be read, 8 it could not be written, 9 the line could not be printed,
-/// 10 out of memory, 11 a file is longer than 16,777,216 bytes, 12 the model can't be planned yet. All
+/// `plan MODEL PLAN CERTIFICATE`, `judge MODEL PLAN`, `check MODEL PLAN CERTIFICATE` or `upgrade MODEL NEW`. The numbers
+/// are 0 done, 1 no plan is feasible, 3 the plan file holds no plan or one that breaks a rule, or the
+/// certificate is refused, 4 no command, 5 the model is refused, 6 a file is absent, 7 it could not be
+/// read, 8 it could not be written, 9 the line could not be printed, 10 out of memory, 11 a file is longer
+/// than 16,777,216 bytes, or a certificate file than 2^63 - 1, 12 the model can't be planned yet. All
 /// memory is taken before the first write.
 ///
 /// What is said of counts holds over every shelf and sink, the machine's own too; what is said of
@@ -41,6 +44,13 @@ pub fn run<S: Shelf, K: Sink>(alloc: Global, words: &[String], shelf: &mut S, ou
         → IsTrue (S.shown shelf.old).told
         → FindsFeasible (S.shown shelf.old).file m p (K.shown out.old) (K.shown out.new) }
 
+    // After `check` with status 0 the certificate is accepted, and the claim on the line is true of the
+    // problem, whoever wrote the file: the plan file's plan is best and costs what is claimed, no plan
+    // is feasible, or none costs less than is claimed.
+    ensures checked { (m p c : List ℕ) → command_of (map string_bytes words.now) ≡ Some (checking m p c) → result ≡ 0
+        → IsTrue (S.shown shelf.old).told
+        → Accepts (S.shown shelf.old).file m p c (K.shown out.old) (K.shown out.new) }
+
     // After `upgrade` with status 0 the new file means the problem of the model file.
     ensures upgraded { (m n : List ℕ) → command_of (map string_bytes words.now) ≡ Some (upgrading m n) → result ≡ 0
         → IsTrue (S.shown shelf.old).told
@@ -55,7 +65,7 @@ pub fn run<S: Shelf, K: Sink>(alloc: Global, words: &[String], shelf: &mut S, ou
     ensures infeasible { result ≡ 1 → IsTrue (S.shown shelf.old).told
         → FindsNoPlan (command_of (map string_bytes words.now)) (S.shown shelf.old).file (K.shown out.old) (K.shown out.new) }
     ensures faulty { result ≡ 3 → IsTrue (S.shown shelf.old).told
-        → FindsFault (command_of (map string_bytes words.now)) (S.shown shelf.old).file (K.shown out.old) (K.shown out.new) }
+        → IsFaulty (command_of (map string_bytes words.now)) (S.shown shelf.old).file (K.shown out.old) (K.shown out.new) }
     ensures no_command { result ≡ 4 → IsNoCommand (command_of (map string_bytes words.now)) (K.shown out.old) (K.shown out.new) }
     ensures refused { result ≡ 5 → (fault : ModelFault) × Stops (command_of (map string_bytes words.now))
         (S.shown shelf.old) (S.shown shelf.new) (K.shown out.old) (K.shown out.new) (refused fault) }
@@ -83,10 +93,13 @@ pub fn run<S: Shelf, K: Sink>(alloc: Global, words: &[String], shelf: &mut S, ou
         → StartsAtMost n (S.shown shelf.old) (S.shown shelf.new) }
     ensures judge_only_reads { (m p : List ℕ) → command_of (map string_bytes words.now) ≡ Some (judging m p)
         → OnlyReads (S.shown shelf.old) (S.shown shelf.new) }
+    ensures check_only_reads { (m p c : List ℕ) → command_of (map string_bytes words.now) ≡ Some (checking m p c)
+        → OnlyReads (S.shown shelf.old) (S.shown shelf.new) }
 
-    // What is read: nothing for words that are no command, and at most two files within the limit.
+    // What is read: nothing for words that are no command, at most two files within the limit, and by
+    // `check` three times a certificate file.
     ensures idle { command_of (map string_bytes words.now) ≡ None → S.shown shelf.new ≡ S.shown shelf.old }
-    ensures given { (S.shown shelf.new).given ≤ (S.shown shelf.old).given + 2 * (file_limit + piece_size) }
+    ensures given { (S.shown shelf.new).given ≤ (S.shown shelf.old).given + most_given (command_of (map string_bytes words.now)) }
     ensures told { (S.shown shelf.new).told ≡ (S.shown shelf.old).told }
 
     // What is printed: nothing on status 10, and else one piece.
@@ -121,13 +134,16 @@ fn end_with<K: Sink>(said: &Result<Said, AllocError>, out: &mut K) -> u8
 fn said<S: Shelf>(alloc: Global, words: &[String], shelf: &mut S) -> Result<Said, AllocError>
     ensures said { IfOk result (SaysFor (command_of (map string_bytes words.now)) (S.shown shelf.old) (S.shown shelf.new)) }
     ensures memory { OnErr result (Leaves (command_of (map string_bytes words.now)) (S.shown shelf.old) (S.shown shelf.new)) }
-    ensures given { (S.shown shelf.new).given ≤ (S.shown shelf.old).given + 2 * (file_limit + piece_size) }
+    ensures given { (S.shown shelf.new).given ≤ (S.shown shelf.old).given + most_given (command_of (map string_bytes words.now)) }
 {
     match read_words(words) {
         None => Said::new(alloc, "refused words\n", Status::NoCommand),
         Some(Command::Name) => Said::new(alloc, "lotplan 1\n", Status::Done),
         Some(Command::Plan(names)) => plan_files(alloc, names.model, names.plan, shelf),
         Some(Command::Judge(names)) => judge_files(alloc, names.model, names.plan, shelf),
+        Some(Command::Check(names)) => {
+            check_files(alloc, names.model, names.plan, names.certificate, shelf)
+        }
         Some(Command::Upgrade(names)) => upgrade_files(alloc, names.model, names.upgraded, shelf),
     }
 }

@@ -9,7 +9,7 @@ pub enum Status {
     Done,
     /// No plan is feasible.
     NoPlan,
-    /// The plan file holds no plan, or one that breaks a rule.
+    /// The plan file holds no plan, or one that breaks a rule, or the certificate is refused.
     Faulty,
     /// The words are no command.
     NoCommand,

@@ -7,10 +7,10 @@ use std::test::Fail;
 const TEN: &str =
     "version = 1\nperiods = 1\n[[item]]\nname = \"A\"\ndemand = [10]\nsetup_cost = 5\nunit_cost = 2\n";
 
-const HEADER: &str = "item,period,make,setup,stock,backlog\n";
+pub const HEADER: &str = "item,period,make,setup,stock,backlog\n";
 
 // The words as owned texts.
-fn texts(alloc: Global, words: &[&str]) -> Result<Vec<String>, AllocError> {
+pub fn texts(alloc: Global, words: &[&str]) -> Result<Vec<String>, AllocError> {
     let mut list = Vec::new(alloc);
     for word in words {
         list.push(String::from_str(alloc, word)?)?;
@@ -19,7 +19,7 @@ fn texts(alloc: Global, words: &[&str]) -> Result<Vec<String>, AllocError> {
 }
 
 // A shelf with the model file `m` alone, of whose calls these fail.
-fn shelf_with(
+pub fn shelf_with(
     alloc: Global,
     model: &[u8],
     fetch: &[u64],
@@ -40,7 +40,21 @@ fn shelf_with(
     ))
 }
 
-fn holds(shelf: &MemoryShelf, name: &str, text: &str) -> bool {
+// Puts a file on a shelf.
+pub fn put(
+    alloc: Global,
+    shelf: &mut MemoryShelf,
+    name: &str,
+    bytes: &[u8],
+) -> Result<(), AllocError> {
+    shelf.files.insert(
+        String::from_str(alloc, name)?,
+        Vec::from_slice(alloc, bytes)?,
+    )?;
+    Ok(())
+}
+
+pub fn holds(shelf: &MemoryShelf, name: &str, text: &str) -> bool {
     match shelf.files.get(name) {
         Some(bytes) => bytes.as_slice() == text.as_bytes(),
         None => false,
@@ -81,7 +95,7 @@ fn models_are_planned(rt: HostRuntime) -> Result<(), Fail> {
 }
 
 // A model of one item, with these lines.
-fn one_item(alloc: Global, periods: u32, lines: &str) -> Result<String, AllocError> {
+pub fn one_item(alloc: Global, periods: u32, lines: &str) -> Result<String, AllocError> {
     format!(in alloc; "version = 1\nperiods = {periods}\n[[item]]\nname = \"A\"\n{lines}\n")
 }
 
@@ -355,7 +369,7 @@ fn quantities_past_the_bound_are_refused(rt: HostRuntime) -> Result<(), Fail> {
 }
 
 // The model of a resource of capacity 6 and an item that takes time on it.
-const SHOP: &str =
+pub const SHOP: &str =
     "version = 1\nperiods = 2\n[[resource]]\nname = \"m\"\ncapacity = 6\n[[item]]\nname = \"A\"\ndemand = [2, 8]\nsetup_cost = 10\nhold_cost = 1\nuses = [{ resource = \"m\", unit = 1, setup = 1 }]\n";
 
 // Whether judging these records ends with this status and prints this line, and no file changes.
@@ -369,10 +383,7 @@ fn judged_as(
     let words = texts(alloc, &["judge", "m", "p"])?;
     let mut shelf = shelf_with(alloc, model.as_bytes(), &[], &[], &[])?;
     let text = format!(in alloc; "{HEADER}{records}")?;
-    shelf.files.insert(
-        String::from_str(alloc, "p")?,
-        Vec::from_slice(alloc, text.as_bytes())?,
-    )?;
+    put(alloc, &mut shelf, "p", text.as_bytes())?;
     let mut out = MemorySink::new(alloc, Vec::new(alloc));
     let ended = run(alloc, words.as_slice(), &mut shelf, &mut out);
     let kept = shelf.files.len() == 2 && shelf.starts == 0 && holds(&shelf, "p", text.as_str());
@@ -442,7 +453,7 @@ fn end_stocks_and_backlogs_are_judged(rt: HostRuntime) -> Result<(), Fail> {
 }
 
 // A model of one item in version 2, with these lines.
-fn one_lot(alloc: Global, periods: u32, lines: &str) -> Result<String, AllocError> {
+pub fn one_lot(alloc: Global, periods: u32, lines: &str) -> Result<String, AllocError> {
     format!(in alloc; "version = 2\nperiods = {periods}\n[[item]]\nname = \"A\"\n{lines}\n")
 }
 
@@ -564,7 +575,7 @@ fn upgrades_name_the_faults_of_the_outside(rt: HostRuntime) -> Result<(), Fail> 
 const BAKERY: &str =
     "version = 1\nperiods = 6\n\n[[item]]\nname = \"bread\"\ndemand = [40, 35, 50, 0, 60, 45]\nunit_cost = 2\nsetup_cost = [30, 30, 30, 30, 45, 45]\nhold_cost = 1\nopening = 10\n\n[[item]]\nname = \"cake\"\ndemand = [4, 0, 6, 2, 0, 12]\nunit_cost = 9\nsetup_cost = 50\nhold_cost = 3\nbacklog_cost = 5\nend_min = 2\nend_max = 4\n";
 
-const WORKSHOP: &str =
+pub const WORKSHOP: &str =
     "version = 1\nperiods = 4\n\n[[resource]]\nname = \"saw\"\ncapacity = 200\n\n[[item]]\nname = \"table\"\ndemand = [20, 0, 30, 10]\nsetup_cost = 40\nhold_cost = 2\nneeds = [{ item = \"leg\", quantity = 4 }]\n\n[[item]]\nname = \"leg\"\ndemand = 0\nsetup_cost = 30\nhold_cost = 1\nuses = [{ resource = \"saw\", unit = 1, setup = 10 }]\n";
 
 #[test]
@@ -607,7 +618,7 @@ fn a_judgement_names_the_file_that_is_absent(rt: HostRuntime) -> Result<(), Fail
 #[test]
 fn words_are_refused(rt: HostRuntime) -> Result<(), Fail> {
     let alloc = rt.alloc();
-    let cases: [(&[&str], u8, &str); 14] = [
+    let cases: [(&[&str], u8, &str); 18] = [
         (&[], 0, "lotplan 1\n"),
         (&["judge", "m", "m"], 4, "refused words\n"),
         (&["judge", "m", "p", "c"], 4, "refused words\n"),
@@ -618,6 +629,10 @@ fn words_are_refused(rt: HostRuntime) -> Result<(), Fail> {
         (&["plan", "-m", "p", "c"], 4, "refused words\n"),
         (&["plan", "m", "", "c"], 4, "refused words\n"),
         (&["plans", "m", "p", "c"], 4, "refused words\n"),
+        (&["check", "m", "p"], 4, "refused words\n"),
+        (&["check", "m", "p", "p"], 4, "refused words\n"),
+        (&["check", "m", "p", "m"], 4, "refused words\n"),
+        (&["check", "m", "m", "c"], 4, "refused words\n"),
         (&["upgrade", "m"], 4, "refused words\n"),
         (&["upgrade", "m", "m"], 4, "refused words\n"),
         (&["upgrade", "m", "n", "c"], 4, "refused words\n"),

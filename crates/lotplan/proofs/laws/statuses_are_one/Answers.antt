@@ -2,4 +2,5 @@ use Rattle.lotplan.proofs.Statuses.{call_one}
 use Rattle.lotplan.proofs.laws.statuses_are_one.Goals as goal
 
 pub returns : goal.returns
-returns c = call_one
+returns c =
+    call_one (record { totals = c.totals_exist.ensures.totals; weights = c.totals_exist.ensures.weights; texts = c.texts_mean_one_thing.ensures; checks = c.certified_is_not_refused.ensures })

@@ -1,0 +1,56 @@
+use Rattle.std.specs.Prelude.{None}
+use Rattle.std.proofs.lemmas.Result.{IfOk-weaker}
+use Rattle.lotplan.specs.Held.{check_meant}
+use Rattle.lotplan.specs.Checking.{GivenExplains, IsRefusal, PlannedExplains, ProofExplains}
+use Rattle.lotplan.proofs.Checked.{by_bound, by_infeasible, by_optimal, claim_refused}
+use Rattle.lotplan.proofs.commands.check.check_claim.Goals as goal
+
+pub returns-in-Ok-Optimal-clause-answer : goal.returns-in-Ok-Optimal-clause-answer
+returns-in-Ok-Optimal-clause-answer g c =
+    let m = c.args.instance.now in
+    let p = c.args.plan.now in
+    let name = c.args.certificate.now in
+    let old = g.S.Shelf.shown c.args.shelf.now in
+    let mid = g.S.Shelf.shown c.read_claim.new.shelf in
+    let new = g.S.Shelf.shown c.check_planned.new.shelf in
+    let claims = rw (c.in-Ok-Optimal.field-0-is) at c.in-Ok-Optimal.ensures.claim in
+    IfOk-weaker c.check_planned.result (λ a. PlannedExplains m p name mid new (check_meant a)) (λ a. ProofExplains m p name old new (check_meant a))
+    (λ a x. by_optimal c.texts_mean_one_thing.ensures m p name old mid new c.in-Ok-Optimal.field-0-0 (check_meant a) claims c.read_claim.ensures.reads x)
+    c.check_planned.ensures.answer
+
+pub returns-in-Ok-Infeasible-clause-answer : goal.returns-in-Ok-Infeasible-clause-answer
+returns-in-Ok-Infeasible-clause-answer g c =
+    let m = c.args.instance.now in
+    let p = c.args.plan.now in
+    let name = c.args.certificate.now in
+    let old = g.S.Shelf.shown c.args.shelf.now in
+    let mid = g.S.Shelf.shown c.read_claim.new.shelf in
+    let new = g.S.Shelf.shown c.check_given.new.shelf in
+    let claims = rw (c.in-Ok-Infeasible.field-0-is) at c.in-Ok-Infeasible.ensures.claim in
+    IfOk-weaker c.check_given.result (λ a. GivenExplains m None name mid new (check_meant a)) (λ a. ProofExplains m p name old new (check_meant a))
+    (λ a x. by_infeasible c.texts_mean_one_thing.ensures m p name old mid new (check_meant a) claims c.read_claim.ensures.reads x)
+    c.check_given.ensures.answer
+
+pub returns-in-Ok-Bound-clause-answer : goal.returns-in-Ok-Bound-clause-answer
+returns-in-Ok-Bound-clause-answer g c =
+    let m = c.args.instance.now in
+    let p = c.args.plan.now in
+    let name = c.args.certificate.now in
+    let old = g.S.Shelf.shown c.args.shelf.now in
+    let mid = g.S.Shelf.shown c.read_claim.new.shelf in
+    let new = g.S.Shelf.shown c.check_given-in-Ok-Bound.new.shelf in
+    let claims = rw (c.in-Ok-Bound.field-0-is) at c.in-Ok-Bound.ensures.claim in
+    IfOk-weaker c.check_given-in-Ok-Bound.result (λ a. GivenExplains m None name mid new (check_meant a)) (λ a. ProofExplains m p name old new (check_meant a))
+    (λ a x. by_bound c.texts_mean_one_thing.ensures m p name old mid new c.in-Ok-Bound.field-0-0 (check_meant a) claims c.read_claim.ensures.reads x)
+    c.check_given-in-Ok-Bound.ensures.answer
+
+pub returns-in-Err-clause-answer : goal.returns-in-Err-clause-answer
+returns-in-Err-clause-answer g c =
+    let m = c.args.instance.now in
+    let p = c.args.plan.now in
+    let name = c.args.certificate.now in
+    let old = g.S.Shelf.shown c.args.shelf.now in
+    let new = g.S.Shelf.shown c.read_claim.new.shelf in
+    IfOk-weaker c.refusal.result (λ a. IsRefusal name c.in-Err.fault (check_meant a)) (λ a. ProofExplains m p name old new (check_meant a))
+    (λ a is. claim_refused m p name old new c.in-Err.fault (check_meant a) c.in-Err.ensures.fault is)
+    c.refusal.ensures

@@ -1,0 +1,286 @@
+-- What `check` answers, and why.
+use Rattle.std.specs.Prelude.{◌≡◌, ◌≢◌, ◌⊎◌, ◌<◌, ◌≤◌, ◌-◌, ℕ, List, ◌++◌, length, codes, decimal, IsTrue, Option, Some, None, Ok, Err, ⊤}
+use Rattle.lot_sizing.specs.Problem.{Problem}
+use Rattle.lot_io.specs.Outside.{Files, Printed, Rose, RoseBy, Shelved}
+use Rattle.lot_draft.specs.declared.fault.ModelFault.{ModelFault}
+use Rattle.instance_reader.specs.Model.{BytesMean}
+use Rattle.plan_rules.specs.declared.plan.Plan.{Plan}
+use Rattle.plan_rules.specs.Held.{AllFit, plan_of}
+use Rattle.plan_rules.specs.Texts.{broken_text}
+use Rattle.plan_file.specs.Records.{IsPlanOf, records_of}
+use Rattle.plan_file.specs.Texts.{plan_fault_text}
+use Rattle.plan_file.specs.declared.fault.PlanFault.{PlanFault}
+use Rattle.lin_rows.specs.Texts.{column_text}
+use Rattle.cert_lines.specs.declared.parts.Claim.{Claim}
+use Rattle.cert_lines.specs.declared.parts.Claim.TheVariants.{Optimal, Infeasible, Bound as BoundOf}
+use Rattle.certificate.specs.declared.fault.CertTextFault.{CertTextFault}
+use Rattle.certificate.specs.declared.fault.CertTextFault.TheVariants as text
+use Rattle.certificate.specs.Faults.{IsCertTextFault}
+use Rattle.certificate.specs.Limits.{IsTextOf}
+use Rattle.certificate.specs.Shapes.{Shape}
+use Rattle.acceptance.specs.Accepts.{IsTrueOf}
+use Rattle.cert_checker.specs.declared.fault.Why.{Why}
+use Rattle.cert_checker.specs.declared.fault.Why.TheVariants as why
+use Rattle.cert_checker.specs.Cuts.{OfProblem}
+use Rattle.cert_checker.specs.Checks.{IsCertified, IsCheckFault, plan_given}
+use Rattle.stream_check.specs.declared.fault.StreamFault.{StreamFault}
+use Rattle.stream_check.specs.declared.fault.StreamFault.TheVariants as stream
+use Rattle.stream_check.specs.Streams.{IsTooLong, OfBytes, OfCertificate, too_many}
+use Rattle.lotplan.specs.Command.{Asked, checking}
+use Rattle.lotplan.specs.Judging.{AreNoPlan}
+use Rattle.lotplan.specs.Reading.{FileExplains, HoldsProblem, ModelExplains, OfFile, OfModel, ReadAnswer, refused, missing, unread, too_long, file_limit, read_line, read_status}
+use Rattle.lotplan.specs.Saying.{Gains, IsSaid}
+use Rattle.lotplan.specs.declared.said.Said.{Said}
+use Rattle.lotplan.specs.declared.status.Status.{Status}
+use Rattle.lotplan.specs.declared.status.Status.TheVariants as status
+
+-- ---- answers
+pub data CheckAnswer : Type 0 where
+  -- the certificate is accepted, and claims this
+  accepted : Claim → CheckAnswer
+  -- the certificate file holds no certificate
+  no_certificate : CertTextFault → CheckAnswer
+  -- the plan file holds no plan
+  no_plan : PlanFault → CheckAnswer
+  -- the certificate is refused on this line, for this cause
+  rejected : ℕ → Why → CheckAnswer
+  -- a file gave nothing to go on with
+  stopped : ReadAnswer → CheckAnswer
+
+abbrev pub check_status : CheckAnswer → Status
+check_status (accepted claim) = status.Done
+check_status (no_certificate fault) = status.Faulty
+check_status (no_plan fault) = status.Faulty
+check_status (rejected line w) = status.Faulty
+check_status (stopped w) = read_status w
+
+abbrev pub accepted_line : Claim → List ℕ
+accepted_line (Optimal amount) = codes "accepted optimal " ++ (decimal amount ++ codes "\n")
+accepted_line Infeasible = codes "accepted infeasible\n"
+accepted_line (BoundOf amount) = codes "accepted bound " ++ (decimal amount ++ codes "\n")
+
+-- a refusal on a line, and what follows
+abbrev pub on_line : List ℕ → ℕ → List ℕ → List ℕ
+on_line code line rest = code ++ (codes " line " ++ (decimal line ++ rest))
+
+abbrev pub no_certificate_line : CertTextFault → List ℕ
+no_certificate_line (text.Header line) = on_line (codes "rejected C1") line (codes "\n")
+no_certificate_line (text.Line line) = on_line (codes "rejected C2") line (codes "\n")
+no_certificate_line (text.Shape line) = on_line (codes "rejected C3") line (codes "\n")
+no_certificate_line (text.Deep line) = on_line (codes "rejected C11") line (codes "\n")
+no_certificate_line text.Memory = codes "out of memory\n"
+
+abbrev pub rejected_line : ℕ → Why → List ℕ
+rejected_line line why.Range = on_line (codes "rejected C4") line (codes "\n")
+rejected_line line why.Sign = on_line (codes "rejected C5") line (codes "\n")
+rejected_line line (why.Column column) = on_line (codes "rejected C6") line (codes " " ++ (column_text column ++ codes "\n"))
+rejected_line line (why.Short says) = on_line (codes "rejected C7") line (codes " says " ++ (decimal says ++ codes "\n"))
+rejected_line line why.NotPoint = on_line (codes "rejected C8") line (codes "\n")
+rejected_line line (why.Block first last server) =
+    on_line (codes "rejected C9") line (codes " " ++ (decimal first ++ (codes " " ++ (decimal last ++ (codes " " ++ (decimal server ++ codes "\n"))))))
+rejected_line line why.TooLarge = on_line (codes "rejected C10") line (codes "\n")
+rejected_line line (why.Plan rule) = codes "rejected C12 " ++ (broken_text rule ++ codes "\n")
+rejected_line line (why.Costs plan claim) = codes "rejected C12 " ++ (decimal plan ++ (codes " " ++ (decimal claim ++ codes "\n")))
+rejected_line line why.PlanMissing = codes "rejected C13\n"
+rejected_line line why.Lead = on_line (codes "rejected C14") line (codes "\n")
+
+abbrev pub check_line : CheckAnswer → List ℕ
+check_line (accepted claim) = accepted_line claim
+check_line (no_certificate fault) = no_certificate_line fault
+check_line (no_plan fault) = plan_fault_text fault ++ codes "\n"
+check_line (rejected line w) = rejected_line line w
+check_line (stopped w) = read_line w
+
+-- ---- causes
+-- an optimal cost is claimed
+abbrev pub IsOptimal : Claim → Type 0
+IsOptimal (Optimal amount) = ⊤
+IsOptimal Infeasible = ⊥
+IsOptimal (BoundOf amount) = ⊥
+
+-- the plan file holds a plan, which these grids hold
+pub record HoldsPlan (before : Files) (plan_file : List ℕ) (problem : Problem) (plan : Plan) : Type 0 where
+  pub bytes : List ℕ
+  pub read : before plan_file ≡ Some bytes
+  pub short : length bytes ≤ file_limit
+  pub fits : AllFit problem plan
+  pub is : IsPlanOf problem (records_of bytes) (plan_of plan)
+
+-- the plan that goes with a claim: that of the plan file where an optimal cost is claimed, and else none
+abbrev pub IsGiven : Files → List ℕ → Problem → Claim → Option Plan → Type 0
+IsGiven before p problem (Optimal amount) (Some plan) = HoldsPlan before p problem plan
+IsGiven before p problem (Optimal amount) None = ⊥
+IsGiven before p problem Infeasible given = given ≡ None
+IsGiven before p problem (BoundOf amount) given = given ≡ None
+
+-- the certificate file holds a certificate, and this plan goes with its claim
+pub record HoldsCertificate (before : Files) (plan_file certificate_file : List ℕ) (problem : Problem) : Type 0 where
+  pub certificate : Shape
+  pub text : OfBytes (before certificate_file) (λ bytes. IsTextOf bytes certificate)
+  pub given : Option Plan
+  pub goes_with : IsGiven before plan_file problem certificate.claim given
+
+-- it is accepted with small sums, whichever largest totals and weights of the problem are taken, and its claim, which is this, is true of the problem
+pub record HoldsProof (before : Files) (plan_file certificate_file : List ℕ) (problem : Problem) (claim : Claim) : Type 0 where
+  pub holds : HoldsCertificate before plan_file certificate_file problem
+  pub claims : holds.certificate.claim ≡ claim
+  pub is_true : IsTrueOf problem claim (plan_given holds.given)
+  pub certified : OfProblem problem (λ total weight. IsCertified problem total weight holds.certificate holds.given)
+
+-- it is refused first on this line, for this cause
+pub record HoldsRefused (before : Files) (plan_file certificate_file : List ℕ) (problem : Problem) (line : ℕ) (w : Why) : Type 0 where
+  pub holds : HoldsCertificate before plan_file certificate_file problem
+  pub fault : OfProblem problem (λ total weight. IsCheckFault problem total weight holds.certificate holds.given line w)
+
+-- the certificate file holds a certificate that claims an optimal cost
+abbrev pub AsksForPlan : Files → List ℕ → Type 0
+AsksForPlan before c = OfCertificate (before c) (λ certificate. IsOptimal certificate.claim)
+
+-- what the certificate file of a problem is, with the plan file
+abbrev pub ProofIs : Files → List ℕ → List ℕ → Problem → CheckAnswer → Type 0
+ProofIs before p c problem (accepted claim) = HoldsProof before p c problem claim
+ProofIs before p c problem (no_certificate fault) = (fault ≢ text.Memory) × OfBytes (before c) (λ bytes. IsCertTextFault bytes fault)
+ProofIs before p c problem (no_plan fault) = AsksForPlan before c × OfFile before p (λ bytes. AreNoPlan problem bytes fault)
+ProofIs before p c problem (rejected line w) = HoldsRefused before p c problem line w
+ProofIs before p c problem (stopped w) = ⊥
+
+-- the model file means a problem, of which they are this
+abbrev pub AllAre : Files → List ℕ → List ℕ → List ℕ → CheckAnswer → Type 0
+AllAre before m p c answer = OfModel before m (λ problem. ProofIs before p c problem answer)
+
+-- why the reading of the certificate file ends in this answer
+abbrev pub CertificateExplains : List ℕ → Shelved → Shelved → ReadAnswer → Type 0
+CertificateExplains c old new (refused fault) = ⊥
+CertificateExplains c old new (missing file) = (file ≡ c) × Rose old.misses new.misses × (IsTrue old.told → old.file c ≡ None)
+CertificateExplains c old new (unread file) = (file ≡ c) × Rose old.faults new.faults
+CertificateExplains c old new (too_long file) = (file ≡ c) × RoseBy too_many old.given new.given × (IsTrue old.told → IsTooLong (old.file c))
+
+-- why that of the certificate file does, and of the plan file, which is read where an optimal cost is claimed
+abbrev pub ProofStops : List ℕ → List ℕ → Shelved → Shelved → ReadAnswer → Type 0
+ProofStops p c old new w = CertificateExplains c old new w ⊎ ((IsTrue old.told → AsksForPlan old.file c) × FileExplains p old new w)
+
+-- why that of the three files does: by the model file, or by those of the problem that it means
+abbrev pub CheckStops : List ℕ → List ℕ → List ℕ → Shelved → Shelved → ReadAnswer → Type 0
+CheckStops m p c old new w = ModelExplains m old new w ⊎ ((problem : Problem) × (IsTrue old.told → HoldsProblem old.file m problem) × ProofStops p c old new w)
+
+-- what an answer to a fault of the certificate file is; want of memory has none
+abbrev pub IsRefusal : List ℕ → StreamFault → CheckAnswer → Type 0
+IsRefusal c stream.Missing answer = answer ≡ stopped (missing c)
+IsRefusal c stream.Failed answer = answer ≡ stopped (unread c)
+IsRefusal c stream.TooLong answer = answer ≡ stopped (too_long c)
+IsRefusal c (stream.Text fault) answer = answer ≡ no_certificate fault
+IsRefusal c (stream.Rejected r) answer = answer ≡ rejected r.line r.why
+IsRefusal c stream.Memory answer = ⊥
+
+-- why the reading of a plan file of a problem gives no plan
+abbrev pub PlanStops : Problem → List ℕ → Shelved → Shelved → CheckAnswer → Type 0
+PlanStops problem p old new (accepted claim) = ⊥
+PlanStops problem p old new (no_certificate fault) = ⊥
+PlanStops problem p old new (no_plan fault) = IsTrue old.told → OfFile old.file p (λ bytes. AreNoPlan problem bytes fault)
+PlanStops problem p old new (rejected line w) = ⊥
+PlanStops problem p old new (stopped w) = FileExplains p old new w
+
+-- why checking the certificate file with this plan, or with none, ends in this answer
+abbrev pub GivenExplains : Problem → Option Plan → List ℕ → Shelved → Shelved → CheckAnswer → Type 0
+GivenExplains problem given c old new (accepted claim) =
+    IsTrueOf problem claim (plan_given given)
+    × (IsTrue old.told → OfCertificate (old.file c) (λ certificate. (certificate.claim ≡ claim) × OfProblem problem (λ total weight. IsCertified problem total weight certificate given)))
+GivenExplains problem given c old new (no_certificate fault) =
+    (fault ≢ text.Memory) × (IsTrue old.told → OfBytes (old.file c) (λ bytes. IsCertTextFault bytes fault))
+GivenExplains problem given c old new (no_plan fault) = ⊥
+GivenExplains problem given c old new (rejected line w) =
+    IsTrue old.told → OfCertificate (old.file c) (λ certificate. OfProblem problem (λ total weight. IsCheckFault problem total weight certificate given line w))
+GivenExplains problem given c old new (stopped w) = CertificateExplains c old new w
+
+-- and with the plan of the plan file
+abbrev pub PlannedExplains : Problem → List ℕ → List ℕ → Shelved → Shelved → CheckAnswer → Type 0
+PlannedExplains problem p c old new answer =
+    ((plan : Plan) × (IsTrue old.told → HoldsPlan old.file p problem plan) × GivenExplains problem (Some plan) c old new answer)
+    ⊎ PlanStops problem p old new answer
+
+-- why checking the certificate file of a problem does
+abbrev pub ProofExplains : Problem → List ℕ → List ℕ → Shelved → Shelved → CheckAnswer → Type 0
+ProofExplains problem p c old new (accepted claim) = IsTrue old.told → ProofIs old.file p c problem (accepted claim)
+ProofExplains problem p c old new (no_certificate fault) = IsTrue old.told → ProofIs old.file p c problem (no_certificate fault)
+ProofExplains problem p c old new (no_plan fault) = IsTrue old.told → ProofIs old.file p c problem (no_plan fault)
+ProofExplains problem p c old new (rejected line w) = IsTrue old.told → ProofIs old.file p c problem (rejected line w)
+ProofExplains problem p c old new (stopped w) = ProofStops p c old new w
+
+-- why checking these files ends in this answer
+abbrev pub CheckExplains : List ℕ → List ℕ → List ℕ → Shelved → Shelved → CheckAnswer → Type 0
+CheckExplains m p c old new (accepted claim) = IsTrue old.told → AllAre old.file m p c (accepted claim)
+CheckExplains m p c old new (no_certificate fault) = IsTrue old.told → AllAre old.file m p c (no_certificate fault)
+CheckExplains m p c old new (no_plan fault) = IsTrue old.told → AllAre old.file m p c (no_plan fault)
+CheckExplains m p c old new (rejected line w) = IsTrue old.told → AllAre old.file m p c (rejected line w)
+CheckExplains m p c old new (stopped w) = CheckStops m p c old new w
+
+-- what is said is an answer that has its cause
+abbrev pub CheckSays : List ℕ → List ℕ → List ℕ → Shelved → Shelved → Said → Type 0
+CheckSays m p c old new said = (answer : CheckAnswer) × CheckExplains m p c old new answer × IsSaid (check_line answer) (check_status answer) said
+
+-- ---- the status that the three files call for, faults and want of memory aside
+-- for a certificate with the plan that goes with it 0 where it is accepted, and 3 where it is refused
+abbrev pub GivenCallsFor : Problem → Shape → Option Plan → ℕ → Type 0
+GivenCallsFor problem certificate given status =
+    (OfProblem problem (λ total weight. IsCertified problem total weight certificate given) × (status ≡ 0))
+    ⊎ ((line : ℕ) × (w : Why) × OfProblem problem (λ total weight. IsCheckFault problem total weight certificate given line w) × (status ≡ 3))
+
+-- for the plan file of one that claims an optimal cost 6 where it is absent, 11 where it is too long, and 3 where it holds no plan
+abbrev pub PlannedCallsFor : Problem → Shape → Option (List ℕ) → ℕ → Type 0
+PlannedCallsFor problem certificate None status = status ≡ 6
+PlannedCallsFor problem certificate (Some bytes) status =
+    ((file_limit < length bytes) × (status ≡ 11))
+    ⊎ ((length bytes ≤ file_limit)
+    × (((fault : PlanFault) × AreNoPlan problem bytes fault × (status ≡ 3))
+    ⊎ ((plan : Plan) × AllFit problem plan × IsPlanOf problem (records_of bytes) (plan_of plan) × GivenCallsFor problem certificate (Some plan) status)))
+
+abbrev pub ClaimCallsFor : Problem → Shape → Claim → Option (List ℕ) → ℕ → Type 0
+ClaimCallsFor problem certificate (Optimal amount) plan status = PlannedCallsFor problem certificate plan status
+ClaimCallsFor problem certificate Infeasible plan status = GivenCallsFor problem certificate None status
+ClaimCallsFor problem certificate (BoundOf amount) plan status = GivenCallsFor problem certificate None status
+
+-- for the certificate file of a problem 6 where it is absent, 11 where it is too long, and 3 where it holds no certificate
+abbrev pub ProofCallsFor : Problem → Option (List ℕ) → Option (List ℕ) → ℕ → Type 0
+ProofCallsFor problem plan None status = status ≡ 6
+ProofCallsFor problem plan (Some bytes) status =
+    ((too_many - 1 < length bytes) × (status ≡ 11))
+    ⊎ ((length bytes < too_many)
+    × (((fault : CertTextFault) × (fault ≢ text.Memory) × IsCertTextFault bytes fault × (status ≡ 3))
+    ⊎ ((certificate : Shape) × IsTextOf bytes certificate × ClaimCallsFor problem certificate certificate.claim plan status)))
+
+abbrev pub CheckCallsFor : Option (List ℕ) → Option (List ℕ) → Option (List ℕ) → ℕ → Type 0
+CheckCallsFor None plan certificate status = status ≡ 6
+CheckCallsFor (Some bytes) plan certificate status =
+    ((file_limit < length bytes) × (status ≡ 11))
+    ⊎ ((length bytes ≤ file_limit)
+    × (((fault : ModelFault) × BytesMean bytes (Err fault) × (status ≡ 5)) ⊎ ((problem : Problem) × BytesMean bytes (Ok problem) × ProofCallsFor problem plan certificate status)))
+
+-- ---- what each status says
+-- the words ask to check a certificate file
+pub record IsChecked (asked : Option Asked) (model_file plan_file certificate_file : List ℕ) : Type 0 where
+  pub is : asked ≡ Some (checking model_file plan_file certificate_file)
+
+-- the certificate is accepted, its claim is true, and the line has it
+pub record Accepts (before : Files) (model_file plan_file certificate_file : List ℕ) (out_old out_new : Printed) : Type 0 where
+  pub claim : Claim
+  pub holds : AllAre before model_file plan_file certificate_file (accepted claim)
+  pub line : Gains (accepted_line claim) out_old out_new
+
+-- the answer names the fault of a certificate or of a plan file
+abbrev pub IsRefused : CheckAnswer → Type 0
+IsRefused (accepted claim) = ⊥
+IsRefused (no_certificate fault) = ⊤
+IsRefused (no_plan fault) = ⊤
+IsRefused (rejected line w) = ⊤
+IsRefused (stopped w) = ⊥
+
+-- they ask to check a certificate file that holds no certificate or a refused one, or whose plan file holds no plan, and the line names the first fault
+pub record FindsRefused (asked : Option Asked) (before : Files) (out_old out_new : Printed) : Type 0 where
+  pub model_file : List ℕ
+  pub plan_file : List ℕ
+  pub certificate_file : List ℕ
+  pub words : IsChecked asked model_file plan_file certificate_file
+  pub answer : CheckAnswer
+  pub fault : IsRefused answer
+  pub holds : AllAre before model_file plan_file certificate_file answer
+  pub line : Gains (check_line answer) out_old out_new
