@@ -1,5 +1,5 @@
 -- The first three lines of a text have no line feed in them, and one value.
-use Rattle.std.proofs.Common.{◌≡◌, ◌<◌, ◌≤◌, ◌^◌, ◌∙◌, ℕ, refl, rules, sym, ap, subst, arith, List, [], ◌∷◌, ◌++◌, append-nil, codes, decimal}
+use Rattle.std.proofs.Common.{◌≡◌, ◌<◌, ◌≤◌, ◌^◌, ◌∙◌, ℕ, refl, rules, sym, ap, subst, arith, List, [], ◌++◌, append-nil, codes, decimal}
 use Rattle.lin_rows.specs.Texts.{one_text}
 use Rattle.cert_lines.specs.declared.parts.Claim.{Claim}
 use Rattle.cert_lines.specs.declared.parts.Claim.TheVariants as claim

@@ -1,5 +1,5 @@
 -- Lists in a line are read word by word.
-use Rattle.std.proofs.Common.{◌≡◌, ◌≢◌, ◌<◌, ◌≤◌, ◌+◌, ◌^◌, ◌∙◌, ℕ, zero, suc, refl, sym, ap, subst, List, [], ◌∷◌, ◌++◌, Bool, Global, Vec, arith, codes, decimal, length, map, slice_index_or, take, true, false}
+use Rattle.std.proofs.Common.{◌≡◌, ◌≢◌, ◌<◌, ◌≤◌, ◌+◌, ◌^◌, ◌∙◌, ℕ, zero, suc, refl, sym, ap, subst, List, [], ◌∷◌, ◌++◌, Bool, Bor, arith, codes, decimal, length, map, slice_index_or, take, true, false}
 use Rattle.std.specs.Prelude.{Option, None, Some, IfSome, IsNone}
 use Rattle.std.specs.List.{All, flat_map}
 use Rattle.std.proofs.lemmas.List.{length-append, length-map, map-append, take_more}
@@ -41,7 +41,7 @@ list_end ws limit from k xs none l = record {
   end = subst (λ j. HasNoNumber ws limit j) l.place none;
 }
 
-pub no_number : (words : List (Vec ℕ Global)) (limit place : ℕ) → limit ≤ 10 ^ 64 → length words ≤ place → HasNoNumber (words_in words) limit place
+pub no_number : (words : List (Bor (List ℕ))) (limit place : ℕ) → limit ≤ 10 ^ 64 → length words ≤ place → HasNoNumber (words_in words) limit place
 no_number words limit place wide high = λ n small is. not_empty n (omega (arith, small, wide)) (sym (no_word words place high) ∙ is)
 
 pub bits_none : (t : List ℕ) → take 0 t ≡ bits_text []

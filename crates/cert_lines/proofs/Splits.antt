@@ -1,22 +1,15 @@
 -- A line has its words in one way.
-use Rattle.std.proofs.Common.{◌≡◌, ◌≢◌, ◌<◌, ◌+◌, ◌^◌, ◌∙◌, ℕ, refl, sym, ap, List, [], ◌∷◌, ◌++◌, append_assoc, append-nil, Global, Vec, arith, decimal, length, map, slice_index_or, take, ◌≤◌}
-use Rattle.std.proofs.Math.ListN.{get_or-map}
-use Rattle.std.specs.Prelude.{ℤ, pos, negsuc, suc, unsigned_abs}
+use Rattle.std.proofs.Common.{◌≡◌, ◌≢◌, ◌<◌, ◌^◌, ◌∙◌, ℕ, Bool, true, false, refl, sym, ap, subst, List, [], ◌∷◌, ◌++◌, Bor, arith, decimal, get_or, length, map, ◌≤◌}
+use Rattle.std.specs.Prelude.{◌==◌, ℤ, pos, negsuc, suc, unsigned_abs}
 use Rattle.std.specs.Fmt.{signed_decimal}
+use Rattle.std.specs.List.{onto_first, slice_split}
 use Rattle.std.specs.Str.Parse.{digits_value}
+use Rattle.std.proofs.lemmas.Bool.{eqb-false, eqb-true}
 use Rattle.std.proofs.lemmas.Fmt.{decimal_is_IsNumeral_wide}
-use Rattle.std.proofs.lemmas.List.{get_or_default, get_or_past, length-map, map-append, take_all, take_more}
+use Rattle.std.proofs.lemmas.List.{get_or-map, get_or_past, length-map}
+use Rattle.std.proofs.lemmas.List.Splits.{slice_split-cons_no, slice_split-cons_yes}
 use Rattle.cert_lines.specs.Text.{Lines}
-use Rattle.cert_lines.specs.Words.{AreWords, HasNoSpace, IsSplit, word_at, word_text, words_text}
-use Rattle.std.proofs.lemmas.Grind.{flat_map-append}
-
-pub no_space_append : (xs ys : List ℕ) → HasNoSpace xs → HasNoSpace ys → HasNoSpace (xs ++ ys)
-no_space_append [] ys a b = b
-no_space_append (x ∷ xs) ys a b = (a.0, no_space_append xs ys a.1 b)
-
-pub words_append : (ws vs : Lines) → AreWords ws → AreWords vs → AreWords (ws ++ vs)
-words_append [] vs a b = b
-words_append (w ∷ ws) vs a b = (a.0, words_append ws vs a.1 b)
+use Rattle.cert_lines.specs.Words.{AreWords, HasNoSpace, IsSplit, word_at, words_text}
 
 abbrev head : List ℕ → ℕ
 head [] = 0
@@ -45,50 +38,46 @@ same_words (w ∷ ws) (v ∷ vs) a b e =
     let (word, after) = same_word w v ws vs a.0 b.0 (ap tail e) in
     ap (λ z. z ∷ ws) word ∙ ap (λ zs. v ∷ zs) (same_words ws vs a.1 b.1 after)
 
--- a line is read byte by byte: the words so far, and the word that is being read
-pub record IsSplitTo (line : List ℕ) (k : ℕ) (ws : Lines) (word : List ℕ) : Type 0 where
-  pub text : 32 ∷ take k line ≡ words_text ws ++ word_text word
-  pub words : AreWords ws
-  pub plain : HasNoSpace word
+-- a space ends a word
+abbrev pub is_space : ℕ → Bool
+is_space b = b == 32
 
-pub split_none : (line : List ℕ) → IsSplitTo line 0 [] []
-split_none line = record { text = refl; words = tt; plain = tt }
-
-pub split_space : (line : List ℕ) (k b : ℕ) (ws : Lines) (word : List ℕ) → k < length line → b ≡ slice_index_or line k 0 → b ≡ 32 → IsSplitTo line k ws word → IsSplitTo line (k + 1) (ws ++ word ∷ []) []
-split_space line k b ws word less is space s = record {
-  text = ap (λ xs. 32 ∷ xs) (take_more line k 0 less) ∙ ap (λ xs. xs ++ slice_index_or line k 0 ∷ []) s.text ∙ ap (λ x. (words_text ws ++ word_text word) ++ x ∷ []) (sym is ∙ space)
-      ∙ ap (λ t. t ++ 32 ∷ []) (ap (λ t. words_text ws ++ t) (sym (append-nil (word_text word))) ∙ sym (flat_map-append word_text ws (word ∷ [])));
-  words = words_append ws (word ∷ []) s.words (s.plain, tt);
-  plain = tt;
+-- a byte that isn't a space goes before the first word
+split_other : (b : ℕ) (rest : List ℕ) (ws : Lines) → b ≢ 32 → IsSplit rest ws → IsSplit (b ∷ rest) (onto_first b ws)
+split_other b rest [] other s = absurd (cc s.text)
+split_other b rest (w ∷ ws) other s = record {
+  text = ap (λ t. 32 ∷ b ∷ t) (ap tail s.text);
+  words = ((other, s.words.0), s.words.1);
 }
 
-pub split_byte : (line : List ℕ) (k b : ℕ) (ws : Lines) (word : List ℕ) → k < length line → b ≡ slice_index_or line k 0 → b ≢ 32 → IsSplitTo line k ws word → IsSplitTo line (k + 1) ws (word ++ b ∷ [])
-split_byte line k b ws word less is other s = record {
-  text = ap (λ xs. 32 ∷ xs) (take_more line k 0 less) ∙ ap (λ xs. xs ++ slice_index_or line k 0 ∷ []) s.text ∙ ap (λ x. (words_text ws ++ word_text word) ++ x ∷ []) (sym is)
-      ∙ append_assoc (words_text ws) (word_text word) (b ∷ []);
-  words = s.words;
-  plain = no_space_append word (b ∷ []) s.plain (other, tt);
+split_space : (b : ℕ) (rest : List ℕ) (ws : Lines) → b ≡ 32 → IsSplit rest ws → IsSplit (b ∷ rest) ([] ∷ ws)
+split_space b rest ws space s = record {
+  text = ap (λ x. 32 ∷ x ∷ rest) space ∙ ap (λ t. 32 ∷ t) s.text;
+  words = (tt, s.words);
 }
+
+split_more : (b : ℕ) (rest : List ℕ) (test : Bool) → is_space b ≡ test → IsSplit rest (slice_split is_space rest) → IsSplit (b ∷ rest) (slice_split is_space (b ∷ rest))
+split_more b rest true space s = subst (IsSplit (b ∷ rest)) (sym (slice_split-cons_yes is_space b rest space)) (split_space b rest (slice_split is_space rest) (eqb-true b 32 space) s)
+split_more b rest false other s = subst (IsSplit (b ∷ rest)) (sym (slice_split-cons_no is_space b rest other)) (split_other b rest (slice_split is_space rest) (eqb-false b 32 other) s)
+
+-- the parts of a line that is cut at each space are its words
+pub parts_split : (line : List ℕ) → IsSplit line (slice_split is_space line)
+parts_split [] = record { text = refl; words = (tt, tt) }
+parts_split (b ∷ rest) = split_more b rest (is_space b) refl (parts_split rest)
 
 -- the words as lists
-abbrev pub words_in : List (Vec ℕ Global) → Lines
-words_in words = map (λ v. v.items) words
+abbrev pub words_in : List (Bor (List ℕ)) → Lines
+words_in words = map (λ w. w.now) words
 
-pub word_read : (words : List (Vec ℕ Global)) (place : ℕ) (v : Vec ℕ Global) (got : List ℕ) → place < length words → v ≡ slice_index_or words place v → got ≡ v.items → word_at (words_in words) place ≡ got
-word_read words place v got less is same =
-    get_or_default (words_in words) place [] v.items (omega (arith, less, length-map words (λ w. w.items))) ∙ get_or-map (λ w. w.items) words place v ∙ ap (λ w. w.items) (sym is) ∙ sym same
+-- what a list of slices has past its end
+abbrev pub no_slice : Bor (List ℕ)
+no_slice = record { ref_ptr = (0, 0); now = [] }
 
-pub no_word : (words : List (Vec ℕ Global)) (place : ℕ) → length words ≤ place → word_at (words_in words) place ≡ []
-no_word words place high = get_or_past (words_in words) place [] (omega (arith, high, length-map words (λ w. w.items)))
+pub word_read : (words : List (Bor (List ℕ))) (place : ℕ) → place < length words → word_at (words_in words) place ≡ (get_or words place no_slice).now
+word_read words place less = get_or-map (λ w. w.now) words place no_slice [] less
 
-pub word_pushed : (ws : List (Vec ℕ Global)) (v : Vec ℕ Global) → words_in ws ++ v.items ∷ [] ≡ words_in (ws ++ v ∷ [])
-word_pushed ws v = sym (map-append (λ w. w.items) ws (v ∷ []))
-
-pub split_end : (line : List ℕ) (ws : Lines) (word : List ℕ) → IsSplitTo line (length line) ws word → IsSplit line (ws ++ word ∷ [])
-split_end line ws word s = record {
-  text = ap (λ xs. 32 ∷ xs) (sym (take_all (length line) line (omega arith))) ∙ s.text ∙ ap (λ t. words_text ws ++ t) (sym (append-nil (word_text word))) ∙ sym (flat_map-append word_text ws (word ∷ []));
-  words = words_append ws (word ∷ []) s.words (s.plain, tt);
-}
+pub no_word : (words : List (Bor (List ℕ))) (place : ℕ) → length words ≤ place → word_at (words_in words) place ≡ []
+no_word words place high = get_or_past (words_in words) place [] (omega (arith, high, length-map words (λ w. w.now)))
 
 -- a number has a digit
 pub not_empty : (n : ℕ) → n < 10 ^ 64 → [] ≡ decimal n → ⊥

@@ -1,11 +1,12 @@
 -- A later line by its words.
-use Rattle.std.specs.Prelude.{◌≡◌, ◌≤◌, ◌<◌, ◌^◌, pos, ◌≤ℤ◌, unsigned_abs, [], ◌∷◌, codes, length}
+use Rattle.std.specs.Prelude.{◌≡◌, ◌≤◌, pos, ◌≤ℤ◌, unsigned_abs, [], ◌∷◌, codes, length}
 use Rattle.cert_lines.specs.Text.{Lines}
 use Rattle.cert_lines.specs.Limits.{Is32, Is64, IsSmallPart}
 use Rattle.cert_lines.specs.Line.{IsSmallColumn, IsSmallName}
 use Rattle.cert_lines.specs.Words.{HasWords, IsBlock, IsFour, branch_words, farkas_words, linear_words, ls_words, part_words, round_words}
 use Rattle.cert_lines.specs.Shapes.{BlockCut, BranchLine, CutLine, CutShape, EndLine, FarkasLine, LineShape, LinearLine, LsCut, PartLine, PointLine, PriceCut, RoundCut, RoundLine}
-use Rattle.cert_lines.specs.declared.limits.TheConstants.{MAX_DIVISOR, MAX_PARTS, MAX_ROUND_PARTS}
+use Rattle.cert_lines.specs.declared.limits.TheConstants.{MAX_PARTS, MAX_ROUND_PARTS}
+use Rattle.round_cuts.specs.declared.rounding.TheConstants.{MAX_DIVISOR}
 use Rattle.cert_lines.specs.Limits.{Is127}
 
 -- these are the words of a cut of one line

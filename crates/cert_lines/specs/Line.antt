@@ -1,5 +1,5 @@
 -- The later lines of a certificate's text.
-use Rattle.std.specs.Prelude.{◌≡◌, ℕ, ◌≤◌, ◌<◌, ◌^◌, pos, ◌≤ℤ◌, unsigned_abs, List, codes, length, ⊤}
+use Rattle.std.specs.Prelude.{◌≡◌, ℕ, ◌≤◌, pos, ◌≤ℤ◌, unsigned_abs, List, codes, length, ⊤}
 use Rattle.std.specs.List.{All}
 use Rattle.lin_rows.specs.declared.column.Column.{Column}
 use Rattle.lin_rows.specs.declared.column.Column.TheVariants.{X, Y, S, R}
@@ -8,7 +8,8 @@ use Rattle.lin_rows.specs.declared.base.RowName.TheVariants.{Balance, Link, Capa
 use Rattle.cert_lines.specs.Text.{block_line, branch_line, farkas_line, linear_line, ls_line, part_line, price_line, round_line}
 use Rattle.cert_lines.specs.Limits.{Is32, Is64, IsSmallPart}
 use Rattle.cert_lines.specs.Shapes.{BlockCut, BlockLists, BranchLine, CutLine, CutShape, EndLine, FarkasLine, LineShape, LinearLine, LsCut, PartLine, PointLine, PriceCut, PriceLists, RoundCut, RoundLine}
-use Rattle.cert_lines.specs.declared.limits.TheConstants.{MAX_DIVISOR, MAX_LINE, MAX_PARTS, MAX_ROUND_PARTS}
+use Rattle.cert_lines.specs.declared.limits.TheConstants.{MAX_LINE, MAX_PARTS, MAX_ROUND_PARTS}
+use Rattle.round_cuts.specs.declared.rounding.TheConstants.{MAX_DIVISOR}
 use Rattle.cert_lines.specs.Limits.{Is127}
 
 -- the line of a cut, without its parts

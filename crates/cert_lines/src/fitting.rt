@@ -9,9 +9,10 @@ use crate::lengths::{
     block_length, branch_length, farkas_length, linear_length, ls_length, part_length,
     price_length, round_length,
 };
-use crate::limits::{MAX_DIVISOR, MAX_PARTS, MAX_ROUND_PARTS, MOST_127};
+use crate::limits::{MAX_PARTS, MAX_ROUND_PARTS, MOST_127};
 use crate::{Claim, Cut, Leaf, Part};
 use lin_rows::{Column, Potentials, Prices, RowName};
+use round_cuts::MAX_DIVISOR;
 
 // The greatest length of a line.
 const LONGEST: u128 = crate::limits::MAX_LINE as u128;

@@ -7,20 +7,22 @@ ghost use Rattle.cert_lines.specs.Limits.{Is32, Is64};
 ghost use Rattle.cert_lines.specs.declared.parts.Part.{Part};
 ghost use Rattle.cert_lines.specs.Limits.{IsSmallPart};
 ghost use Rattle.cert_lines.specs.Words.{HasNoColumn, HasNoLongName, HasNoOne, HasNoShortName, HasNoTwo, HasWords, StandFrom, branch_words, column_words, farkas_words, linear_words, name_words, one_words, part_words, round_words, two_words};
-ghost use Rattle.cert_lines.specs.declared.limits.TheConstants.{MAX_DIVISOR, MAX_PARTS, MAX_ROUND_PARTS};
+ghost use Rattle.cert_lines.specs.declared.limits.TheConstants.{MAX_PARTS, MAX_ROUND_PARTS};
+ghost use Rattle.round_cuts.specs.declared.rounding.TheConstants.{MAX_DIVISOR};
 ghost use Rattle.cert_lines.specs.Limits.{bound_127};
 
 use crate::Part;
-use crate::limits::{MAX_DIVISOR, MAX_PARTS, MAX_ROUND_PARTS, MOST_32, MOST_64, MOST_127};
+use crate::limits::{MAX_PARTS, MAX_ROUND_PARTS, MOST_32, MOST_64, MOST_127};
 use crate::words::{integer_at, is_word, number_at};
 use lin_rows::{Column, RowName};
+use round_cuts::MAX_DIVISOR;
 
 // The number after this word.
-fn one_after(words: &[Vec<u8>], place: usize, text: &[u8]) -> Option<u32>
+fn one_after(words: &[&[u8]], place: usize, text: &[u8]) -> Option<u32>
     requires low { place ≤ 1 }
     requires some { 0 < length text.now }
-    ensures some { IfSome result (λ a. StandFrom (map (λ v. v.items) words.now) place (one_words text.now a) × Is32 a) }
-    ensures none { IsNone result → HasNoOne (map (λ v. v.items) words.now) place text.now }
+    ensures some { IfSome result (λ a. StandFrom (map (λ w. w.now) words.now) place (one_words text.now a) × Is32 a) }
+    ensures none { IsNone result → HasNoOne (map (λ w. w.now) words.now) place text.now }
 {
     if !is_word(words, place, text) {
         return None;
@@ -32,11 +34,11 @@ fn one_after(words: &[Vec<u8>], place: usize, text: &[u8]) -> Option<u32>
 }
 
 // The two numbers after this word.
-fn two_after(words: &[Vec<u8>], place: usize, text: &[u8]) -> Option<(u32, u32)>
+fn two_after(words: &[&[u8]], place: usize, text: &[u8]) -> Option<(u32, u32)>
     requires low { place ≤ 1 }
     requires some { 0 < length text.now }
-    ensures some { IfSome result (λ p. StandFrom (map (λ v. v.items) words.now) place (two_words text.now p.0 p.1) × Is32 p.0 × Is32 p.1) }
-    ensures none { IsNone result → HasNoTwo (map (λ v. v.items) words.now) place text.now }
+    ensures some { IfSome result (λ p. StandFrom (map (λ w. w.now) words.now) place (two_words text.now p.0 p.1) × Is32 p.0 × Is32 p.1) }
+    ensures none { IsNone result → HasNoTwo (map (λ w. w.now) words.now) place text.now }
 {
     if !is_word(words, place, text) {
         return None;
@@ -51,9 +53,9 @@ fn two_after(words: &[Vec<u8>], place: usize, text: &[u8]) -> Option<(u32, u32)>
 }
 
 // The column at place 1.
-fn column_at(words: &[Vec<u8>]) -> Option<Column>
-    ensures some { IfSome result (λ column. StandFrom (map (λ v. v.items) words.now) 1 (column_words column) × IsSmallColumn column) }
-    ensures none { IsNone result → HasNoColumn (map (λ v. v.items) words.now) }
+fn column_at(words: &[&[u8]]) -> Option<Column>
+    ensures some { IfSome result (λ column. StandFrom (map (λ w. w.now) words.now) 1 (column_words column) × IsSmallColumn column) }
+    ensures none { IsNone result → HasNoColumn (map (λ w. w.now) words.now) }
 {
     if let Some((item, period)) = two_after(words, 1, b"x") {
         return Some(Column::X { item, period });
@@ -71,9 +73,9 @@ fn column_at(words: &[Vec<u8>]) -> Option<Column>
 }
 
 // The name with one number at place 1.
-fn short_name_at(words: &[Vec<u8>]) -> Option<RowName>
-    ensures some { IfSome result (λ row. StandFrom (map (λ v. v.items) words.now) 1 (name_words row) × IsSmallName row × (length (name_words row) ≡ 2)) }
-    ensures none { IsNone result → HasNoShortName (map (λ v. v.items) words.now) }
+fn short_name_at(words: &[&[u8]]) -> Option<RowName>
+    ensures some { IfSome result (λ row. StandFrom (map (λ w. w.now) words.now) 1 (name_words row) × IsSmallName row × (length (name_words row) ≡ 2)) }
+    ensures none { IsNone result → HasNoShortName (map (λ w. w.now) words.now) }
 {
     if let Some(item) = one_after(words, 1, b"endmin") {
         return Some(RowName::EndMin(item));
@@ -91,9 +93,9 @@ fn short_name_at(words: &[Vec<u8>]) -> Option<RowName>
 }
 
 // The name with two numbers at place 1.
-fn long_name_at(words: &[Vec<u8>]) -> Option<RowName>
-    ensures some { IfSome result (λ row. StandFrom (map (λ v. v.items) words.now) 1 (name_words row) × IsSmallName row × (length (name_words row) ≡ 3)) }
-    ensures none { IsNone result → HasNoLongName (map (λ v. v.items) words.now) }
+fn long_name_at(words: &[&[u8]]) -> Option<RowName>
+    ensures some { IfSome result (λ row. StandFrom (map (λ w. w.now) words.now) 1 (name_words row) × IsSmallName row × (length (name_words row) ≡ 3)) }
+    ensures none { IsNone result → HasNoLongName (map (λ w. w.now) words.now) }
 {
     if let Some((item, period)) = two_after(words, 1, b"balance") {
         return Some(RowName::Balance(item, period));
@@ -117,9 +119,9 @@ fn long_name_at(words: &[Vec<u8>]) -> Option<RowName>
 }
 
 // A divisor and a number of parts.
-pub(crate) fn read_round(words: &[Vec<u8>]) -> Option<(u64, u32)>
-    ensures some { IfSome result (λ p. HasWords (map (λ v. v.items) words.now) (round_words p.0 p.1) × (1 ≤ p.0) × (p.0 ≤ MAX_DIVISOR) × (p.1 ≤ MAX_ROUND_PARTS)) }
-    ensures none { IsNone result → (divisor parts : ℕ) → 1 ≤ divisor → divisor ≤ MAX_DIVISOR → parts ≤ MAX_ROUND_PARTS → HasWords (map (λ v. v.items) words.now) (round_words divisor parts) → ⊥ }
+pub(crate) fn read_round(words: &[&[u8]]) -> Option<(u64, u32)>
+    ensures some { IfSome result (λ p. HasWords (map (λ w. w.now) words.now) (round_words p.0 p.1) × (1 ≤ p.0) × (p.0 ≤ MAX_DIVISOR) × (p.1 ≤ MAX_ROUND_PARTS)) }
+    ensures none { IsNone result → (divisor parts : ℕ) → 1 ≤ divisor → divisor ≤ MAX_DIVISOR → parts ≤ MAX_ROUND_PARTS → HasWords (map (λ w. w.now) words.now) (round_words divisor parts) → ⊥ }
 {
     if words.len() != 3 || !is_word(words, 0, b"round") {
         return None;
@@ -134,9 +136,9 @@ pub(crate) fn read_round(words: &[Vec<u8>]) -> Option<(u64, u32)>
 }
 
 // A denominator and a number of parts.
-pub(crate) fn read_linear(words: &[Vec<u8>]) -> Option<(u128, u32)>
-    ensures some { IfSome result (λ p. HasWords (map (λ v. v.items) words.now) (linear_words (pos p.0) p.1) × (1 ≤ p.0) × (p.0 < bound_127) × (p.1 ≤ MAX_PARTS)) }
-    ensures none { IsNone result → (den parts : ℕ) → 1 ≤ den → den < bound_127 → parts ≤ MAX_PARTS → HasWords (map (λ v. v.items) words.now) (linear_words (pos den) parts) → ⊥ }
+pub(crate) fn read_linear(words: &[&[u8]]) -> Option<(u128, u32)>
+    ensures some { IfSome result (λ p. HasWords (map (λ w. w.now) words.now) (linear_words (pos p.0) p.1) × (1 ≤ p.0) × (p.0 < bound_127) × (p.1 ≤ MAX_PARTS)) }
+    ensures none { IsNone result → (den parts : ℕ) → 1 ≤ den → den < bound_127 → parts ≤ MAX_PARTS → HasWords (map (λ w. w.now) words.now) (linear_words (pos den) parts) → ⊥ }
 {
     if words.len() != 3 || !is_word(words, 0, b"linear") {
         return None;
@@ -151,9 +153,9 @@ pub(crate) fn read_linear(words: &[Vec<u8>]) -> Option<(u128, u32)>
 }
 
 // A number of parts.
-pub(crate) fn read_farkas(words: &[Vec<u8>]) -> Option<u32>
-    ensures some { IfSome result (λ parts. HasWords (map (λ v. v.items) words.now) (farkas_words parts) × (parts ≤ MAX_PARTS)) }
-    ensures none { IsNone result → (parts : ℕ) → parts ≤ MAX_PARTS → HasWords (map (λ v. v.items) words.now) (farkas_words parts) → ⊥ }
+pub(crate) fn read_farkas(words: &[&[u8]]) -> Option<u32>
+    ensures some { IfSome result (λ parts. HasWords (map (λ w. w.now) words.now) (farkas_words parts) × (parts ≤ MAX_PARTS)) }
+    ensures none { IsNone result → (parts : ℕ) → parts ≤ MAX_PARTS → HasWords (map (λ w. w.now) words.now) (farkas_words parts) → ⊥ }
 {
     if words.len() != 2 || !is_word(words, 0, b"farkas") {
         return None;
@@ -165,9 +167,9 @@ pub(crate) fn read_farkas(words: &[Vec<u8>]) -> Option<u32>
 }
 
 // A column and the greatest value on the low side.
-pub(crate) fn read_branch(words: &[Vec<u8>]) -> Option<(Column, u64)>
-    ensures some { IfSome result (λ p. HasWords (map (λ v. v.items) words.now) (branch_words p.0 p.1) × IsSmallColumn p.0 × Is64 p.1) }
-    ensures none { IsNone result → (column : Column) (at : ℕ) → IsSmallColumn column → Is64 at → HasWords (map (λ v. v.items) words.now) (branch_words column at) → ⊥ }
+pub(crate) fn read_branch(words: &[&[u8]]) -> Option<(Column, u64)>
+    ensures some { IfSome result (λ p. HasWords (map (λ w. w.now) words.now) (branch_words p.0 p.1) × IsSmallColumn p.0 × Is64 p.1) }
+    ensures none { IsNone result → (column : Column) (at : ℕ) → IsSmallColumn column → Is64 at → HasWords (map (λ w. w.now) words.now) (branch_words column at) → ⊥ }
 {
     if words.len() != 5 || !is_word(words, 0, b"branch") {
         return None;
@@ -182,9 +184,9 @@ pub(crate) fn read_branch(words: &[Vec<u8>]) -> Option<(Column, u64)>
 }
 
 // A multiple of a row.
-pub(crate) fn read_part(words: &[Vec<u8>]) -> Option<Part>
-    ensures some { IfSome result (λ part. HasWords (map (λ v. v.items) words.now) (part_words part.row part.times) × IsSmallName part.row × IsSmallPart part) }
-    ensures none { IsNone result → (part : Part) → IsSmallName part.row → IsSmallPart part → HasWords (map (λ v. v.items) words.now) (part_words part.row part.times) → ⊥ }
+pub(crate) fn read_part(words: &[&[u8]]) -> Option<Part>
+    ensures some { IfSome result (λ part. HasWords (map (λ w. w.now) words.now) (part_words part.row part.times) × IsSmallName part.row × IsSmallPart part) }
+    ensures none { IsNone result → (part : Part) → IsSmallName part.row → IsSmallPart part → HasWords (map (λ w. w.now) words.now) (part_words part.row part.times) → ⊥ }
 {
     if !is_word(words, 0, b"part") {
         return None;

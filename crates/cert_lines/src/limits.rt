@@ -1,4 +1,4 @@
-//! The limits of a certificate's text, each with one name.
+//! The limits of a certificate's text, each with one name. That of divisors is `MAX_DIVISOR` of `round_cuts`.
 
 /// The latest version of texts.
 pub const MAX_VERSION: u32 = 2;
@@ -10,8 +10,6 @@ pub const MAX_CUTS: u32 = 20_000;
 pub const MAX_PARTS: u32 = 100_000;
 /// Most parts of a cut by rounding.
 pub const MAX_ROUND_PARTS: u32 = 1_000;
-/// The largest divisor of a cut by rounding.
-pub const MAX_DIVISOR: u64 = 1_000_000_000_000_000_000;
 /// Most branches on the way to a leaf.
 pub const MAX_BRANCHES: u32 = 2_000;
 

@@ -30,9 +30,9 @@ pub(crate) fn read_bits(alloc: Global, word: &[u8]) -> Result<Option<Vec<bool>>,
 }
 
 // The numbers of 64 bits from a place on, as many as there are.
-fn numbers_from(alloc: Global, words: &[Vec<u8>], from: usize) -> Result<Vec<u64>, AllocError>
+fn numbers_from(alloc: Global, words: &[&[u8]], from: usize) -> Result<Vec<u64>, AllocError>
     requires { from ≤ length words.now }
-    ensures list { IfOk result (λ list. IsListFrom (map (λ v. v.items) words.now) bound_64 from list.items) }
+    ensures list { IfOk result (λ list. IsListFrom (map (λ w. w.now) words.now) bound_64 from list.items) }
     ensures room { IfOk result (λ list. from + length list.items ≤ length words.now) }
 {
     let mut list = Vec::new(alloc);
@@ -46,9 +46,9 @@ fn numbers_from(alloc: Global, words: &[Vec<u8>], from: usize) -> Result<Vec<u64
 }
 
 // The amounts from a place on, as many as there are.
-fn amounts_from(alloc: Global, words: &[Vec<u8>], from: usize) -> Result<Vec<u128>, AllocError>
+fn amounts_from(alloc: Global, words: &[&[u8]], from: usize) -> Result<Vec<u128>, AllocError>
     requires { from ≤ length words.now }
-    ensures list { IfOk result (λ list. IsListFrom (map (λ v. v.items) words.now) bound_127 from list.items) }
+    ensures list { IfOk result (λ list. IsListFrom (map (λ w. w.now) words.now) bound_127 from list.items) }
     ensures room { IfOk result (λ list. from + length list.items ≤ length words.now) }
 {
     let mut list = Vec::new(alloc);
@@ -64,15 +64,15 @@ fn amounts_from(alloc: Global, words: &[Vec<u8>], from: usize) -> Result<Vec<u12
 // The numbers after a letter.
 fn list_after(
     alloc: Global,
-    words: &[Vec<u8>],
+    words: &[&[u8]],
     place: usize,
     letter: &[u8],
 ) -> Result<Option<Vec<u64>>, AllocError>
     requires { 0 < length letter.now }
-    ensures letter { IfOk result (λ read. IfSome read (λ list. word_at (map (λ v. v.items) words.now) place ≡ letter.now)) }
-    ensures list { IfOk result (λ read. IfSome read (λ list. IsListFrom (map (λ v. v.items) words.now) bound_64 (place + 1) list.items)) }
+    ensures letter { IfOk result (λ read. IfSome read (λ list. word_at (map (λ w. w.now) words.now) place ≡ letter.now)) }
+    ensures list { IfOk result (λ read. IfSome read (λ list. IsListFrom (map (λ w. w.now) words.now) bound_64 (place + 1) list.items)) }
     ensures room { IfOk result (λ read. IfSome read (λ list. place + 1 + length list.items ≤ length words.now)) }
-    ensures none { IfOk result (λ read. IsNone read → word_at (map (λ v. v.items) words.now) place ≡ letter.now → ⊥) }
+    ensures none { IfOk result (λ read. IsNone read → word_at (map (λ w. w.now) words.now) place ≡ letter.now → ⊥) }
 {
     if place >= words.len() {
         return Ok(None);
@@ -97,15 +97,15 @@ struct Four {
 // This start, with the line's first word and the letter of its first list.
 fn read_four(
     alloc: Global,
-    words: &[Vec<u8>],
+    words: &[&[u8]],
     word: &[u8],
     letter: &[u8],
 ) -> Result<Option<Four>, AllocError>
     requires word { 0 < length word.now }
     requires letter { 0 < length letter.now }
-    ensures some { IfOk result (λ read. IfSome read (λ f. IsFour (map (λ v. v.items) words.now) word.now letter.now f.item f.first.items f.unit.items f.hold.items f.back.items f.next)) }
+    ensures some { IfOk result (λ read. IfSome read (λ f. IsFour (map (λ w. w.now) words.now) word.now letter.now f.item f.first.items f.unit.items f.hold.items f.back.items f.next)) }
     ensures room { IfOk result (λ read. IfSome read (λ f. f.next ≤ length words.now)) }
-    ensures none { IfOk result (λ read. IsNone read → (item : ℕ) (xs bs cs ds : List ℕ) (next : ℕ) → IsFour (map (λ v. v.items) words.now) word.now letter.now item xs bs cs ds next → ⊥) }
+    ensures none { IfOk result (λ read. IsNone read → (item : ℕ) (xs bs cs ds : List ℕ) (next : ℕ) → IsFour (map (λ w. w.now) words.now) word.now letter.now item xs bs cs ds next → ⊥) }
 {
     if !is_word(words, 0, word) {
         return Ok(None);
@@ -142,10 +142,10 @@ fn read_four(
 // The line of a cut by prices.
 pub(crate) fn read_price(
     alloc: Global,
-    words: &[Vec<u8>],
+    words: &[&[u8]],
 ) -> Result<Option<(u32, Prices)>, AllocError>
-    ensures some { IfOk result (λ read. IfSome read (λ p. IsFour (map (λ v. v.items) words.now) (codes "price") (codes "w") p.0 p.1.price.items p.1.unit.items p.1.hold.items p.1.back.items (length words.now))) }
-    ensures none { IfOk result (λ read. IsNone read → (item : ℕ) (xs bs cs ds : List ℕ) → IsFour (map (λ v. v.items) words.now) (codes "price") (codes "w") item xs bs cs ds (length words.now) → ⊥) }
+    ensures some { IfOk result (λ read. IfSome read (λ p. IsFour (map (λ w. w.now) words.now) (codes "price") (codes "w") p.0 p.1.price.items p.1.unit.items p.1.hold.items p.1.back.items (length words.now))) }
+    ensures none { IfOk result (λ read. IsNone read → (item : ℕ) (xs bs cs ds : List ℕ) → IsFour (map (λ w. w.now) words.now) (codes "price") (codes "w") item xs bs cs ds (length words.now) → ⊥) }
 {
     let Some(four) = read_four(alloc, words, b"price", b"w")? else {
         return Ok(None);
@@ -175,10 +175,10 @@ pub(crate) fn read_price(
 // The line of a cut of a block.
 pub(crate) fn read_block(
     alloc: Global,
-    words: &[Vec<u8>],
+    words: &[&[u8]],
 ) -> Result<Option<(u32, Potentials)>, AllocError>
-    ensures some { IfOk result (λ read. IfSome read (λ p. IsBlock (map (λ v. v.items) words.now) p.0 p.1.setup.items p.1.unit.items p.1.hold.items p.1.back.items p.1.steps.items)) }
-    ensures none { IfOk result (λ read. IsNone read → (item : ℕ) (xs bs cs ds es : List ℕ) → IsBlock (map (λ v. v.items) words.now) item xs bs cs ds es → ⊥) }
+    ensures some { IfOk result (λ read. IfSome read (λ p. IsBlock (map (λ w. w.now) words.now) p.0 p.1.setup.items p.1.unit.items p.1.hold.items p.1.back.items p.1.steps.items)) }
+    ensures none { IfOk result (λ read. IsNone read → (item : ℕ) (xs bs cs ds es : List ℕ) → IsBlock (map (λ w. w.now) words.now) item xs bs cs ds es → ⊥) }
 {
     let Some(four) = read_four(alloc, words, b"block", b"f")? else {
         return Ok(None);
@@ -216,10 +216,10 @@ pub(crate) fn read_block(
 // The line of an (l,S) cut.
 pub(crate) fn read_ls(
     alloc: Global,
-    words: &[Vec<u8>],
+    words: &[&[u8]],
 ) -> Result<Option<(u32, u32, Vec<bool>)>, AllocError>
-    ensures some { IfOk result (λ read. IfSome read (λ p. HasWords (map (λ v. v.items) words.now) (ls_words p.0 p.1 p.2.items) × Is32 p.0 × (1 ≤ p.1) × Is32 p.1 × (length p.2.items ≡ p.1))) }
-    ensures none { IfOk result (λ read. IsNone read → (item last : ℕ) (chosen : List Bool) → Is32 item → 1 ≤ last → Is32 last → length chosen ≡ last → HasWords (map (λ v. v.items) words.now) (ls_words item last chosen) → ⊥) }
+    ensures some { IfOk result (λ read. IfSome read (λ p. HasWords (map (λ w. w.now) words.now) (ls_words p.0 p.1 p.2.items) × Is32 p.0 × (1 ≤ p.1) × Is32 p.1 × (length p.2.items ≡ p.1))) }
+    ensures none { IfOk result (λ read. IsNone read → (item last : ℕ) (chosen : List Bool) → Is32 item → 1 ≤ last → Is32 last → length chosen ≡ last → HasWords (map (λ w. w.now) words.now) (ls_words item last chosen) → ⊥) }
 {
     if words.len() != 4 || !is_word(words, 0, b"ls") {
         return Ok(None);
@@ -230,7 +230,7 @@ pub(crate) fn read_ls(
     let Some(last) = number_at(words, 2, 1, MOST_32) else {
         return Ok(None);
     };
-    let Some(chosen) = read_bits(alloc, &words[3])? else {
+    let Some(chosen) = read_bits(alloc, words[3])? else {
         return Ok(None);
     };
     if chosen.len() as u128 != last {

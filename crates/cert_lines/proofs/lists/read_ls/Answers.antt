@@ -11,6 +11,6 @@ returns-then-len-last-clause-none c = λ _ item last chosen item_small low small
     let read = given _ c.in_ok-chosen.field-0 c.in-Some-2.chosen c.in-Some-2.is c.in_ok-chosen.ensures.some in
     let (text, least, most) = c.in-Some-number_at.ensures.some in
     let number = same_number last c.in-Some-number_at.last (omega (arith, small)) (omega (arith, most)) (sym words.1.1.1.0 ∙ text) in
-    let word : word_at (words_in c.args.words.now) 3 ≡ bits_text c.in-Some-2.chosen.items = word_read c.args.words.now 3 c.index-words-3.result (bits_text c.in-Some-2.chosen.items) (omega (arith, c.if-words-ne4.false)) c.index-words-3.is (sym read ∙ c.deref.ensures.value) in
+    let word : word_at (words_in c.args.words.now) 3 ≡ bits_text c.in-Some-2.chosen.items = word_read c.args.words.now 3 (omega (arith, c.if-words-ne4.false)) ∙ read in
     let long : length chosen ≡ length c.in-Some-2.chosen.items = sym (bits_length chosen) ∙ ap length (sym words.1.1.1.1.0 ∙ word) ∙ bits_length c.in-Some-2.chosen.items in
     c.if-len-last.true (omega (arith, long, number, many, c.len.ensures))

@@ -1,13 +1,12 @@
-use Rattle.std.proofs.Common.{◌≡◌, ◌∙◌, ◌<◌, ℕ, List, [], ap, arith, rules, sym, length}
+use Rattle.std.proofs.Common.{◌≡◌, ◌∙◌, ◌<◌, ℕ, List, [], ap, arith, get_or, rules, sym, length}
 use Rattle.std.specs.Prelude.{◌↔◌, IsTrue}
-use Rattle.cert_lines.specs.Words.{word_at}
-use Rattle.cert_lines.proofs.Splits.{no_word, word_read, words_in}
+use Rattle.cert_lines.proofs.Splits.{no_slice, no_word, word_read}
 use Rattle.cert_lines.proofs.words.is_word.Goals as goal
 
 pub returns : goal.returns
 returns c =
-    let same : IsTrue c.eq.result ↔ (c.deref-word.result.now ≡ c.args.text.now) = search rules in
-    let read : word_at (words_in c.args.words.now) c.args.place ≡ c.deref-word.result.now = word_read c.args.words.now c.args.place c.index-words-place.result c.deref-word.result.now c.if-place-words.false c.index-words-place.is c.deref-word.ensures.value in
+    let same : IsTrue c.eq.result ↔ ((get_or c.args.words.now c.args.place no_slice).now ≡ c.args.text.now) = search rules in
+    let read = word_read c.args.words.now c.args.place c.if-place-words.false in
     (λ yes. read ∙ same.0 yes, λ e. same.1 (sym read ∙ e))
 
 pub returns-then-place-words : goal.returns-then-place-words

@@ -9,6 +9,6 @@ returns-then-place-words-clause-none c = λ _ n _ small same. not_empty n (omega
 pub returns-then-number-least-clause-none : goal.returns-then-number-least-clause-none
 returns-then-number-least-clause-none c = λ _ n low small same.
     let (text, most) = c.in-Some.ensures.some in
-    let read : word_at (words_in c.args.words.now) c.args.place ≡ decimal c.in-Some.number = word_read c.args.words.now c.args.place c.index-words-place.result (decimal c.in-Some.number) c.if-place-words.false c.index-words-place.is (sym text ∙ c.deref-word.ensures.value) in
+    let read : word_at (words_in c.args.words.now) c.args.place ≡ decimal c.in-Some.number = word_read c.args.words.now c.args.place c.if-place-words.false ∙ text in
     let number = same_number n c.in-Some.number (omega (arith, small, c.ranges.most.fits)) (omega (arith, most, c.ranges.most.fits)) (sym same ∙ read) in
     omega (arith, number, low, c.if-number-least.true)
