@@ -4,4 +4,5 @@ pub mod Places
 pub mod Fronts
 pub mod Plain
 pub mod Written
+pub mod Lengths
 pub mod Meanings

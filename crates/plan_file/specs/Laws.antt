@@ -1,9 +1,11 @@
--- What the records of a plan file mean is one thing.
-use Rattle.std.specs.Prelude.{◌≡◌, ◌≢◌, ℕ, List}
-use Rattle.lot_sizing.specs.Problem.{Problem}
+-- Laws of plan files: what records mean is one thing, and texts are short.
+use Rattle.std.specs.Prelude.{◌≡◌, ◌≢◌, ◌≤◌, ℕ, List, length}
+use Rattle.lot_sizing.specs.Problem.{IsWithinLimits, Problem}
 use Rattle.lot_sizing.specs.Plan.{Plan, EachCell}
+use Rattle.lot_sizing.specs.Texts.{plan_text}
 use Rattle.plan_file.specs.Records.{IsPlanOf, Record}
 use Rattle.plan_file.specs.Faults.{IsPlanFault}
+use Rattle.plan_file.specs.Written.{FitIn64, most_bytes}
 use Rattle.plan_file.specs.declared.fault.PlanFault.{PlanFault}
 use Rattle.plan_file.specs.declared.fault.PlanFault.TheVariants.{Memory}
 
@@ -22,3 +24,7 @@ pub record MeanOneThing (m : Problem) (rs : List Record) : Type 0 where
 
 abbrev pub RecordsMeanOneThing : Type 0
 RecordsMeanOneThing = (m : Problem) (rs : List Record) → MeanOneThing m rs
+
+-- within the limits, and where each number of the plan is below 2^64, its text has no more bytes than this
+abbrev pub PlanTextsAreShort : Type 0
+PlanTextsAreShort = (m : Problem) (p : Plan) → IsWithinLimits m → EachCell m (FitIn64 p) → length (plan_text m p) ≤ most_bytes

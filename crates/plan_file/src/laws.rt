@@ -1,8 +1,14 @@
-// Laws of what records mean.
-ghost use Rattle.plan_file.specs.Laws.{RecordsMeanOneThing};
+// Laws of plan files, each the contract of a function that does nothing.
+ghost use Rattle.plan_file.specs.Laws.{PlanTextsAreShort, RecordsMeanOneThing};
 
 /// No records mean two things: a plan is meant exactly where there is no fault, up to what no record says, and
 /// of the faults the first alone is.
 pub fn records_mean_one_thing()
     ensures { RecordsMeanOneThing }
+{}
+
+/// The text of a plan has at most 2^24 bytes (16,777,216), for each problem within the limits and each plan
+/// whose numbers fit 64 bits.
+pub fn plan_texts_are_short()
+    ensures { PlanTextsAreShort }
 {}

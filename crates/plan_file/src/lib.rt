@@ -2,6 +2,9 @@
 //!
 //! `write_plan` gives the text of a plan. `read_plan` gives the plan whose records bytes are, as `csv` reads
 //! them, or the first fault in the order of the file, by name and place.
+//!
+//! Family: plans. It stands on `plan_rules`, whose `Plan` it writes and reads, and on `whole_numbers` for the
+//! numbers of a record. `lotplan` uses it.
 #![tactic(auto)]
 
 mod fault;
@@ -11,7 +14,7 @@ mod records;
 mod writing;
 
 pub use fault::PlanFault;
-pub use laws::records_mean_one_thing;
+pub use laws::{plan_texts_are_short, records_mean_one_thing};
 pub use reading::read_plan;
 pub use writing::write_plan;
 
