@@ -1,0 +1,10 @@
+pub mod Numbers
+pub mod Sequences
+pub mod Places
+pub mod Bases
+pub mod Changes
+pub mod Signs
+pub mod Cycles
+pub mod Paths
+pub mod Counts
+pub mod Ends
