@@ -1,5 +1,5 @@
 -- A certificate is accepted or refused, whichever grids hold the plan.
-use Rattle.std.proofs.Common.{◌≡◌, ◌≤◌, ◌∙◌, ⊎_elim, inl, inr, ℕ, refl, sym, subst, List, Option, Some, None}
+use Rattle.std.proofs.Common.{◌≡◌, ◌≤◌, ◌∙◌, ⊎_elim, inl, inr, ℕ, refl, sym, subst, List, Option, Some}
 use Rattle.std.specs.Prelude.{Ok}
 use Rattle.bill.specs.Laws.{TotalsExist, WeightsExist}
 use Rattle.lot_sizing.specs.Problem.{IsWithinLimits, Problem}
@@ -23,7 +23,7 @@ use Rattle.split_trees.specs.Spans.{IsIn}
 use Rattle.split_trees.specs.Ranges.{IsWithin, Ranges, whole_ranges}
 use Rattle.acceptance.specs.Accepts.{GoesWith}
 use Rattle.cert_checker.specs.Laws.{CertifiedIsNotRefused}
-use Rattle.cert_checker.specs.Checks.{ComesWith, IsCertified, IsCheckFault}
+use Rattle.cert_checker.specs.Checks.{ComesWith, IsCertified}
 use Rattle.lotplan.specs.Checking.{GivenCallsFor}
 
 -- what holds of each problem that bytes mean

@@ -1,5 +1,5 @@
 -- What `check` leaves, by its answer.
-use Rattle.std.proofs.Common.{◌≡◌, ◌≢◌, ◌∙◌, ◌⊎◌, ⊎_elim, ℕ, List, Option, Some, None, IsTrue, inl, inr, refl, sym, subst, arith}
+use Rattle.std.proofs.Common.{◌≡◌, ◌≢◌, ◌∙◌, ⊎_elim, ℕ, List, Option, Some, None, IsTrue, inl, inr, refl, sym, subst, arith}
 use Rattle.std.specs.Prelude.{Result, Ok, Err, IfOk}
 use Rattle.std.specs.declared.alloc.AllocError.{AllocError}
 use Rattle.lot_io.specs.Outside.{Files, OnlyReads, Printed, Shelved}
@@ -23,7 +23,7 @@ use Rattle.lotplan.specs.Command.{checking}
 use Rattle.lotplan.specs.Status.{code_of}
 use Rattle.lotplan.specs.Reading.{FileExplains, HoldsProblem, ModelExplains, OfFile, ReadAnswer, refused, missing, unread, too_long, read_line, read_status}
 use Rattle.lotplan.specs.Judging.{AreNoPlan}
-use Rattle.lotplan.specs.Checking.{CheckAnswer, accepted, no_certificate, no_plan, rejected, stopped, check_line, check_status, Accepts, AsksForPlan, CertificateExplains, CheckCallsFor, CheckExplains, CheckSays, ClaimCallsFor, FindsRefused, GivenCallsFor, GivenExplains, HoldsPlan, IsGiven, IsOptimal, IsRefusal, PlanStops, PlannedCallsFor, PlannedExplains, ProofCallsFor, ProofExplains, ProofIs, ProofStops}
+use Rattle.lotplan.specs.Checking.{CheckAnswer, accepted, no_certificate, no_plan, rejected, stopped, check_line, check_status, Accepts, AllAre, AsksForPlan, CertificateExplains, CheckCallsFor, CheckExplains, CheckSays, ClaimCallsFor, FindsRefused, GivenCallsFor, GivenExplains, HoldsPlan, IsGiven, IsOptimal, IsRefusal, PlanStops, PlannedCallsFor, PlannedExplains, ProofCallsFor, ProofExplains, ProofIs, ProofStops}
 use Rattle.lotplan.specs.Saying.{Gains, IsSaid}
 use Rattle.lotplan.specs.Run.{HadNoFault}
 use Rattle.lotplan.proofs.Readings.{reading, stops_after}
@@ -266,6 +266,11 @@ module _ (m p c : List ℕ) (code : ℕ) (old : Shelved) where
       let certificate = asks.3.0 in
       by_bytes problem asks.0 asks.1 (inr (asks.2, inr (certificate, asks.3.1, optimal_calls problem certificate certificate.claim asks.3.2 (calls certificate))))
 
+  pub accepted_called : (claim : Claim) → AllAre old.file m p c (accepted claim) → code ≡ 0 → CheckCallsFor (old.file m) (old.file p) (old.file c) code
+  accepted_called claim f is =
+      let h = f.2.holds in
+      by_model f.0 f.1 (by_bytes f.0 h.text.0 h.text.1 (inr (h.text.2, inr (h.certificate, h.text.3, given_calls f.0 h.certificate h.certificate.claim h.given h.goes_with (inl (f.2.certified, is))))))
+
   module _ (new : Shelved) (out_old out_new : Printed) (fine : HadNoFault old new out_old out_new) (t : IsTrue old.told) where
     model_called : (w : ReadAnswer) → ModelExplains m old new w → code ≡ code_of (read_status w) → CheckCallsFor (old.file m) (old.file p) (old.file c) code
     model_called (refused fault) x is =
@@ -300,10 +305,7 @@ module _ (m p c : List ℕ) (code : ℕ) (old : Shelved) where
         x
 
     pub called_at : (answer : CheckAnswer) → CheckExplains m p c old new answer → code ≡ code_of (check_status answer) → CheckCallsFor (old.file m) (old.file p) (old.file c) code
-    called_at (accepted claim) x is =
-        let f = x t in
-        let h = f.2.holds in
-        by_model f.0 f.1 (by_bytes f.0 h.text.0 h.text.1 (inr (h.text.2, inr (h.certificate, h.text.3, given_calls f.0 h.certificate h.certificate.claim h.given h.goes_with (inl (f.2.certified, is))))))
+    called_at (accepted claim) x is = accepted_called claim (x t) is
     called_at (no_certificate fault) x is =
         let f = x t in
         let h = f.2.1 in

@@ -1,5 +1,5 @@
 -- What a run is says what each number of a status says.
-use Rattle.std.proofs.Common.{◌≡◌, ◌≢◌, ◌∙◌, ◌⊎◌, ⊎_elim, ℕ, List, Option, Some, None, IsTrue, inl, inr, refl, sym, subst, arith}
+use Rattle.std.proofs.Common.{◌≡◌, ◌≢◌, ◌≤◌, ◌∙◌, ◌⊎◌, ⊎_elim, ℕ, List, Option, Some, None, IsTrue, inl, inr, refl, sym, subst, arith}
 use Rattle.std.specs.Prelude.{Result, Ok, Err, IfOk, OnErr}
 use Rattle.std.specs.declared.alloc.AllocError.{AllocError}
 use Rattle.lot_draft.specs.declared.fault.ModelFault.{ModelFault}
@@ -7,11 +7,12 @@ use Rattle.lot_io.specs.Outside.{GrewBy, OnlyReads, Printed, Rose, Shelved}
 use Rattle.lotplan.specs.declared.said.Said.{Said}
 use Rattle.lotplan.specs.declared.status.Status.{Status}
 use Rattle.lotplan.specs.declared.status.Status.TheVariants.{Done, NoCommand}
-use Rattle.lotplan.specs.Command.{Asked, version, planning, judging, checking, upgrading}
+use Rattle.lotplan.specs.Command.{AreApart, Asked, version, planning, judging, checking, upgrading}
 use Rattle.lotplan.specs.Status.{code_of}
 use Rattle.lotplan.specs.Saying.{Ends, Gains, Prints}
 use Rattle.lotplan.specs.Reading.{ReadAnswer, refused, missing, unread, too_long, read_status}
-use Rattle.lotplan.specs.Planning.{CannotPlan, FindsNoPlan, PlanAnswer, PlanExplains, PlansBest, StartsAtMost, plan_line, plan_status}
+use Rattle.lotplan.specs.Laws.{StatusesAreOne}
+use Rattle.lotplan.specs.Planning.{CannotPlan, FindsNoPlan, PlanAnswer, PlanExplains, PlansBest, StartsAtMost, StartsAtMostBoth, StartsOnly, plan_line, plan_status}
 use Rattle.lotplan.specs.Planning as plan
 use Rattle.lotplan.specs.Judging.{FindsFeasible, JudgeAnswer, JudgeExplains, judge_line, judge_status}
 use Rattle.lotplan.specs.Judging as judge
@@ -19,7 +20,7 @@ use Rattle.lotplan.specs.Checking.{Accepts, CheckAnswer, CheckExplains, check_li
 use Rattle.lotplan.specs.Checking as check
 use Rattle.lotplan.specs.Upgrading.{UpgradeAnswer, UpgradeExplains, Upgrades, upgrade_line, upgrade_status}
 use Rattle.lotplan.specs.Upgrading as upgrade
-use Rattle.lotplan.specs.Run.{CallFor, CannotWrite, HadNoFault, IsFaulty, IsNoCommand, IsRun, ran_out, runs, Leaves, RunsAs, SaysFor, Stops, refused_line, version_line}
+use Rattle.lotplan.specs.Run.{CallFor, CallsForZero, CannotWrite, HadNoFault, IsFaulty, IsNoCommand, IsRun, ran_out, runs, Leaves, RunsAs, SaysFor, Stops, refused_line, version_line}
 use Rattle.lotplan.proofs.Outputs.{printed, prints_as}
 use Rattle.lotplan.proofs.Readings.{IsReading, reading, same_reads}
 use Rattle.lotplan.proofs.Planned as planned
@@ -45,7 +46,7 @@ abbrev EndsAs : Option Asked → ℕ → Shelved → Shelved → Printed → Pri
 EndsAs None code old new out_old out_new = (new ≡ old) × (code ≡ 4) × Gains refused_line out_old out_new
 EndsAs (Some version) code old new out_old out_new = (new ≡ old) × (code ≡ 0)
 EndsAs (Some (planning m p c)) code old new out_old out_new =
-    (answer : PlanAnswer) × PlanExplains m p old new answer × (code ≡ code_of (plan_status answer)) × Gains (plan_line answer) out_old out_new
+    (answer : PlanAnswer) × PlanExplains m p c old new answer × (code ≡ code_of (plan_status answer)) × Gains (plan_line answer) out_old out_new
 EndsAs (Some (judging m p)) code old new out_old out_new =
     (answer : JudgeAnswer) × JudgeExplains m p old new answer × OnlyReads old new × (code ≡ code_of (judge_status answer)) × Gains (judge_line answer) out_old out_new
 EndsAs (Some (checking m p c)) code old new out_old out_new =
@@ -76,18 +77,27 @@ ends asked code old new out_old out_new (ran_out x) some other = absurd (some x.
 ends asked code old new out_old out_new (runs x) some other = ends_by asked code old new out_old out_new x other
 
 -- ---- what each number says
-optimal_by : (asked : Option Asked) (code : ℕ) (old new : Shelved) (out_old out_new : Printed) (m p c : List ℕ) → asked ≡ Some (planning m p c) → EndsAs asked code old new out_old out_new → code ≡ 0 → (IsTrue old.told → PlansBest old.file new.file m p out_old out_new) × GrewBy 1 old.starts new.starts
+optimal_by : (asked : Option Asked) (code : ℕ) (old new : Shelved) (out_old out_new : Printed) (m p c : List ℕ) → asked ≡ Some (planning m p c) → EndsAs asked code old new out_old out_new → code ≡ 0 → (IsTrue old.told → PlansBest old.file new.file m p c out_old out_new) × GrewBy 2 old.starts new.starts
 optimal_by asked code old new out_old out_new m p c is x zero =
     let (answer, why, number, line) = subst (λ a. EndsAs a code old new out_old out_new) is x in
-    planned.optimal_at m p code old new out_old out_new answer why number line zero
+    planned.optimal_at m p c code old new out_old out_new answer why number line zero
 
-pub optimal : (asked : Option Asked) (code : ℕ) (old new : Shelved) (out_old out_new : Printed) → IsRun asked code old new out_old out_new → (m p c : List ℕ) → asked ≡ Some (planning m p c) → code ≡ 0 → IsTrue old.told → PlansBest old.file new.file m p out_old out_new
+pub optimal : (asked : Option Asked) (code : ℕ) (old new : Shelved) (out_old out_new : Printed) → IsRun asked code old new out_old out_new → (m p c : List ℕ) → asked ≡ Some (planning m p c) → code ≡ 0 → IsTrue old.told → PlansBest old.file new.file m p c out_old out_new
 optimal asked code old new out_old out_new run m p c is zero t =
     (optimal_by asked code old new out_old out_new m p c is (ends asked code old new out_old out_new run (λ e. omega (arith, e, zero)) (λ e. omega (arith, e, zero))) zero).0 t
 
-pub wrote : (asked : Option Asked) (code : ℕ) (old new : Shelved) (out_old out_new : Printed) → IsRun asked code old new out_old out_new → (m p c : List ℕ) → asked ≡ Some (planning m p c) → code ≡ 0 → GrewBy 1 old.starts new.starts
+pub wrote : (asked : Option Asked) (code : ℕ) (old new : Shelved) (out_old out_new : Printed) → IsRun asked code old new out_old out_new → (m p c : List ℕ) → asked ≡ Some (planning m p c) → code ≡ 0 → GrewBy 2 old.starts new.starts
 wrote asked code old new out_old out_new run m p c is zero =
     (optimal_by asked code old new out_old out_new m p c is (ends asked code old new out_old out_new run (λ e. omega (arith, e, zero)) (λ e. omega (arith, e, zero))) zero).1
+
+wrote_one_by : (asked : Option Asked) (code : ℕ) (old new : Shelved) (out_old out_new : Printed) (m p c : List ℕ) → asked ≡ Some (planning m p c) → EndsAs asked code old new out_old out_new → code ≡ 1 → StartsOnly c old new
+wrote_one_by asked code old new out_old out_new m p c is x one =
+    let (answer, why, number, line) = subst (λ a. EndsAs a code old new out_old out_new) is x in
+    (planned.impossible_at m p c code old new out_old out_new answer why number line one).1
+
+pub wrote_one : (asked : Option Asked) (code : ℕ) (old new : Shelved) (out_old out_new : Printed) → IsRun asked code old new out_old out_new → (m p c : List ℕ) → asked ≡ Some (planning m p c) → code ≡ 1 → StartsOnly c old new
+wrote_one asked code old new out_old out_new run m p c is one =
+    wrote_one_by asked code old new out_old out_new m p c is (ends asked code old new out_old out_new run (λ e. omega (arith, e, one)) (λ e. omega (arith, e, one))) one
 
 pub feasible : (asked : Option Asked) (code : ℕ) (old new : Shelved) (out_old out_new : Printed) → IsRun asked code old new out_old out_new → (m p : List ℕ) → asked ≡ Some (judging m p) → code ≡ 0 → IsTrue old.told → FindsFeasible old.file m p out_old out_new
 feasible asked code old new out_old out_new run m p is zero t =
@@ -112,25 +122,23 @@ pub rewrote : (asked : Option Asked) (code : ℕ) (old new : Shelved) (out_old o
 rewrote asked code old new out_old out_new run m n is none =
     (upgraded_by asked code old new out_old out_new m n is (ends asked code old new out_old out_new run (λ e. omega (arith, e, none)) (λ e. omega (arith, e, none))) none).1
 
-infeasible_by : (asked : Option Asked) (code : ℕ) (old new : Shelved) (out_old out_new : Printed) → EndsAs asked code old new out_old out_new → code ≡ 1 → IsTrue old.told → FindsNoPlan asked old.file out_old out_new
+infeasible_by : (asked : Option Asked) (code : ℕ) (old new : Shelved) (out_old out_new : Printed) → EndsAs asked code old new out_old out_new → code ≡ 1 → IsTrue old.told → FindsNoPlan asked old.file new.file out_old out_new
 infeasible_by None code old new out_old out_new x one t = absurd (omega (arith, x.1, one))
 infeasible_by (Some version) code old new out_old out_new x one t = absurd (omega (arith, x.1, one))
 infeasible_by (Some (planning m p c)) code old new out_old out_new (answer, why, number, line) one t =
-    let found = planned.impossible_at m p code old new out_old out_new answer why number line one t in
-    record { model_file = m; plan_file = p; words = record { certificate_file = c; is = refl }; holds = found.0; line = found.1 }
+    (planned.impossible_at m p c code old new out_old out_new answer why number line one).0 t
 infeasible_by (Some (judging m p)) code old new out_old out_new (answer, why, reads, number, line) one t = absurd ((judged.numbers answer code number).one one)
 infeasible_by (Some (checking m p c)) code old new out_old out_new (answer, why, reads, number, line) one t = absurd ((checked.numbers answer code number).one one)
 infeasible_by (Some (upgrading m n)) code old new out_old out_new (answer, why, number, line) one t = absurd ((upgraded.numbers answer code number).one one)
 
-pub infeasible : (asked : Option Asked) (code : ℕ) (old new : Shelved) (out_old out_new : Printed) → IsRun asked code old new out_old out_new → code ≡ 1 → IsTrue old.told → FindsNoPlan asked old.file out_old out_new
+pub infeasible : (asked : Option Asked) (code : ℕ) (old new : Shelved) (out_old out_new : Printed) → IsRun asked code old new out_old out_new → code ≡ 1 → IsTrue old.told → FindsNoPlan asked old.file new.file out_old out_new
 infeasible asked code old new out_old out_new run is t = infeasible_by asked code old new out_old out_new (ends asked code old new out_old out_new run (λ e. omega (arith, e, is)) (λ e. omega (arith, e, is))) is t
 
 coupled_by : (asked : Option Asked) (code : ℕ) (old new : Shelved) (out_old out_new : Printed) → EndsAs asked code old new out_old out_new → code ≡ 12 → IsTrue old.told → CannotPlan asked old.file out_old out_new
 coupled_by None code old new out_old out_new x twelve t = absurd (omega (arith, x.1, twelve))
 coupled_by (Some version) code old new out_old out_new x twelve t = absurd (omega (arith, x.1, twelve))
 coupled_by (Some (planning m p c)) code old new out_old out_new (answer, why, number, line) twelve t =
-    let found = planned.coupled_at m p code old new out_old out_new answer why number line twelve t in
-    record { model_file = m; plan_file = p; words = record { certificate_file = c; is = refl }; holds = found.0; line = found.1 }
+    planned.coupled_at m p c code old new out_old out_new answer why number line twelve t
 coupled_by (Some (judging m p)) code old new out_old out_new (answer, why, reads, number, line) twelve t = absurd ((judged.numbers answer code number).twelve twelve)
 coupled_by (Some (checking m p c)) code old new out_old out_new (answer, why, reads, number, line) twelve t = absurd ((checked.numbers answer code number).twelve twelve)
 coupled_by (Some (upgrading m n)) code old new out_old out_new (answer, why, number, line) twelve t = absurd ((upgraded.numbers answer code number).twelve twelve)
@@ -141,7 +149,7 @@ not_built asked code old new out_old out_new run is t = coupled_by asked code ol
 faulty_by : (asked : Option Asked) (code : ℕ) (old new : Shelved) (out_old out_new : Printed) → EndsAs asked code old new out_old out_new → code ≡ 3 → IsTrue old.told → IsFaulty asked old.file out_old out_new
 faulty_by None code old new out_old out_new x three t = absurd (omega (arith, x.1, three))
 faulty_by (Some version) code old new out_old out_new x three t = absurd (omega (arith, x.1, three))
-faulty_by (Some (planning m p c)) code old new out_old out_new (answer, why, number, line) three t = planned.not_three answer code number three
+faulty_by (Some (planning m p c)) code old new out_old out_new (answer, why, number, line) three t = absurd ((planned.numbers answer code number).three three)
 faulty_by (Some (judging m p)) code old new out_old out_new (answer, why, reads, number, line) three t = inl (judged.fault_at m p code old new out_old out_new answer why number line three t)
 faulty_by (Some (checking m p c)) code old new out_old out_new (answer, why, reads, number, line) three t = inr (checked.refused_at m p c code old new out_old out_new answer why number line three t)
 faulty_by (Some (upgrading m n)) code old new out_old out_new (answer, why, number, line) three t = absurd ((upgraded.numbers answer code number).three three)
@@ -160,13 +168,6 @@ unwritten_by (Some (upgrading m n)) code old new out_old out_new (answer, why, n
 pub unwritten : (asked : Option Asked) (code : ℕ) (old new : Shelved) (out_old out_new : Printed) → IsRun asked code old new out_old out_new → code ≡ 8 → CannotWrite asked old new out_old out_new
 unwritten asked code old new out_old out_new run is = unwritten_by asked code old new out_old out_new (ends asked code old new out_old out_new run (λ e. omega (arith, e, is)) (λ e. omega (arith, e, is))) is
 
-plan_not_four : {A : Type 0} (answer : PlanAnswer) (code : ℕ) → code ≡ code_of (plan_status answer) → code ≡ 4 → A
-plan_not_four (plan.optimal amount) code is four = absurd (omega (arith, is, four))
-plan_not_four plan.infeasible code is four = absurd (omega (arith, is, four))
-plan_not_four plan.not_built code is four = absurd (omega (arith, is, four))
-plan_not_four (plan.unwritten file) code is four = absurd (omega (arith, is, four))
-plan_not_four (plan.stopped why) code is four = absurd (omega (arith, (reading why code is).low, four))
-
 judge_not_four : {A : Type 0} (answer : JudgeAnswer) (code : ℕ) → code ≡ code_of (judge_status answer) → code ≡ 4 → A
 judge_not_four (judge.feasible amount) code is four = absurd (omega (arith, is, four))
 judge_not_four (judge.no_plan fault) code is four = absurd (omega (arith, is, four))
@@ -176,7 +177,7 @@ judge_not_four (judge.stopped why) code is four = absurd (omega (arith, (reading
 no_command_by : (asked : Option Asked) (code : ℕ) (old new : Shelved) (out_old out_new : Printed) → EndsAs asked code old new out_old out_new → code ≡ 4 → IsNoCommand asked out_old out_new
 no_command_by None code old new out_old out_new x four = record { is = refl; line = x.2 }
 no_command_by (Some version) code old new out_old out_new x four = absurd (omega (arith, x.1, four))
-no_command_by (Some (planning m p c)) code old new out_old out_new (answer, why, number, line) four = plan_not_four answer code number four
+no_command_by (Some (planning m p c)) code old new out_old out_new (answer, why, number, line) four = absurd ((planned.numbers answer code number).four four)
 no_command_by (Some (judging m p)) code old new out_old out_new (answer, why, reads, number, line) four = judge_not_four answer code number four
 no_command_by (Some (checking m p c)) code old new out_old out_new (answer, why, reads, number, line) four = absurd ((checked.numbers answer code number).four four)
 no_command_by (Some (upgrading m n)) code old new out_old out_new (answer, why, number, line) four = absurd ((upgraded.numbers answer code number).four four)
@@ -188,9 +189,9 @@ no_command asked code old new out_old out_new run is = no_command_by asked code 
 abbrev SomeStop : Option Asked → ℕ → Shelved → Shelved → Printed → Printed → Type 0
 SomeStop asked code old new out_old out_new = (why : ReadAnswer) × Stops asked old new out_old out_new why × (code ≡ code_of (read_status why))
 
-plan_stop : (m p c : List ℕ) (code : ℕ) (old new : Shelved) (out_old out_new : Printed) (answer : PlanAnswer) → PlanExplains m p old new answer → code ≡ code_of (plan_status answer) → Gains (plan_line answer) out_old out_new → IsReading code → SomeStop (Some (planning m p c)) code old new out_old out_new
-plan_stop m p c code old new out_old out_new (plan.optimal amount) x is line r = absurd (omega (arith, is, r.low))
-plan_stop m p c code old new out_old out_new plan.infeasible x is line r = absurd (omega (arith, is, r.low))
+plan_stop : (m p c : List ℕ) (code : ℕ) (old new : Shelved) (out_old out_new : Printed) (answer : PlanAnswer) → PlanExplains m p c old new answer → code ≡ code_of (plan_status answer) → Gains (plan_line answer) out_old out_new → IsReading code → SomeStop (Some (planning m p c)) code old new out_old out_new
+plan_stop m p c code old new out_old out_new (plan.optimal says nodes amount) x is line r = absurd (omega (arith, is, r.low))
+plan_stop m p c code old new out_old out_new (plan.infeasible says nodes) x is line r = absurd (omega (arith, is, r.low))
 plan_stop m p c code old new out_old out_new plan.not_built x is line r = absurd (omega (arith, is, r.high))
 plan_stop m p c code old new out_old out_new (plan.unwritten file) x is line r = absurd (r.other is)
 plan_stop m p c code old new out_old out_new (plan.stopped why) x is line r = (why, record { cause = x.0; line = line }, is)
@@ -272,8 +273,8 @@ read_shown (unread file) = record { nine = λ e. omega (arith, e); ten = λ e. o
 read_shown (too_long file) = record { nine = λ e. omega (arith, e); ten = λ e. omega (arith, e) }
 
 plan_shown : (answer : PlanAnswer) → IsShown (code_of (plan_status answer))
-plan_shown (plan.optimal amount) = record { nine = λ e. omega (arith, e); ten = λ e. omega (arith, e) }
-plan_shown plan.infeasible = record { nine = λ e. omega (arith, e); ten = λ e. omega (arith, e) }
+plan_shown (plan.optimal says nodes amount) = record { nine = λ e. omega (arith, e); ten = λ e. omega (arith, e) }
+plan_shown (plan.infeasible says nodes) = record { nine = λ e. omega (arith, e); ten = λ e. omega (arith, e) }
 plan_shown plan.not_built = record { nine = λ e. omega (arith, e); ten = λ e. omega (arith, e) }
 plan_shown (plan.unwritten file) = record { nine = λ e. omega (arith, e); ten = λ e. omega (arith, e) }
 plan_shown (plan.stopped why) = read_shown why
@@ -332,23 +333,23 @@ leaves_reads (Some (judging m p)) old new x = x
 leaves_reads (Some (checking m p c)) old new x = x
 leaves_reads (Some (upgrading m n)) old new x = x
 
-quiet_by : (asked : Option Asked) (code : ℕ) (old new : Shelved) (out_old out_new : Printed) → EndsAs asked code old new out_old out_new → code ≢ 0 → code ≢ 8 → OnlyReads old new
-quiet_by None code old new out_old out_new x some eight = same_reads old new x.0
-quiet_by (Some version) code old new out_old out_new x some eight = same_reads old new x.0
-quiet_by (Some (planning m p c)) code old new out_old out_new (answer, why, number, line) some eight = planned.quiet_at m p code old new answer why number some eight
-quiet_by (Some (judging m p)) code old new out_old out_new (answer, why, reads, number, line) some eight = reads
-quiet_by (Some (checking m p c)) code old new out_old out_new (answer, why, reads, number, line) some eight = reads
-quiet_by (Some (upgrading m n)) code old new out_old out_new (answer, why, number, line) some eight = upgraded.quiet_at m n code old new answer why number some eight
+quiet_by : (asked : Option Asked) (code : ℕ) (old new : Shelved) (out_old out_new : Printed) → EndsAs asked code old new out_old out_new → code ≢ 0 → code ≢ 1 → code ≢ 8 → OnlyReads old new
+quiet_by None code old new out_old out_new x some one eight = same_reads old new x.0
+quiet_by (Some version) code old new out_old out_new x some one eight = same_reads old new x.0
+quiet_by (Some (planning m p c)) code old new out_old out_new (answer, why, number, line) some one eight = planned.quiet_at m p c code old new answer why number some one eight
+quiet_by (Some (judging m p)) code old new out_old out_new (answer, why, reads, number, line) some one eight = reads
+quiet_by (Some (checking m p c)) code old new out_old out_new (answer, why, reads, number, line) some one eight = reads
+quiet_by (Some (upgrading m n)) code old new out_old out_new (answer, why, number, line) some one eight = upgraded.quiet_at m n code old new answer why number some eight
 
-pub quiet : (asked : Option Asked) (code : ℕ) (old new : Shelved) (out_old out_new : Printed) → IsRun asked code old new out_old out_new → code ≢ 0 → code ≢ 8 → code ≢ 9 → OnlyReads old new
-quiet asked code old new out_old out_new (ran_out x) some eight nine = leaves_reads asked old new x.left
-quiet asked code old new out_old out_new (runs x) some eight nine = quiet_by asked code old new out_old out_new (ends_by asked code old new out_old out_new x nine) some eight
+pub quiet : (asked : Option Asked) (code : ℕ) (old new : Shelved) (out_old out_new : Printed) → IsRun asked code old new out_old out_new → code ≢ 0 → code ≢ 1 → code ≢ 8 → code ≢ 9 → OnlyReads old new
+quiet asked code old new out_old out_new (ran_out x) some one eight nine = leaves_reads asked old new x.left
+quiet asked code old new out_old out_new (runs x) some one eight nine = quiet_by asked code old new out_old out_new (ends_by asked code old new out_old out_new x nine) some one eight
 
-others_by : (code : ℕ) (old new : Shelved) (out_old out_new : Printed) (m p c : List ℕ) → IsRun (Some (planning m p c)) code old new out_old out_new → StartsAtMost p old new
-others_by code old new out_old out_new m p c (ran_out x) = planned.reads_at_most p old new x.left
-others_by code old new out_old out_new m p c (runs (answer, x, done)) = (planned.others_at m p old new answer x).0
+others_by : (code : ℕ) (old new : Shelved) (out_old out_new : Printed) (m p c : List ℕ) → IsRun (Some (planning m p c)) code old new out_old out_new → StartsAtMostBoth p c old new
+others_by code old new out_old out_new m p c (ran_out x) = planned.reads_few p c old new x.left
+others_by code old new out_old out_new m p c (runs (answer, x, done)) = (planned.others_at p c old new m answer x).0
 
-pub others : (asked : Option Asked) (code : ℕ) (old new : Shelved) (out_old out_new : Printed) → IsRun asked code old new out_old out_new → (m p c : List ℕ) → asked ≡ Some (planning m p c) → StartsAtMost p old new
+pub others : (asked : Option Asked) (code : ℕ) (old new : Shelved) (out_old out_new : Printed) → IsRun asked code old new out_old out_new → (m p c : List ℕ) → asked ≡ Some (planning m p c) → StartsAtMostBoth p c old new
 others asked code old new out_old out_new run m p c is = others_by code old new out_old out_new m p c (subst (λ a. IsRun a code old new out_old out_new) is run)
 
 new_by : (code : ℕ) (old new : Shelved) (out_old out_new : Printed) (m n : List ℕ) → IsRun (Some (upgrading m n)) code old new out_old out_new → StartsAtMost n old new
@@ -382,7 +383,7 @@ idle asked code old new out_old out_new run is = idle_by code old new out_old ou
 told_by : (asked : Option Asked) (code : ℕ) (old new : Shelved) (out_old out_new : Printed) → RunsAs asked code old new out_old out_new → new.told ≡ old.told
 told_by None code old new out_old out_new x = (same_reads old new x.0).told
 told_by (Some version) code old new out_old out_new x = (same_reads old new x.0).told
-told_by (Some (planning m p c)) code old new out_old out_new (answer, x, done) = (planned.others_at m p old new answer x).1
+told_by (Some (planning m p c)) code old new out_old out_new (answer, x, done) = (planned.others_at p c old new m answer x).1
 told_by (Some (judging m p)) code old new out_old out_new (answer, x, reads, done) = reads.told
 told_by (Some (checking m p c)) code old new out_old out_new (answer, x, reads, done) = reads.told
 told_by (Some (upgrading m n)) code old new out_old out_new (answer, x, done) = (upgraded.others_at m n old new answer x).1
@@ -395,7 +396,7 @@ tells asked code old new out_old out_new (runs x) = told_by asked code old new o
 called_by : (asked : Option Asked) (code : ℕ) (old new : Shelved) (out_old out_new : Printed) → HadNoFault old new out_old out_new → IsTrue old.told → EndsAs asked code old new out_old out_new → CallFor asked old.file code
 called_by None code old new out_old out_new fine t x = x.1
 called_by (Some version) code old new out_old out_new fine t x = x.1
-called_by (Some (planning m p c)) code old new out_old out_new fine t (answer, x, number, line) = planned.called_at m p code old new out_old out_new fine t answer x number
+called_by (Some (planning m p c)) code old new out_old out_new fine t (answer, x, number, line) = planned.called_at m p c code old new out_old out_new fine t answer x number
 called_by (Some (judging m p)) code old new out_old out_new fine t (answer, x, reads, number, line) = judged.called_at m p code old new out_old out_new fine t answer x number
 called_by (Some (checking m p c)) code old new out_old out_new fine t (answer, x, reads, number, line) = checked.called_at m p c code old new out_old out_new fine t answer x number
 called_by (Some (upgrading m n)) code old new out_old out_new fine t (answer, x, number, line) = upgraded.called_at m n code old new out_old out_new fine t answer x number
@@ -404,3 +405,18 @@ pub called : (asked : Option Asked) (code : ℕ) (old new : Shelved) (out_old ou
 called asked code old new out_old out_new (ran_out x) t fine = inl x.is
 called asked code old new out_old out_new (runs x) t fine =
     inr (called_by asked code old new out_old out_new fine t (ends_by asked code old new out_old out_new x (λ nine. fine.put ((print_by asked code old new out_old out_new x).failed nine))))
+
+-- ---- what `check` calls for on what was written
+neither : (code other : ℕ) → 2 ≤ other → (code ≡ 0) ⊎ (code ≡ 1) → code ≢ other
+neither code other above done is = ⊎_elim (λ e. omega (arith, above, is, e)) (λ e. omega (arith, above, is, e)) done
+
+checks_by : StatusesAreOne → (asked : Option Asked) (code : ℕ) (old new : Shelved) (out_old out_new : Printed) (m p c : List ℕ) → AreApart m p c → asked ≡ Some (planning m p c) → EndsAs asked code old new out_old out_new → (code ≡ 0) ⊎ (code ≡ 1) → IsTrue old.told → CallsForZero new.file m p c
+checks_by one asked code old new out_old out_new m p c apart is x done t =
+    let (answer, why, number, lines) = subst (λ a. EndsAs a code old new out_old out_new) is x in
+    let (claim, all) = planned.accepted_at m p c code old new apart t answer why number done in
+    let zero : CallFor (Some (checking m p c)) new.file 0 = checked.accepted_called m p c 0 new claim all refl in
+    record { zero = zero; alone = λ status calls. one (Some (checking m p c)) new.file status 0 calls zero }
+
+pub checks : StatusesAreOne → (asked : Option Asked) (code : ℕ) (old new : Shelved) (out_old out_new : Printed) → ((m p c : List ℕ) → asked ≡ Some (planning m p c) → AreApart m p c) → IsRun asked code old new out_old out_new → (m p c : List ℕ) → asked ≡ Some (planning m p c) → (code ≡ 0) ⊎ (code ≡ 1) → IsTrue old.told → CallsForZero new.file m p c
+checks one asked code old new out_old out_new apart run m p c is done t =
+    checks_by one asked code old new out_old out_new m p c (apart m p c is) is (ends asked code old new out_old out_new run (neither code 10 (omega arith) done) (neither code 9 (omega arith) done)) done t

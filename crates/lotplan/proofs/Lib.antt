@@ -1,5 +1,8 @@
+pub mod Words
+pub mod Texts
 pub mod Outputs
 pub mod Readings
+pub mod Proved
 pub mod Planned
 pub mod Judged
 pub mod Checked

@@ -1,6 +1,6 @@
 -- What `upgrade` leaves, by its answer.
 use Rattle.std.proofs.Common.{◌≡◌, ◌≢◌, ◌∙◌, ⊎_elim, ℕ, List, Option, Some, IsTrue, inl, inr, refl, sym, ap, subst, arith}
-use Rattle.std.specs.Prelude.{Bool, true, false, if◌then◌else◌, ℤ, pos, Result, Ok, Err, IfOk, OnErr}
+use Rattle.std.specs.Prelude.{Bool, true, false, if◌then◌else◌, ℤ, pos, Result, Ok, Err, IfOk}
 use Rattle.std.specs.declared.alloc.AllocError.{AllocError}
 use Rattle.lot_io.specs.Outside.{GrewBy, OnlyReads, Printed, Shelved}
 use Rattle.lot_sizing.specs.Problem.{Problem}

@@ -1,5 +1,5 @@
 -- What the words of a command line ask for.
-use Rattle.std.specs.Prelude.{ℕ, Bool, false, not, ◌&&◌, ◌==◌, List, [], ◌∷◌, Option, Some, None, if◌then◌else◌, codes}
+use Rattle.std.specs.Prelude.{◌≢◌, ℕ, Bool, false, not, ◌&&◌, ◌==◌, List, [], ◌∷◌, Option, Some, None, if◌then◌else◌, codes}
 use Rattle.std.specs.Str.{bytes_eq}
 
 pub data Asked : Type 0 where
@@ -22,6 +22,12 @@ is_file_name (b ∷ bs) = not (b == 45)
 -- three files' names, no two of them the same
 abbrev pub are_file_names : List ℕ → List ℕ → List ℕ → Bool
 are_file_names m p c = is_file_name m && (is_file_name p && (is_file_name c && (not (bytes_eq m p) && (not (bytes_eq m c) && not (bytes_eq p c)))))
+
+-- no two of three names are the same
+pub record AreApart (model_file plan_file certificate_file : List ℕ) : Type 0 where
+  pub plan : model_file ≢ plan_file
+  pub certificate : model_file ≢ certificate_file
+  pub written : plan_file ≢ certificate_file
 
 -- two files' names, which aren't the same
 abbrev pub are_two_names : List ℕ → List ℕ → Bool

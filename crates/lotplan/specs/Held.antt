@@ -39,8 +39,8 @@ read_meant (Unread file) = reading.unread file.now
 read_meant (TooLong file) = reading.too_long file.now
 
 abbrev pub plan_meant : PlanAnswer → planning.PlanAnswer
-plan_meant (plan.Optimal amount) = planning.optimal amount
-plan_meant plan.Infeasible = planning.infeasible
+plan_meant (plan.Optimal says nodes amount) = planning.optimal says nodes amount
+plan_meant (plan.Infeasible says nodes) = planning.infeasible says nodes
 plan_meant plan.NotBuilt = planning.not_built
 plan_meant (plan.Unwritten file) = planning.unwritten file.now
 plan_meant (plan.Stopped why) = planning.stopped (read_meant why)

@@ -24,7 +24,7 @@ refused_line = codes "refused words\n"
 abbrev pub SaysFor : Option Asked → Shelved → Shelved → Said → Type 0
 SaysFor None old new said = (new ≡ old) × IsSaid refused_line NoCommand said
 SaysFor (Some version) old new said = (new ≡ old) × IsSaid version_line Done said
-SaysFor (Some (planning m p c)) old new said = PlanSays m p old new said
+SaysFor (Some (planning m p c)) old new said = PlanSays m p c old new said
 SaysFor (Some (judging m p)) old new said = JudgeSays m p old new said × OnlyReads old new
 SaysFor (Some (checking m p c)) old new said = CheckSays m p c old new said × OnlyReads old new
 SaysFor (Some (upgrading m n)) old new said = UpgradeSays m n old new said
@@ -43,7 +43,7 @@ abbrev pub RunsAs : Option Asked → ℕ → Shelved → Shelved → Printed →
 RunsAs None code old new out_old out_new = (new ≡ old) × Prints refused_line NoCommand code out_old out_new
 RunsAs (Some version) code old new out_old out_new = (new ≡ old) × Prints version_line Done code out_old out_new
 RunsAs (Some (planning m p c)) code old new out_old out_new =
-    (answer : PlanAnswer) × PlanExplains m p old new answer × Prints (plan_line answer) (plan_status answer) code out_old out_new
+    (answer : PlanAnswer) × PlanExplains m p c old new answer × Prints (plan_line answer) (plan_status answer) code out_old out_new
 RunsAs (Some (judging m p)) code old new out_old out_new =
     (answer : JudgeAnswer) × JudgeExplains m p old new answer × OnlyReads old new × Prints (judge_line answer) (judge_status answer) code out_old out_new
 RunsAs (Some (checking m p c)) code old new out_old out_new =
@@ -71,6 +71,11 @@ CallFor (Some (judging m p)) file status = JudgeCallsFor (file m) (file p) statu
 CallFor (Some (checking m p c)) file status = CheckCallsFor (file m) (file p) (file c) status
 CallFor (Some (upgrading m n)) file status = UpgradeCallsFor (file m) status
 
+-- `check` of these files calls for 0, and for no other status
+pub record CallsForZero (after : Files) (model_file plan_file certificate_file : List ℕ) : Type 0 where
+  pub zero : CallFor (Some (checking model_file plan_file certificate_file)) after 0
+  pub alone : (status : ℕ) → CallFor (Some (checking model_file plan_file certificate_file)) after status → status ≡ 0
+
 -- ---- how many bytes are read
 -- two files within the limit, and where a certificate is checked three passes over its file
 abbrev pub most_given : Option Asked → ℕ
@@ -97,7 +102,7 @@ pub record IsNoCommand (asked : Option Asked) (out_old out_new : Printed) : Type
 abbrev pub IsFaulty : Option Asked → Files → Printed → Printed → Type 0
 IsFaulty asked before out_old out_new = FindsFault asked before out_old out_new ⊎ FindsRefused asked before out_old out_new
 
--- the plan file, or the new model file, could not be written, and the line names it
+-- the plan file, the certificate file or the new model file could not be written, and the line names it
 abbrev pub CannotWrite : Option Asked → Shelved → Shelved → Printed → Printed → Type 0
 CannotWrite asked old new out_old out_new = FailsToWrite asked old new out_old out_new ⊎ FailsToUpgrade asked old new out_old out_new
 

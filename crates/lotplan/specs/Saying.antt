@@ -7,16 +7,16 @@ use Rattle.lotplan.specs.declared.said.Said.{Said}
 use Rattle.lotplan.specs.declared.status.Status.{Status}
 use Rattle.lotplan.specs.declared.status.Status.TheVariants.{Unprinted, NoMemory}
 
--- what is said has this line and this status
+-- what is said has this line, or these lines, and this status
 pub record IsSaid (text : List ℕ) (ending : Status) (said : Said) : Type 0 where
   pub line : string_bytes said.line ≡ text
   pub status : said.status ≡ ending
 
--- where it tells, the output gained this line and nothing else
+-- where it tells, the output gained this text and nothing else
 abbrev pub Gains : List ℕ → Printed → Printed → Type 0
 Gains text old new = IsTrue old.told → new.bytes ≡ old.bytes ++ text
 
--- the line was printed and the number is that of the status, or printing failed after some of it
+-- the text was printed and the number is that of the status, or printing failed after some of it
 abbrev pub Prints : List ℕ → Status → ℕ → Printed → Printed → Type 0
 Prints text ending code old new =
     ((code ≡ code_of ending) × Gains text old new)

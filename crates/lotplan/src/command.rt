@@ -25,7 +25,7 @@ pub struct Names<'a> {
     pub model: &'a str,
     /// The plan file, which is written, or read by a check.
     pub plan: &'a str,
-    /// The certificate file, which a check reads.
+    /// The certificate file, which is written, or read by a check.
     pub certificate: &'a str,
 }
 

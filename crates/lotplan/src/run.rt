@@ -5,39 +5,47 @@ ghost use Rattle.lot_io.specs.Outside.{GrewBy, OnlyReads, Rose};
 ghost use Rattle.lotplan.specs.Command.{checking, command_of, judging, planning, upgrading};
 ghost use Rattle.lotplan.specs.Saying.{Ends};
 ghost use Rattle.lotplan.specs.Reading.{missing, refused, too_long, unread};
-ghost use Rattle.lotplan.specs.Planning.{CannotPlan, FindsNoPlan, PlansBest, StartsAtMost};
+ghost use Rattle.lotplan.specs.Planning.{CannotPlan, FindsNoPlan, PlansBest, StartsAtMost, StartsAtMostBoth, StartsOnly};
 ghost use Rattle.lotplan.specs.Judging.{FindsFeasible};
 ghost use Rattle.lotplan.specs.Checking.{Accepts};
 ghost use Rattle.lotplan.specs.Upgrading.{Upgrades};
-ghost use Rattle.lotplan.specs.Run.{CallFor, CannotWrite, HadNoFault, IsFaulty, IsNoCommand, IsRun, Leaves, SaysFor, Stops, most_given};
+ghost use Rattle.lotplan.specs.Run.{CallFor, CallsForZero, CannotWrite, HadNoFault, IsFaulty, IsNoCommand, IsRun, Leaves, SaysFor, Stops, most_given};
 
 use crate::command::{Command, read_words};
 use crate::commands::check::check_files;
 use crate::commands::judge::judge_files;
 use crate::commands::plan::plan_files;
 use crate::commands::upgrade::upgrade_files;
+use crate::laws::statuses_are_one;
 use crate::said::Said;
 use crate::status::Status;
 use lot_io::{Shelf, Sink};
 use std::alloc::{AllocError, Global};
 
-/// Does what the words ask for, prints one line, and gives the number of the status.
+/// Does what the words ask for, prints a line, or three of a plan, and gives the number of the status.
 ///
 /// `words` are those after the program's name: none for the program's name and version,
 /// `plan MODEL PLAN CERTIFICATE`, `judge MODEL PLAN`, `check MODEL PLAN CERTIFICATE` or `upgrade MODEL NEW`. The numbers
 /// are 0 done, 1 no plan is feasible, 3 the plan file holds no plan or one that breaks a rule, or the
 /// certificate is refused, 4 no command, 5 the model is refused, 6 a file is absent, 7 it could not be
-/// read, 8 it could not be written, 9 the line could not be printed, 10 out of memory, 11 a file is longer
+/// read, 8 it could not be written, 9 the lines could not be printed, 10 out of memory, 11 a file is longer
 /// than 16,777,216 bytes, or a certificate file than 2^63 - 1, 12 the model can't be planned yet. All
-/// memory is taken before the first write.
+/// memory is taken before the first write. `plan` writes the plan file before the certificate file, and on
+/// status 1 the certificate file alone.
 ///
 /// What is said of counts holds over every shelf and sink, the machine's own too; what is said of
 /// contents holds where they are told.
 pub fn run<S: Shelf, K: Sink>(alloc: Global, words: &[String], shelf: &mut S, out: &mut K) -> u8
-    // After `plan` with status 0 the plan file holds a best plan, and the line has its cost.
+    // After `plan` with status 0 the plan file holds a best plan, the certificate file one that is accepted
+    // with it and proves that no plan costs less, and the lines have the certificate's number of nodes and
+    // the plan's cost.
     ensures optimal { (m p c : List ℕ) → command_of (map string_bytes words.now) ≡ Some (planning m p c) → result ≡ 0
         → IsTrue (S.shown shelf.old).told
-        → PlansBest (S.shown shelf.old).file (S.shown shelf.new).file m p (K.shown out.old) (K.shown out.new) }
+        → PlansBest (S.shown shelf.old).file (S.shown shelf.new).file m p c (K.shown out.old) (K.shown out.new) }
+
+    // After `plan` with status 0 or 1 `check` calls for 0 on the files that it left.
+    ensures checks { (m p c : List ℕ) → command_of (map string_bytes words.now) ≡ Some (planning m p c)
+        → (result ≡ 0) ⊎ (result ≡ 1) → IsTrue (S.shown shelf.old).told → CallsForZero (S.shown shelf.new).file m p c }
 
     // After `judge` with status 0 the plan file holds a feasible plan, and the line has its cost.
     ensures judged { (m p : List ℕ) → command_of (map string_bytes words.now) ≡ Some (judging m p) → result ≡ 0
@@ -61,9 +69,10 @@ pub fn run<S: Shelf, K: Sink>(alloc: Global, words: &[String], shelf: &mut S, ou
         → HadNoFault (S.shown shelf.old) (S.shown shelf.new) (K.shown out.old) (K.shown out.new)
         → (result ≡ 10) ⊎ CallFor (command_of (map string_bytes words.now)) (S.shown shelf.old).file result }
 
-    // The cause of each other status, and its line.
+    // The cause of each other status, and its lines. On status 1 the certificate file proves that there is no
+    // plan, and the plan file is as it was.
     ensures infeasible { result ≡ 1 → IsTrue (S.shown shelf.old).told
-        → FindsNoPlan (command_of (map string_bytes words.now)) (S.shown shelf.old).file (K.shown out.old) (K.shown out.new) }
+        → FindsNoPlan (command_of (map string_bytes words.now)) (S.shown shelf.old).file (S.shown shelf.new).file (K.shown out.old) (K.shown out.new) }
     ensures faulty { result ≡ 3 → IsTrue (S.shown shelf.old).told
         → IsFaulty (command_of (map string_bytes words.now)) (S.shown shelf.old).file (K.shown out.old) (K.shown out.new) }
     ensures no_command { result ≡ 4 → IsNoCommand (command_of (map string_bytes words.now)) (K.shown out.old) (K.shown out.new) }
@@ -81,12 +90,14 @@ pub fn run<S: Shelf, K: Sink>(alloc: Global, words: &[String], shelf: &mut S, ou
     ensures not_built { result ≡ 12 → IsTrue (S.shown shelf.old).told
         → CannotPlan (command_of (map string_bytes words.now)) (S.shown shelf.old).file (K.shown out.old) (K.shown out.new) }
 
-    // What is written: nothing on a status but 0, 8 and 9, and by `plan` and `upgrade` alone; never another file.
-    ensures quiet { result ≢ 0 → result ≢ 8 → result ≢ 9 → OnlyReads (S.shown shelf.old) (S.shown shelf.new) }
+    // What is written: nothing on a status but 0, 1, 8 and 9, and by `plan` and `upgrade` alone; never another file.
+    ensures quiet { result ≢ 0 → result ≢ 1 → result ≢ 8 → result ≢ 9 → OnlyReads (S.shown shelf.old) (S.shown shelf.new) }
     ensures wrote { (m p c : List ℕ) → command_of (map string_bytes words.now) ≡ Some (planning m p c) → result ≡ 0
-        → GrewBy 1 (S.shown shelf.old).starts (S.shown shelf.new).starts }
+        → GrewBy 2 (S.shown shelf.old).starts (S.shown shelf.new).starts }
+    ensures wrote_certificate { (m p c : List ℕ) → command_of (map string_bytes words.now) ≡ Some (planning m p c) → result ≡ 1
+        → StartsOnly c (S.shown shelf.old) (S.shown shelf.new) }
     ensures others { (m p c : List ℕ) → command_of (map string_bytes words.now) ≡ Some (planning m p c)
-        → StartsAtMost p (S.shown shelf.old) (S.shown shelf.new) }
+        → StartsAtMostBoth p c (S.shown shelf.old) (S.shown shelf.new) }
     ensures rewrote { (m n : List ℕ) → command_of (map string_bytes words.now) ≡ Some (upgrading m n) → result ≡ 0
         → GrewBy 1 (S.shown shelf.old).starts (S.shown shelf.new).starts }
     ensures upgrade_others { (m n : List ℕ) → command_of (map string_bytes words.now) ≡ Some (upgrading m n)
@@ -104,13 +115,14 @@ pub fn run<S: Shelf, K: Sink>(alloc: Global, words: &[String], shelf: &mut S, ou
 
     // What is printed: nothing on status 10, and else one piece.
     ensures silent { result ≡ 10 → K.shown out.new ≡ K.shown out.old }
-    ensures one_line { result ≢ 10 → GrewBy 1 (K.shown out.old).puts (K.shown out.new).puts }
+    ensures one_piece { result ≢ 10 → GrewBy 1 (K.shown out.old).puts (K.shown out.new).puts }
     ensures told_sink { (K.shown out.new).told ≡ (K.shown out.old).told }
 
     // The whole: memory ran out before anything was written, or some answer explains what the run did.
     ensures run { IsRun (command_of (map string_bytes words.now)) result (S.shown shelf.old) (S.shown shelf.new)
         (K.shown out.old) (K.shown out.new) }
 {
+    statuses_are_one();
     let said = said(alloc, words, shelf);
     end_with(&said, out)
 }
@@ -118,7 +130,7 @@ pub fn run<S: Shelf, K: Sink>(alloc: Global, words: &[String], shelf: &mut S, ou
 // Prints what is said, if memory sufficed for it, and gives the number of the status.
 fn end_with<K: Sink>(said: &Result<Said, AllocError>, out: &mut K) -> u8
     ensures ends { Ends said.now result (K.shown out.old) (K.shown out.new) }
-    ensures one_line { result ≢ 10 → GrewBy 1 (K.shown out.old).puts (K.shown out.new).puts }
+    ensures one_piece { result ≢ 10 → GrewBy 1 (K.shown out.old).puts (K.shown out.new).puts }
     ensures told { (K.shown out.new).told ≡ (K.shown out.old).told }
 {
     match said {
@@ -139,7 +151,9 @@ fn said<S: Shelf>(alloc: Global, words: &[String], shelf: &mut S) -> Result<Said
     match read_words(words) {
         None => Said::new(alloc, "refused words\n", Status::NoCommand),
         Some(Command::Name) => Said::new(alloc, "lotplan 1\n", Status::Done),
-        Some(Command::Plan(names)) => plan_files(alloc, names.model, names.plan, shelf),
+        Some(Command::Plan(names)) => {
+            plan_files(alloc, names.model, names.plan, names.certificate, shelf)
+        }
         Some(Command::Judge(names)) => judge_files(alloc, names.model, names.plan, shelf),
         Some(Command::Check(names)) => {
             check_files(alloc, names.model, names.plan, names.certificate, shelf)

@@ -5,7 +5,7 @@ ghost use Rattle.lotplan.specs.Saying.{IsSaid};
 use crate::status::Status;
 use std::alloc::{AllocError, Global};
 
-/// What a run says at its end: a line to print, with its line feed, and how the run ends.
+/// What a run says at its end: the line or lines to print, each with its line feed, and how the run ends.
 #[derive(Debug, Drop)]
 pub struct Said {
     pub line: String,

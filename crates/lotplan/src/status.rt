@@ -21,7 +21,7 @@ pub enum Status {
     Unread,
     /// A file could not be written.
     Unwritten,
-    /// The line could not be printed.
+    /// The lines could not be printed.
     Unprinted,
     /// Memory ran out.
     NoMemory,

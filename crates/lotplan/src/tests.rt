@@ -61,89 +61,123 @@ pub fn holds(shelf: &MemoryShelf, name: &str, text: &str) -> bool {
     }
 }
 
-#[test]
-fn models_are_planned(rt: HostRuntime) -> Result<(), Fail> {
-    let alloc = rt.alloc();
-    let words = texts(alloc, &["plan", "m", "p", "c"])?;
-    for (demand, setup, unit, line, row) in [
-        (0u64, 5u64, 0u64, "optimal 0\n", "A,1,0,0,0,0\n"),
-        (10, 5, 2, "optimal 25\n", "A,1,10,1,0,0\n"),
-        (
-            1_000_000_000,
-            1_000_000_000,
-            1_000_000_000,
-            "optimal 1000000001000000000\n",
-            "A,1,1000000000,1,0,0\n",
-        ),
-    ] {
-        let model = format!(in alloc;
-            "version = 1\nperiods = 1\n[[item]]\nname = \"A\"\ndemand = [{demand}]\nsetup_cost = {setup}\nunit_cost = {unit}\n"
-        )?;
-        let mut shelf = shelf_with(alloc, model.as_bytes(), &[], &[], &[])?;
-        let mut out = MemorySink::new(alloc, Vec::new(alloc));
-        assert_eq!(rt;
-            run(alloc, words.as_slice(), &mut shelf, &mut out),
-            0,
-            "{line}"
-        );
-        assert!(rt; out.bytes.as_slice() == line.as_bytes(), "{line}");
-        let text = format!(in alloc; "{HEADER}{row}")?;
-        assert!(rt; holds(&shelf, "p", text.as_str()), "{row}");
-        assert!(rt; holds(&shelf, "m", model.as_str()) && shelf.files.len() == 2);
-    }
-    Ok(())
-}
-
 // A model of one item, with these lines.
 pub fn one_item(alloc: Global, periods: u32, lines: &str) -> Result<String, AllocError> {
     format!(in alloc; "version = 1\nperiods = {periods}\n[[item]]\nname = \"A\"\n{lines}\n")
 }
 
-// Whether planning a model ends with this status, prints this line and leaves these records in the plan
-// file, which is absent where there are none.
-fn ends_in(
-    alloc: Global,
-    model: &str,
-    status: u8,
-    line: &str,
-    records: &str,
-) -> Result<bool, AllocError> {
+// Whether planning a model ends with this status and prints this line, and no file changes.
+fn ends_in(alloc: Global, model: &str, status: u8, line: &str) -> Result<bool, AllocError> {
     let words = texts(alloc, &["plan", "m", "p", "c"])?;
     let mut shelf = shelf_with(alloc, model.as_bytes(), &[], &[], &[])?;
     let mut out = MemorySink::new(alloc, Vec::new(alloc));
     let ended = run(alloc, words.as_slice(), &mut shelf, &mut out);
-    let text = format!(in alloc; "{HEADER}{records}")?;
-    let kept = if records.is_empty() {
-        shelf.files.len() == 1 && shelf.starts == 0
-    } else {
-        shelf.files.len() == 2 && holds(&shelf, "p", text.as_str())
-    };
     let said = ended == status && out.bytes.as_slice() == line.as_bytes();
-    Ok(said && kept && holds(&shelf, "m", model))
+    Ok(said && shelf.files.len() == 1 && shelf.starts == 0 && holds(&shelf, "m", model))
+}
+
+// Whether the files of a model, a plan and a certificate are accepted, and prove this claim.
+fn is_accepted(alloc: Global, shelf: &mut MemoryShelf, claim: &str) -> Result<bool, AllocError> {
+    let words = texts(alloc, &["check", "m", "p", "c"])?;
+    let mut out = MemorySink::new(alloc, Vec::new(alloc));
+    let ended = run(alloc, words.as_slice(), shelf, &mut out);
+    let line = format!(in alloc; "accepted {claim}\n")?;
+    Ok(ended == 0 && out.bytes.as_slice() == line.as_bytes())
+}
+
+// Whether planning a model ends with this status, prints the three lines of this claim and leaves these
+// records in the plan file, which stays where there are none, and whether its certificate is accepted.
+fn is_planned(
+    alloc: Global,
+    model: &str,
+    status: u8,
+    claim: &str,
+    records: &str,
+) -> Result<bool, AllocError> {
+    let words = texts(alloc, &["plan", "m", "p", "c"])?;
+    let mut shelf = shelf_with(alloc, model.as_bytes(), &[], &[], &[])?;
+    put(alloc, &mut shelf, "p", b"old\n")?;
+    let mut out = MemorySink::new(alloc, Vec::new(alloc));
+    let ended = run(alloc, words.as_slice(), &mut shelf, &mut out);
+    let lines = format!(in alloc; "root uncoupled\nnodes 1\n{claim}\n")?;
+    let said = ended == status && out.bytes.as_slice() == lines.as_bytes();
+    let text = format!(in alloc; "{HEADER}{records}")?;
+    let plan = if records.is_empty() {
+        "old\n"
+    } else {
+        text.as_str()
+    };
+    let starts = if records.is_empty() { 1 } else { 2 };
+    let kept = shelf.files.len() == 3 && shelf.starts == starts && holds(&shelf, "p", plan);
+    Ok(said && kept && is_accepted(alloc, &mut shelf, claim)? && holds(&shelf, "m", model))
+}
+
+#[test]
+fn single_periods_are_planned(rt: HostRuntime) -> Result<(), Fail> {
+    let alloc = rt.alloc();
+    for (lines, status, claim, records) in [
+        (
+            "demand = [0]\nsetup_cost = 5",
+            0u8,
+            "optimal 0",
+            "A,1,0,0,0,0\n",
+        ),
+        (
+            "demand = [10]\nsetup_cost = 5\nunit_cost = 2",
+            0,
+            "optimal 25",
+            "A,1,10,1,0,0\n",
+        ),
+        (
+            "demand = [1000000000]\nsetup_cost = 1000000000\nunit_cost = 1000000000",
+            0,
+            "optimal 1000000001000000000",
+            "A,1,1000000000,1,0,0\n",
+        ),
+        (
+            "opening = 9\ndemand = [3]\nend_max = 5",
+            1,
+            "infeasible",
+            "",
+        ),
+        (
+            "opening = 8\ndemand = [3]\nend_max = 5",
+            0,
+            "optimal 0",
+            "A,1,0,0,5,0\n",
+        ),
+    ] {
+        let model = one_item(alloc, 1, lines)?;
+        assert!(rt;
+            is_planned(alloc, model.as_str(), status, claim, records)?,
+            "{claim}"
+        );
+    }
+    Ok(())
 }
 
 #[test]
 fn items_by_themselves_are_planned(rt: HostRuntime) -> Result<(), Fail> {
     let alloc = rt.alloc();
-    for (lines, line, records) in [
+    for (lines, claim, records) in [
         (
             "opening = 7\ndemand = [3, 3]\nend_min = 1\nhold_cost = 1\nsetup_cost = 10",
-            "optimal 5\n",
+            "optimal 5",
             "A,1,0,0,4,0\nA,2,0,0,1,0\n",
         ),
         (
             "demand = [4, 6]\nsetup_cost = [100, 20]\nhold_cost = 1\nbacklog_cost = 2",
-            "optimal 28\n",
+            "optimal 28",
             "A,1,0,0,0,4\nA,2,10,1,0,0\n",
         ),
         (
             "demand = [4, 6]\nsetup_cost = [100, 20]\nhold_cost = 1",
-            "optimal 106\n",
+            "optimal 106",
             "A,1,10,1,6,0\nA,2,0,0,0,0\n",
         ),
     ] {
         let model = one_item(alloc, 2, lines)?;
-        assert!(rt; ends_in(alloc, model.as_str(), 0, line, records)?);
+        assert!(rt; is_planned(alloc, model.as_str(), 0, claim, records)?);
     }
     Ok(())
 }
@@ -158,17 +192,7 @@ fn twelve_periods_are_planned(rt: HostRuntime) -> Result<(), Fail> {
     )?;
     let records =
         "A,1,98,1,29,0\nA,2,0,0,0,0\nA,3,97,1,61,0\nA,4,0,0,0,0\nA,5,121,1,60,0\nA,6,0,0,34,0\nA,7,0,0,0,0\nA,8,112,1,45,0\nA,9,0,0,0,0\nA,10,67,1,0,0\nA,11,135,1,56,0\nA,12,0,0,0,0\n";
-    assert!(rt; ends_in(alloc, model.as_str(), 0, "optimal 864\n", records)?);
-    Ok(())
-}
-
-#[test]
-fn a_stock_without_room_is_infeasible(rt: HostRuntime) -> Result<(), Fail> {
-    let alloc = rt.alloc();
-    let model = one_item(alloc, 1, "opening = 9\ndemand = [3]\nend_max = 5")?;
-    assert!(rt; ends_in(alloc, model.as_str(), 1, "infeasible\n", "")?);
-    let model = one_item(alloc, 1, "opening = 8\ndemand = [3]\nend_max = 5")?;
-    assert!(rt; ends_in(alloc, model.as_str(), 0, "optimal 0\n", "A,1,0,0,5,0\n")?);
+    assert!(rt; is_planned(alloc, model.as_str(), 0, "optimal 864", records)?);
     Ok(())
 }
 
@@ -188,7 +212,7 @@ fn several_items_are_planned(rt: HostRuntime) -> Result<(), Fail> {
         "demand = [4]\nsetup_cost = 3\nopening = 1",
     )?;
     let records = "A,1,10,1,0,0\nB,1,3,1,0,0\n";
-    assert!(rt; ends_in(alloc, model.as_str(), 0, "optimal 28\n", records)?);
+    assert!(rt; is_planned(alloc, model.as_str(), 0, "optimal 28", records)?);
     Ok(())
 }
 
@@ -200,7 +224,7 @@ fn items_with_and_without_backlog_are_planned(rt: HostRuntime) -> Result<(), Fai
         "version = 1\nperiods = 2\n[[item]]\nname = \"A\"\n{costs}\nbacklog_cost = 2\n[[item]]\nname = \"B\"\n{costs}\n"
     )?;
     let records = "A,1,0,0,0,4\nA,2,10,1,0,0\nB,1,10,1,6,0\nB,2,0,0,0,0\n";
-    assert!(rt; ends_in(alloc, model.as_str(), 0, "optimal 134\n", records)?);
+    assert!(rt; is_planned(alloc, model.as_str(), 0, "optimal 134", records)?);
     Ok(())
 }
 
@@ -228,7 +252,7 @@ fn models_are_refused(rt: HostRuntime) -> Result<(), Fail> {
         ),
     ] {
         let model = two_items(alloc, first, second)?;
-        assert!(rt; ends_in(alloc, model.as_str(), status, line, "")?);
+        assert!(rt; ends_in(alloc, model.as_str(), status, line)?);
     }
     Ok(())
 }
@@ -332,11 +356,11 @@ fn damaged_models_are_refused(rt: HostRuntime) -> Result<(), Fail> {
         ("", "A", demand, uses, 5, "refused model M3 root version\n"),
     ] {
         let model = damaged(alloc, root, name, more, uses)?;
-        assert!(rt; ends_in(alloc, model.as_str(), status, line, "")?);
+        assert!(rt; ends_in(alloc, model.as_str(), status, line)?);
     }
     let item = "[[item]]\nname = \"A\"\ndemand = [2, 8]\n";
     let twice = format!(in alloc; "{good}\n{item}{item}")?;
-    assert!(rt; ends_in(alloc, twice.as_str(), 5, "refused model M8 item 2\n", "")?);
+    assert!(rt; ends_in(alloc, twice.as_str(), 5, "refused model M8 item 2\n")?);
     Ok(())
 }
 
@@ -364,7 +388,7 @@ fn chain(alloc: Global) -> Result<String, AllocError> {
 fn quantities_past_the_bound_are_refused(rt: HostRuntime) -> Result<(), Fail> {
     let alloc = rt.alloc();
     let model = chain(alloc)?;
-    assert!(rt; ends_in(alloc, model.as_str(), 5, "refused model M12 item 4\n", "")?);
+    assert!(rt; ends_in(alloc, model.as_str(), 5, "refused model M12 item 4\n")?);
     Ok(())
 }
 
@@ -482,7 +506,7 @@ fn lead_times_and_lots_are_judged(rt: HostRuntime) -> Result<(), Fail> {
     )?;
     let few = "broken 8 item 1 period 1\n";
     assert!(rt; judged_as(alloc, lots.as_str(), "A,1,4,1,0,0\n", 3, few)?);
-    assert!(rt; ends_in(alloc, later.as_str(), 12, "refused notbuilt\n", "")?);
+    assert!(rt; ends_in(alloc, later.as_str(), 12, "refused notbuilt\n")?);
     Ok(())
 }
 
@@ -490,19 +514,11 @@ fn lead_times_and_lots_are_judged(rt: HostRuntime) -> Result<(), Fail> {
 fn lead_times_and_lots_are_refused(rt: HostRuntime) -> Result<(), Fail> {
     let alloc = rt.alloc();
     let crossed = one_lot(alloc, 1, "demand = [4]\nmin_lot = 5\nmax_lot = 4")?;
-    assert!(rt; ends_in(alloc, crossed.as_str(), 5, "refused model M15 item 1\n", "")?);
+    assert!(rt; ends_in(alloc, crossed.as_str(), 5, "refused model M15 item 1\n")?);
     let first = one_item(alloc, 2, "demand = [0, 10]\nlead = 1")?;
-    assert!(rt; ends_in(alloc, first.as_str(), 5, "refused model M2 item 1\n", "")?);
+    assert!(rt; ends_in(alloc, first.as_str(), 5, "refused model M2 item 1\n")?);
     let long = one_lot(alloc, 121, "demand = 0")?;
-    assert!(rt;
-        ends_in(
-            alloc,
-            long.as_str(),
-            5,
-            "refused model M5 root periods\n",
-            ""
-        )?
-    );
+    assert!(rt; ends_in(alloc, long.as_str(), 5, "refused model M5 root periods\n")?);
     Ok(())
 }
 
@@ -538,7 +554,7 @@ fn models_are_upgraded(rt: HostRuntime) -> Result<(), Fail> {
     let model = one_item(alloc, 1, "demand = [10]\nunit_cost = 2\nsetup_cost = 5")?;
     assert!(rt; upgraded_as(alloc, model.as_str(), 0, "written n\n", LOAF)?);
     for text in [model.as_str(), LOAF] {
-        assert!(rt; ends_in(alloc, text, 0, "optimal 25\n", "A,1,10,1,0,0\n")?);
+        assert!(rt; is_planned(alloc, text, 0, "optimal 25", "A,1,10,1,0,0\n")?);
     }
     let newest = "refused model M14 root version\n";
     assert!(rt; upgraded_as(alloc, LOAF, 5, newest, "")?);
@@ -583,9 +599,9 @@ fn the_examples_print_what_the_readme_shows(rt: HostRuntime) -> Result<(), Fail>
     let alloc = rt.alloc();
     let records =
         "bread,1,30,1,0,0\nbread,2,35,1,0,0\nbread,3,50,1,0,0\nbread,4,0,0,0,0\nbread,5,105,1,45,0\nbread,6,0,0,0,0\ncake,1,0,0,0,4\ncake,2,0,0,0,4\ncake,3,12,1,2,0\ncake,4,0,0,0,0\ncake,5,0,0,0,0\ncake,6,14,1,2,0\n";
-    assert!(rt; ends_in(alloc, BAKERY, 0, "optimal 1006\n", records)?);
+    assert!(rt; is_planned(alloc, BAKERY, 0, "optimal 1006", records)?);
     let loaf = one_item(alloc, 1, "demand = [10]\nunit_cost = 2\nsetup_cost = 5")?;
-    assert!(rt; ends_in(alloc, loaf.as_str(), 0, "optimal 25\n", "A,1,10,1,0,0\n")?);
+    assert!(rt; is_planned(alloc, loaf.as_str(), 0, "optimal 25", "A,1,10,1,0,0\n")?);
     let tables = "table,1,20,1,0,0\ntable,2,0,0,0,0\ntable,3,40,1,10,0\ntable,4,0,0,0,0\n";
     for (leg, status, line) in [
         (160u32, 0u8, "feasible 160\n"),
@@ -653,18 +669,22 @@ fn words_are_refused(rt: HostRuntime) -> Result<(), Fail> {
     Ok(())
 }
 
+// The last number is how many of the plan file and the certificate file are whole then.
 #[test]
 fn faults_of_the_outside_are_named(rt: HostRuntime) -> Result<(), Fail> {
     let alloc = rt.alloc();
-    let cases: [(&str, &[u64], &[u64], &[u64], &[u64], u8, &str); 6] = [
-        ("n", &[], &[], &[], &[], 6, "refused missing n\n"),
-        ("m", &[1], &[], &[], &[], 7, "refused read m\n"),
-        ("m", &[2], &[], &[], &[], 7, "refused read m\n"),
-        ("m", &[], &[1], &[], &[], 8, "refused write p\n"),
-        ("m", &[], &[], &[1], &[], 8, "refused write p\n"),
-        ("m", &[], &[], &[], &[1], 9, "optim"),
+    let cases: [(&str, &[u64], &[u64], &[u64], &[u64], u8, &str, u32); 8] = [
+        ("n", &[], &[], &[], &[], 6, "refused missing n\n", 0),
+        ("m", &[1], &[], &[], &[], 7, "refused read m\n", 0),
+        ("m", &[2], &[], &[], &[], 7, "refused read m\n", 0),
+        ("m", &[], &[1], &[], &[], 8, "refused write p\n", 0),
+        ("m", &[], &[], &[1], &[], 8, "refused write p\n", 0),
+        ("m", &[], &[2], &[], &[], 8, "refused write c\n", 1),
+        ("m", &[], &[], &[2], &[], 8, "refused write c\n", 1),
+        ("m", &[], &[], &[], &[1], 9, "root uncoupled\nno", 2),
     ];
-    for (model, fetch, start, append, put, status, printed) in cases {
+    let plan = format!(in alloc; "{HEADER}A,1,10,1,0,0\n")?;
+    for (model, fetch, start, append, put, status, printed, whole) in cases {
         let mut shelf = shelf_with(alloc, TEN.as_bytes(), fetch, start, append)?;
         let mut out = MemorySink::new(alloc, Vec::from_slice(alloc, put)?);
         let words = texts(alloc, &["plan", model, "p", "c"])?;
@@ -674,18 +694,18 @@ fn faults_of_the_outside_are_named(rt: HostRuntime) -> Result<(), Fail> {
             "{printed}"
         );
         assert!(rt; out.bytes.as_slice() == printed.as_bytes(), "{printed}");
+        assert!(rt; holds(&shelf, "m", TEN), "{printed}");
+        assert_eq!(rt; (shelf.wants, out.wants, out.puts), (0, 0, 1));
+        assert!(rt; status > 7 || shelf.files.len() == 1, "{printed}");
+        assert!(rt; whole > 0 || shelf.files.get("c").is_none(), "{printed}");
         assert!(rt;
-            holds(&shelf, "m", TEN) && shelf.files.get("c").is_none(),
+            whole == 0 || holds(&shelf, "p", plan.as_str()),
             "{printed}"
         );
-        assert_eq!(rt; (shelf.wants, out.wants, out.puts), (0, 0, 1));
-        if status < 8 {
-            assert!(rt; shelf.files.len() == 1, "{printed}");
-        }
-        if status == 9 {
-            let text = format!(in alloc; "{HEADER}A,1,10,1,0,0\n")?;
-            assert!(rt; holds(&shelf, "p", text.as_str()));
-        }
+        assert!(rt;
+            whole < 2 || is_accepted(alloc, &mut shelf, "optimal 25")?,
+            "{printed}"
+        );
     }
     Ok(())
 }

@@ -1,22 +1,15 @@
--- Best rows of items, and the plan that they make.
+-- Best rows of items.
 use Rattle.std.proofs.Common.{◌≡◌, ◌≢◌, ◌≤◌, ◌+◌, ◌∙◌, ⊎_elim, ℕ, refl, sym, subst, arith, List}
 use Rattle.std.proofs.lemmas.Bool.{cases_lt}
 use Rattle.lot_sizing.specs.Sums.{sum_to}
-use Rattle.lot_sizing.specs.Problem.{EachItem, IsUncoupled, IsWithinLimits, Problem, item_at, item_count}
-use Rattle.lot_sizing.specs.Plan.{IsFeasible, Plan}
-use Rattle.lot_sizing.specs.Best.{IsBest, IsImpossible}
-use Rattle.lot_sizing.specs.Least.{HasChoice, least_plan}
+use Rattle.lot_sizing.specs.Problem.{Problem, item_count}
 use Rattle.lot_sizing.specs.declared.Block.{Block}
 use Rattle.lot_sizing.specs.Single.{Cover, IsLeastNetCost, IsNetPlan, NetPlan, Single, blocks_cost, blocks_plan, net_cost, net_cost_at, period_count}
-use Rattle.lot_sizing.specs.Net.{HasRoom, IsBestChoice, IsSingleOf, choice}
+use Rattle.lot_sizing.specs.Net.{IsBestChoice, IsSingleOf, choice}
 use Rattle.lot_sizing.specs.Laws.{BlocksServe}
-use Rattle.lot_sizing.proofs.Reduction.{items_feasible, items_floor, room}
 use Rattle.lot_sizing.proofs.Sums.{sum_to-same}
 use Rattle.plan_rules.specs.Cells.{Cells, table_of}
-use Rattle.plan_rules.specs.Held.{plan_of}
-use Rattle.plan_rules.specs.declared.plan.Planned.{Planned}
-use Rattle.std.specs.Prelude.{Option, Some, None, Result, Ok, Err}
-use Rattle.plan_rules.specs.Rows.{HasNoPlan, IfFound, IfNoneFound, IsLeastWith, OtherRowsSame}
+use Rattle.plan_rules.specs.Rows.{OtherRowsSame}
 use Rattle.echelon.specs.Views.{single_in}
 use Rattle.echelon.proofs.Singles.{is_single}
 use Rattle.uncoupled.specs.Rows.{AreBestBefore, IsBestRow}
@@ -79,47 +72,3 @@ next_best m make setup make_new setup_new item before some mi mp si sp other_mak
   no_make = λ i low after high t t_low t_high. other_makes i t low (omega (arith, high, before.make_fits.items)) t_low (omega (arith, t_high, mp)) (λ e. omega (arith, e, after)) ∙ before.no_make i low (omega (arith, after)) high t t_low (omega (arith, t_high, mp));
   no_setup = λ i low after high t t_low t_high. other_setups i t low (omega (arith, high, before.setup_fits.items)) t_low (omega (arith, t_high, sp)) (λ e. omega (arith, e, after)) ∙ before.no_setup i low (omega (arith, after)) high t t_low (omega (arith, t_high, sp));
 }
-
--- ---- the plan
-all_best : (m : Problem) (make setup : Cells) → AreBestBefore m make setup (item_count m + 1) → EachItem m (λ i. IsBestChoice m i (single_in m i) (choice (table_of make) (table_of setup) i))
-all_best m make setup rows i low high = rows.best i low (omega (arith, high))
-
-ends : (m : Problem) → IsWithinLimits m → EachItem m (λ i. (item_at m i).end_min ≤ (item_at m i).end_max)
-ends m within i low high = (within.each_item i low high).ends
-
--- the least plan of best rows is feasible where there is room
-rows_feasible : (m : Problem) (make setup : Cells) → IsUncoupled m → IsWithinLimits m → EachItem m (HasRoom m) → AreBestBefore m make setup (item_count m + 1) → IsFeasible m (least_plan m (table_of make) (table_of setup))
-rows_feasible m make setup free within rooms rows =
-    items_feasible m (table_of make) (table_of setup) (single_in m) free within.some_period (ends m within) (λ i low high. (all_best m make setup rows i low high).serves) rooms
-
-has_choice : (m : Problem) (make setup : Cells) → HasChoice m (table_of make) (table_of setup) (least_plan m (table_of make) (table_of setup))
-has_choice m make setup = record { make = λ i t low high t_low t_high. refl; setup = λ i t low high t_low t_high. refl }
-
-rows_have_plan : (m : Problem) (make setup : Cells) → IsUncoupled m → IsWithinLimits m → EachItem m (HasRoom m) → AreBestBefore m make setup (item_count m + 1) → HasNoPlan m (table_of make) (table_of setup) → IsImpossible m
-rows_have_plan m make setup free within rooms rows none p f =
-    none (least_plan m (table_of make) (table_of setup)) (rows_feasible m make setup free within rooms rows) (has_choice m make setup)
-
-rows_best : (m : Problem) (make setup : Cells) (p : Plan) → IsUncoupled m → IsWithinLimits m → EachItem m (HasRoom m) → AreBestBefore m make setup (item_count m + 1) → IsFeasible m p → IsLeastWith m (table_of make) (table_of setup) p → IsBest m p
-rows_best m make setup p free within rooms rows f least = record {
-  feasible = f;
-  least = λ q g. omega (
-    arith,
-    least.spent (least_plan m (table_of make) (table_of setup)) (rows_feasible m make setup free within rooms rows) (has_choice m make setup),
-    items_floor m (table_of make) (table_of setup) (single_in m) free within.some_period (all_best m make setup rows) q g,
-  );
-}
-
--- what is found from best rows is a best plan, and nothing is found where there is none
-pub found_best : {E : Type 0} (m : Problem) (make setup : Cells) (result : Result (Option Planned) E) → IsUncoupled m → IsWithinLimits m → EachItem m (HasRoom m) → AreBestBefore m make setup (item_count m + 1) → IfFound result (λ p. IsFeasible m (plan_of p.plan)) → IfFound result (λ p. IsLeastWith m (table_of make) (table_of setup) (plan_of p.plan)) → IfFound result (λ p. IsBest m (plan_of p.plan))
-found_best m make setup (Err e) free within rooms rows f least = search
-found_best m make setup (Ok None) free within rooms rows f least = search
-found_best m make setup (Ok (Some p)) free within rooms rows f least = rows_best m make setup (plan_of p.plan) free within rooms rows f least
-
-pub found_none : {E : Type 0} (m : Problem) (make setup : Cells) (result : Result (Option Planned) E) → IsUncoupled m → IsWithinLimits m → EachItem m (HasRoom m) → AreBestBefore m make setup (item_count m + 1) → IfNoneFound result (HasNoPlan m (table_of make) (table_of setup)) → IfNoneFound result (IsImpossible m)
-found_none m make setup (Err e) free within rooms rows none = search
-found_none m make setup (Ok None) free within rooms rows none = rows_have_plan m make setup free within rooms rows none
-found_none m make setup (Ok (Some p)) free within rooms rows none = search
-
--- without room there is no plan
-pub no_room : (m : Problem) → IsUncoupled m → IsWithinLimits m → (EachItem m (HasRoom m) → ⊥) → IsImpossible m
-no_room m free within none p f = none (λ i low high. room m p free f within.some_period i low high)

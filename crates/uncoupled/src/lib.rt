@@ -1,20 +1,27 @@
-//! Best plans of uncoupled instances.
+//! Best plans of uncoupled instances, made item by item, and what proves them.
 //!
 //! Where no item takes time on a resource, goes into another, or has a lead time or bounds on its lots,
-//! each is planned by itself: `backlog_dp` gives the cheapest blocks, their lots and setups are the
-//! item's, and `plan_rules::complete_at_cost` gives the stocks, the backlogs and the cost. The laws of
-//! `lot_sizing` say that no plan costs less, and that there is a plan exactly where what is left of each
-//! opening stock has room in the end.
+//! each is planned by itself. `plan_items` answers `PlannedItems`: a best plan, or the first item that has
+//! no room in the end for what is left of its opening stock, so that no plan is feasible.
 //!
-//! Family: search. It stands on `plan_rules` and `backlog_dp`. `lotplan` uses it.
+//! `backlog_dp` gives an item's cheapest blocks: which period serves which net demands. Their lots and
+//! setups are the item's, and `plan_rules::complete_at_cost` gives all stocks, all backlogs and the cost.
+//! The recursion's potentials are handed on with the plan: `ItemPlans` has them for each item, beside the
+//! item's own costs. The last potential and the holding of what is left of the opening stock is a floor
+//! under what the item costs in any plan, and these floors add to what the plan costs; so the lists prove
+//! by themselves that the plan is best (`specs/Items`). The laws of `lot_sizing` say that no plan costs
+//! less, and that there is a plan exactly where all items have room.
+//!
+//! Family: search. It stands on `plan_rules` and `backlog_dp`. `branching` uses it.
 #![tactic(auto)]
 
 mod lots;
 mod planning;
 mod room;
 
-pub use plan_rules::Planned;
-pub use planning::plan_uncoupled;
+pub use lin_rows::Potentials;
+pub use plan_rules::Plan;
+pub use planning::{ItemPlans, PlannedItems, plan_items};
 
 #[cfg(test)]
 mod tests;

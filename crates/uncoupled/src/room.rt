@@ -1,9 +1,10 @@
 // Whether what is left of the opening stocks has room in the end.
-ghost use Rattle.std.specs.Prelude.{◌≡◌, ◌≤◌, ◌+◌, ◌↔◌, IsTrue};
+ghost use Rattle.std.specs.Prelude.{◌≡◌, ◌≤◌, ◌+◌, ◌↔◌, IfNone, IfSome, IsTrue};
 ghost use Rattle.lot_sizing.specs.Sums.{sum_to};
 ghost use Rattle.lot_sizing.specs.Problem.{EachItem, demand, item_count};
 ghost use Rattle.lot_sizing.specs.Net.{HasRoom};
 ghost use Rattle.lot_model.specs.Views.{IsInstance};
+ghost use Rattle.uncoupled.specs.Items.{IsFirstWithoutRoom};
 
 use lot_model::Instance;
 
@@ -30,15 +31,17 @@ fn has_room(instance: &Instance, item: u32) -> bool
     u128::from(instance.opening(item)) <= asked + u128::from(instance.end_max(item))
 }
 
-/// Whether what is left of each opening stock, once all demand is served, has room in the end.
-pub fn have_room(instance: &Instance) -> bool
-    ensures room { IsTrue result ↔ EachItem instance.now (HasRoom instance.now) }
+/// The first item that has no room in the end for what is left of its opening stock, once all demand is
+/// served. None where each has room.
+pub fn first_without_room(instance: &Instance) -> Option<u32>
+    ensures first { IfSome result (IsFirstWithoutRoom instance.now) }
+    ensures rooms { IfNone result (EachItem instance.now (HasRoom instance.now)) }
     ensures instance { IsInstance instance.now }
 {
     for item in 1..instance.items() + 1 {
         if !has_room(instance, item) {
-            return false;
+            return Some(item);
         }
     }
-    true
+    None
 }

@@ -1,4 +1,4 @@
-use crate::plan_uncoupled;
+use crate::{ItemPlans, PlannedItems, plan_items};
 use lot_model::{Draft, DraftItem, Instance, is_uncoupled};
 use lot_sizing::limits::MAX_ITEMS;
 use std::alloc::{AllocError, Global};
@@ -36,30 +36,80 @@ fn instance(alloc: Global, first: DraftItem, second: DraftItem) -> Result<Instan
     Ok(Instance::from_draft(alloc, draft).ok().ok_or("refused")?)
 }
 
+// The plans of an uncoupled instance where all items have room.
+fn plans_of(alloc: Global, instance: &Instance) -> Result<ItemPlans, Fail> {
+    if !is_uncoupled(instance) {
+        return Err("not uncoupled".into());
+    }
+    match plan_items(alloc, instance)? {
+        PlannedItems::Best(plans) => Ok(plans),
+        PlannedItems::NoRoom(_) => Err("no room".into()),
+    }
+}
+
 #[test]
 fn items_are_planned_apart(rt: HostRuntime) -> Result<(), Fail> {
     let alloc = rt.alloc();
     let mut owed = item(alloc, "B", 0)?;
     owed.backlog_cost = Some(vec![in alloc; 2i64, 2i64]?);
     let instance = instance(alloc, item(alloc, "A", 0)?, owed)?;
-    assert!(rt; is_uncoupled(&instance));
-    let planned = plan_uncoupled(alloc, &instance)?.ok_or("no plan")?;
+    let plans = plans_of(alloc, &instance)?;
     // All of A in the first period, and all of B in the second.
-    assert_eq!(rt; planned.cost, 106 + 28);
-    let plan = planned.plan;
-    assert_eq!(rt; (plan.make.items(), plan.make.periods()), (2, 2));
-    assert_eq!(rt; (plan.make.get(1, 1), plan.make.get(2, 2)), (10, 10));
+    assert_eq!(rt; plans.cost, 106 + 28);
+    let make = &plans.plan.make;
+    assert_eq!(rt; (make.items(), make.periods()), (2, 2));
+    assert_eq!(rt; (make.get(1, 1), make.get(2, 2)), (10, 10));
+    let [first, second] = plans.potentials.as_slice() else {
+        return Err("not two lists".into());
+    };
+    assert!(rt; first.steps.as_slice() == &[100, 106][..]);
+    assert!(rt; second.steps.as_slice() == &[28, 28][..]);
+    assert!(rt; first.back.as_slice() == &[0, 0][..]);
+    assert!(rt; second.back.as_slice() == &[2, 2][..]);
     Ok(())
+}
+
+#[test]
+fn what_is_left_of_a_stock_is_held(rt: HostRuntime) -> Result<(), Fail> {
+    let alloc = rt.alloc();
+    let instance = instance(alloc, item(alloc, "A", 0)?, item(alloc, "B", 5)?)?;
+    let plans = plans_of(alloc, &instance)?;
+    // One unit of B is left in the first period, and 5 are made in the second.
+    assert_eq!(rt; plans.cost, 106 + 20 + 1);
+    let [_, second] = plans.potentials.as_slice() else {
+        return Err("not two lists".into());
+    };
+    assert!(rt; second.steps.as_slice() == &[20][..]);
+    Ok(())
+}
+
+// The first item without room of two that leave 6 of their opening stocks, with these largest end stocks.
+fn without_room(alloc: Global, first: i64, second: i64) -> Result<Option<u32>, Fail> {
+    let mut one = item(alloc, "A", 16)?;
+    one.end_max = Some(first);
+    let mut other = item(alloc, "B", 16)?;
+    other.end_max = Some(second);
+    let instance = instance(alloc, one, other)?;
+    if !is_uncoupled(&instance) {
+        return Err("not uncoupled".into());
+    }
+    match plan_items(alloc, &instance)? {
+        PlannedItems::Best(_) => Ok(None),
+        PlannedItems::NoRoom(item) => Ok(Some(item)),
+    }
 }
 
 #[test]
 fn a_stock_without_room_has_no_plan(rt: HostRuntime) -> Result<(), Fail> {
     let alloc = rt.alloc();
-    let mut full = item(alloc, "B", 16)?;
-    full.end_max = Some(5);
-    let instance = instance(alloc, item(alloc, "A", 0)?, full)?;
-    assert!(rt; is_uncoupled(&instance));
-    assert!(rt; plan_uncoupled(alloc, &instance)?.is_none());
+    for (first, second, want) in [
+        (6i64, 6i64, None),
+        (6, 5, Some(2)),
+        (5, 6, Some(1)),
+        (5, 5, Some(1)),
+    ] {
+        assert_eq!(rt; without_room(alloc, first, second)?, want);
+    }
     Ok(())
 }
 
@@ -107,10 +157,9 @@ fn times(alloc: Global, periods: u32, value: i64) -> Result<Vec<i64>, AllocError
 fn the_most_items_are_planned(rt: HostRuntime) -> Result<(), Fail> {
     let alloc = rt.alloc();
     let instance = largest(alloc)?;
-    assert!(rt; is_uncoupled(&instance));
-    let planned = plan_uncoupled(alloc, &instance)?.ok_or("no plan")?;
+    let plans = plans_of(alloc, &instance)?;
     // One setup of each item, in the first period.
-    assert_eq!(rt; planned.cost, 200);
+    assert_eq!(rt; (plans.cost, plans.potentials.len()), (200, 40));
     Ok(())
 }
 

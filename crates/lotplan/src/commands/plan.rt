@@ -1,41 +1,54 @@
-// `plan`: plans the model in a file, and writes a best plan to another.
-ghost use Rattle.std.specs.Prelude.{◌≡◌, ◌≤◌, ◌+◌, string_bytes, IfOk, OnErr};
+// `plan`: plans the model in a file, and writes a best plan and the certificate of what is claimed to two others.
+ghost use Rattle.std.specs.Prelude.{◌≡◌, ◌≢◌, ◌≤◌, ◌+◌, string_bytes, IfOk, IfSome, OnErr};
 ghost use Rattle.lot_io.specs.Outside.{OnlyReads, piece_size};
 ghost use Rattle.lot_sizing.specs.Problem.{IsUncoupled};
-ghost use Rattle.lot_sizing.specs.Plan.{cost};
-ghost use Rattle.lot_sizing.specs.Best.{IsBest};
-ghost use Rattle.plan_rules.specs.Held.{AllFit, plan_of};
+ghost use Rattle.plan_rules.specs.Held.{AllFit};
+ghost use Rattle.branching.specs.Found.{GoesWithPlan, IsDecidedAlone, IsProved};
 ghost use Rattle.lotplan.specs.Held.{plan_meant};
-ghost use Rattle.lotplan.specs.Planning.{PlanSays, WriteSays, plan_line, plan_status};
+ghost use Rattle.lotplan.specs.Planning.{IsAnswerTo, PlanSays, WriteSays, WritesAndSays, plan_line, plan_status, root_line};
 ghost use Rattle.lotplan.specs.Reading.{file_limit};
 ghost use Rattle.lotplan.specs.Saying.{IsSaid};
 
 use crate::model_file::{ReadAnswer, Stop, read_model};
 use crate::said::Said;
 use crate::status::Status;
+use bill::totals_exist;
+use branching::{Found, RootSays, plan_uncoupled};
+use certificate::{Claim, write_certificate};
 use lot_io::{Shelf, write_file};
 use lot_model::{Instance, is_uncoupled};
 use plan_file::write_plan;
 use std::alloc::{AllocError, Global};
-use uncoupled::{Planned, plan_uncoupled};
 
 /// What `plan` answers.
 #[derive(Clone, Copy, Debug, PartialEq, Eq)]
 pub enum PlanAnswer<'a> {
-    /// A best plan was written, with this cost.
-    Optimal(u128),
-    /// No plan is feasible.
-    Infeasible,
+    /// A best plan and its certificate were written.
+    Optimal {
+        /// What was said at the root.
+        root: RootSays,
+        /// The number of nodes of the certificate's tree.
+        nodes: u64,
+        /// What the plan costs, in money.
+        cost: u128,
+    },
+    /// No plan is feasible, and the certificate of that was written.
+    Infeasible {
+        /// What was said at the root.
+        root: RootSays,
+        /// The number of nodes of the certificate's tree.
+        nodes: u64,
+    },
     /// The model can't be planned yet.
     NotBuilt,
-    /// The plan file of this name could not be written.
+    /// The plan file or the certificate file, of this name, could not be written.
     Unwritten(&'a str),
     /// The model file gave no instance.
     Stopped(ReadAnswer<'a>),
 }
 
 impl PlanAnswer<'_> {
-    /// The line and the status.
+    /// The lines and the status.
     pub fn said(&self, alloc: Global) -> Result<Said, AllocError>
         ensures { IfOk result (IsSaid (plan_line (plan_meant self.now)) (plan_status (plan_meant self.now))) }
     {
@@ -50,21 +63,27 @@ impl PlanAnswer<'_> {
         ensures { result ≡ plan_status (plan_meant self.now) }
     {
         match self {
-            PlanAnswer::Optimal(_) => Status::Done,
-            PlanAnswer::Infeasible => Status::NoPlan,
+            PlanAnswer::Optimal { .. } => Status::Done,
+            PlanAnswer::Infeasible { .. } => Status::NoPlan,
             PlanAnswer::NotBuilt => Status::NotBuilt,
             PlanAnswer::Unwritten(_) => Status::Unwritten,
             PlanAnswer::Stopped(why) => why.status(),
         }
     }
 
-    /// The line that is printed, with its line feed.
+    /// The lines that are printed, each with its line feed.
     pub fn line(&self, alloc: Global) -> Result<String, AllocError>
         ensures { IfOk result (λ line. string_bytes line ≡ plan_line (plan_meant self.now)) }
     {
         match self {
-            PlanAnswer::Optimal(cost) => format!(in alloc; "optimal {cost}\n"),
-            PlanAnswer::Infeasible => String::from_str(alloc, "infeasible\n"),
+            PlanAnswer::Optimal { root, nodes, cost } => {
+                let root = line_of_root(alloc, root)?;
+                format!(in alloc; "{root}nodes {nodes}\noptimal {cost}\n")
+            }
+            PlanAnswer::Infeasible { root, nodes } => {
+                let root = line_of_root(alloc, root)?;
+                format!(in alloc; "{root}nodes {nodes}\ninfeasible\n")
+            }
             PlanAnswer::NotBuilt => String::from_str(alloc, "refused notbuilt\n"),
             PlanAnswer::Unwritten(file) => format!(in alloc; "refused write {file}\n"),
             PlanAnswer::Stopped(why) => why.line(alloc),
@@ -72,64 +91,132 @@ impl PlanAnswer<'_> {
     }
 }
 
-// Writes a plan of an instance. All memory is taken before the file is started.
-fn write_best<S: Shelf>(
-    alloc: Global,
-    instance: &Instance,
-    planned: &Planned,
-    plan: &str,
-    shelf: &mut S,
-) -> Result<Said, AllocError>
-    requires uncoupled { IsUncoupled instance.now }
-    requires fits { AllFit instance.now planned.now.plan }
-    requires best { IsBest instance.now (plan_of planned.now.plan) }
-    requires costs { planned.now.cost ≡ cost instance.now (plan_of planned.now.plan) }
-    ensures said { IfOk result (WriteSays instance.now plan.now (S.shown shelf.old) (S.shown shelf.new)) }
-    ensures memory { OnErr result (S.shown shelf.new ≡ S.shown shelf.old) }
-    ensures given { (S.shown shelf.new).given ≡ (S.shown shelf.old).given }
+// The line of what was said at the root.
+fn line_of_root(alloc: Global, root: &RootSays) -> Result<String, AllocError>
+    ensures { IfOk result (λ line. string_bytes line ≡ root_line root.now) }
 {
-    let bytes = write_plan(alloc, instance, &planned.plan)?;
-    let written = PlanAnswer::Optimal(planned.cost).said(alloc)?;
-    let unwritten = PlanAnswer::Unwritten(plan).said(alloc)?;
-    match write_file(shelf, plan, bytes.as_slice()) {
-        Ok(()) => Ok(written),
-        Err(_) => Ok(unwritten),
+    match root {
+        RootSays::Uncoupled => String::from_str(alloc, "root uncoupled\n"),
+        RootSays::Skipped { .. } => String::from_str(alloc, "root skipped\n"),
+        RootSays::Closed(bound) => format!(in alloc; "root closed {bound}\n"),
+        RootSays::Empty => String::from_str(alloc, "root empty\n"),
+        RootSays::Stopped { .. } => String::from_str(alloc, "root stopped\n"),
+        RootSays::Passed { .. } => String::from_str(alloc, "root passed\n"),
     }
 }
 
-// Plans an instance, and writes a best plan where there is one.
+// What is answered once what was found is written.
+fn answer_of(found: &Found) -> PlanAnswer<'static>
+    requires { GoesWithPlan found.now.certificate.claim found.now.plan }
+    ensures { IsAnswerTo found.now.certificate.claim found.now.root found.now.nodes (plan_meant result) }
+{
+    let (root, nodes) = (found.root, found.nodes);
+    match found.certificate.claim {
+        Claim::Optimal(cost) => PlanAnswer::Optimal { root, nodes, cost },
+        Claim::Infeasible => PlanAnswer::Infeasible { root, nodes },
+        Claim::Bound(_) => unreachable!(),
+    }
+}
+
+// The grids of a plan that was found are those of the instance: its certificate was accepted with it, whatever
+// the instance's totals and weights are, and there are some.
+fn plan_fits(instance: &Instance, found: &Found)
+    requires proved { IsProved instance.now found.now }
+    requires decided { IsDecidedAlone found.now }
+    ensures { IfSome found.now.plan (AllFit instance.now) }
+{
+    instance.periods();
+    totals_exist();
+}
+
+// Writes the certificate file, which is the last, and gives what is said then.
+fn write_last<S: Shelf>(
+    certificate: &str,
+    bytes: &[u8],
+    written: Said,
+    unwritten: Said,
+    shelf: &mut S,
+) -> Said
+    ensures said { WritesAndSays certificate.now bytes.now written unwritten (S.shown shelf.old) (S.shown shelf.new) result }
+    ensures given { (S.shown shelf.new).given ≡ (S.shown shelf.old).given }
+{
+    match write_file(shelf, certificate, bytes) {
+        Ok(()) => written,
+        Err(_) => unwritten,
+    }
+}
+
+// Writes what was found: the plan file, where there is a plan, and then the certificate file. All memory is taken
+// before the first of them is started.
+fn write_found<S: Shelf>(
+    alloc: Global,
+    instance: &Instance,
+    found: &Found,
+    plan: &str,
+    certificate: &str,
+    shelf: &mut S,
+) -> Result<Said, AllocError>
+    requires uncoupled { IsUncoupled instance.now }
+    requires proved { IsProved instance.now found.now }
+    requires decided { IsDecidedAlone found.now }
+    requires apart { plan.now ≢ certificate.now }
+    ensures said { IfOk result (WriteSays instance.now plan.now certificate.now (S.shown shelf.old) (S.shown shelf.new)) }
+    ensures memory { OnErr result (S.shown shelf.new ≡ S.shown shelf.old) }
+    ensures given { (S.shown shelf.new).given ≡ (S.shown shelf.old).given }
+{
+    let proof = write_certificate(alloc, &found.certificate)?;
+    let written = answer_of(found).said(alloc)?;
+    let unproved = PlanAnswer::Unwritten(certificate).said(alloc)?;
+    let chosen = match &found.plan {
+        Some(chosen) => chosen,
+        None => {
+            return Ok(write_last(certificate, proof.as_slice(), written, unproved, shelf));
+        }
+    };
+    plan_fits(instance, found);
+    let bytes = write_plan(alloc, instance, chosen)?;
+    let unplanned = PlanAnswer::Unwritten(plan).said(alloc)?;
+    match write_file(shelf, plan, bytes.as_slice()) {
+        Ok(()) => Ok(write_last(certificate, proof.as_slice(), written, unproved, shelf)),
+        Err(_) => Ok(unplanned),
+    }
+}
+
+// Plans an instance, and writes a best plan where there is one, and the certificate of what is claimed.
 fn plan_instance<S: Shelf>(
     alloc: Global,
     instance: &Instance,
     plan: &str,
+    certificate: &str,
     shelf: &mut S,
 ) -> Result<Said, AllocError>
-    ensures said { IfOk result (WriteSays instance.now plan.now (S.shown shelf.old) (S.shown shelf.new)) }
+    requires { plan.now ≢ certificate.now }
+    ensures said { IfOk result (WriteSays instance.now plan.now certificate.now (S.shown shelf.old) (S.shown shelf.new)) }
     ensures memory { OnErr result (S.shown shelf.new ≡ S.shown shelf.old) }
     ensures given { (S.shown shelf.new).given ≡ (S.shown shelf.old).given }
 {
     if !is_uncoupled(instance) {
         return PlanAnswer::NotBuilt.said(alloc);
     }
-    match plan_uncoupled(alloc, instance)? {
-        Some(planned) => write_best(alloc, instance, &planned, plan, shelf),
-        None => PlanAnswer::Infeasible.said(alloc),
-    }
+    let found = plan_uncoupled(alloc, instance)?;
+    write_found(alloc, instance, &found, plan, certificate, shelf)
 }
 
-/// Plans the model in a file and writes the plan to another.
+/// Plans the model in a file, and writes the plan and the certificate of what is claimed to two others.
 pub fn plan_files<S: Shelf>(
     alloc: Global,
     model: &str,
     plan: &str,
+    certificate: &str,
     shelf: &mut S,
 ) -> Result<Said, AllocError>
-    ensures said { IfOk result (PlanSays model.now plan.now (S.shown shelf.old) (S.shown shelf.new)) }
+    requires { plan.now ≢ certificate.now }
+    ensures said { IfOk result (PlanSays model.now plan.now certificate.now (S.shown shelf.old) (S.shown shelf.new)) }
     ensures memory { OnErr result (OnlyReads (S.shown shelf.old) (S.shown shelf.new)) }
     ensures given { (S.shown shelf.new).given ≤ (S.shown shelf.old).given + (file_limit + piece_size) }
 {
     match read_model(alloc, model, shelf) {
-        Ok(instance) => plan_instance(alloc, &instance, plan, shelf),
+        Ok(instance) => plan_instance(alloc, &instance, plan, certificate, shelf),
         Err(Stop::Answered(why)) => PlanAnswer::Stopped(why).said(alloc),
         Err(Stop::Memory) => Err(AllocError),
     }

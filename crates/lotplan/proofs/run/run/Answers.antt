@@ -1,6 +1,7 @@
 use Rattle.std.proofs.Common.{map, string_bytes}
 use Rattle.lotplan.specs.Command.{command_of}
-use Rattle.lotplan.proofs.Explained.{accepts, called, check_reads, fails_to_read, faulty, feasible, idle, infeasible, is_long, is_run, judge_reads, misses, no_command, not_built, optimal, others, quiet, refuses, silent, tells, unprinted, unwritten, upgrade_others, upgrades, rewrote, wrote}
+use Rattle.lotplan.proofs.Words.{planned_apart}
+use Rattle.lotplan.proofs.Explained.{accepts, called, check_reads, checks, fails_to_read, faulty, feasible, idle, infeasible, is_long, is_run, judge_reads, misses, no_command, not_built, optimal, others, quiet, refuses, silent, tells, unprinted, unwritten, upgrade_others, upgrades, rewrote, wrote, wrote_one}
 use Rattle.lotplan.proofs.run.run.Goals as goal
 
 pub returns-clause-run : goal.returns-clause-run
@@ -11,6 +12,12 @@ returns-clause-optimal g c = optimal (command_of (map string_bytes c.args.words.
 
 pub returns-clause-wrote : goal.returns-clause-wrote
 returns-clause-wrote g c = wrote (command_of (map string_bytes c.args.words.now)) c.end_with.result (g.S.Shelf.shown c.args.shelf.now) (g.S.Shelf.shown c.said-said.new.shelf) (g.K.Sink.shown c.args.out.now) (g.K.Sink.shown c.end_with.new.out) (is_run (command_of (map string_bytes c.args.words.now)) c.end_with.result (g.S.Shelf.shown c.args.shelf.now) (g.S.Shelf.shown c.said-said.new.shelf) (g.K.Sink.shown c.args.out.now) (g.K.Sink.shown c.end_with.new.out) c.said-said.result c.said-said.ensures.said c.said-said.ensures.memory c.end_with.ensures.ends)
+
+pub returns-clause-wrote_certificate : goal.returns-clause-wrote_certificate
+returns-clause-wrote_certificate g c = wrote_one (command_of (map string_bytes c.args.words.now)) c.end_with.result (g.S.Shelf.shown c.args.shelf.now) (g.S.Shelf.shown c.said-said.new.shelf) (g.K.Sink.shown c.args.out.now) (g.K.Sink.shown c.end_with.new.out) (is_run (command_of (map string_bytes c.args.words.now)) c.end_with.result (g.S.Shelf.shown c.args.shelf.now) (g.S.Shelf.shown c.said-said.new.shelf) (g.K.Sink.shown c.args.out.now) (g.K.Sink.shown c.end_with.new.out) c.said-said.result c.said-said.ensures.said c.said-said.ensures.memory c.end_with.ensures.ends)
+
+pub returns-clause-checks : goal.returns-clause-checks
+returns-clause-checks g c = checks c.statuses_are_one.ensures (command_of (map string_bytes c.args.words.now)) c.end_with.result (g.S.Shelf.shown c.args.shelf.now) (g.S.Shelf.shown c.said-said.new.shelf) (g.K.Sink.shown c.args.out.now) (g.K.Sink.shown c.end_with.new.out) (planned_apart (map string_bytes c.args.words.now)) (is_run (command_of (map string_bytes c.args.words.now)) c.end_with.result (g.S.Shelf.shown c.args.shelf.now) (g.S.Shelf.shown c.said-said.new.shelf) (g.K.Sink.shown c.args.out.now) (g.K.Sink.shown c.end_with.new.out) c.said-said.result c.said-said.ensures.said c.said-said.ensures.memory c.end_with.ensures.ends)
 
 pub returns-clause-judged : goal.returns-clause-judged
 returns-clause-judged g c = feasible (command_of (map string_bytes c.args.words.now)) c.end_with.result (g.S.Shelf.shown c.args.shelf.now) (g.S.Shelf.shown c.said-said.new.shelf) (g.K.Sink.shown c.args.out.now) (g.K.Sink.shown c.end_with.new.out) (is_run (command_of (map string_bytes c.args.words.now)) c.end_with.result (g.S.Shelf.shown c.args.shelf.now) (g.S.Shelf.shown c.said-said.new.shelf) (g.K.Sink.shown c.args.out.now) (g.K.Sink.shown c.end_with.new.out) c.said-said.result c.said-said.ensures.said c.said-said.ensures.memory c.end_with.ensures.ends)

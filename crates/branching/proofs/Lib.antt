@@ -1,0 +1,7 @@
+mod Alone
+mod Taken
+mod Certified
+mod NoRoom
+mod Lengths
+mod Making
+mod Proving
