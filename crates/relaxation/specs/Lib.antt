@@ -1,0 +1,3 @@
+pub mod Relaxation
+pub mod Worked
+pub mod Laws

@@ -1,0 +1,15 @@
+mod Numbering
+mod Entries
+mod Combining
+mod Common
+mod Objective
+mod Priced
+mod Parts
+mod Saying
+mod Naming
+mod Growing
+mod Rising
+mod Smallness
+mod Closing
+mod Listing
+mod Making

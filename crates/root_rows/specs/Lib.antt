@@ -1,0 +1,7 @@
+pub mod Names
+pub mod Sides
+pub mod Costs
+pub mod Made
+pub mod Says
+pub mod Rounds
+pub mod Laws
