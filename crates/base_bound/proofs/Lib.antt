@@ -1,0 +1,4 @@
+mod Denominators
+mod Points
+mod Plans
+mod Saying
