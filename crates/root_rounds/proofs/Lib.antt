@@ -1,0 +1,6 @@
+mod Weighing
+mod RootCuts
+mod RootCounts
+mod RootLeaves
+mod RootRounds
+mod RootWhole

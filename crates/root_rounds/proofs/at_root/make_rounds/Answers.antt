@@ -1,0 +1,27 @@
+use Rattle.std.proofs.Common.{◌≡◌, ◌-◌, ap, arith, refl, subst}
+use Rattle.std.specs.Prelude.{map, IfSome}
+use Rattle.cert_lines.specs.Shapes.{cut_shape}
+use Rattle.root_rounds.specs.declared.at_root.TheConstants.{MAX_ROUNDS}
+use Rattle.root_rounds.specs.RootSteps.{EndsRounds, shapes}
+use Rattle.root_rounds.proofs.RootRounds.{figured}
+use Rattle.root_rounds.proofs.RootWhole.{last_stops, rounds_mean}
+use Rattle.root_rounds.proofs.at_root.make_rounds.Goals as goal
+
+pub returns-in-Some : goal.returns-in-Some
+returns-in-Some c =
+    let m = c.args.instance.now in
+    let list = c.make_round.new.state.list in
+    let v = c.in-Some.verdict in
+    let figures = figured m c.in_ok-explosion.explosion c.in_ok-explosion.ensures in
+    let ends = subst (λ end. IfSome end (λ v. EndsRounds m v (shapes list) list.rows.items)) c.in-Some.is c.in_ok-verdict.ensures.ends in
+    record { means = rounds_mean m figures c.requires.tried v (shapes list) list.rows.items ends c.root_of.result c.root_of.ensures.says (ap (λ v. map cut_shape v.items) c.root_of.ensures.cuts) c.root_of.ensures.leaf }
+
+pub returns : goal.returns
+returns c =
+    let m = c.args.instance.now in
+    let state = c.loop-round.state in
+    let v = c.without_leaf-stopped.result in
+    let figures = figured m c.in_ok-explosion.explosion c.in_ok-explosion.ensures in
+    let last : c.loop-round.round - 1 ≡ MAX_ROUNDS = omega (arith, c.loop-round-test.false, c.loop-round.auto.round-end) in
+    let ends = last_stops m figures (c.loop-round.round - 1) last state c.loop-round.invariant v c.without_leaf-stopped.ensures.says c.without_leaf-stopped.ensures.leaf in
+    record { means = rounds_mean m figures c.requires.tried v (shapes state.list) state.list.rows.items ends c.root_of-2.result c.root_of-2.ensures.says (ap (λ v. map cut_shape v.items) c.root_of-2.ensures.cuts) c.root_of-2.ensures.leaf }

@@ -1,0 +1,165 @@
+// Which (l,S) rows the least point of a round violates.
+ghost use Rattle.std.specs.Prelude.{◌≡◌, ◌≤◌, IfOk, IfSome, IsNone, length};
+ghost use Rattle.echelon.specs.Weights.{IsExplosionOf};
+ghost use Rattle.lin_rows.specs.Points.{read_at};
+ghost use Rattle.cert_lines.specs.Shapes.{LsCut};
+ghost use Rattle.cert_checker.specs.Cuts.{IsCutEchelon, IsItem, IsNotLeadFree};
+ghost use Rattle.root_rounds.specs.RootSteps.{IsRootCut, PutsAll, PutsAt, PutsEchelon, PutsItem};
+
+use acceptance::echelon_rows_are_one;
+use certificate::Cut;
+use echelon::{EchelonItem, Explosion, echelon_of, lead_free};
+use lin_rows::{Point, Row, RowFault};
+use lot_model::Instance;
+use lot_sizing::weights_are_one;
+use ls_cuts::{SepFault, ls_row, separate};
+use root_rows::rows_are_small;
+use std::alloc::{AllocError, Global};
+
+// Cuts with their rows.
+#[derive(Debug, Drop)]
+pub(crate) struct RootCuts {
+    pub(crate) cuts: Vec<Cut>,
+    pub(crate) rows: Vec<Row>,
+}
+
+// An item, and the last period of its (l,S) rows.
+#[derive(Clone, Copy, Debug)]
+pub(crate) struct Place {
+    pub(crate) item: u32,
+    pub(crate) l: u32,
+}
+
+// The row of an l and a set of periods up to it.
+fn row_of_set(
+    alloc: Global,
+    instance: &Instance,
+    echelon: &EchelonItem,
+    l: u32,
+    chosen: &[bool],
+) -> Result<Row, AllocError>
+    requires echelon { IsCutEchelon instance.now echelon.now.item echelon.now }
+    requires low { 1 ≤ l }
+    requires high { l ≤ instance.now.periods }
+    requires size { length chosen.now ≡ l }
+    ensures { IfOk result (IsRootCut instance.now (LsCut echelon.now.item l chosen.now)) }
+{
+    rows_are_small();
+    echelon_rows_are_one();
+    match ls_row(alloc, echelon, l, chosen) {
+        Ok(row) => Ok(row),
+        Err(RowFault::Memory) => Err(AllocError),
+        // The last period is one of the echelon, and each up to it has a mark.
+        Err(RowFault::NoSuchRow) => unreachable!(),
+    }
+}
+
+// Puts the cut of the row of an l that the point violates most after others, if it violates one. The answer is whether
+// all steps of the separation fit.
+fn separate_at(
+    alloc: Global,
+    instance: &Instance,
+    echelon: &EchelonItem,
+    point: &Point,
+    l: u32,
+    list: &mut RootCuts,
+) -> Result<bool, AllocError>
+    requires echelon { IsCutEchelon instance.now echelon.now.item echelon.now }
+    requires low { 1 ≤ l }
+    requires high { l ≤ instance.now.periods }
+    ensures { IfOk result (λ fits. PutsAt instance.now echelon.now (read_at point.now) l fits list.old list.new) }
+{
+    match separate(alloc, echelon, point, l) {
+        Ok(Some(chosen)) => {
+            list.rows
+                .push(row_of_set(alloc, instance, echelon, l, &chosen)?)?;
+            list.cuts.push(Cut::Ls {
+                item: echelon.item,
+                last: l,
+                chosen,
+            })?;
+            Ok(true)
+        }
+        Ok(None) => Ok(true),
+        Err(SepFault::Passed128) => Ok(false),
+        Err(SepFault::Memory) => Err(AllocError),
+    }
+}
+
+// The same for each l. The answer is the first l at which some step doesn't fit.
+fn separate_echelon(
+    alloc: Global,
+    instance: &Instance,
+    echelon: &EchelonItem,
+    point: &Point,
+    list: &mut RootCuts,
+) -> Result<Option<u32>, AllocError>
+    requires echelon { IsCutEchelon instance.now echelon.now.item echelon.now }
+    ensures { IfOk result (λ end. PutsEchelon instance.now echelon.now (read_at point.now) end list.old list.new) }
+{
+    for l in 1..instance.periods() + 1 {
+        if !separate_at(alloc, instance, echelon, point, l, list)? {
+            return Ok(Some(l));
+        }
+    }
+    Ok(None)
+}
+
+// The echelon of an item, and none where the item isn't lead-free.
+fn echelon_for(
+    alloc: Global,
+    instance: &Instance,
+    explosion: &Explosion,
+    item: u32,
+) -> Result<Option<EchelonItem>, AllocError>
+    requires explosion { IsExplosionOf instance.now explosion.now }
+    requires item { IsItem instance.now item }
+    ensures some { IfOk result (λ found. IfSome found (λ e. (e.item ≡ item) × IsCutEchelon instance.now item e)) }
+    ensures none { IfOk result (λ found. IsNone found → IsNotLeadFree instance.now item) }
+{
+    weights_are_one();
+    if !lead_free(instance, explosion, item) {
+        return Ok(None);
+    }
+    let echelon = echelon_of(alloc, instance, explosion, item)?;
+    Ok(Some(echelon))
+}
+
+// The same for an item, which has no cut where it isn't lead-free.
+fn separate_item(
+    alloc: Global,
+    instance: &Instance,
+    explosion: &Explosion,
+    point: &Point,
+    item: u32,
+    list: &mut RootCuts,
+) -> Result<Option<u32>, AllocError>
+    requires explosion { IsExplosionOf instance.now explosion.now }
+    requires item { IsItem instance.now item }
+    ensures { IfOk result (λ end. PutsItem instance.now (read_at point.now) item end list.old list.new) }
+{
+    match echelon_for(alloc, instance, explosion, item)? {
+        Some(echelon) => separate_echelon(alloc, instance, &echelon, point, list),
+        None => Ok(None),
+    }
+}
+
+// The cuts of all items, each put after the others. The answer is the first place at which some step of the separation
+// doesn't fit.
+pub(crate) fn separate_all(
+    alloc: Global,
+    instance: &Instance,
+    explosion: &Explosion,
+    point: &Point,
+    list: &mut RootCuts,
+) -> Result<Option<Place>, AllocError>
+    requires explosion { IsExplosionOf instance.now explosion.now }
+    ensures { IfOk result (λ end. PutsAll instance.now (read_at point.now) end list.old list.new) }
+{
+    for item in 1..instance.items() + 1 {
+        if let Some(l) = separate_item(alloc, instance, explosion, point, item, list)? {
+            return Ok(Some(Place { item, l }));
+        }
+    }
+    Ok(None)
+}
