@@ -1,0 +1,10 @@
+pub mod Halves
+pub mod Ranges
+pub mod Endless
+pub mod Joined
+pub mod Ends
+pub mod Sides
+pub mod Trees
+pub mod Claims
+pub mod Shown
+pub mod Whole

@@ -1,0 +1,11 @@
+pub mod Ranges
+pub mod Counts
+pub mod Stripped
+pub mod Costs
+pub mod Trees
+pub mod Growing
+pub mod Sides
+pub mod Joined
+pub mod Claims
+pub mod Weak
+pub mod Whole

@@ -1,0 +1,94 @@
+// Passes over a tree with a rising mark.
+ghost use Rattle.std.specs.Prelude.{◌≡◌, ◌≤◌, ◌+◌, ℕ, List, OnOk, IfOk, None};
+ghost use Rattle.branch_and_bound.specs.Ranges.{AreOrdered};
+ghost use Rattle.branch_and_bound.specs.Costs.{IsAtMost};
+ghost use Rattle.branch_and_bound.specs.Counts.{branches};
+ghost use Rattle.branch_and_bound.specs.Growing.{AreBranches, EachEnd, IsMarkedDeep, IsSound};
+
+use crate::costs::is_below;
+use crate::counting::least_number;
+use crate::growing::grow;
+use crate::{Guide, Node, Sought};
+use std::alloc::{AllocError, Global};
+
+// How many passes have a mark.
+const PASSES: u32 = 64;
+
+// The next mark: the least number and a 64th of the way from the root's number to the best cost, or, without a
+// plan, some thousandths of the least number, and at least one more.
+fn next_mark(least: Option<u128>, root: Option<u128>, best: Option<u128>) -> Option<u128> {
+    let number = least?;
+    let step = match root {
+        Some(from) => match best {
+            Some(cost) => cost.saturating_sub(from) / 64,
+            None => number / 250,
+        },
+        None => 1,
+    };
+    Some(number.saturating_add(step.max(1)))
+}
+
+// The tree after one pass, where a leaf is open and there is room for a branch.
+fn grow_once<S, G: Guide<S>>(
+    alloc: Global,
+    guide: &G,
+    node: &mut Node,
+    state: &mut S,
+    room: &mut u64,
+    root: Option<u128>,
+    tree: Sought,
+) -> Result<Sought, AllocError>
+    requires ordered { AreOrdered node.old.ranges.items }
+    requires node { G.IsNode guide.now node.old.ranges.items node.old.path.items }
+    requires state { G.IsState guide.now state.old }
+    requires branches { AreBranches (G.rules guide.now) node.old.ranges.items node.old.path.items tree }
+    requires sound { EachEnd (IsSound (G.Holds guide.now state.old) (G.Tells guide.now) (G.cost state.old)) node.old.ranges.items node.old.path.items tree }
+    ensures ranges { OnOk result (node.new.ranges.items ≡ node.old.ranges.items) }
+    ensures path { OnOk result (node.new.path.items ≡ node.old.path.items) }
+    ensures state { OnOk result (G.IsState guide.now state.new) }
+    ensures grows { OnOk result (G.Grows state.old state.new) }
+    ensures kept { OnOk result (IsAtMost (G.cost state.new) (G.cost state.old)) }
+    ensures rest { IfOk result (λ t. branches t + room.new ≡ branches tree + room.old) }
+    ensures branches { IfOk result (λ t. AreBranches (G.rules guide.now) node.old.ranges.items node.old.path.items t) }
+    ensures sound { IfOk result (λ t. EachEnd (IsSound (G.Holds guide.now state.new) (G.Tells guide.now) (G.cost state.new)) node.old.ranges.items node.old.path.items t) }
+{
+    let least = least_number(&tree);
+    let best = guide.best(state);
+    if *room == 0 || !is_below(least, best) {
+        return Ok(tree);
+    }
+    let mark = next_mark(least, root, best);
+    grow(alloc, guide, node, state, room, mark, tree)
+}
+
+// The tree after all passes, the last one of which has no mark. The root's leaf said the number `root`.
+pub fn grow_all<S, G: Guide<S>>(
+    alloc: Global,
+    guide: &G,
+    node: &mut Node,
+    state: &mut S,
+    room: &mut u64,
+    root: Option<u128>,
+    first: Sought,
+) -> Result<Sought, AllocError>
+    requires ordered { AreOrdered node.old.ranges.items }
+    requires node { G.IsNode guide.now node.old.ranges.items node.old.path.items }
+    requires state { G.IsState guide.now state.old }
+    requires branches { AreBranches (G.rules guide.now) node.old.ranges.items node.old.path.items first }
+    requires sound { EachEnd (IsSound (G.Holds guide.now state.old) (G.Tells guide.now) (G.cost state.old)) node.old.ranges.items node.old.path.items first }
+    ensures ranges { OnOk result (node.new.ranges.items ≡ node.old.ranges.items) }
+    ensures path { OnOk result (node.new.path.items ≡ node.old.path.items) }
+    ensures state { OnOk result (G.IsState guide.now state.new) }
+    ensures grows { OnOk result (G.Grows state.old state.new) }
+    ensures kept { OnOk result (IsAtMost (G.cost state.new) (G.cost state.old)) }
+    ensures rest { IfOk result (λ t. branches t + room.new ≡ branches first + room.old) }
+    ensures branches { IfOk result (λ t. AreBranches (G.rules guide.now) node.old.ranges.items node.old.path.items t) }
+    ensures sound { IfOk result (λ t. EachEnd (IsSound (G.Holds guide.now state.new) (G.Tells guide.now) (G.cost state.new)) node.old.ranges.items node.old.path.items t) }
+    ensures deep { IfOk result (λ t. 1 ≤ room.new → EachEnd (IsMarkedDeep None (G.cost state.new)) node.old.ranges.items node.old.path.items t) }
+{
+    let mut tree = first;
+    for _ in 0..PASSES {
+        tree = grow_once(alloc, guide, node, state, room, root, tree)?;
+    }
+    grow(alloc, guide, node, state, room, None, tree)
+}

@@ -1,0 +1,123 @@
+// What a search is told of its nodes.
+ghost use Rattle.std.specs.Prelude.{◌≡◌, ℕ, Bool, true, List, length, Option, IfOk, OnOk};
+ghost use Rattle.branch_and_bound.specs.Ranges.{AreOrdered, IsAllowed, IsPoint, IsSplitAt};
+ghost use Rattle.branch_and_bound.specs.Costs.{IsAtMost, IsBelow};
+ghost use Rattle.branch_and_bound.specs.Trees.{Rules};
+ghost use Rattle.branch_and_bound.specs.Sides.{side_path, side_ranges};
+ghost use Rattle.lin_rows.specs.declared.column.Column.{Column};
+ghost use Rattle.branch_and_bound.specs.declared.proposal.Proposal.{Proposal};
+ghost use Rattle.branch_and_bound.specs.declared.node.Range.{Range};
+ghost use Rattle.lin_rows.specs.declared.bound.Bound.{Bound};
+
+use crate::{Node, Proposal, Split};
+use std::alloc::{AllocError, Global};
+
+/// What a search is told of its nodes, with a state of type `S` that has the best plan so far and whatever
+/// the leaves stand on. The state only grows: what holds of a leaf goes on to hold.
+pub trait Guide<S> {
+    /// Where the columns' ranges stand.
+    ghost rules: { Self → Rules };
+
+    /// What holds of each node's ranges and path.
+    ghost IsNode: { Self → List Range → List Bound → Type 0 };
+
+    /// The second state is the first one or comes after it.
+    ghost Grows: { S → S → Type 0 };
+
+    /// What holds of each leaf in a state, with the ranges and the path there.
+    ghost Holds: { Self → S → List Range → List Bound → Proposal → Type 0 };
+
+    /// The leaf of the node above may be taken over here.
+    ghost IsHeir: { Self → S → List Range → List Bound → Proposal → Type 0 };
+
+    /// What holds of each leaf at which evidence was asked for. It depends on no state and not on the note.
+    ghost Tells: { Self → List Range → List Bound → Proposal → Type 0 };
+
+    /// What holds of the state, as that its plan is feasible and has the cost.
+    ghost IsState: { Self → S → Type 0 };
+
+    /// The cost of the best plan so far, and none where there is no plan.
+    ghost cost: { S → Option ℕ };
+
+    /// The cost of the best plan so far.
+    fn best(&self, state: &S) -> Option<u128>
+        ensures { result ≡ cost state.now };
+
+    /// A leaf for the root. It may better the best plan, and does so at a point that the leaf leaves open.
+    fn start(&self, alloc: Global, node: &Node, state: &mut S) -> Result<Proposal, AllocError>
+        requires ordered { AreOrdered node.now.ranges.items }
+        requires node { IsNode self.now node.now.ranges.items node.now.path.items }
+        requires state { IsState self.now state.old }
+        ensures state { OnOk result (IsState self.now state.new) }
+        ensures grows { OnOk result (Grows state.old state.new) }
+        ensures kept { OnOk result (IsAtMost (cost state.new) (cost state.old)) }
+        ensures holds { IfOk result (λ p. Holds self.now state.new node.now.ranges.items node.now.path.items p) }
+        ensures told { IfOk result (λ p. p.asked ≡ true → Tells self.now node.now.ranges.items node.now.path.items p) }
+        ensures point { IfOk result (λ p. IsBelow p.says (cost state.new) → IsPoint node.now.ranges.items → ⊥) };
+
+    /// A leaf for a side of a branch, where `above` is the leaf of the node that was branched on. It may better
+    /// the best plan, and does so at a point that the leaf leaves open.
+    fn propose(
+        &self,
+        alloc: Global,
+        node: &Node,
+        above: &Proposal,
+        state: &mut S,
+    ) -> Result<Proposal, AllocError>
+        requires ordered { AreOrdered node.now.ranges.items }
+        requires node { IsNode self.now node.now.ranges.items node.now.path.items }
+        requires state { IsState self.now state.old }
+        requires heir { IsHeir self.now state.old node.now.ranges.items node.now.path.items above.now }
+        ensures state { OnOk result (IsState self.now state.new) }
+        ensures grows { OnOk result (Grows state.old state.new) }
+        ensures kept { OnOk result (IsAtMost (cost state.new) (cost state.old)) }
+        ensures holds { IfOk result (λ p. Holds self.now state.new node.now.ranges.items node.now.path.items p) }
+        ensures told { IfOk result (λ p. p.asked ≡ true → Tells self.now node.now.ranges.items node.now.path.items p) }
+        ensures point { IfOk result (λ p. IsBelow p.says (cost state.new) → IsPoint node.now.ranges.items → ⊥) };
+
+    /// A branch of a node with this leaf.
+    fn branch(&self, node: &Node, proposal: &Proposal, state: &S) -> Split
+        requires ordered { AreOrdered node.now.ranges.items }
+        requires node { IsNode self.now node.now.ranges.items node.now.path.items }
+        requires state { IsState self.now state.now }
+        requires open { IsPoint node.now.ranges.items → ⊥ }
+        ensures place { (rules self.now).place result.column ≡ result.place }
+        ensures split { IsSplitAt node.now.ranges.items result.place result.at }
+        ensures allowed { IsAllowed (length node.now.path.items) node.now.ranges.items result.place result.at };
+
+    /// The leaf of a node once evidence was asked for there: it says at least as much.
+    fn ask(
+        &self,
+        alloc: Global,
+        node: &Node,
+        proposal: Proposal,
+        state: &mut S,
+    ) -> Result<Proposal, AllocError>
+        requires ordered { AreOrdered node.now.ranges.items }
+        requires node { IsNode self.now node.now.ranges.items node.now.path.items }
+        requires state { IsState self.now state.old }
+        requires holds { Holds self.now state.old node.now.ranges.items node.now.path.items proposal }
+        requires point { IsBelow proposal.says (cost state.old) → IsPoint node.now.ranges.items → ⊥ }
+        ensures state { OnOk result (IsState self.now state.new) }
+        ensures grows { OnOk result (Grows state.old state.new) }
+        ensures kept { OnOk result (IsAtMost (cost state.new) (cost state.old)) }
+        ensures holds { IfOk result (λ p. Holds self.now state.new node.now.ranges.items node.now.path.items p) }
+        ensures asked { IfOk result (λ p. p.asked ≡ true) }
+        ensures told { IfOk result (λ p. Tells self.now node.now.ranges.items node.now.path.items p) }
+        ensures more { IfOk result (λ p. IsAtMost proposal.says p.says) };
+
+    /// Both sides of a branch are nodes where it is one.
+    ghost sides: { (guide : Self) (most : Bool) (rs : List Range) (path : List Bound) (c : Column) (at : ℕ) → IsNode guide rs path → IsSplitAt rs ((rules guide).place c) at → IsNode guide (side_ranges most rs ((rules guide).place c) at) (side_path most path c at) };
+
+    /// A state comes after itself, or is it.
+    ghost same: { (a : S) → Grows a a };
+
+    /// What comes after a later state comes after the first one.
+    ghost grows_on: { (a b c : S) → Grows a b → Grows b c → Grows a c };
+
+    /// What holds of a leaf holds in each later state.
+    ghost stays: { (guide : Self) (a b : S) (rs : List Range) (path : List Bound) (p : Proposal) → Grows a b → Holds guide a rs path p → Holds guide b rs path p };
+
+    /// Both sides of a branch may take over the leaf of the node.
+    ghost heirs: { (guide : Self) (state : S) (most : Bool) (rs : List Range) (path : List Bound) (c : Column) (at : ℕ) (p : Proposal) → Holds guide state rs path p → IsSplitAt rs ((rules guide).place c) at → IsHeir guide state (side_ranges most rs ((rules guide).place c) at) (side_path most path c at) p };
+}

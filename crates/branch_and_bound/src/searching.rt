@@ -1,0 +1,102 @@
+// A search of all ranges, and what it shows.
+ghost use Rattle.std.specs.Prelude.{◌≡◌, ◌≤◌, ◌+◌, ◌*◌, ℕ, [], length, None, Option, OnOk, IfOk};
+ghost use Rattle.branch_and_bound.specs.Counts.{branches, longest, nodes};
+ghost use Rattle.branch_and_bound.specs.Ranges.{AreOrdered, height, volume};
+ghost use Rattle.branch_and_bound.specs.Costs.{IsAtMost};
+ghost use Rattle.branch_and_bound.specs.Trees.{EachLeaf, IsSplitTree};
+ghost use Rattle.branch_and_bound.specs.Growing.{AreBranches, EachEnd, IsMarkedDeep, IsSettled, IsSound};
+ghost use Rattle.branch_and_bound.specs.Claims.{IsBound, IsLeastClaim, IsShown, IsTold, IsUndecided};
+
+use crate::counting::least_number;
+use crate::passes::grow_all;
+use crate::settling::settle;
+use crate::{Guide, Node, Range, Searched, Sought};
+use cert_lines::Claim;
+use std::alloc::{AllocError, Global};
+
+// The claim of a cost and the least number that a leaf says.
+fn claim_of(best: Option<u128>, least: Option<u128>) -> Claim
+    ensures { IsLeastClaim best least result }
+{
+    match (least, best) {
+        (Some(bound), None) => Claim::Bound(bound),
+        (Some(bound), Some(cost)) => {
+            if bound < cost {
+                Claim::Bound(bound)
+            } else {
+                Claim::Optimal(cost)
+            }
+        }
+        (None, Some(cost)) => Claim::Optimal(cost),
+        (None, None) => Claim::Infeasible,
+    }
+}
+
+// The tree of a search with room for so many branches.
+fn search_tree<S, G: Guide<S>>(
+    alloc: Global,
+    guide: &G,
+    ranges: Vec<Range>,
+    state: &mut S,
+    room: &mut u64,
+) -> Result<Sought, AllocError>
+    requires ordered { AreOrdered ranges.items }
+    requires node { G.IsNode guide.now ranges.items [] }
+    requires state { G.IsState guide.now state.old }
+    ensures state { OnOk result (G.IsState guide.now state.new) }
+    ensures grows { OnOk result (G.Grows state.old state.new) }
+    ensures kept { OnOk result (IsAtMost (G.cost state.new) (G.cost state.old)) }
+    ensures rest { IfOk result (λ t. branches t + room.new ≡ room.old) }
+    ensures branches { IfOk result (λ t. AreBranches (G.rules guide.now) ranges.items [] t) }
+    ensures sound { IfOk result (λ t. EachEnd (IsSound (G.Holds guide.now state.new) (G.Tells guide.now) (G.cost state.new)) ranges.items [] t) }
+    ensures settled { IfOk result (λ t. IsSettled (G.cost state.new) t) }
+    ensures deep { IfOk result (λ t. 1 ≤ room.new → EachEnd (IsMarkedDeep None (G.cost state.new)) ranges.items [] t) }
+{
+    let mut node = Node {
+        ranges,
+        path: Vec::new(alloc),
+    };
+    let first = guide.start(alloc, &node, state)?;
+    let root = first.says;
+    let leaf = Sought::Leaf(first);
+    let grown = grow_all(alloc, guide, &mut node, state, room, root, leaf)?;
+    settle(alloc, guide, &mut node, state, grown)
+}
+
+/// Searches all choices in the ranges, with at most so many nodes. The claim is a bound only for one of two
+/// causes: two more nodes would pass the budget, or all leaves that are left open have 2,000 branches above
+/// them. Where a bound is claimed, evidence was asked for at each leaf that says just this number. It fails
+/// only where memory runs out.
+pub fn search<S, G: Guide<S>>(
+    alloc: Global,
+    guide: &G,
+    ranges: Vec<Range>,
+    state: &mut S,
+    budget: u64,
+) -> Result<Searched, AllocError>
+    requires ordered { AreOrdered ranges.items }
+    requires node { G.IsNode guide.now ranges.items [] }
+    requires state { G.IsState guide.now state.old }
+    requires budget { 1 ≤ budget }
+    ensures state { OnOk result (G.IsState guide.now state.new) }
+    ensures grows { OnOk result (G.Grows state.old state.new) }
+    ensures kept { OnOk result (IsAtMost (G.cost state.new) (G.cost state.old)) }
+    ensures nodes { IfOk result (λ s. nodes s.tree ≡ s.nodes) }
+    ensures within { IfOk result (λ s. s.nodes ≤ budget) }
+    ensures short { IfOk result (λ s. longest s.tree ≤ 2000) }
+    ensures split { IfOk result (λ s. IsSplitTree (G.rules guide.now).place ranges.items s.tree) }
+    ensures holds { IfOk result (λ s. EachLeaf (G.rules guide.now).place (G.Holds guide.now state.new) ranges.items [] s.tree) }
+    ensures shown { IfOk result (λ s. IsShown (G.rules guide.now) (G.cost state.new) ranges.items s.tree s.claim) }
+    ensures evidence { IfOk result (λ s. IsTold (G.rules guide.now) (G.Tells guide.now) ranges.items s.tree s.claim) }
+    ensures cause { IfOk result (λ s. IsBound s.claim → IsUndecided (G.rules guide.now) (G.cost state.new) budget ranges.items s.tree) }
+    ensures decided { IfOk result (λ s. 2 * volume ranges.items ≤ budget + 1 → height ranges.items ≤ 2000 → IsBound s.claim → ⊥) }
+{
+    let all = (budget - 1) / 2;
+    let mut room = all;
+    let tree = search_tree(alloc, guide, ranges, state, &mut room)?;
+    Ok(Searched {
+        claim: claim_of(guide.best(state), least_number(&tree)),
+        tree,
+        nodes: 2 * (all - room) + 1,
+    })
+}

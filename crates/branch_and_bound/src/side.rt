@@ -1,0 +1,83 @@
+// The two sides of a branch.
+ghost use Rattle.std.specs.Prelude.{◌≡◌, ◌≤◌, ◌+◌, ◌-◌, ◌<◌, ◌++◌, ◌∷◌, [], ℕ, List, OnOk, IfOk, length, slice_set, take};
+ghost use Rattle.branch_and_bound.specs.Ranges.{AreOrdered, IsSplitAt, range_at};
+ghost use Rattle.branch_and_bound.specs.Growing.{IsBranchAt};
+ghost use Rattle.branch_and_bound.specs.Sides.{side_bound, side_part, side_path, side_ranges};
+
+use crate::{Guide, Node, Range, Split};
+use lin_rows::{Bound, Column};
+use std::alloc::AllocError;
+
+// The part of a range on a side.
+fn part(most: bool, range: Range, at: u64) -> Range
+    requires { at < range.high }
+    ensures { result ≡ side_part most range at }
+{
+    if most {
+        Range {
+            low: range.low,
+            high: at,
+        }
+    } else {
+        Range {
+            low: at + 1,
+            high: range.high,
+        }
+    }
+}
+
+// What a side says of the column.
+fn bound(most: bool, column: Column, range: Range, at: u64) -> Bound
+    requires { at < range.high }
+    ensures { result ≡ side_bound most column at }
+{
+    let number = if most { at } else { at + 1 };
+    Bound {
+        column,
+        most,
+        number,
+    }
+}
+
+// Goes to a side of a branch, and gives the range that the column had.
+fn go_down(node: &mut Node, split: Split, most: bool) -> Result<Range, AllocError>
+    requires { IsSplitAt node.old.ranges.items split.place split.at }
+    ensures ranges { OnOk result (node.new.ranges.items ≡ side_ranges most node.old.ranges.items split.place split.at) }
+    ensures path { OnOk result (node.new.path.items ≡ side_path most node.old.path.items split.column split.at) }
+    ensures range { IfOk result (λ range. range ≡ range_at node.old.ranges.items split.place) }
+    ensures ordered { OnOk result (AreOrdered node.old.ranges.items → AreOrdered node.new.ranges.items) }
+{
+    let range = node.ranges[split.place];
+    node.path.push(bound(most, split.column, range, split.at))?;
+    node.ranges[split.place] = part(most, range, split.at);
+    Ok(range)
+}
+
+// Goes to a side of a branch of a node, which is a node too, and gives the range that the column had.
+pub fn enter<S, G: Guide<S>>(
+    guide: &G,
+    node: &mut Node,
+    split: Split,
+    most: bool,
+) -> Result<Range, AllocError>
+    requires ordered { AreOrdered node.old.ranges.items }
+    requires node { G.IsNode guide.now node.old.ranges.items node.old.path.items }
+    requires branch { IsBranchAt (G.rules guide.now) node.old.ranges.items node.old.path.items split.column split.place split.at }
+    ensures ordered { OnOk result (AreOrdered node.new.ranges.items) }
+    ensures node { OnOk result (G.IsNode guide.now node.new.ranges.items node.new.path.items) }
+    ensures ranges { OnOk result (node.new.ranges.items ≡ side_ranges most node.old.ranges.items split.place split.at) }
+    ensures path { OnOk result (node.new.path.items ≡ side_path most node.old.path.items split.column split.at) }
+    ensures range { IfOk result (λ range. range ≡ range_at node.old.ranges.items split.place) }
+{
+    Ok(go_down(node, split, most)?)
+}
+
+// Goes back up from a side of a branch.
+pub fn leave(node: &mut Node, place: usize, range: Range)
+    requires { place < length node.old.ranges.items }
+    ensures ranges { node.new.ranges.items ≡ slice_set node.old.ranges.items place range }
+    ensures path { node.new.path.items ≡ take (length node.old.path.items - 1) node.old.path.items }
+{
+    node.path.pop();
+    node.ranges[place] = range;
+}
