@@ -1,0 +1,9 @@
+mod Taken
+mod Lines
+mod Echelons
+mod Own
+mod Making
+mod Adding
+mod Says
+mod Whole
+mod One
