@@ -1,0 +1,40 @@
+-- What holds of plans that were made without a search.
+use Rattle.std.specs.Prelude.{◌≡◌, ◌^◌, ◌≤◌, ◌<◌, List, [], ◌∷◌, ◌++◌, Any, Option, Some, None}
+use Rattle.lot_sizing.specs.Problem.{Problem, IsPlain}
+use Rattle.lot_sizing.specs.Plan.{Plan, IsFeasible, cost}
+use Rattle.plan_rules.specs.Held.{AllFit, plan_of}
+use Rattle.plan_rules.specs.declared.plan.Planned.{Planned}
+use Rattle.first_plans.specs.OwnPeriod.{IsOwnPeriod}
+
+-- a feasible plan with an entry for each item and period, and what it costs
+pub record IsMade (m : Problem) (made : Planned) : Type 0 where
+  pub fits : AllFit m made.plan
+  pub feasible : IsFeasible m (plan_of made.plan)
+  pub cost : made.cost ≡ cost m (plan_of made.plan)
+  pub small : made.cost < 2 ^ 127
+
+-- it costs what each own-period plan costs, of which there is one
+abbrev pub CostsAsOwn : Problem → Planned → Type 0
+CostsAsOwn m made = (q : Plan) → IsOwnPeriod m q → made.cost ≡ cost m q
+
+-- the own-period plan, which costs no more than any plan that has its numbers
+pub record IsOwnMade (m : Problem) (q : Plan) (made : Planned) : Type 0 where
+  pub own : IsOwnPeriod m (plan_of made.plan)
+  pub cheap : made.cost ≤ cost m q
+
+-- where the own-period plan is feasible, it is among these
+abbrev pub HasOwn : Problem → List Planned → Type 0
+HasOwn m list = (q : Plan) → IsOwnPeriod m q → IsFeasible m q → Any (IsOwnMade m q) list
+
+-- there are none for a problem with lead times or bounds on lots
+abbrev pub IsEmptyUnlessPlain : Problem → List Planned → Type 0
+IsEmptyUnlessPlain m list = (IsPlain m → ⊥) → list ≡ []
+
+-- the first list is where the second begins
+abbrev pub IsLonger : List Planned → List Planned → Type 0
+IsLonger old new = (more : List Planned) × (new ≡ old ++ more)
+
+-- the list of what was found, if something was
+abbrev pub those : Option Planned → List Planned
+those None = []
+those (Some made) = made ∷ []

@@ -1,0 +1,166 @@
+// Feasible plans to begin with.
+ghost use Rattle.std.specs.Prelude.{◌≡◌, ◌≤◌, ◌<◌, ◌++◌, All, IfOk, OnOk, length};
+ghost use Rattle.plan_rules.specs.Cells.{Fits};
+ghost use Rattle.plan_rules.specs.Rows.{IfFound};
+ghost use Rattle.first_plans.specs.Made.{HasOwn, IsEmptyUnlessPlain, IsMade, IsLonger, those};
+
+use crate::building::built_plan;
+use crate::improving::improved;
+use crate::own_period::own_period_plan;
+use crate::patterns::wanted_apart;
+use lot_model::{Instance, is_plain};
+use plan_rules::{Grid, Planned};
+use std::alloc::{AllocError, Global};
+
+// What building plans may take to improve one: so many plans of a single item and period.
+const BUILDING_WORK: u32 = 4_000_000;
+
+// Puts a plan to a list, if there is one.
+fn keep(list: &mut Vec<Planned>, found: Option<Planned>) -> Result<(), AllocError>
+    ensures { IfOk result (λ _. list.new.items ≡ list.old.items ++ those found) }
+{
+    if let Some(planned) = found {
+        list.push(planned)?;
+    }
+    Ok(())
+}
+
+// Puts the plan to a list that is built with these setups, if there is one.
+fn keep_built(
+    alloc: Global,
+    instance: &Instance,
+    wanted: &Grid,
+    list: &mut Vec<Planned>,
+) -> Result<(), AllocError>
+    requires wanted { Fits instance.now wanted.now }
+    requires each { All (IsMade instance.now) list.old.items }
+    ensures each { OnOk result (All (IsMade instance.now) list.new.items) }
+    ensures longer { OnOk result (IsLonger list.old.items list.new.items) }
+{
+    let built = built_plan(alloc, instance, wanted)?;
+    keep(list, built)?;
+    Ok(())
+}
+
+// The same with the setups that items want by themselves, with so many quarters of what their components cost in
+// stock taken off of what they cost there.
+fn keep_apart(
+    alloc: Global,
+    instance: &Instance,
+    quarters: u64,
+    list: &mut Vec<Planned>,
+) -> Result<(), AllocError>
+    requires each { All (IsMade instance.now) list.old.items }
+    ensures each { OnOk result (All (IsMade instance.now) list.new.items) }
+    ensures longer { OnOk result (IsLonger list.old.items list.new.items) }
+{
+    let wanted = wanted_apart(alloc, instance, quarters)?;
+    keep_built(alloc, instance, &wanted, list)
+}
+
+// The same with setups everywhere.
+fn keep_everywhere(
+    alloc: Global,
+    instance: &Instance,
+    list: &mut Vec<Planned>,
+) -> Result<(), AllocError>
+    requires each { All (IsMade instance.now) list.old.items }
+    ensures each { OnOk result (All (IsMade instance.now) list.new.items) }
+    ensures longer { OnOk result (IsLonger list.old.items list.new.items) }
+{
+    let wanted = Grid::filled(alloc, instance.items(), instance.periods(), 1)?;
+    keep_built(alloc, instance, &wanted, list)
+}
+
+// How many plans may be built to improve one: fewer of a large instance, each of which takes longer.
+fn tries_for(instance: &Instance) -> u32 {
+    let size = instance.items() * instance.items() * instance.periods();
+    BUILDING_WORK / size.max(1)
+}
+
+// The cheapest plan that is found by changing these setups.
+fn improved_from(
+    alloc: Global,
+    instance: &Instance,
+    wanted: &Grid,
+) -> Result<Option<Planned>, AllocError>
+    requires wanted { Fits instance.now wanted.now }
+    ensures { IfFound result (IsMade instance.now) }
+{
+    match built_plan(alloc, instance, wanted)? {
+        Some(planned) => {
+            let better = improved(alloc, instance, planned, tries_for(instance))?;
+            Ok(Some(better))
+        }
+        None => Ok(None),
+    }
+}
+
+// The place of a plan that none costs less than.
+fn cheapest(list: &[Planned]) -> usize
+    requires { 1 ≤ length list.now }
+    ensures { result < length list.now }
+{
+    let mut best = 0;
+    for place in 1..list.len() {
+        if list[place].cost < list[best].cost {
+            best = place;
+        }
+    }
+    best
+}
+
+// Puts the plan to a list that the cheapest one is improved to.
+fn keep_improved(
+    alloc: Global,
+    instance: &Instance,
+    list: &mut Vec<Planned>,
+) -> Result<(), AllocError>
+    requires each { All (IsMade instance.now) list.old.items }
+    ensures each { OnOk result (All (IsMade instance.now) list.new.items) }
+    ensures longer { OnOk result (IsLonger list.old.items list.new.items) }
+{
+    if list.is_empty() {
+        return Ok(());
+    }
+    let place = cheapest(list);
+    let start = &list[place];
+    let found = improved_from(alloc, instance, &start.plan.setup)?;
+    keep(list, found)?;
+    Ok(())
+}
+
+// The list of the own-period plan, if it is feasible.
+fn own_list(alloc: Global, instance: &Instance) -> Result<Vec<Planned>, AllocError>
+    ensures each { IfOk result (λ list. All (IsMade instance.now) list.items) }
+    ensures own { IfOk result (λ list. HasOwn instance.now list.items) }
+{
+    let mut list = Vec::new(alloc);
+    let own = own_period_plan(alloc, instance)?;
+    keep(&mut list, own)?;
+    Ok(list)
+}
+
+/// Feasible plans with their costs, in no order. The own-period plan is among them where it is feasible, so
+/// the cheapest costs no more than it; otherwise the list may be empty. It is empty where an item has a lead
+/// time, a least lot or a largest lot.
+///
+/// The others are built backward by periods with six patterns of setups: everywhere, and where each item is
+/// served most cheaply by itself at five prices of stock; and the cheapest of these is improved. The error is
+/// that memory ran out.
+pub fn candidates(alloc: Global, instance: &Instance) -> Result<Vec<Planned>, AllocError>
+    ensures each { IfOk result (λ list. All (IsMade instance.now) list.items) }
+    ensures own { IfOk result (λ list. HasOwn instance.now list.items) }
+    ensures plain { IfOk result (λ list. IsEmptyUnlessPlain instance.now list.items) }
+{
+    if !is_plain(instance) {
+        return Ok(Vec::new(alloc));
+    }
+    let mut list = own_list(alloc, instance)?;
+    keep_everywhere(alloc, instance, &mut list)?;
+    for quarters in 0..5 {
+        keep_apart(alloc, instance, quarters, &mut list)?;
+    }
+    keep_improved(alloc, instance, &mut list)?;
+    Ok(list)
+}
