@@ -1,0 +1,8 @@
+mod Naming
+mod Counting
+mod BoundRows
+mod Growing
+mod Writing
+mod Points
+mod Refusals
+mod Found

@@ -1,0 +1,118 @@
+// The leaf that multipliers of the program make, and what it says.
+ghost use Rattle.std.specs.Prelude.{◌≡◌, length, IfOk, MatchOption};
+ghost use Rattle.cert_lines.specs.Shapes.{leaf_shape};
+ghost use Rattle.split_trees.specs.Paths.{AreChoices};
+ghost use Rattle.tableau.specs.Denominators.{PassWhole};
+ghost use Rattle.cert_checker.specs.Leaves.{HasDenominator};
+ghost use Rattle.path_relaxation.specs.Steps.{IsFarkasFound, IsLinearFound, IsRefused, IsWholeLeaf, SaysSmall};
+
+use crate::program::is_instance;
+use crate::{Exempt, PathSays};
+use acceptance::LeafSays;
+use cert_checker::{CheckFault, leaf_bound};
+use cert_lines::{Leaf, Part};
+use frac128::Frac;
+use lin_rows::Bound;
+use lot_model::Instance;
+use root_rows::{Side, leaf_parts};
+use std::alloc::{AllocError, Global};
+use tableau::whole_multipliers;
+
+// The line of a leaf: refusals name it, and only whether there is one is looked at.
+const LEAF_LINE: u64 = 1;
+
+// The multipliers of a program's rows over their least common denominator, as parts.
+#[derive(Debug, Drop)]
+struct WholeLeaf {
+    den: i128,
+    parts: Vec<Part>,
+}
+
+// These, and None where the denominator or a multiplier times it is 2^127 or more.
+fn whole_leaf(
+    alloc: Global,
+    sides: &[Side],
+    multipliers: &[Frac],
+) -> Result<Option<WholeLeaf>, AllocError>
+    requires { length multipliers.now ≡ length sides.now }
+    ensures { IfOk result (λ found. MatchOption found (PassWhole multipliers.now) (IsWholeLeaf sides.now multipliers.now)) }
+{
+    match whole_multipliers(alloc, multipliers)? {
+        Some(whole) => {
+            let parts = leaf_parts(alloc, sides, &whole.numerators)?;
+            Ok(Some(WholeLeaf {
+                den: whole.den,
+                parts,
+            }))
+        }
+        None => Ok(None),
+    }
+}
+
+// What a leaf says on the path, without cuts; and None where it is refused.
+fn said(
+    alloc: Global,
+    instance: &Instance,
+    path: &[Bound],
+    leaf: &Leaf,
+) -> Result<Option<LeafSays>, AllocError>
+    requires choices { AreChoices instance.now path.now }
+    requires den { HasDenominator (leaf_shape leaf.now) }
+    ensures { IfOk result (λ found. MatchOption found (IsRefused instance.now path.now (leaf_shape leaf.now)) (SaysSmall instance.now path.now (leaf_shape leaf.now))) }
+{
+    match leaf_bound(alloc, instance, &[], path, leaf, LEAF_LINE) {
+        Ok(says) => Ok(Some(says)),
+        Err(CheckFault::Memory) => Err(AllocError),
+        Err(CheckFault::Rejected(_)) => Ok(None),
+    }
+}
+
+// The leaf by linear duality of multipliers, with what it says.
+pub(crate) fn linear_leaf(
+    alloc: Global,
+    instance: &Instance,
+    path: &[Bound],
+    sides: &[Side],
+    multipliers: &[Frac],
+) -> Result<PathSays, AllocError>
+    requires choices { AreChoices instance.now path.now }
+    requires size { length multipliers.now ≡ length sides.now }
+    ensures { IfOk result (IsLinearFound instance.now path.now sides.now multipliers.now) }
+{
+    is_instance(instance);
+    let Some(WholeLeaf { den, parts }) = whole_leaf(alloc, sides, multipliers)? else {
+        return Ok(PathSays::Exempt(Exempt::Leaf));
+    };
+    let leaf = Leaf::Linear { den, parts };
+    match said(alloc, instance, path, &leaf)? {
+        Some(LeafSays::AtLeast(bound)) => Ok(PathSays::AtLeast { leaf, bound }),
+        // A leaf by linear duality says a number.
+        Some(LeafSays::NoPlan) => unreachable!(),
+        None => Ok(PathSays::Exempt(Exempt::Leaf)),
+    }
+}
+
+// The leaf by Farkas' lemma of multipliers.
+pub(crate) fn farkas_leaf(
+    alloc: Global,
+    instance: &Instance,
+    path: &[Bound],
+    sides: &[Side],
+    multipliers: &[Frac],
+) -> Result<PathSays, AllocError>
+    requires choices { AreChoices instance.now path.now }
+    requires size { length multipliers.now ≡ length sides.now }
+    ensures { IfOk result (IsFarkasFound instance.now path.now sides.now multipliers.now) }
+{
+    is_instance(instance);
+    let Some(WholeLeaf { den: _, parts }) = whole_leaf(alloc, sides, multipliers)? else {
+        return Ok(PathSays::Exempt(Exempt::Leaf));
+    };
+    let leaf = Leaf::Farkas { parts };
+    match said(alloc, instance, path, &leaf)? {
+        Some(LeafSays::NoPlan) => Ok(PathSays::NoPoint { leaf }),
+        // A leaf by Farkas' lemma says no number.
+        Some(LeafSays::AtLeast(_)) => unreachable!(),
+        None => Ok(PathSays::Exempt(Exempt::Leaf)),
+    }
+}
