@@ -2,5 +2,6 @@ mod Weighing
 mod RootCuts
 mod RootCounts
 mod RootLeaves
+mod RootTexts
 mod RootRounds
 mod RootWhole

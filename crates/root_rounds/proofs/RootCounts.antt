@@ -1,22 +1,21 @@
--- How many cuts the rounds of the root find, and how many rows and columns their first program has.
-use Rattle.std.proofs.Common.{◌≡◌, ◌≤◌, ◌<◌, ◌+◌, ◌-◌, ◌*◌, ◌∙◌, ⊎_elim, ℕ, zero, suc, refl, sym, ap, arith, Bool, true, false, List, [], ◌∷◌, ◌++◌, length, length-append}
-use Rattle.std.specs.List.{filter}
+-- How many cuts the rounds of the root find, how many rows and columns their programs have, and how many parts a leaf of them has.
+use Rattle.std.proofs.Common.{◌≡◌, ◌≤◌, ◌+◌, ◌-◌, ◌*◌, ◌∙◌, ⊎_elim, ℕ, zero, suc, refl, ap, arith, Bool, true, false, List, [], ◌∷◌, ◌++◌, length, length-append}
 use Rattle.std.proofs.lemmas.Bool.{cases_lt}
 use Rattle.std.proofs.lemmas.List.Elements.{filter-append}
-use Rattle.std.proofs.Math.Nat.{mul-le-mul_left, mul-le-mul_right}
-use Rattle.lot_sizing.specs.Problem.{Problem, item_count, resource_count}
+use Rattle.std.proofs.lemmas.List.Sums.{count_by-le-length, length-filter}
+use Rattle.std.proofs.Math.Nat.{mul-le-mul, mul-le-mul_left, mul-le-mul_right}
+use Rattle.lot_sizing.specs.Problem.{IsWithinLimits, Problem, item_count, resource_count}
 use Rattle.lin_rows.specs.declared.base.RowName.{RowName}
-use Rattle.lin_rows.specs.declared.base.RowName.TheVariants.{Balance, Link, Capacity, Top, Least, Late}
+use Rattle.lin_rows.specs.declared.base.RowName.TheVariants.{Balance, Link, Capacity, Top, Least, Late, Cut as CutRow}
 use Rattle.lin_rows.specs.Columns.{column_count}
 use Rattle.lin_rows.specs.Rows.{LinRow}
 use Rattle.echelon.specs.declared.net.EchelonItem.{EchelonItem}
 use Rattle.ls_cuts.specs.Points.{Fractions}
-use Rattle.cert_lines.specs.declared.limits.TheConstants.{MAX_CUTS}
+use Rattle.cert_lines.specs.declared.limits.TheConstants.{MAX_CUTS, MAX_PARTS}
 use Rattle.cert_lines.specs.Shapes.{CutShape}
 use Rattle.tableau.specs.declared.outcome.Outcome.{Outcome}
 use Rattle.tableau.specs.declared.outcome.Outcome.TheVariants as outcome
 use Rattle.acceptance.specs.Named.{row_named}
-use Rattle.root_rows.specs.declared.program.Side.{Side}
 use Rattle.root_rows.specs.Names.{base_names, cell_names, cut_names, end_name, is_made, made_names, names_to, round_names}
 use Rattle.root_rows.specs.Rounds.{at_root, round_sides}
 use Rattle.root_rows.specs.Sides.{all_sides, sides_of}
@@ -71,6 +70,10 @@ after_long m total weight (suc n) cuts (before, found, first, more, is) =
 sides_some : (name : RowName) (equal : Bool) → 1 ≤ length (sides_of name equal)
 sides_some name true = omega arith
 sides_some name false = omega arith
+
+sides_two : (name : RowName) (equal : Bool) → length (sides_of name equal) ≤ 2
+sides_two name true = omega arith
+sides_two name false = omega arith
 
 sides_many : (row : RowName → LinRow) (names : List RowName) → length names ≤ length (all_sides row names)
 sides_many row [] = omega arith
@@ -139,3 +142,69 @@ module _ (m : Problem) where
           let one : 1800 * 1800 ≤ rows * 1800 = mul-le-mul_right 1800 high in
           let two : rows * 1800 ≤ rows * (column_count m + 1) = mul-le-mul_left rows wide in
           omega (arith, one, two, small)
+
+-- ---- no more sides of rows than a leaf has parts
+sides_few : (row : RowName → LinRow) (names : List RowName) → length (all_sides row names) ≤ 2 * length names
+sides_few row [] = omega arith
+sides_few row (name ∷ names) =
+    omega (arith, length-append (sides_of name (row name).equal) (all_sides row names), sides_two name (row name).equal, sides_few row names)
+
+names_long : (n : ℕ) (f : ℕ → RowName) → length (names_to n f) ≡ n
+names_long zero f = refl
+names_long (suc n) f = omega (arith, length-append (names_to n f) (f (suc n) ∷ []), names_long n f)
+
+cells_long : (n periods : ℕ) (f : ℕ → ℕ → RowName) → length (cell_names n periods f) ≡ n * periods
+cells_long zero periods f = omega arith
+cells_long (suc n) periods f = omega (arith, length-append (cell_names n periods f) (names_to periods (f (suc n))), cells_long n periods f, names_long periods (f (suc n)))
+
+module _ (m : Problem) (limits : IsWithinLimits m) where
+  names_few : length (base_names m) ≤ 26480
+  names_few =
+      let n = item_count m in
+      let balances = cell_names n m.periods (λ i t. Balance i t) in
+      let links = cell_names n m.periods (λ i t. Link i t) in
+      let capacities = cell_names (resource_count m) m.periods (λ i t. Capacity i t) in
+      let least = names_to n (end_name false) in
+      let largest = names_to n (end_name true) in
+      let tops = cell_names n m.periods (λ i t. Top i t) in
+      let lots = cell_names n m.periods (λ i t. Least i t) in
+      let late = cell_names n m.periods (λ i t. Late i t) in
+      let after_links = capacities ++ (least ++ (largest ++ (tops ++ (lots ++ late)))) in
+      let all = balances ++ (links ++ after_links) in
+      let items : n * m.periods ≤ 40 * 120 = mul-le-mul limits.items limits.periods in
+      let resources : resource_count m * m.periods ≤ 20 * 120 = mul-le-mul limits.resources limits.periods in
+      omega (
+        arith,
+        length-filter (is_made m) all,
+        count_by-le-length (is_made m) all,
+        length-append balances (links ++ after_links),
+        length-append links after_links,
+        length-append capacities (least ++ (largest ++ (tops ++ (lots ++ late)))),
+        length-append least (largest ++ (tops ++ (lots ++ late))),
+        length-append largest (tops ++ (lots ++ late)),
+        length-append tops (lots ++ late),
+        length-append lots late,
+        cells_long n m.periods (λ i t. Balance i t),
+        cells_long n m.periods (λ i t. Link i t),
+        cells_long (resource_count m) m.periods (λ i t. Capacity i t),
+        names_long n (end_name false),
+        names_long n (end_name true),
+        cells_long n m.periods (λ i t. Top i t),
+        cells_long n m.periods (λ i t. Least i t),
+        cells_long n m.periods (λ i t. Late i t),
+        limits.items,
+        items,
+        resources,
+      )
+
+  pub few_sides : (total : ℕ → ℕ) (rows : List LinRow) → length rows ≤ MAX_CUTS → length (round_sides m total rows) ≤ MAX_PARTS
+  few_sides total rows few =
+      let row = row_named (at_root m total rows) in
+      omega (
+        arith,
+        sides_few row (round_names m (length rows)),
+        length-append (base_names m) (cut_names (length rows)),
+        names_few,
+        names_long (length rows) (λ k. CutRow k),
+        few,
+      )

@@ -1,15 +1,15 @@
 -- Cuts of (l,S) rows, each with its row, and how they are put after others.
-use Rattle.std.proofs.Common.{◌≡◌, ◌≤◌, ◌<◌, ◌+◌, ◌-◌, ◌∙◌, inl, inr, ℕ, zero, suc, refl, sym, ap, subst, arith, Bool, false, List, [], ◌∷◌, ◌++◌, append-nil, append_assoc, length, slice_index_or}
+use Rattle.std.proofs.Common.{◌≡◌, ◌≤◌, ◌<◌, ◌+◌, ◌-◌, ◌∙◌, inl, inr, ℕ, zero, suc, refl, sym, ap, subst, arith, Bool, List, [], ◌∷◌, ◌++◌, append-nil, append_assoc, length, slice_index_or}
 use Rattle.std.specs.Prelude.{map, Option, Some, None}
 use Rattle.std.specs.List.{All}
 use Rattle.std.proofs.lemmas.List.{map_push}
 use Rattle.std.proofs.lemmas.List.Elements.{All-cons, All-nil}
-use Rattle.lot_sizing.specs.Problem.{Problem, item_count}
+use Rattle.lot_sizing.specs.Problem.{Problem}
 use Rattle.lot_sizing.specs.Plan.{Plan, IsFeasible}
 use Rattle.lot_sizing.specs.Bill.{AreWeights, bill_of}
 use Rattle.lot_sizing.specs.Totals.{AreLargestTotals}
 use Rattle.echelon.specs.declared.net.EchelonItem.{EchelonItem}
-use Rattle.echelon.specs.Views.{IsEchelonWithinBounds, marked}
+use Rattle.echelon.specs.Views.{marked}
 use Rattle.lin_rows.specs.Columns.{value_in}
 use Rattle.lin_rows.specs.Combining.{AllHold, AreOfProblem}
 use Rattle.lin_rows.specs.Rows.{HoldsIn, LinRow, whole_point}
@@ -26,7 +26,7 @@ use Rattle.cert_checker.specs.Cuts.{IsCutEchelon, IsNotLeadFree}
 use Rattle.root_rows.specs.Laws.{HasSmallNumbers, LsRowsAreSmall}
 use Rattle.root_rows.specs.Rounds.{IsLs}
 use Rattle.root_rounds.specs.declared.separation.RootCuts.{RootCuts}
-use Rattle.root_rounds.specs.Rounds.{AreCutsAt, AreCutsFound, AreCutsOf, AreJoined, IsEchelonAt, PassesAt, PassesFirst}
+use Rattle.root_rounds.specs.Rounds.{AreCutsAt, AreCutsOf, AreJoined, IsEchelonAt, PassesAt, PassesFirst}
 use Rattle.root_rounds.specs.RootSteps.{AreRootCuts, IsRootCut, Puts, PutsEchelon, PutsItem, WithWeights, shapes}
 
 -- ---- one cut

@@ -1,7 +1,6 @@
 -- Where the multipliers of a round make a leaf, it says what the relaxation comes to, or its sums aren't small.
-use Rattle.std.proofs.Common.{◌≡◌, ◌≤◌, ◌<◌, ◌+◌, ◌*◌, ◌∙◌, ⊎_elim, inl, inr, ℕ, refl, sym, ap, subst, arith, false, List, [], ◌∷◌, length, slice_index_or}
-use Rattle.std.specs.Prelude.{ℤ, pos, negsuc, ◌*ℤ◌, ◌≤ℤ◌, ◌<ℤ◌, Option, Some, None, IsSomeAnd}
-use Rattle.std.specs.List.{All}
+use Rattle.std.proofs.Common.{◌≡◌, ℕ, refl, sym, subst, arith, List, slice_index_or}
+use Rattle.std.specs.Prelude.{ℤ, pos, negsuc, ◌≤ℤ◌, Option, Some, None, IsSomeAnd}
 use Rattle.std.proofs.lemmas.Int.{ints}
 use Rattle.algebra.proofs.Sums.{sum-nonneg}
 use Rattle.rational.specs.Rational.{ℚ, whole, ceil_ℚ, ◌*ℚ◌, ◌≤ℚ◌}

@@ -1,10 +1,11 @@
 -- What a round of the root leaves: the cuts and the program of the next one, or what is said in the end.
 use Rattle.std.proofs.Common.{◌≡◌, ◌≤◌, ◌<◌, ◌+◌, ◌-◌, ◌*◌, ◌^◌, ◌∙◌, ◌⊎◌, ⊎_elim, inl, inr, ℕ, zero, suc, refl, sym, ap, subst, arith, List, [], ◌∷◌, ◌++◌, append-nil, length, length-append, slice_index_or, take}
 use Rattle.std.specs.Prelude.{false, ℤ, pos, Option, IsNone}
+use Rattle.std.specs.List.{All}
 use Rattle.std.proofs.lemmas.Bool.{cases_lt}
 use Rattle.std.proofs.lemmas.List.{length-map, length-take-le, take_more}
 use Rattle.std.proofs.Math.Nat.{mul-le-mul_right}
-use Rattle.rational.specs.Rational.{ℚ, ceil_ℚ}
+use Rattle.rational.specs.Rational.{ℚ}
 use Rattle.lot_sizing.specs.Problem.{IsWithinLimits, Problem, item_count}
 use Rattle.lot_sizing.specs.Bill.{AreWeights, bill_of}
 use Rattle.lot_sizing.specs.Totals.{AreLargestTotals, IsRanking}
@@ -15,9 +16,11 @@ use Rattle.lin_rows.specs.Rows.{LinRow}
 use Rattle.echelon_rows.specs.Rows.{echelon_in}
 use Rattle.ls_cuts.specs.Laws.{LesserSeparates}
 use Rattle.ls_cuts.specs.Points.{Fractions}
+use Rattle.cert_lines.specs.declared.limits.TheConstants.{MAX_CUTS}
 use Rattle.cert_lines.specs.declared.parts.Leaf.{Leaf}
-use Rattle.cert_lines.specs.declared.parts.Part.{Part}
-use Rattle.cert_lines.specs.Shapes.{CutShape, LeafShape, LinearLeaf, FarkasLeaf}
+use Rattle.cert_lines.specs.Limits.{IsSmallPart}
+use Rattle.cert_lines.specs.Shapes.{CutShape, LeafShape}
+use Rattle.certificate.specs.Values.{AreLines, leaf_values}
 use Rattle.tableau.specs.declared.outcome.Outcome.{Outcome}
 use Rattle.tableau.specs.declared.outcome.Outcome.TheVariants as outcome
 use Rattle.tableau.specs.Denominators.{PassWhole}
@@ -25,8 +28,8 @@ use Rattle.tableau.specs.Leaves.{AreOfLeaf}
 use Rattle.tableau.specs.Meaning.{AreBest, AreEmpty}
 use Rattle.tableau.specs.Outcomes.{IsOutcome, number_at}
 use Rattle.tableau.specs.Program.{IsProgram, Program, column_count as width_of, row_count, with_row}
+use Rattle.acceptance.specs.declared.says.LeafSays.{LeafSays}
 use Rattle.acceptance.specs.Named.{row_named}
-use Rattle.acceptance.specs.CutRows.{HasEchelon}
 use Rattle.acceptance.specs.Parts.{AreSmall}
 use Rattle.acceptance.specs.Says.{IsFarkas, IsLinear}
 use Rattle.relaxation.specs.Relaxation.{Closes, HasNoPoint, WithFigures}
@@ -36,19 +39,19 @@ use Rattle.root_rows.specs.Laws.{RoundsAreFew}
 use Rattle.root_rows.specs.Rounds.{AreRead, IsRootRound, IsRound, NoneIsViolated, RoundsClose, RoundsRefute, at_root, round_sides}
 use Rattle.root_rows.specs.Sides.{parts_of, side_inequality, turned_row}
 use Rattle.root_rounds.specs.declared.at_root.TheConstants.{MAX_PIVOTS, MAX_ROUNDS}
-use Rattle.branching.specs.declared.found.PassedAt.{PassedAt}
 use Rattle.branching.specs.declared.found.PassedAt.TheVariants as passed
 use Rattle.branching.specs.declared.found.RootSays.{RootSays}
 use Rattle.branching.specs.declared.found.RootSays.TheVariants as root
 use Rattle.root_rounds.specs.declared.round.Rounds.{Rounds}
 use Rattle.root_rounds.specs.declared.round_leaf.Verdict.{Verdict}
 use Rattle.root_rounds.specs.declared.separation.RootCuts.{RootCuts}
-use Rattle.root_rounds.specs.Root.{EndsRound, HasFigures, IsLargeLeaf, MakesLeaf, PassesLeaf, RoundsSay, SaysAmount, SaysNone}
-use Rattle.root_rounds.specs.Rounds.{AreCutsAfter, AreCutsAt, AreCutsFound, AreCutsOf, AreJoined, AtLeastPoint, EndsRun, FindsMore, PassesFirst}
-use Rattle.root_rounds.specs.RootSteps.{AreRootCuts, AreRounds, EndsRounds, IsJudged, IsLeafOf, IsReady, IsRefused, IsRootCut, Puts, WithWeights, farkas, linear, shapes}
+use Rattle.root_rounds.specs.Root.{EndsRound, HasFigures, HasLeafLines, IsLargeLeaf, IsVersionFor, MakesLeaf, RoundsSay, SaysAmount, SaysNone, SaysSmall}
+use Rattle.root_rounds.specs.Rounds.{AreCutsAfter, AreCutsAt, AreCutsFound, AreCutsOf, AreJoined, AtLeastPoint, EndsRun, PassesFirst}
+use Rattle.root_rounds.specs.RootSteps.{AreRootCuts, AreRounds, AreSmallWhole, EndsRounds, IsJudged, IsLeafOf, IsReady, IsRefused, IsRootCut, Puts, WithWeights, farkas, linear, shapes}
 use Rattle.root_rounds.proofs.RootCounts.{after_long, found_long, passes_long}
 use Rattle.root_rounds.proofs.RootCuts.{put_all, root_at, root_ls, root_many, root_rows}
 use Rattle.root_rounds.proofs.RootLeaves.{farkas_is_large, kept_leaf, linear_is_large, one_amount, rounded_up}
+use Rattle.root_rounds.proofs.RootTexts.{farkas_lines, judged_lines, linear_lines, no_lines, parts_few, parts_small}
 
 -- ---- separation that finds nothing
 nothing_joined : (a b : List CutShape) → [] ≡ a ++ b → (a ≡ []) × (b ≡ [])
@@ -146,18 +149,22 @@ module _ (m : Problem) (round : ℕ) (low : 1 ≤ round) (high : round ≤ MAX_R
       let all : suc (round - 1) * (item_count m * m.periods) ≤ MAX_ROUNDS * (item_count m * m.periods) = mul-le-mul_right (item_count m * m.periods) (omega (arith, low, high)) in
       omega (arith, few_before figures, more, all)
 
-  -- without a leaf
-  pub says_without : HasFigures m → (v : Verdict) → RoundsSay m v.says cuts rows v.leaf → EndsRounds m v cuts rows
-  says_without figures v said = record { cuts_are = are.cuts; few = few_after figures (length cuts) (omega arith); said = said }
+  -- with the cuts of the rounds before
+  says_here : HasFigures m → (v : Verdict) → RoundsSay m v.says cuts rows v.leaf → (length rows ≤ MAX_CUTS → HasLeafLines m v.leaf) → EndsRounds m v cuts rows
+  says_here figures v said lines = record { cuts_are = are.cuts; few = few_after figures (length cuts) (omega arith); said = said; leaf_lines = lines }
+
+  -- and without a leaf
+  pub says_without : HasFigures m → (v : Verdict) → IsNone v.leaf → RoundsSay m v.says cuts rows v.leaf → EndsRounds m v cuts rows
+  says_without figures v none said = says_here figures v said (λ few. no_lines m v.leaf none)
 
   pub stops : HasFigures m → (v : Verdict) → v.says ≡ root.Stopped round → IsNone v.leaf → IsOutcome state.program.lp MAX_PIVOTS (outcome.Stopped MAX_PIVOTS) → EndsRounds m v cuts rows
   stops figures v says none run =
-      says_without figures v
+      says_without figures v none
       (subst (λ s. RoundsSay m s cuts rows v.leaf) (sym says) (λ total weight totals weights. inl (ends_round (outcome.Stopped MAX_PIVOTS) run total weight totals weights), none))
 
   pub cell_passes : HasFigures m → (v : Verdict) (pivot row column : ℕ) → v.says ≡ root.Passed round (passed.Cell pivot row column) → IsNone v.leaf → IsOutcome state.program.lp MAX_PIVOTS (outcome.Passed pivot row column) → EndsRounds m v cuts rows
   cell_passes figures v pivot row column says none run =
-      says_without figures v
+      says_without figures v none
       (subst (λ s. RoundsSay m s cuts rows v.leaf) (sym says) (ends_round (outcome.Passed pivot row column) run, none))
 
   -- ---- at a least point
@@ -179,6 +186,7 @@ module _ (m : Problem) (round : ℕ) (low : 1 ≤ round) (high : round ≤ MAX_R
             },
             none,
           );
+          leaf_lines = λ few. no_lines m v.leaf none;
         }
 
     -- how many rows there are then
@@ -235,6 +243,27 @@ module _ (m : Problem) (round : ℕ) (low : 1 ≤ round) (high : round ≤ MAX_R
     same_sides : (total : ℕ → ℕ) → AreLargestTotals m total → sides ≡ round_sides m total rows
     same_sides total totals = sides_are ∙ (are.ready.round total totals).sides_are
 
+    -- the parts of whole multipliers are small and few
+    module _ (den : ℕ) (z : ℕ → ℤ) (whole : AreSmallWhole ys den z) where
+      whole_small : All IsSmallPart (parts_of sides z)
+      whole_small =
+          let (total, weight, totals, weights) = figures in
+          let count = sides_long m total rows state.program.lp state.program.sides.items (are.ready.round total totals) in
+          parts_small sides z (λ k less. whole.each_small k (omega (arith, less, ap length sides_are, count, long)))
+
+      whole_few : (total : ℕ → ℕ) → AreLargestTotals m total → length (parts_of sides z) ≤ length (round_sides m total rows)
+      whole_few total totals = omega (arith, parts_few sides z, ap length (same_sides total totals))
+
+      whole_linear : length rows ≤ MAX_CUTS → (says : LeafSays) → SaysSmall m rows (linear den (parts_of sides z)) says → (version : ℕ) → IsVersionFor m version → AreLines version (leaf_values (linear den (parts_of sides z)))
+      whole_linear most says small version known =
+          let (total, weight, totals, weights) = figures in
+          linear_lines m limits total totals rows most (parts_of sides z) whole_small (whole_few total totals) version known den whole.den_small says small
+
+      whole_farkas : length rows ≤ MAX_CUTS → (says : LeafSays) → SaysSmall m rows (farkas den (parts_of sides z)) says → (version : ℕ) → IsVersionFor m version → AreLines version (leaf_values (farkas den (parts_of sides z)))
+      whole_farkas most says small version known =
+          let (total, weight, totals, weights) = figures in
+          farkas_lines m limits total totals rows most (parts_of sides z) whole_small (whole_few total totals) version known says small
+
     of_rows : (den : ℕ) (z : ℕ → ℤ) → AreOfLeaf (length ys) (number_at ys) den z → AreOfLeaf (row_count state.program.lp) (number_at ys) den z
     of_rows den z = subst (λ n. AreOfLeaf n (number_at ys) den z) long
 
@@ -284,11 +313,12 @@ module _ (m : Problem) (round : ℕ) (low : 1 ≤ round) (high : round ≤ MAX_R
 
       pub linear_ends : ((weight : ℕ → ℕ → ℕ) → AreWeights (bill_of m) weight → MakesLeaf m weight end ys) → (v : Verdict) → IsLeafOf m rows sides ys linear round v → EndsRounds m v cuts rows
       linear_ends makes v is =
-          says_without figures v
-          (⊎_elim
-          (λ whole. passes makes v.says v.leaf whole.1 whole.2 (λ total weight totals weights. inl whole.0))
-          (λ leaf. linear_says makes leaf.0 leaf.1 leaf.2 v.says v.leaf leaf.3)
-          is)
+          ⊎_elim
+          (λ large. says_without figures v large.2 (passes makes v.says v.leaf large.1 large.2 (λ total weight totals weights. inl large.0)))
+          (λ made.
+          let (den, z, whole, judged) = made in
+          says_here figures v (linear_says makes den z whole.leaf v.says v.leaf judged) (λ most. judged_lines m rows (linear den (parts_of sides z)) round (whole_linear den z whole most) v.says v.leaf judged))
+          is
 
     -- ---- by Farkas' lemma
     module _ (refute : RoundsRefute) (no_point : AreEmpty state.program.lp (number_at ys)) (makes : (weight : ℕ → ℕ → ℕ) → AreWeights (bill_of m) weight → MakesLeaf m weight end ys) where
@@ -319,8 +349,9 @@ module _ (m : Problem) (round : ℕ) (low : 1 ≤ round) (high : round ≤ MAX_R
 
       pub farkas_ends : (v : Verdict) → IsLeafOf m rows sides ys farkas round v → EndsRounds m v cuts rows
       farkas_ends v is =
-          says_without figures v
-          (⊎_elim
-          (λ whole. passes makes v.says v.leaf whole.1 whole.2 (λ total weight totals weights. inl whole.0))
-          (λ leaf. farkas_says leaf.0 leaf.1 leaf.2 v.says v.leaf leaf.3)
-          is)
+          ⊎_elim
+          (λ large. says_without figures v large.2 (passes makes v.says v.leaf large.1 large.2 (λ total weight totals weights. inl large.0)))
+          (λ made.
+          let (den, z, whole, judged) = made in
+          says_here figures v (farkas_says den z whole.leaf v.says v.leaf judged) (λ most. judged_lines m rows (farkas den (parts_of sides z)) round (whole_farkas den z whole most) v.says v.leaf judged))
+          is

@@ -1,30 +1,32 @@
 -- What is said at the root in the end, and what it says of plans.
-use Rattle.std.proofs.Common.{◌≡◌, ◌≤◌, ◌<◌, ◌+◌, ◌*◌, ◌∙◌, inr, ℕ, refl, sym, ap, subst, arith, List, [], length}
-use Rattle.std.specs.Prelude.{◌↔◌, map, Option, IsNone}
+use Rattle.std.proofs.Common.{◌≡◌, ◌≤◌, ◌+◌, ◌*◌, ◌∙◌, inr, ℕ, refl, sym, ap, subst, arith, List, [], length}
+use Rattle.std.specs.Prelude.{◌↔◌, Option, IsNone}
 use Rattle.std.proofs.lemmas.List.Elements.{All-nil}
-use Rattle.lot_sizing.specs.Problem.{IsUncoupled, Problem, item_count}
+use Rattle.lot_sizing.specs.Problem.{IsUncoupled, IsWithinLimits, Problem}
 use Rattle.lot_sizing.specs.Bill.{bill_of}
 use Rattle.lot_sizing.specs.Totals.{AreLargestTotals}
 use Rattle.bill.specs.Laws.{WeightsExist}
 use Rattle.lot_model.specs.Views.{IsInstance}
 use Rattle.lin_rows.specs.Columns.{column_count}
 use Rattle.lin_rows.specs.Rows.{LinRow}
+use Rattle.cert_lines.specs.declared.limits.TheConstants.{MAX_CUTS}
 use Rattle.cert_lines.specs.declared.parts.Leaf.{Leaf}
 use Rattle.cert_lines.specs.Shapes.{CutShape}
 use Rattle.tableau.specs.Program.{column_count as width_of, row_count}
 use Rattle.relaxation.specs.Laws.{ClosedValuesAreFloors, EmptyIsImpossible}
 use Rattle.root_rows.specs.declared.rounds.RoundProgram.{RoundProgram}
 use Rattle.root_rows.specs.Rounds.{IsLs, IsRound, round_sides}
-use Rattle.root_rounds.specs.declared.at_root.TheConstants.{MAX_CELLS, MAX_ROUNDS}
+use Rattle.root_rounds.specs.declared.at_root.TheConstants.{MAX_ROUNDS}
 use Rattle.branching.specs.declared.found.RootSays.{RootSays}
 use Rattle.branching.specs.declared.found.RootSays.TheVariants as root
 use Rattle.root_rounds.specs.declared.round.Rounds.{Rounds}
 use Rattle.root_rounds.specs.declared.round_leaf.Root.{Root}
 use Rattle.root_rounds.specs.declared.round_leaf.Verdict.{Verdict}
-use Rattle.root_rounds.specs.Root.{BoundsPlans, HasFigures, HaveRootRows, IsTooLarge, IsTried, RootMeans, RoundsSay, SaysOf, first_cells, root_cuts}
+use Rattle.root_rounds.specs.Root.{AreWritable, BoundsPlans, HasFigures, HasLeafLines, HaveCutLines, HaveRootRows, IsTooLarge, IsTried, RootMeans, RoundsSay, SaysOf, first_cells, root_cuts}
 use Rattle.root_rounds.specs.RootSteps.{AreRounds, EndsRounds, shapes}
 use Rattle.root_rounds.proofs.RootCounts.{after_long, few_cuts}
-use Rattle.root_rounds.proofs.RootCuts.{root_columns, root_hold, root_ls, root_rows}
+use Rattle.root_rounds.proofs.RootCuts.{root_columns, root_hold, root_ls, root_many, root_rows}
+use Rattle.root_rounds.proofs.RootTexts.{cut_lines, no_lines}
 
 pub figures_exist : (m : Problem) → WeightsExist → IsInstance m → HasFigures m
 figures_exist m exist instance =
@@ -43,6 +45,7 @@ last_stops m figures n all state are v says none =
       cuts_are = last.cuts;
       few = after_long m total weight MAX_ROUNDS (shapes state.list) (last.after total weight totals weights);
       said = subst (λ s. RoundsSay m s (shapes state.list) state.list.rows.items v.leaf) (sym says) (λ total weight totals weights. inr (refl, last.after total weight totals weights), none);
+      leaf_lines = λ few. no_lines m v.leaf none;
     }
 
 tried_says : (m : Problem) → IsTried m → (says : RootSays) (cuts : List CutShape) (rows : List LinRow) (leaf : Option Leaf) → RoundsSay m says cuts rows leaf → SaysOf m says cuts rows leaf
@@ -70,7 +73,23 @@ rounds_mean m figures tried v cuts rows ends r says same leaf =
           (subst (λ s. SaysOf m s cuts rows v.leaf) (sym says) (tried_says m tried v.says cuts rows v.leaf ends.said)));
     }
 
+-- the cuts and the leaf are writable
+pub rounds_writable : (m : Problem) → HasFigures m → IsTried m → IsWithinLimits m → (v : Verdict) (cuts : List CutShape) (rows : List LinRow) → EndsRounds m v cuts rows → (r : Root) → root_cuts r ≡ cuts → r.leaf ≡ v.leaf → AreWritable m (root_cuts r) r.leaf
+rounds_writable m figures tried limits v cuts rows ends r same leaf =
+    let (total, weight, totals, weights) = figures in
+    let few : length rows ≤ MAX_CUTS = omega (arith, root_many m cuts rows ends.cuts_are, few_cuts m total (length cuts) (tried.few total totals) ends.few) in
+    record {
+      cut_lines = subst HaveCutLines (sym same) (cut_lines m limits figures cuts rows ends.cuts_are);
+      leaf_lines = subst (HasLeafLines m) (sym leaf) (ends.leaf_lines few);
+    }
+
 -- ---- without a round
+pub none_writable : (m : Problem) (r : Root) → root_cuts r ≡ [] → IsNone r.leaf → AreWritable m (root_cuts r) r.leaf
+none_writable m r same none = record {
+  cut_lines = subst HaveCutLines (sym same) (λ version. tt);
+  leaf_lines = no_lines m r.leaf none;
+}
+
 no_cuts : (m : Problem) → HaveRootRows m [] []
 no_cuts m = record {
   are_ls = All-nil IsLs;

@@ -1,8 +1,8 @@
 -- What is said at the root.
-use Rattle.std.specs.Prelude.{◌≡◌, ◌⊎◌, ℕ, ◌+◌, ◌-◌, ◌*◌, ◌≤◌, ◌<◌, ℤ, pos, List, [], ◌++◌, length, map, Option, IsNone, IsSomeAnd, ⊤}
+use Rattle.std.specs.Prelude.{◌≡◌, ◌⊎◌, ℕ, ◌+◌, ◌-◌, ◌*◌, ◌≤◌, ◌<◌, ℤ, List, [], ◌++◌, length, map, Option, IfSome, IsNone, IsSomeAnd, ⊤}
 use Rattle.std.specs.List.{All}
 use Rattle.rational.specs.Rational.{ℚ}
-use Rattle.lot_sizing.specs.Problem.{IsUncoupled, Problem}
+use Rattle.lot_sizing.specs.Problem.{IsPlain, IsUncoupled, Problem}
 use Rattle.lot_sizing.specs.Bill.{AreWeights, bill_of}
 use Rattle.lot_sizing.specs.Best.{IsFloor, IsImpossible}
 use Rattle.lot_sizing.specs.Totals.{AreLargestTotals}
@@ -12,6 +12,7 @@ use Rattle.lin_rows.specs.Rows.{LinRow}
 use Rattle.cert_lines.specs.declared.limits.TheConstants.{MAX_CUTS}
 use Rattle.cert_lines.specs.declared.parts.Leaf.{Leaf}
 use Rattle.cert_lines.specs.Shapes.{CutShape, LeafShape, LinearLeaf, FarkasLeaf, PointLeaf, cut_shape, leaf_shape}
+use Rattle.certificate.specs.Values.{AreLines, all_cut_values, leaf_values}
 use Rattle.tableau.specs.declared.outcome.Outcome.{Outcome}
 use Rattle.tableau.specs.declared.outcome.Outcome.TheVariants as outcome
 use Rattle.tableau.specs.Denominators.{PassWhole}
@@ -152,7 +153,24 @@ pub record RootMeans (m : Problem) (r : Root) : Type 0 where
   pub cuts : HaveRootRows m (root_cuts r) rows
   pub says : SaysOf m r.says (root_cuts r) rows r.leaf
 
--- what that says of plans
+-- ---- texts
+-- in version 1 no row of a least or a late lot has a name, and a plain problem has none
+abbrev pub IsVersionFor : Problem → ℕ → Type 0
+IsVersionFor m version = version ≡ 1 → IsPlain m
+
+-- each line of the cuts is one of a certificate's text, within its limits, in each version
+abbrev pub HaveCutLines : List CutShape → Type 0
+HaveCutLines cuts = (version : ℕ) → AreLines version (all_cut_values cuts)
+
+-- and so is each line of the leaf, where there is one, in a version for the problem
+abbrev pub HasLeafLines : Problem → Option Leaf → Type 0
+HasLeafLines m leaf = (version : ℕ) → IsVersionFor m version → IfSome leaf (λ a. AreLines version (leaf_values (leaf_shape a)))
+
+pub record AreWritable (m : Problem) (cuts : List CutShape) (leaf : Option Leaf) : Type 0 where
+  pub cut_lines : HaveCutLines cuts
+  pub leaf_lines : HasLeafLines m leaf
+
+-- ---- what is said of plans
 abbrev pub BoundsPlans : Problem → RootSays → Type 0
 BoundsPlans m root.Uncoupled = ⊤
 BoundsPlans m (root.Skipped cells) = ⊤

@@ -1,6 +1,7 @@
 -- What the steps of the root's rounds come to.
-use Rattle.std.specs.Prelude.{◌≡◌, ◌⊎◌, ℕ, ◌+◌, ◌-◌, ◌*◌, ◌≤◌, Bool, true, false, ℤ, pos, List, [], ◌∷◌, ◌++◌, length, map, Option, Some, None, IsNone, IsSomeAnd, ⊤}
+use Rattle.std.specs.Prelude.{◌≡◌, ◌⊎◌, ℕ, ◌+◌, ◌-◌, ◌*◌, ◌≤◌, ◌<◌, Bool, true, false, ℤ, pos, List, [], ◌∷◌, ◌++◌, length, map, Option, Some, None, IsNone, IsSomeAnd, ⊤}
 use Rattle.rational.specs.Rational.{ℚ}
+use Rattle.frac128.specs.Limits.{IsSmall}
 use Rattle.lot_sizing.specs.Problem.{Problem, item_count}
 use Rattle.lot_sizing.specs.Bill.{AreWeights, bill_of}
 use Rattle.echelon.specs.declared.net.EchelonItem.{EchelonItem}
@@ -9,7 +10,9 @@ use Rattle.lin_rows.specs.Rows.{LinRow}
 use Rattle.echelon_rows.specs.Rows.{echelon_in}
 use Rattle.ls_cuts.specs.Points.{Fractions}
 use Rattle.ls_cuts.specs.Steps.{SomePasses}
+use Rattle.cert_lines.specs.declared.limits.TheConstants.{MAX_CUTS}
 use Rattle.cert_lines.specs.declared.parts.Part.{Part}
+use Rattle.cert_lines.specs.Limits.{Is127}
 use Rattle.cert_lines.specs.Shapes.{CutShape, LeafShape, LinearLeaf, FarkasLeaf, cut_shape, leaf_shape}
 use Rattle.tableau.specs.Denominators.{PassWhole}
 use Rattle.tableau.specs.Leaves.{AreOfLeaf}
@@ -36,7 +39,7 @@ use Rattle.root_rounds.specs.declared.round_leaf.Verdict.{Verdict}
 use Rattle.root_rounds.specs.declared.round_leaf.WholeLeaf.{WholeLeaf}
 use Rattle.root_rounds.specs.declared.separation.Place.{Place}
 use Rattle.root_rounds.specs.declared.separation.RootCuts.{RootCuts}
-use Rattle.root_rounds.specs.Root.{RoundsSay, SaysSmall}
+use Rattle.root_rounds.specs.Root.{HasLeafLines, RoundsSay, SaysSmall}
 use Rattle.root_rounds.specs.Rounds.{AreCutsAfter, AreCutsAt, AreCutsFound, AreCutsOf, AreJoined, PassesAt, PassesFirst}
 
 -- ---- cuts with their rows
@@ -115,11 +118,17 @@ IsJudged m rows shape round root.Empty leaf = SaysSmall m rows shape NoPlan × I
 IsJudged m rows shape round (root.Stopped at) leaf = ⊥
 IsJudged m rows shape round (root.Passed at place) leaf = (at ≡ round) × (place ≡ passed.Leaf) × IsRefused m rows shape × IsNone leaf
 
+-- multipliers times their least common denominator, none of these numbers large
+pub record AreSmallWhole (ys : List ℚ) (den : ℕ) (z : ℕ → ℤ) : Type 0 where
+  pub leaf : AreOfLeaf (length ys) (number_at ys) den z
+  pub den_small : Is127 den
+  pub each_small : (k : ℕ) → k < length ys → IsSmall (z k)
+
 -- whole multipliers of sides, and the parts that they make
 pub record IsWholeLeaf (sides : List Side) (ys : List ℚ) (whole : WholeLeaf) : Type 0 where
   pub den : ℕ
   pub numerators : ℕ → ℤ
-  pub leaf : AreOfLeaf (length ys) (number_at ys) den numerators
+  pub leaf : AreSmallWhole ys den numerators
   pub den_is : pos den ≡ whole.den
   pub parts_are : whole.parts.items ≡ parts_of sides numerators
 
@@ -127,7 +136,7 @@ pub record IsWholeLeaf (sides : List Side) (ys : List ℚ) (whole : WholeLeaf) :
 abbrev pub IsLeafOf : Problem → List LinRow → List Side → List ℚ → Making → ℕ → Verdict → Type 0
 IsLeafOf m rows sides ys make round v =
     (PassWhole ys × (v.says ≡ root.Passed round passed.Leaf) × IsNone v.leaf)
-    ⊎ ((den : ℕ) × (z : ℕ → ℤ) × AreOfLeaf (length ys) (number_at ys) den z × IsJudged m rows (make den (parts_of sides z)) round v.says v.leaf)
+    ⊎ ((den : ℕ) × (z : ℕ → ℤ) × AreSmallWhole ys den z × IsJudged m rows (make den (parts_of sides z)) round v.says v.leaf)
 
 -- ---- rounds
 -- a program of a round, whatever the largest totals are
@@ -142,11 +151,12 @@ pub record AreRounds (m : Problem) (n : ℕ) (state : Rounds) : Type 0 where
   pub after : WithFigures m (λ total weight. AreCutsAfter m total weight n (shapes state.list))
   pub ready : IsReady m state.list.rows.items state.program
 
--- what is said in the end, over the cuts of the rounds and their rows
+-- what is said in the end, over the cuts of the rounds and their rows; a leaf over no more cuts than a certificate has is writable
 pub record EndsRounds (m : Problem) (v : Verdict) (cuts : List CutShape) (rows : List LinRow) : Type 0 where
   pub cuts_are : AreRootCuts m cuts rows
   pub few : length cuts ≤ MAX_ROUNDS * (item_count m * m.periods)
   pub said : RoundsSay m v.says cuts rows v.leaf
+  pub leaf_lines : length rows ≤ MAX_CUTS → HasLeafLines m v.leaf
 
 -- with this cut more, whose number is one more than that of the last, a program is that of the next round
 abbrev pub GrowsRound : Problem → ℕ → LinRow → RoundProgram → RoundProgram → Type 0

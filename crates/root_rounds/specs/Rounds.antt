@@ -1,6 +1,5 @@
 -- Rounds of the root: the program of all base rows and of the cuts so far is solved, and separation looks for more cuts at its least point.
 use Rattle.std.specs.Prelude.{◌≡◌, ◌⊎◌, ℕ, zero, suc, ◌-◌, ◌≤◌, Bool, List, [], ◌∷◌, ◌++◌, length}
-use Rattle.rational.specs.Rational.{ℚ}
 use Rattle.lot_sizing.specs.Problem.{Problem, item_count}
 use Rattle.echelon.specs.declared.net.EchelonItem.{EchelonItem}
 use Rattle.lin_rows.specs.Rows.{LinRow}

@@ -3,7 +3,7 @@ ghost use Rattle.std.specs.Prelude.{◌≡◌, ◌↔◌, ℕ, [], IfOk, IsNone}
 ghost use Rattle.lot_sizing.specs.Problem.{IsUncoupled};
 ghost use Rattle.branching.specs.declared.found.RootSays.TheVariants.{Skipped, Uncoupled};
 ghost use Rattle.root_rounds.specs.RootSteps.{IsReady};
-ghost use Rattle.root_rounds.specs.Root.{BoundsPlans, HasFigures, IsTooLarge, IsTried, RootMeans};
+ghost use Rattle.root_rounds.specs.Root.{AreWritable, BoundsPlans, HasFigures, IsTooLarge, IsTried, RootMeans, root_cuts};
 
 use crate::round::{Rounds, make_round};
 use crate::round_leaf::{Root, Verdict, without_leaf};
@@ -58,6 +58,7 @@ fn make_rounds(
     requires tried { IsTried instance.now }
     requires ready { IsReady instance.now [] program }
     ensures means { IfOk result (RootMeans instance.now) }
+    ensures writable { IfOk result (λ found. AreWritable instance.now (root_cuts found) found.leaf) }
 {
     let explosion = Explosion::of(alloc, instance)?;
     let list = RootCuts {
@@ -75,29 +76,37 @@ fn make_rounds(
     Ok(root_of(stopped, state.list))
 }
 
-/// What is said at the root of an instance: the value of its relaxation with all (l,S) inequalities (Barany, Van Roy
-/// and Wolsey, 1984), where rounds of solving and separating find it.
+/// What is said at the root of an instance: the value of its relaxation with all (l,S) inequalities
+/// (Barany, Van Roy and Wolsey, 1984), where rounds of solving and separating find it.
 ///
-/// The program of a round has all rows that the rules of plans make, in the order of `root_rows::base_names` with an
-/// equal row twice, and then the rows of the cuts so far. A round solves it from its slack basis by the least-index rule,
-/// with at most `MAX_PIVOTS` pivots. At a least point it separates for each lead-free item and each last period, in
-/// order; each set found becomes a cut. At most `MAX_ROUNDS` rounds are made.
+/// The program of a round has all rows that the rules of plans make, in the order of
+/// `root_rows::base_names` with an equal row twice, and then the rows of the cuts so far. A round
+/// solves it from its slack basis by the least-index rule, with at most `MAX_PIVOTS` pivots. At a
+/// least point it separates for each lead-free item and each last period, in order; each set found
+/// becomes a cut. At most `MAX_ROUNDS` rounds are made. What it says:
 ///
-/// | Answer | Where |
-/// |---|---|
-/// | `Uncoupled` | exactly where the model is uncoupled |
-/// | `Skipped` | exactly where it isn't, and the first round's tableau has more than `MAX_CELLS` cells |
-/// | `Closed` | the relaxation closes to this amount of money, so that no plan costs less; the leaf is `Linear` and says the amount over the rows of the cuts, without a path |
-/// | `Empty` | the relaxation has no point, so that there is no plan; the leaf is `Farkas` and says so |
-/// | `Stopped` | the round's run has more pivots than it may, or it was the last round and found more cuts |
-/// | `Passed` | a number of the round doesn't fit 128 bits: a cell of its tableau; a step of the separation of an item and a last period; or a number of its leaf, or a sum of absolute values in it, is 2^127 or more |
+/// - `Uncoupled`: exactly where the model is uncoupled.
+/// - `Skipped`: exactly where it isn't, and the first round's tableau has more than `MAX_CELLS`
+///   cells.
+/// - `Closed`: the relaxation closes to this amount of money, so that no plan costs less; the leaf
+///   is `Linear` and says the amount over the rows of the cuts, without a path.
+/// - `Empty`: the relaxation has no point, so that there is no plan; the leaf is `Farkas` and says
+///   so.
+/// - `Stopped`: the round's run has more pivots than it may, or it was the last round and found more
+///   cuts.
+/// - `Passed`: a number of the round doesn't fit 128 bits: a cell of its tableau; a step of the
+///   separation of an item and a last period; or a number of its leaf, or a sum of absolute values
+///   in it, is 2^127 or more.
 ///
-/// Each cut has its row, which holds at every plan. A leaf is there exactly after `Closed` and `Empty`. The error is
-/// want of memory.
+/// Each cut has its row, which holds at every plan. A leaf is there exactly after `Closed` and
+/// `Empty`. Cuts and leaf have lines in a certificate of version 2 and, where the model is plain, of
+/// version 1 too: there are at most `MAX_CUTS` cuts and `MAX_PARTS` parts (of `cert_lines`), and each
+/// number is below 2^127 in absolute value. The error is want of memory.
 ///
 /// It keeps one program, its tableau and the cuts; it makes a tableau anew in each round.
 pub fn root(alloc: Global, instance: &Instance) -> Result<Root, AllocError>
     ensures means { IfOk result (RootMeans instance.now) }
+    ensures writable { IfOk result (λ found. AreWritable instance.now (root_cuts found) found.leaf) }
     ensures uncoupled { IfOk result (λ found. found.says ≡ Uncoupled ↔ IsUncoupled instance.now) }
     ensures skipped { IfOk result (λ found. (cells : ℕ) → found.says ≡ Skipped cells ↔ IsTooLarge instance.now cells) }
     ensures bounds { IfOk result (λ found. BoundsPlans instance.now found.says) }

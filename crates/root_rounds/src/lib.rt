@@ -1,13 +1,16 @@
 //! The root: what is said before any branch, by rounds of solving and separating.
 //!
-//! Family: search. It stands on `tableau`, `ls_cuts`, `relaxation` and `root_rows` for the rounds, on `cert_checker`, which
-//! says what a leaf says, and on `branching` for the words of what is said; the search is to stand on it.
+//! Family: search. It stands on `tableau`, `ls_cuts`, `relaxation` and `root_rows` for the rounds, on
+//! `cert_checker`, which says what a leaf says, on `certificate`, whose text cuts and leaf go into, and
+//! on `branching` for the words of what is said; the search is to stand on it.
 //!
-//! `root` says to what the linear relaxation with all (l,S) inequalities closes. A round solves the program of all rows and
-//! of the cuts so far, and looks at its least point for the most violated inequality of each lead-free item and each last
-//! period; what is found are more cuts. Where nothing is found the relaxation closes to the point's cost, rounded up. A
-//! `Root` has what is said, the cuts that were found, and the leaf that proves it. Why neither a value nor that there is no
-//! point was found is said too, by the run in exact fractions and the steps of the separation.
+//! `root` says to what the linear relaxation with all (l,S) inequalities closes. A round solves the
+//! program of all rows and of the cuts so far, and looks at its least point for the most violated
+//! inequality of each lead-free item and each last period; what is found are more cuts. Where nothing
+//! is found the relaxation closes to the point's cost, rounded up. A `Root` has what is said, the cuts
+//! that were found, and the leaf that proves it; both have lines in a certificate. Why neither a value
+//! nor that there is no point was found is said too, by the run in exact fractions and the steps of the
+//! separation.
 #![tactic(auto)]
 
 mod at_root;

@@ -36,7 +36,8 @@ pub(crate) struct Rounds {
     pub(crate) list: RootCuts,
 }
 
-// Puts the row of a cut, whose number is one more than that of the last, into the program, as that of the next round.
+// Puts the row of a cut, whose number is one more than that of the last, into the program, as that of
+// the next round.
 fn push_cut(
     alloc: Global,
     instance: &Instance,
@@ -93,7 +94,8 @@ fn separation_passed(round: u32, place: Place) -> Verdict
     without_leaf(RootSays::Passed { round, at })
 }
 
-// A round that ends at a least point: the cuts that it finds are put, and their rows into the program; or what is said.
+// A round that ends at a least point: the cuts that it finds are put, and their rows into the program;
+// or what is said.
 fn least_round(
     alloc: Global,
     instance: &Instance,

@@ -54,8 +54,8 @@ fn row_of_set(
     }
 }
 
-// Puts the cut of the row of an l that the point violates most after others, if it violates one. The answer is whether
-// all steps of the separation fit.
+// Puts the cut of the row of an l that the point violates most after others, if it violates one. The
+// answer is whether all steps of the separation fit.
 fn separate_at(
     alloc: Global,
     instance: &Instance,
@@ -144,8 +144,8 @@ fn separate_item(
     }
 }
 
-// The cuts of all items, each put after the others. The answer is the first place at which some step of the separation
-// doesn't fit.
+// The cuts of all items, each put after the others. The answer is the first place at which some step
+// of the separation doesn't fit.
 pub(crate) fn separate_all(
     alloc: Global,
     instance: &Instance,

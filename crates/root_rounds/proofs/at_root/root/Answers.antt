@@ -1,14 +1,18 @@
-use Rattle.std.proofs.Common.{◌≤◌, ap, arith, refl, subst}
+use Rattle.std.proofs.Common.{ap, arith}
 use Rattle.std.specs.Prelude.{map}
 use Rattle.std.proofs.lemmas.Result.{IfOk-weaker}
 use Rattle.cert_lines.specs.Shapes.{cut_shape}
-use Rattle.root_rounds.specs.declared.at_root.TheConstants.{MAX_CELLS}
-use Rattle.root_rounds.specs.Root.{RootMeans, first_cells, root_cuts}
-use Rattle.root_rounds.proofs.RootWhole.{bounds_are, cells_are, figures_exist, skipped_is, skipped_means, uncoupled_is}
+use Rattle.root_rounds.specs.Root.{RootMeans, root_cuts}
+use Rattle.root_rounds.proofs.RootWhole.{bounds_are, cells_are, figures_exist, none_writable, skipped_is, skipped_means, uncoupled_is}
 use Rattle.root_rounds.proofs.at_root.root.Goals as goal
 
 pub returns-then-is_uncoupled-clause-figures : goal.returns-then-is_uncoupled-clause-figures
 returns-then-is_uncoupled-clause-figures c = figures_exist c.args.instance.now c.totals_exist.ensures.weights c.periods-periods.ensures.instance
+
+pub returns-then-is_uncoupled-clause-writable : goal.returns-then-is_uncoupled-clause-writable
+returns-then-is_uncoupled-clause-writable c =
+    let said = c.without_cuts in
+    none_writable c.args.instance.now said.result (ap (map cut_shape) said.ensures.cuts) said.ensures.leaf
 
 pub returns-in_err-program-clause-figures : goal.returns-in_err-program-clause-figures
 returns-in_err-program-clause-figures c = figures_exist c.args.instance.now c.totals_exist.ensures.weights c.periods-periods.ensures.instance
@@ -26,6 +30,11 @@ returns-then-cells-gt-MAX_CELLS-clause-means c =
       many = omega (arith, c.if-cells-gt-MAX_CELLS.true);
     })
     said.result said.ensures.says (ap (map cut_shape) said.ensures.cuts) said.ensures.leaf
+
+pub returns-then-cells-gt-MAX_CELLS-clause-writable : goal.returns-then-cells-gt-MAX_CELLS-clause-writable
+returns-then-cells-gt-MAX_CELLS-clause-writable c =
+    let said = c.without_cuts-then-cells-gt-MAX_CELLS in
+    none_writable c.args.instance.now said.result (ap (map cut_shape) said.ensures.cuts) said.ensures.leaf
 
 pub returns-then-cells-gt-MAX_CELLS-clause-skipped : goal.returns-then-cells-gt-MAX_CELLS-clause-skipped
 returns-then-cells-gt-MAX_CELLS-clause-skipped c = λ cells.

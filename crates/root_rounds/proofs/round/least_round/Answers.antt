@@ -1,9 +1,6 @@
-use Rattle.std.proofs.Common.{◌≡◌, ◌<◌, ◌≤◌, ◌∙◌, ap, arith, length, refl, subst, sym, [], List}
+use Rattle.std.proofs.Common.{◌<◌, ◌≤◌, ◌∙◌, ap, arith, length, refl, subst, sym}
 use Rattle.lin_rows.specs.Combining.{AreOfProblem}
 use Rattle.lin_rows.specs.Points.{read_at}
-use Rattle.lin_rows.specs.Rows.{LinRow}
-use Rattle.ls_cuts.specs.Points.{Fractions}
-use Rattle.cert_lines.specs.Shapes.{CutShape}
 use Rattle.tableau.specs.declared.outcome.Outcome.TheVariants as outcome
 use Rattle.tableau.specs.Outcomes.{number_at}
 use Rattle.root_rounds.specs.Rounds.{AreCutsFound}

@@ -1,4 +1,4 @@
-use Rattle.std.proofs.Common.{◌≡◌, ◌+◌, arith}
+use Rattle.std.proofs.Common.{arith}
 use Rattle.root_rounds.proofs.RootRounds.{program_few, program_more, row_here}
 use Rattle.root_rounds.proofs.round.push_rows.Goals as goal
 
