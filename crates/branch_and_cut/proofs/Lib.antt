@@ -1,0 +1,10 @@
+mod Evidence
+mod Emptied
+mod Answering
+mod Openings
+mod Points
+mod Best
+mod Filled
+mod Translating
+mod Proved
+mod Finished

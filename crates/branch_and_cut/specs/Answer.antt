@@ -1,0 +1,34 @@
+-- All that holds of what a search finds.
+use Rattle.std.specs.Prelude.{◌≡◌, ◌↔◌, ℕ, ◌≤◌, Option, IfSome}
+use Rattle.lot_sizing.specs.Problem.{IsUncoupled, Problem}
+use Rattle.plan_rules.specs.declared.plan.Plan.{Plan}
+use Rattle.branching.specs.declared.found.Found.{Found}
+use Rattle.branching.specs.declared.found.RootSays.TheVariants.{Uncoupled}
+use Rattle.branching.specs.Found.{IsProved}
+use Rattle.root_rounds.specs.declared.round_leaf.Root.{Root}
+use Rattle.root_rounds.specs.Root.{AreWritable, BoundsPlans, HasFigures, RootMeans, root_cuts}
+use Rattle.branch_and_cut.specs.Search.{DecidesSmall, GoesTogether, HasEvidence, IfBound, IsGoodPlan, IsNoLessThanApart, IsSaidAtRoot, IsUndecided, IsVersionOf, KeepsFirst, KeepsOwn, UsesRoot, WithRows}
+
+-- what the root promises
+pub record IsRootOf (m : Problem) (r : Root) : Type 0 where
+  pub means : RootMeans m r
+  pub writable : AreWritable m (root_cuts r) r.leaf
+  pub uncoupled : r.says ≡ Uncoupled ↔ IsUncoupled m
+  pub bounds : BoundsPlans m r.says
+  pub figures : HasFigures m
+
+pub record IsAnswer (m : Problem) (budget : ℕ) (first : Option Plan) (found : Found) : Type 0 where
+  pub proved : IsProved m found
+  pub plan : IfSome found.plan (IsGoodPlan m)
+  pub within : found.nodes ≤ budget
+  pub kept : KeepsFirst m first found.plan
+  pub own : KeepsOwn m found.plan
+  pub goes : GoesTogether m found.certificate.claim found.plan
+  pub cause : IfBound found.certificate.claim (λ amount. WithRows m found (IsUndecided m budget found))
+  pub evidence : IfBound found.certificate.claim (λ amount. WithRows m found (HasEvidence m found amount))
+  pub root : IsSaidAtRoot m found.root
+  pub uncoupled : found.root ≡ Uncoupled ↔ IsUncoupled m
+  pub uses : UsesRoot found found.root
+  pub apart : IsNoLessThanApart m found.certificate.claim
+  pub complete : DecidesSmall m budget found.certificate.claim
+  pub version : IsVersionOf m found.certificate.version

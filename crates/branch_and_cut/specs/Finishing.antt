@@ -1,0 +1,41 @@
+-- What a search has shown when it ends.
+use Rattle.std.specs.Prelude.{◌≡◌, ℕ, ◌+◌, ◌*◌, ◌≤◌, List, []}
+use Rattle.lot_sizing.specs.Problem.{item_count}
+use Rattle.split_trees.specs.Ranges.{WithTotals}
+use Rattle.branching.specs.declared.found.Found.{Found}
+use Rattle.branch_and_bound.specs.declared.node.Range.{Range}
+use Rattle.branch_and_bound.specs.declared.sought.Searched.{Searched}
+use Rattle.branch_and_bound.specs.Claims.{IsBound, IsShown, IsTold, IsUndecided as IsLeftOpen}
+use Rattle.branch_and_bound.specs.Counts.{longest, nodes}
+use Rattle.branch_and_bound.specs.Ranges.{height, volume}
+use Rattle.branch_and_bound.specs.Trees.{EachLeaf, IsSplitTree}
+use Rattle.branch_and_bound.specs.Whole.{whole_ranges}
+use Rattle.branch_and_cut.specs.declared.guiding.Model.{Model}
+use Rattle.branch_and_cut.specs.declared.knowing.Known.{Known}
+use Rattle.branch_and_cut.specs.Knowing.{IsKeptIn, IsKnown, IsToldIn, cost_kept}
+use Rattle.branch_and_cut.specs.Nodes.{IsNodeOf, choice_place, choice_rules}
+use Rattle.branch_and_cut.specs.Search.{DecidesSmall, GoesTogether, HasEvidence, IfBound, IsClaimedAtLeast, IsUndecided, WithRows}
+
+-- a tree over the whole ranges, whose leaves say what is claimed
+pub record IsSearched (g : Model) (k : Known) (budget : ℕ) (rs : List Range) (s : Searched) : Type 0 where
+  pub known : IsKnown g k
+  pub whole : WithTotals g.instance.now (λ total. rs ≡ whole_ranges (item_count g.instance.now) g.instance.now.periods total)
+  pub node : IsNodeOf g.instance.now rs []
+  pub nodes : nodes s.tree ≡ s.nodes
+  pub within : s.nodes ≤ budget
+  pub short : longest s.tree ≤ 2000
+  pub split : IsSplitTree (choice_place g.instance.now) rs s.tree
+  pub holds : EachLeaf (choice_place g.instance.now) (IsKeptIn g k) rs [] s.tree
+  pub shown : IsShown (choice_rules g.instance.now) (cost_kept k.best) rs s.tree s.claim
+  pub told : IsTold (choice_rules g.instance.now) (λ rs path p. IsToldIn g path p) rs s.tree s.claim
+  pub cause : IsBound s.claim → IsLeftOpen (choice_rules g.instance.now) (cost_kept k.best) budget rs s.tree
+  pub decided : 2 * volume rs ≤ budget + 1 → height rs ≤ 2000 → IsBound s.claim → ⊥
+
+-- what is found with its certificate, after such a search
+pub record IsFinished (g : Model) (k : Known) (budget : ℕ) (found : Found) : Type 0 where
+  pub within : found.nodes ≤ budget
+  pub goes : GoesTogether g.instance.now found.certificate.claim found.plan
+  pub cause : IfBound found.certificate.claim (λ amount. WithRows g.instance.now found (IsUndecided g.instance.now budget found))
+  pub evidence : IfBound found.certificate.claim (λ amount. WithRows g.instance.now found (HasEvidence g.instance.now found amount))
+  pub complete : DecidesSmall g.instance.now budget found.certificate.claim
+  pub least : IsClaimedAtLeast g.least found.certificate.claim

@@ -1,0 +1,9 @@
+pub mod Search
+pub mod Nodes
+pub mod Begun
+pub mod Beginning
+pub mod Knowing
+pub mod Finishing
+pub mod Answer
+pub mod Numbering
+pub mod Branching

@@ -1,0 +1,77 @@
+// Evidence that no more could be said of a node without cuts.
+ghost use Rattle.std.specs.Prelude.{◌≡◌, ℕ, List, true, IfOk, Some};
+ghost use Rattle.lin_rows.specs.Rows.{LinRow};
+ghost use Rattle.leaf_growth.specs.Written.{HasVersion};
+ghost use Rattle.branch_and_bound.specs.Costs.{IsAtMost};
+ghost use Rattle.branch_and_cut.specs.Nodes.{IsKept, IsNodeOf, IsRaised, IsToldAt, asked_of};
+
+use crate::guiding::Model;
+use branch_and_bound::{Node, Proposal};
+use branching::RootSays;
+use cert_lines::{Leaf, MAX_BRANCHES};
+use path_relaxation::{PathSays, path_relaxation};
+use std::alloc::{AllocError, Global};
+
+// The proposal as it was, now that evidence was asked for.
+fn asked(proposal: Proposal) -> Proposal
+    ensures { result ≡ asked_of proposal }
+{
+    Proposal {
+        asked: true,
+        ..proposal
+    }
+}
+
+// The leaf of the relaxation where it says more, and otherwise the one that was there.
+fn raised(proposal: Proposal, leaf: Leaf, bound: u128) -> Proposal
+    ensures { IsRaised proposal leaf bound result }
+{
+    if let Some(amount) = proposal.says {
+        if amount < bound {
+            return Proposal {
+                leaf,
+                says: Some(bound),
+                asked: true,
+                note: proposal.note,
+            };
+        }
+    }
+    asked(proposal)
+}
+
+/// Asks for evidence at a node. The relaxation without cuts on the path is solved: where it says more than the leaf, its
+/// leaf takes the place, and otherwise its least point shows that no leaf without cuts says more. Where the root's program
+/// has too many cells, no relaxation is tried.
+pub(crate) fn told(
+    alloc: Global,
+    model: &Model,
+    node: &Node,
+    proposal: Proposal,
+) -> Result<Proposal, AllocError>
+    requires version { HasVersion model.now.instance.now model.now.version }
+    requires node { IsNodeOf model.now.instance.now node.now.ranges.items node.now.path.items }
+    ensures kept { IfOk result (λ p. (least : ℕ) (rows : List LinRow) → IsKept model.now.instance.now model.now.version least rows node.now.ranges.items node.now.path.items proposal → IsKept model.now.instance.now model.now.version least rows node.now.ranges.items node.now.path.items p) }
+    ensures told { IfOk result (IsToldAt model.now.instance.now model.now.root node.now.path.items) }
+    ensures asked { IfOk result (λ p. p.asked ≡ true) }
+    ensures more { IfOk result (λ p. IsAtMost proposal.says p.says) }
+{
+    // It reads that the instance is one.
+    let _periods = model.instance.periods();
+    if let RootSays::Skipped { .. } = model.root {
+        return Ok(asked(proposal));
+    }
+    // No path of a certificate is longer.
+    if node.path.len() > MAX_BRANCHES as usize {
+        return Ok(asked(proposal));
+    }
+    match path_relaxation(alloc, model.instance, &node.path)? {
+        PathSays::AtLeast { leaf, bound } => Ok(raised(proposal, leaf, bound)),
+        PathSays::NoPoint { leaf } => Ok(Proposal {
+            leaf,
+            says: None,
+            asked: true,
+            note: 0,
+        }),
+        PathSays::Exempt(_) => Ok(asked(proposal)),
+    }
+}

@@ -1,0 +1,186 @@
+// What the search of a model is told of its nodes.
+ghost use Rattle.std.specs.Prelude.{◌≡◌, true, false, IfOk, OnOk};
+ghost use Rattle.cert_lines.specs.Shapes.{leaf_shape};
+ghost use Rattle.branch_and_bound.specs.Costs.{IsBelow};
+ghost use Rattle.branch_and_bound.specs.Ranges.{AreOrdered, IsPoint};
+ghost use Rattle.branch_and_cut.specs.Branching.{after_on, after_same, kept_lasts, kept_stays, node_side};
+ghost use Rattle.branch_and_cut.specs.Knowing.{IsAfter, IsKeptIn, IsKnown, IsLastingIn, IsNoWorse, IsToldIn, cost_kept};
+ghost use Rattle.branch_and_cut.specs.Nodes.{IsNodeOf, choice_rules};
+
+use crate::asking::told;
+use crate::knowing::{Known, best_cost};
+use crate::pointing::{at_point, keep_built};
+use crate::splitting::{open_setup, split_of};
+use branch_and_bound::{Guide, Node, Proposal, Split, open_place};
+use branching::RootSays;
+use cert_lines::copy_leaf;
+use lot_model::Instance;
+use std::alloc::{AllocError, Global};
+
+// Of a model with at most so many items times periods the relaxation on the path is solved at every node.
+const SMALL_MODEL: u32 = 32;
+
+/// What is known of a model before any branch.
+#[derive(Drop)]
+pub(crate) struct Model<'a> {
+    /// The model.
+    pub(crate) instance: &'a Instance,
+    /// The version of the certificate's text.
+    pub(crate) version: u32,
+    /// What was said at the root.
+    pub(crate) root: RootSays,
+    /// No plan costs less, in money.
+    pub(crate) least: u128,
+    /// The leaf that says so.
+    pub(crate) first: Proposal,
+}
+
+// The leaf of the node above, for a node below it.
+fn taken_over(alloc: Global, above: &Proposal) -> Result<Proposal, AllocError>
+    ensures leaf { IfOk result (λ p. leaf_shape p.leaf ≡ leaf_shape above.now.leaf) }
+    ensures says { IfOk result (λ p. p.says ≡ above.now.says) }
+    ensures asked { IfOk result (λ p. p.asked ≡ false) }
+{
+    Ok(Proposal {
+        leaf: copy_leaf(alloc, &above.leaf)?,
+        says: above.says,
+        asked: false,
+        note: 0,
+    })
+}
+
+// The leaf of the node above, which says as much here.
+fn inherited(
+    alloc: Global,
+    model: &Model,
+    node: &Node,
+    above: &Proposal,
+    known: &Known,
+) -> Result<Proposal, AllocError>
+    requires above { IsLastingIn model.now known.now node.now.path.items above.now }
+    ensures kept { IfOk result (IsKeptIn model.now known.now node.now.ranges.items node.now.path.items) }
+    ensures asked { IfOk result (λ p. p.asked ≡ false) }
+{
+    taken_over(alloc, above)
+}
+
+// Whether the relaxation on the path is solved at a node: where the model is small, or where all setups are chosen, so
+// that it says what they cost at least but for whole quantities.
+fn is_relaxed(model: &Model, node: &Node) -> bool
+    requires { IsNodeOf model.now.instance.now node.now.ranges.items node.now.path.items }
+{
+    let instance = model.instance;
+    instance.items() * instance.periods() <= SMALL_MODEL
+        || open_setup(instance, &node.ranges).is_none()
+}
+
+// A leaf for a node that isn't one choice: that of the node above, or what the relaxation on the path says, where it is
+// solved. A plan with the setups that are chosen by then is tried beside.
+fn leaf_between(
+    alloc: Global,
+    model: &Model,
+    node: &Node,
+    above: &Proposal,
+    known: &mut Known,
+) -> Result<Proposal, AllocError>
+    requires node { IsNodeOf model.now.instance.now node.now.ranges.items node.now.path.items }
+    requires known { IsKnown model.now known.old }
+    requires above { IsLastingIn model.now known.old node.now.path.items above.now }
+    ensures known { OnOk result (IsKnown model.now known.new) }
+    ensures rows { OnOk result (known.new.rows ≡ known.old.rows) }
+    ensures kept { OnOk result (IsNoWorse known.new.best known.old.best) }
+    ensures leaf { IfOk result (IsKeptIn model.now known.old node.now.ranges.items node.now.path.items) }
+    ensures told { IfOk result (λ p. p.asked ≡ true → IsToldIn model.now node.now.path.items p) }
+{
+    let proposal = inherited(alloc, model, node, above, known)?;
+    if !is_relaxed(model, node) {
+        return Ok(proposal);
+    }
+    keep_built(alloc, model, node, known)?;
+    told(alloc, model, node, proposal)
+}
+
+// A leaf for a node, where that of the node above says as much here.
+fn leaf_for(
+    alloc: Global,
+    model: &Model,
+    node: &Node,
+    above: &Proposal,
+    known: &mut Known,
+) -> Result<Proposal, AllocError>
+    requires ordered { AreOrdered node.now.ranges.items }
+    requires node { IsNodeOf model.now.instance.now node.now.ranges.items node.now.path.items }
+    requires known { IsKnown model.now known.old }
+    requires above { IsLastingIn model.now known.old node.now.path.items above.now }
+    ensures known { OnOk result (IsKnown model.now known.new) }
+    ensures after { OnOk result (IsAfter known.old known.new) }
+    ensures kept { OnOk result (IsNoWorse known.new.best known.old.best) }
+    ensures leaf { IfOk result (IsKeptIn model.now known.new node.now.ranges.items node.now.path.items) }
+    ensures told { IfOk result (λ p. p.asked ≡ true → IsToldIn model.now node.now.path.items p) }
+    ensures closed { IfOk result (λ p. IsBelow p.says (cost_kept known.new.best) → IsPoint node.now.ranges.items → ⊥) }
+{
+    if open_place(&node.ranges).is_none() {
+        return at_point(alloc, model, node, known);
+    }
+    leaf_between(alloc, model, node, above, known)
+}
+
+impl Guide<Known> for Model<'_> {
+    ghost rules = { λ g. choice_rules g.instance.now };
+
+    ghost IsNode = { λ g rs path. IsNodeOf g.instance.now rs path };
+
+    ghost Grows = { IsAfter };
+
+    ghost Holds = { λ g k rs path p. IsKeptIn g k rs path p };
+
+    ghost IsHeir = { λ g k rs path p. IsLastingIn g k path p };
+
+    ghost Tells = { λ g rs path p. IsToldIn g path p };
+
+    ghost IsState = { λ g k. IsKnown g k };
+
+    ghost cost = { λ k. cost_kept k.best };
+
+    fn best(&self, state: &Known) -> Option<u128> {
+        best_cost(&state.best)
+    }
+
+    fn start(&self, alloc: Global, node: &Node, state: &mut Known) -> Result<Proposal, AllocError> {
+        leaf_for(alloc, self, node, &self.first, state)
+    }
+
+    fn propose(
+        &self,
+        alloc: Global,
+        node: &Node,
+        above: &Proposal,
+        state: &mut Known,
+    ) -> Result<Proposal, AllocError> {
+        leaf_for(alloc, self, node, above, state)
+    }
+
+    fn branch(&self, node: &Node, _proposal: &Proposal, _state: &Known) -> Split {
+        split_of(self.instance, &node.ranges)
+    }
+
+    fn ask(
+        &self,
+        alloc: Global,
+        node: &Node,
+        proposal: Proposal,
+        _state: &mut Known,
+    ) -> Result<Proposal, AllocError> {
+        told(alloc, self, node, proposal)
+    }
+
+    ghost sides = { λ g most rs path c at node split. node_side g.instance.now most rs path c at node split };
+
+    ghost same = { after_same };
+
+    ghost grows_on = { after_on };
+
+    ghost stays = { λ g a b rs path p after is. kept_stays g.instance.now g.version g.least a b rs path p after is };
+
+    ghost heirs = { λ g k most rs path c at p is split. kept_lasts g.instance.now g.version g.least k.rows.items most rs path c ((choice_rules g.instance.now).place c) at p is split };
+}

@@ -1,0 +1,60 @@
+// The certificate that the relaxation has no point.
+ghost use Rattle.std.specs.Prelude.{◌≡◌, IfSome, None};
+ghost use Rattle.certificate.specs.declared.tree.Tree.TheVariants.{Leaf as OneLeaf};
+ghost use Rattle.branching.specs.Found.{IsProved};
+ghost use Rattle.branching.specs.declared.found.RootSays.TheVariants.{Empty};
+ghost use Rattle.leaf_growth.specs.Written.{HasVersion};
+ghost use Rattle.branch_and_cut.specs.Answer.{IsRootOf};
+ghost use Rattle.branch_and_cut.specs.Search.{IsImpossibleByOne};
+
+use acceptance::accepted_is_true;
+use branching::Found;
+use certificate::{Certificate, Claim, Leaf, Tree};
+use leaf_growth::{few_lines, made_is_writable};
+use lot_model::Instance;
+use lot_sizing::totals_are_one;
+use root_rounds::Root;
+use split_trees::plans_are_within;
+
+// The tree of a leaf alone. The root has one.
+fn tree_of(leaf: Option<Leaf>) -> Tree
+    ensures { IfSome leaf (λ given. result ≡ OneLeaf given) }
+{
+    match leaf {
+        Some(given) => Tree::Leaf(given),
+        None => Tree::Leaf(Leaf::Point),
+    }
+}
+
+/// The certificate that no plan is feasible, since the root's relaxation has no point: the root's cuts, and its leaf.
+pub(crate) fn none_found(instance: &Instance, version: u32, root: Root) -> Found
+    requires version { HasVersion instance.now version }
+    requires root { IsRootOf instance.now root }
+    requires none { root.says ≡ Empty }
+    ensures proved { IsProved instance.now result }
+    ensures plan { result.plan ≡ None }
+    ensures root { result.root ≡ root.says }
+    ensures alone { IsImpossibleByOne result }
+    ensures version { result.certificate.version ≡ version }
+{
+    accepted_is_true();
+    few_lines();
+    made_is_writable();
+    plans_are_within();
+    totals_are_one();
+    // It reads that the instance is one.
+    let _periods = instance.periods();
+    let Root { says, cuts, leaf } = root;
+    let tree = tree_of(leaf);
+    Found {
+        certificate: Certificate {
+            version,
+            claim: Claim::Infeasible,
+            cuts,
+            tree,
+        },
+        plan: None,
+        root: says,
+        nodes: 1,
+    }
+}

@@ -1,0 +1,91 @@
+// What a search knows while it goes on.
+ghost use Rattle.std.specs.Prelude.{◌≡◌, ◌⊎◌, IfOk, IfSome, Some};
+ghost use Rattle.first_plans.specs.Made.{IsMade};
+ghost use Rattle.branch_and_cut.specs.Knowing.{IsNoWorse, KeepsGiven, KeepsOwnMade, cost_kept, plan_kept};
+ghost use Rattle.branch_and_cut.specs.Search.{IsGoodPlan};
+
+use certificate::Cut;
+use first_plans::candidates;
+use lin_rows::Row;
+use lot_model::Instance;
+use plan_rules::{Plan, Planned, judge};
+use std::alloc::{AllocError, Global};
+
+/// The cuts so far with their rows, which the leaves name, and the best plan so far.
+#[derive(Debug, Drop)]
+pub(crate) struct Known {
+    pub(crate) cuts: Vec<Cut>,
+    pub(crate) rows: Vec<Row>,
+    pub(crate) best: Option<Planned>,
+}
+
+/// The cost of the best plan, in money.
+pub(crate) fn best_cost(best: &Option<Planned>) -> Option<u128>
+    ensures { result ≡ cost_kept best.now }
+{
+    match best {
+        Some(made) => Some(made.cost),
+        None => None,
+    }
+}
+
+/// The best plan without its cost.
+pub(crate) fn best_plan(best: Option<Planned>) -> Option<Plan>
+    ensures { result ≡ plan_kept best }
+{
+    match best {
+        Some(made) => Some(made.plan),
+        None => None,
+    }
+}
+
+/// The better of a plan and of the best so far.
+pub(crate) fn better(best: Option<Planned>, made: Planned) -> Option<Planned>
+    ensures either { (result ≡ best) ⊎ (result ≡ Some made) }
+    ensures best { IsNoWorse result best }
+    ensures made { IsNoWorse result (Some made) }
+{
+    match best {
+        Some(old) => {
+            if old.cost <= made.cost {
+                Some(old)
+            } else {
+                Some(made)
+            }
+        }
+        None => Some(made),
+    }
+}
+
+// The plan that was given, with its cost.
+fn given(instance: &Instance, first: Option<Plan>) -> Option<Planned>
+    requires { IfSome first (IsGoodPlan instance.now) }
+    ensures made { IfSome result (IsMade instance.now) }
+    ensures kept { KeepsGiven instance.now first result }
+{
+    let plan = first?;
+    match judge(instance, &plan) {
+        Ok(cost) => Some(Planned { plan, cost }),
+        // It is feasible, so no rule is broken.
+        Err(_) => None,
+    }
+}
+
+/// The best plan to begin with: of the one that was given and of those that are made without a search.
+pub(crate) fn best_to_begin(
+    alloc: Global,
+    instance: &Instance,
+    first: Option<Plan>,
+) -> Result<Option<Planned>, AllocError>
+    requires { IfSome first (IsGoodPlan instance.now) }
+    ensures made { IfOk result (λ best. IfSome best (IsMade instance.now)) }
+    ensures kept { IfOk result (KeepsGiven instance.now first) }
+    ensures own { IfOk result (KeepsOwnMade instance.now) }
+{
+    let mut best = given(instance, first);
+    let mut list = candidates(alloc, instance)?;
+    while let Some(made) = list.pop() {
+        best = better(best, made);
+    }
+    Ok(best)
+}

@@ -1,0 +1,23 @@
+//! The search of every model: branching on quantities and setups, with cuts, and a certificate of what is found.
+//!
+//! Family: search. It stands on `branch_and_bound` for the tree, on `root_rounds`, `apart`, `path_relaxation` and
+//! `first_plans` for cuts, leaves and plans, on `branching` for uncoupled models, and on `leaf_growth`, `cert_checker` and
+//! `acceptance` for what certificates are. `lotplan` uses it.
+#![tactic(auto)]
+
+mod asking;
+mod beginning;
+mod finishing;
+mod guiding;
+mod impossible;
+mod knowing;
+mod places;
+mod pointing;
+mod searching;
+mod splitting;
+
+pub use branching::{Found, PassedAt, RootSays};
+pub use searching::search;
+
+#[cfg(test)]
+mod tests;

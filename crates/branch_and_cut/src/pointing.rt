@@ -1,0 +1,100 @@
+// A node that is one choice of quantities and setups.
+ghost use Rattle.std.specs.Prelude.{◌≡◌, ◌⊎◌, false, IfOk, OnOk, length};
+ghost use Rattle.branch_and_bound.specs.Costs.{IsBelow};
+ghost use Rattle.branch_and_bound.specs.Ranges.{IsPoint};
+ghost use Rattle.plan_rules.specs.Rows.{IfFound, IfNoneFound};
+ghost use Rattle.first_plans.specs.Made.{IsMade};
+ghost use Rattle.branch_and_cut.specs.Knowing.{IsAfter, IsKeptIn, IsKnown, IsNoWorse, cost_kept};
+ghost use Rattle.acceptance.specs.Says.{HasNone, IsLeastCost};
+ghost use Rattle.branch_and_cut.specs.Nodes.{IsNodeOf, choice_count, least_make, least_setup};
+
+use crate::guiding::Model;
+use crate::knowing::{Known, best_cost, better};
+use crate::places::least_grid;
+use branch_and_bound::{Node, Proposal, Range};
+use cert_lines::Leaf;
+use first_plans::built_plan;
+use lot_model::Instance;
+use plan_rules::{Planned, complete_at_cost};
+use std::alloc::{AllocError, Global};
+
+// A cheapest plan that has the least numbers of the ranges, if there is one.
+fn plan_at(
+    alloc: Global,
+    instance: &Instance,
+    ranges: &[Range],
+) -> Result<Option<Planned>, AllocError>
+    requires { length ranges.now ≡ choice_count instance.now }
+    ensures made { IfFound result (IsMade instance.now) }
+    ensures least { IfFound result (λ made. IsLeastCost instance.now (least_make instance.now ranges.now) (least_setup instance.now ranges.now) made.cost) }
+    ensures none { IfNoneFound result (HasNone instance.now (least_make instance.now ranges.now) (least_setup instance.now ranges.now)) }
+{
+    let cells = instance.items() as usize * instance.periods() as usize;
+    let make = least_grid(alloc, instance, ranges, 0)?;
+    let setup = least_grid(alloc, instance, ranges, cells)?;
+    complete_at_cost(alloc, instance, make, setup)
+}
+
+// Keeps a plan that was found, if it is better than the best so far.
+fn keep(known: &mut Known, found: Option<Planned>)
+    ensures cuts { known.new.cuts ≡ known.old.cuts }
+    ensures rows { known.new.rows ≡ known.old.rows }
+    ensures best { (known.new.best ≡ known.old.best) ⊎ (known.new.best ≡ found) }
+    ensures old { IsNoWorse known.new.best known.old.best }
+    ensures found { IsNoWorse known.new.best found }
+{
+    if let Some(made) = found {
+        let old = known.best.take();
+        known.best = better(old, made);
+    }
+}
+
+/// The leaf of a node that is one choice: what a cheapest plan costs that has it, or that there is none. The plan is kept
+/// where it is better than the best so far.
+pub(crate) fn at_point(
+    alloc: Global,
+    model: &Model,
+    node: &Node,
+    known: &mut Known,
+) -> Result<Proposal, AllocError>
+    requires node { IsNodeOf model.now.instance.now node.now.ranges.items node.now.path.items }
+    requires point { IsPoint node.now.ranges.items }
+    requires known { IsKnown model.now known.old }
+    ensures known { OnOk result (IsKnown model.now known.new) }
+    ensures after { OnOk result (IsAfter known.old known.new) }
+    ensures kept { OnOk result (IsNoWorse known.new.best known.old.best) }
+    ensures leaf { IfOk result (IsKeptIn model.now known.new node.now.ranges.items node.now.path.items) }
+    ensures asked { IfOk result (λ p. p.asked ≡ false) }
+    ensures closed { IfOk result (λ p. IsBelow p.says (cost_kept known.new.best) → ⊥) }
+{
+    let found = plan_at(alloc, model.instance, &node.ranges)?;
+    let says = best_cost(&found);
+    keep(known, found);
+    Ok(Proposal {
+        leaf: Leaf::Point,
+        says,
+        asked: false,
+        note: 0,
+    })
+}
+
+/// Keeps the plan that is built backward with the setups of a node whose setups are all chosen, where it is better than
+/// the best so far.
+pub(crate) fn keep_built(
+    alloc: Global,
+    model: &Model,
+    node: &Node,
+    known: &mut Known,
+) -> Result<(), AllocError>
+    requires node { IsNodeOf model.now.instance.now node.now.ranges.items node.now.path.items }
+    requires known { IsKnown model.now known.old }
+    ensures known { OnOk result (IsKnown model.now known.new) }
+    ensures rows { OnOk result (known.new.rows ≡ known.old.rows) }
+    ensures kept { OnOk result (IsNoWorse known.new.best known.old.best) }
+{
+    let cells = model.instance.items() as usize * model.instance.periods() as usize;
+    let setup = least_grid(alloc, model.instance, &node.ranges, cells)?;
+    let built = built_plan(alloc, model.instance, &setup)?;
+    keep(known, built);
+    Ok(())
+}

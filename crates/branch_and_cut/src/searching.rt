@@ -1,0 +1,173 @@
+// The search of a model.
+ghost use Rattle.std.specs.Prelude.{◌≡◌, ◌≤◌, ◌↔◌, IfOk, IfSome};
+ghost use Rattle.lot_sizing.specs.Problem.{IsUncoupled};
+ghost use Rattle.branching.specs.Found.{IsProved};
+ghost use Rattle.branching.specs.declared.found.RootSays.TheVariants.{Empty, Uncoupled};
+ghost use Rattle.leaf_growth.specs.Written.{HasVersion};
+ghost use Rattle.branch_and_cut.specs.Answer.{IsAnswer, IsRootOf};
+ghost use Rattle.branch_and_cut.specs.Beginning.{AreApart};
+ghost use Rattle.branch_and_cut.specs.Search.{DecidesSmall, GoesTogether, HasEvidence, IfBound, IsGoodPlan, IsNoLessThanApart, IsSaidAtRoot, IsUndecided, IsVersionOf, KeepsFirst, KeepsOwn, UsesRoot, WithRows};
+
+use crate::beginning::begin;
+use crate::finishing::finish;
+use crate::guiding::Model;
+use crate::impossible::none_found;
+use crate::knowing::{Known, best_to_begin};
+use crate::places::whole;
+use apart::{Apart, apart, apart_is_one};
+use branch_and_bound as engine;
+use branching::{Found, RootSays, plan_uncoupled};
+use lot_model::{Instance, is_plain};
+use plan_rules::Plan;
+use root_rounds::{Root, root};
+use std::alloc::{AllocError, Global};
+
+// The version of a certificate's text: the first one where the model is plain.
+fn version_of(instance: &Instance) -> u32
+    ensures version { IsVersionOf instance.now result }
+    ensures known { HasVersion instance.now result }
+{
+    if is_plain(instance) { 1 } else { 2 }
+}
+
+// What is found of a model without coupling.
+fn alone(
+    alloc: Global,
+    instance: &Instance,
+    budget: u64,
+    first: Option<Plan>,
+    said: Root,
+    apart: Apart,
+) -> Result<Found, AllocError>
+    requires budget { 1 ≤ budget }
+    requires first { IfSome first (IsGoodPlan instance.now) }
+    requires said { IsRootOf instance.now said }
+    requires uncoupled { said.says ≡ Uncoupled }
+    requires apart { AreApart instance.now apart }
+    ensures { IfOk result (IsAnswer instance.now budget first) }
+{
+    apart_is_one();
+    plan_uncoupled(alloc, instance)
+}
+
+// What a search over the whole ranges finds.
+fn searched(
+    alloc: Global,
+    instance: &Instance,
+    budget: u64,
+    first: Option<Plan>,
+    said: Root,
+    apart: Apart,
+) -> Result<Found, AllocError>
+    requires budget { 1 ≤ budget }
+    requires first { IfSome first (IsGoodPlan instance.now) }
+    requires said { IsRootOf instance.now said }
+    requires coupled { said.says ≡ Uncoupled → ⊥ }
+    requires some { said.says ≡ Empty → ⊥ }
+    requires apart { AreApart instance.now apart }
+    ensures { IfOk result (IsAnswer instance.now budget first) }
+{
+    apart_is_one();
+    let says = said.says;
+    let version = version_of(instance);
+    let best = best_to_begin(alloc, instance, first)?;
+    let begun = begin(alloc, instance, said, apart)?;
+    let model = Model {
+        instance,
+        version,
+        root: says,
+        least: begun.least,
+        first: begun.first,
+    };
+    let mut known = Known {
+        cuts: begun.cuts,
+        rows: begun.rows,
+        best,
+    };
+    let ranges = whole(alloc, instance)?;
+    let found = engine::search(alloc, &model, ranges, &mut known, budget)?;
+    finish(alloc, &model, known, found)
+}
+
+// What is found of a model whose relaxation has no point.
+fn impossible(instance: &Instance, budget: u64, first: Option<Plan>, said: Root) -> Found
+    requires budget { 1 ≤ budget }
+    requires first { IfSome first (IsGoodPlan instance.now) }
+    requires said { IsRootOf instance.now said }
+    requires none { said.says ≡ Empty }
+    ensures { IsAnswer instance.now budget first result }
+{
+    let version = version_of(instance);
+    none_found(instance, version, said)
+}
+
+// What is found, by what is said at the root.
+fn answer(
+    alloc: Global,
+    instance: &Instance,
+    budget: u64,
+    first: Option<Plan>,
+    said: Root,
+    apart: Apart,
+) -> Result<Found, AllocError>
+    requires budget { 1 ≤ budget }
+    requires first { IfSome first (IsGoodPlan instance.now) }
+    requires said { IsRootOf instance.now said }
+    requires apart { AreApart instance.now apart }
+    ensures { IfOk result (IsAnswer instance.now budget first) }
+{
+    match said.says {
+        RootSays::Uncoupled => alone(alloc, instance, budget, first, said, apart),
+        RootSays::Empty => Ok(impossible(instance, budget, first, said)),
+        _ => searched(alloc, instance, budget, first, said, apart),
+    }
+}
+
+/// Searches a best plan of a model, and proves what is found: the certificate is accepted with the plan.
+///
+/// `budget` is the most nodes that the certificate's tree may have, branches and leaves. `first` is a plan to begin
+/// with: the plan in the answer, if there is one, costs no more than it, and no more than the own-period plan where that
+/// is feasible.
+///
+/// | Claim | Where |
+/// |---|---|
+/// | `Optimal` | the plan is best and costs this amount of money |
+/// | `Infeasible` | no plan is feasible |
+/// | `Bound` | every plan costs at least this amount, which is below the cost of the plan, if there is one. The cause is the budget, which two more nodes would pass, or the 2,000 branches that a path may have |
+///
+/// No amount is below what the items cost apart or what the root closes to. A bound is said by some leaf; at each leaf
+/// that says it, some point of the relaxation without cuts on the path to it costs no more, or that relaxation wasn't
+/// found, for the exact cause that `path_relaxation` names, or the root's program was too large to be tried.
+///
+/// An uncoupled model takes one node, and so does a model whose relaxation has no point. A budget of about twice the
+/// number of all choices of quantities and setups decides every model whose paths are short enough.
+///
+/// The error is that memory ran out. It takes memory for a tableau and for the tree with its leaves.
+pub fn search(
+    alloc: Global,
+    instance: &Instance,
+    budget: u64,
+    first: Option<Plan>,
+) -> Result<Found, AllocError>
+    requires budget { 1 ≤ budget }
+    requires first { IfSome first (IsGoodPlan instance.now) }
+    ensures proved { IfOk result (IsProved instance.now) }
+    ensures plan { IfOk result (λ found. IfSome found.plan (IsGoodPlan instance.now)) }
+    ensures within { IfOk result (λ found. found.nodes ≤ budget) }
+    ensures kept { IfOk result (λ found. KeepsFirst instance.now first found.plan) }
+    ensures own { IfOk result (λ found. KeepsOwn instance.now found.plan) }
+    ensures goes { IfOk result (λ found. GoesTogether instance.now found.certificate.claim found.plan) }
+    ensures cause { IfOk result (λ found. IfBound found.certificate.claim (λ amount. WithRows instance.now found (IsUndecided instance.now budget found))) }
+    ensures evidence { IfOk result (λ found. IfBound found.certificate.claim (λ amount. WithRows instance.now found (HasEvidence instance.now found amount))) }
+    ensures root { IfOk result (λ found. IsSaidAtRoot instance.now found.root) }
+    ensures uncoupled { IfOk result (λ found. found.root ≡ Uncoupled ↔ IsUncoupled instance.now) }
+    ensures uses { IfOk result (λ found. UsesRoot found found.root) }
+    ensures apart { IfOk result (λ found. IsNoLessThanApart instance.now found.certificate.claim) }
+    ensures complete { IfOk result (λ found. DecidesSmall instance.now budget found.certificate.claim) }
+    ensures version { IfOk result (λ found. IsVersionOf instance.now found.certificate.version) }
+{
+    let said = root(alloc, instance)?;
+    let apart = apart(alloc, instance)?;
+    let found = answer(alloc, instance, budget, first, said, apart)?;
+    Ok(found)
+}

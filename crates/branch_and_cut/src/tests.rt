@@ -1,0 +1,111 @@
+ghost use Rattle.std.specs.Prelude.{◌≤◌};
+
+use crate::{Found, RootSays, search};
+use cert_checker::check;
+use certificate::{Claim, is_writable};
+use lot_model::{Draft, DraftItem, DraftResource, DraftUse, Instance};
+use std::alloc::{AllocError, Global};
+use std::test::Fail;
+
+// An item with a setup cost and a hold cost in each of its periods, which takes a unit of time for each unit and for a
+// setup where there is a resource.
+fn item(
+    alloc: Global,
+    demand: &[i64],
+    setup_cost: i64,
+    hold_cost: i64,
+    uses: Vec<DraftUse>,
+) -> Result<DraftItem, AllocError> {
+    let mut setup = Vec::new(alloc);
+    setup.resize(demand.len(), setup_cost)?;
+    let mut hold = Vec::new(alloc);
+    hold.resize(demand.len(), hold_cost)?;
+    let mut unit = Vec::new(alloc);
+    unit.resize(demand.len(), 0)?;
+    Ok(DraftItem {
+        name: String::from_str(alloc, "A")?,
+        demand: demand.to_vec(alloc)?,
+        unit_cost: unit,
+        setup_cost: setup,
+        hold_cost: hold,
+        backlog_cost: None,
+        opening: 0,
+        end_min: 0,
+        end_max: None,
+        lead: 0,
+        min_lot: 0,
+        max_lot: None,
+        needs: Vec::new(alloc),
+        uses,
+    })
+}
+
+// What is found of one item on a resource of this capacity, once the checker accepts it.
+fn found(alloc: Global, demand: &[i64], capacity: i64, budget: u64) -> Result<Found, Fail>
+    requires { 1 ≤ budget }
+{
+    let mut times = Vec::new(alloc);
+    times.resize(demand.len(), capacity)?;
+    let resource = DraftResource {
+        name: String::from_str(alloc, "M")?,
+        capacity: times,
+    };
+    let uses = vec![in alloc;
+        DraftUse {
+            resource: String::from_str(alloc, "M")?,
+            unit: 1,
+            setup: 1,
+        },
+    ]?;
+    let draft = Draft {
+        periods: demand.len() as i64,
+        resources: vec![in alloc; resource]?,
+        items: vec![in alloc; item(alloc, demand, 10, 1, uses)?]?,
+    };
+    let instance = Instance::from_draft(alloc, draft).ok().ok_or("refused")?;
+    let found = search(alloc, &instance, budget, None)?;
+    if check(alloc, &instance, &found.certificate, found.plan.as_ref()).is_err() {
+        return Err("not accepted".into());
+    }
+    Ok(found)
+}
+
+// Both periods make 5 units, of which 3 are held.
+#[test]
+fn a_best_plan_is_found(rt: HostRuntime) -> Result<(), Fail> {
+    let alloc = rt.alloc();
+    let found = found(alloc, &[2, 8], 6, 1_000)?;
+    assert_eq!(rt; found.certificate.claim, Claim::Optimal(23));
+    assert!(rt; is_writable(&found.certificate));
+    let plan = found.plan.ok_or("no plan")?;
+    assert_eq!(rt; (plan.make.items(), plan.make.periods()), (1, 2));
+    assert_eq!(rt; (plan.make.get(1, 1), plan.make.get(1, 2)), (5, 5));
+    Ok(())
+}
+
+// With a capacity of 9 no plan makes 10 units in one period.
+#[test]
+fn that_there_is_no_plan_is_found(rt: HostRuntime) -> Result<(), Fail> {
+    let alloc = rt.alloc();
+    let found = found(alloc, &[10], 9, 1)?;
+    assert_eq!(rt; found.certificate.claim, Claim::Infeasible);
+    assert_eq!(rt; (found.root, found.nodes), (RootSays::Empty, 1));
+    assert!(rt; found.plan.is_none());
+    Ok(())
+}
+
+// Without a resource the items are planned by themselves: one setup for both periods costs 10, and holding 8 units costs 8.
+#[test]
+fn an_uncoupled_model_takes_one_node(rt: HostRuntime) -> Result<(), Fail> {
+    let alloc = rt.alloc();
+    let draft = Draft {
+        periods: 2,
+        resources: Vec::new(alloc),
+        items: vec![in alloc; item(alloc, &[2, 8], 10, 1, Vec::new(alloc))?]?,
+    };
+    let instance = Instance::from_draft(alloc, draft).ok().ok_or("refused")?;
+    let found = search(alloc, &instance, 1, None)?;
+    assert_eq!(rt; found.certificate.claim, Claim::Optimal(18));
+    assert_eq!(rt; (found.root, found.nodes), (RootSays::Uncoupled, 1));
+    Ok(())
+}

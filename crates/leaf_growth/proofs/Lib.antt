@@ -1,0 +1,4 @@
+pub mod Amounts
+pub mod Growing
+mod Lines
+mod Trees

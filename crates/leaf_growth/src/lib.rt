@@ -1,0 +1,19 @@
+//! Leaves of certificates while a search goes on: laws alone, and no code that runs.
+//!
+//! Family: search. It stands on `acceptance` and `cert_checker`, which say what a leaf says, and on `certificate`,
+//! which says what a text has to be; `branch_and_cut` uses it.
+//!
+//! A leaf takes rows by their names. Cuts and the bounds of a path are counted, and more of them follow those that
+//! are there; so what a leaf says at a node it says with more cuts and at each node below, where it takes no single
+//! choice of quantities and setups (`leaves_go_on`, `leaves_stay`). It says a small amount (`amounts_are_small`).
+//!
+//! A name of a row in a leaf that says something exists. So the lines of such a leaf are those of texts where its numbers
+//! are (`leaves_have_lines`), in the first version where the problem is plain; and a certificate has a text where its
+//! cuts and leaves do and its tree is a split tree (`made_is_writable`), with few lines for each node (`few_lines`).
+#![tactic(auto)]
+
+mod laws;
+
+pub use laws::{
+    amounts_are_small, few_lines, leaves_go_on, leaves_have_lines, leaves_stay, made_is_writable,
+};
