@@ -1,0 +1,70 @@
+// The block cut of an item.
+use crate::costs::{Costs, are_positive};
+use crate::items::Item;
+use crate::recursion::Served;
+use cert_lines::Cut;
+use echelon_rows::limits::{MAX_PRICE, MAX_STEP};
+use lin_rows::Potentials;
+use std::alloc::{AllocError, Global};
+
+// Prices as a cut has them; None where one is below 0 or past the largest one.
+fn cut_prices(alloc: Global, list: &[i128]) -> Result<Option<Vec<u64>>, AllocError> {
+    let mut found = Vec::with_capacity(alloc, list.len())?;
+    for number in list {
+        match u64::try_from(*number) {
+            Ok(price) if price <= MAX_PRICE => found.push(price)?,
+            _ => return Ok(None),
+        }
+    }
+    Ok(Some(found))
+}
+
+// What all positions up to each one cost, as potentials; None where one is past the largest one.
+fn cut_steps(alloc: Global, places: &[Served]) -> Result<Option<Vec<u128>>, AllocError> {
+    let mut found = Vec::with_capacity(alloc, places.len())?;
+    for place in places {
+        match u128::try_from(place.cost) {
+            Ok(step) if step <= MAX_STEP => found.push(step)?,
+            _ => return Ok(None),
+        }
+    }
+    Ok(Some(found))
+}
+
+// The block cut of an item by its costs and the potentials that the recursion gives; None where a number is past its limit.
+pub(crate) fn item_cut(
+    alloc: Global,
+    item: &Item,
+    costs: &Costs,
+    places: &[Served],
+) -> Result<Option<Cut>, AllocError> {
+    if !are_positive(&costs.hold) {
+        return Ok(None);
+    }
+    let Some(setup) = cut_prices(alloc, &costs.setup)? else {
+        return Ok(None);
+    };
+    let Some(unit) = cut_prices(alloc, &costs.unit)? else {
+        return Ok(None);
+    };
+    let Some(hold) = cut_prices(alloc, &costs.hold)? else {
+        return Ok(None);
+    };
+    let Some(back) = cut_prices(alloc, &costs.back)? else {
+        return Ok(None);
+    };
+    let Some(steps) = cut_steps(alloc, places)? else {
+        return Ok(None);
+    };
+    let potentials = Potentials {
+        setup,
+        unit,
+        hold,
+        back,
+        steps,
+    };
+    Ok(Some(Cut::Block {
+        item: item.number,
+        potentials,
+    }))
+}

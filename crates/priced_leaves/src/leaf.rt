@@ -1,0 +1,283 @@
+// Leaves of prices.
+ghost use Rattle.std.specs.Prelude.{◌≡◌, ◌≤◌, IfOk, IfSome};
+ghost use Rattle.lot_sizing.specs.Problem.{item_count};
+ghost use Rattle.echelon.specs.Weights.{IsExplosionOf};
+ghost use Rattle.priced_leaves.specs.Proposals.{IsProposal};
+
+use crate::costs::{Costs, costs_of, fees_of};
+use crate::cutting::item_cut;
+use crate::fixed::{Fixed, Held};
+use crate::grid::Grid;
+use crate::items::{Item, Items, items_of};
+use crate::numbers::{at, less, times};
+use crate::prices::Prices;
+use crate::recursion::serve_all;
+use crate::settling::settle;
+use crate::writable::tested;
+use cert_lines::{Cut, Part};
+use echelon::Explosion;
+use lin_rows::RowName;
+use lot_model::Instance;
+use std::alloc::{AllocError, Global};
+
+/// Block cuts, and the parts of a leaf that takes each of them once.
+#[derive(Debug, Drop)]
+pub struct Priced {
+    /// Block cuts of items, in rising order.
+    pub cuts: Vec<Cut>,
+    /// The parts: the cuts by their numbers, capacities, balances, largest end stocks and bounds of the path.
+    pub parts: Vec<Part>,
+    /// The denominator of a leaf that bounds the cost: the scale of its prices.
+    pub den: u128,
+}
+
+// A leaf while it is made.
+#[derive(Debug, Drop)]
+struct Making {
+    cuts: Vec<Cut>,
+    parts: Vec<Part>,
+    // How often the balance of each item and period is taken, and the largest end stock of each item.
+    balances: Grid,
+    ends: Grid,
+    // Whether all cuts could be made.
+    is_whole: bool,
+}
+
+impl Making {
+    fn new(alloc: Global, instance: &Instance) -> Result<Making, AllocError> {
+        Ok(Making {
+            cuts: Vec::new(alloc),
+            parts: Vec::new(alloc),
+            balances: Grid::zero(alloc, instance.items(), instance.periods())?,
+            ends: Grid::zero(alloc, instance.items(), 1)?,
+            is_whole: true,
+        })
+    }
+
+    // A row is taken so many times, if it is at all.
+    fn put(&mut self, row: RowName, times: i128) -> Result<(), AllocError> {
+        if times != 0 {
+            self.parts.push(Part { row, times })?;
+        }
+        Ok(())
+    }
+
+    // A cut is taken once, by its number.
+    fn put_cut(&mut self, cut: Cut, first_cut: u32) -> Result<(), AllocError> {
+        match u32::try_from(self.cuts.len()) {
+            Ok(before) => {
+                let number = first_cut.saturating_add(before);
+                self.put(RowName::Cut(number), 1)?;
+                self.cuts.push(cut)?;
+            }
+            Err(_) => {
+                self.is_whole = false;
+            }
+        }
+        Ok(())
+    }
+
+    // The rows of an item by which prices of stock of an echelon were moved to units.
+    fn move_item(&mut self, costs: &Costs, item: u32, weight: i128) {
+        let mut period = 0u32;
+        for shift in costs.shift.iter() {
+            period = period.saturating_add(1);
+            let number = times(weight, *shift);
+            self.balances.add(item, period, less(0, number));
+        }
+        self.ends.add(item, 1, times(weight, costs.lift));
+    }
+
+    // The same of all items in an echelon.
+    fn move_back(&mut self, item: &Item, costs: &Costs) {
+        let mut other = 0u32;
+        for weight in item.weights.iter() {
+            other = other.saturating_add(1);
+            if *weight > 0 {
+                self.move_item(costs, other, i128::from(*weight));
+            }
+        }
+    }
+
+    // The bounds of the path on an item's setups: what the cut's setup lacks or has too much.
+    fn put_fixed(
+        &mut self,
+        fees: &[i128],
+        setups: &[i128],
+        fixed: &Fixed,
+        item: u32,
+    ) -> Result<(), AllocError> {
+        let mut period = 0u32;
+        for fee in fees {
+            period = period.saturating_add(1);
+            match fixed.get(item, period) {
+                Held::Free => {}
+                Held::AtLeastOne(number) => {
+                    self.put(RowName::Path(number), *fee)?;
+                }
+                Held::AtMostZero(number) => {
+                    let more = less(at(setups, period), *fee).max(0);
+                    self.put(RowName::Path(number), more)?;
+                }
+            }
+        }
+        Ok(())
+    }
+
+    // The rows that are taken for all items together.
+    fn put_rows(&mut self, instance: &Instance, prices: &Prices) -> Result<(), AllocError> {
+        for resource in 1..instance.resources() + 1 {
+            for period in 1..instance.periods() + 1 {
+                let price = prices.capacity.get(resource, period);
+                self.put(RowName::Capacity(resource, period), price)?;
+            }
+        }
+        for item in 1..instance.items() + 1 {
+            for period in 1..instance.periods() + 1 {
+                let number = self.balances.get(item, period);
+                self.put(RowName::Balance(item, period), number)?;
+            }
+            let number = self.ends.get(item, 1);
+            self.put(RowName::EndMax(item), number)?;
+        }
+        Ok(())
+    }
+}
+
+// The cut of an item and what goes with it; the bounds of its setups alone where there is nothing to cut.
+fn put_item(
+    alloc: Global,
+    instance: &Instance,
+    items: &Items,
+    prices: &Prices,
+    fixed: &Fixed,
+    number: u32,
+    first_cut: u32,
+    making: &mut Making,
+) -> Result<(), AllocError>
+    requires low { 1 ≤ number }
+    requires high { number ≤ item_count instance.now }
+{
+    let Some(item) = items.get(number) else {
+        let fees = fees_of(alloc, instance, prices, number)?;
+        return making.put_fixed(&fees, &[], fixed, number);
+    };
+    let costs = costs_of(alloc, instance, item, prices, fixed)?;
+    let places = serve_all(alloc, item, &costs)?;
+    match item_cut(alloc, item, &costs, &places)? {
+        Some(cut) => making.put_cut(cut, first_cut)?,
+        None => {
+            making.is_whole = false;
+        }
+    }
+    making.move_back(item, &costs);
+    making.put_fixed(&costs.fee, &costs.setup, fixed, number)
+}
+
+// The leaf of prices that are within their bounds.
+fn leaf_at(
+    alloc: Global,
+    instance: &Instance,
+    items: &Items,
+    prices: &Prices,
+    fixed: &Fixed,
+    first_cut: u32,
+) -> Result<Option<Priced>, AllocError>
+    ensures { IfOk result (λ found. IfSome found (IsProposal instance.now)) }
+{
+    let mut making = Making::new(alloc, instance)?;
+    for number in 1..instance.items() + 1 {
+        put_item(
+            alloc,
+            instance,
+            items,
+            prices,
+            fixed,
+            number,
+            first_cut,
+            &mut making,
+        )?;
+    }
+    making.put_rows(instance, prices)?;
+    if !making.is_whole {
+        return Ok(None);
+    }
+    Ok(tested(instance, making.cuts, making.parts, prices.scale.max(1)))
+}
+
+/// The leaf of prices at a node whose path fixes some setups: a block cut of each lead-free item, by its costs with the
+/// prices of time, stock and backlog, and parts that take each cut once, the capacities as often as they are priced, and
+/// the bounds of the path so that the fixed setups are counted.
+///
+/// With the denominator `den` the parts are those of a leaf by linear duality. A proposal is tested by who takes it:
+/// nothing is claimed of what it says, but that its lines are within the limits of certificates (`IsProposal`). None
+/// where a number is past its limit. Prices are first brought within their bounds. The parts name the cuts `first_cut`,
+/// `first_cut + 1` and so on: that is one more than the number of cuts before these, and the bounds by their numbers in
+/// `fixed`.
+///
+/// The error is want of memory. It takes time in the square of the number of items times that of the periods, and in the
+/// number of items times the square of that of the periods.
+pub fn priced_leaf(
+    alloc: Global,
+    instance: &Instance,
+    explosion: &Explosion,
+    prices: &Prices,
+    fixed: &Fixed,
+    first_cut: u32,
+) -> Result<Option<Priced>, AllocError>
+    requires explosion { IsExplosionOf instance.now explosion.now }
+    ensures { IfOk result (λ found. IfSome found (IsProposal instance.now)) }
+{
+    let items = items_of(alloc, instance, explosion)?;
+    let mut settled = prices.copy(alloc)?;
+    settle(instance, explosion, &items, &mut settled);
+    leaf_at(alloc, instance, &items, &settled, fixed, first_cut)
+}
+
+// The same prices with all costs dropped: what a unit in stock costs is taken off its price.
+pub(crate) fn dropped(
+    alloc: Global,
+    instance: &Instance,
+    explosion: &Explosion,
+    items: &Items,
+    prices: &Prices,
+) -> Result<Prices, AllocError> {
+    let scale = i128::from(prices.scale);
+    let mut found = Prices::zero(alloc, instance, 0)?;
+    for resource in 1..instance.resources() + 1 {
+        for period in 1..instance.periods() + 1 {
+            let price = prices.capacity.get(resource, period);
+            found.capacity.put(resource, period, price);
+        }
+    }
+    for item in 1..instance.items() + 1 {
+        let mut period = 0u32;
+        for cost in instance.hold_costs(item) {
+            period = period.saturating_add(1);
+            let whole = times(scale, i128::from(*cost));
+            let price = less(prices.stock.get(item, period), whole);
+            found.stock.put(item, period, price);
+        }
+    }
+    settle(instance, explosion, items, &mut found);
+    Ok(found)
+}
+
+/// The leaf of the same prices with all costs dropped. Its parts are those of a leaf by Farkas' lemma, which says that
+/// there is no plan where the resources can't hold what is asked for; the denominator is 1. All else is as in
+/// `priced_leaf`.
+pub fn dropped_leaf(
+    alloc: Global,
+    instance: &Instance,
+    explosion: &Explosion,
+    prices: &Prices,
+    fixed: &Fixed,
+    first_cut: u32,
+) -> Result<Option<Priced>, AllocError>
+    requires explosion { IsExplosionOf instance.now explosion.now }
+    ensures { IfOk result (λ found. IfSome found (IsProposal instance.now)) }
+{
+    let items = items_of(alloc, instance, explosion)?;
+    let found = dropped(alloc, instance, explosion, &items, prices)?;
+    leaf_at(alloc, instance, &items, &found, fixed, first_cut)
+}

@@ -1,0 +1,139 @@
+// The costs of items, split among the echelons.
+ghost use Rattle.echelon.specs.Weights.{IsExplosionOf};
+
+use crate::grid::Grid;
+use crate::items::{Items, items_of};
+use crate::numbers::{less, over, plus, times};
+use crate::prices::Prices;
+use crate::settling::{settle, split_backs};
+use echelon::Explosion;
+use lot_model::Instance;
+use std::alloc::{AllocError, Global};
+
+// The largest price that a cost gets by the scale, and the largest scale.
+const MOST_SCALED: u64 = 100_000_000;
+
+const MOST_SCALE: u64 = 4096;
+
+// The largest of numbers and a first one.
+fn largest(first: u64, list: &[u64]) -> u64 {
+    let mut most = first;
+    for number in list {
+        most = most.max(*number);
+    }
+    most
+}
+
+// The largest cost of an instance.
+fn largest_cost(instance: &Instance) -> u64 {
+    let mut most = 1;
+    for item in 1..instance.items() + 1 {
+        most = largest(most, instance.setup_costs(item));
+        most = largest(most, instance.unit_costs(item));
+        most = largest(most, instance.hold_costs(item));
+        if let Some(costs) = instance.backlog_costs(item) {
+            most = largest(most, costs);
+        }
+    }
+    most
+}
+
+// The largest power of two by which no cost gets too large, and 1 where there is none.
+fn scale_for(cost: u64) -> u64 {
+    let mut scale = MOST_SCALE;
+    for _ in 0..12 {
+        if scale <= 1 || scale.saturating_mul(cost) <= MOST_SCALED {
+            return scale.max(1);
+        }
+        scale /= 2;
+    }
+    1
+}
+
+// What is left of the price of stock of an item, for each of another one in it.
+fn share_of(left: &Grid, items: &Items, item: u32, count: u32, period: u32) -> i128 {
+    let mut least = i128::MAX;
+    if let Some(found) = items.get(item) {
+        for place in 0..count {
+            let other = place.wrapping_add(1);
+            let weight = found.weight_in(other);
+            if weight > 0 {
+                least = least.min(over(left.get(other, period), weight));
+            }
+        }
+    }
+    least.max(0)
+}
+
+// The echelon of an item takes its share of the price of stock of each item in it.
+fn take_share(
+    left: &mut Grid,
+    stock: &mut Grid,
+    items: &Items,
+    item: u32,
+    count: u32,
+    period: u32,
+) {
+    let part = share_of(left, items, item, count, period);
+    if let Some(found) = items.get(item) {
+        for place in 0..count {
+            let other = place.wrapping_add(1);
+            let price = times(found.weight_in(other), part);
+            stock.add(other, period, price);
+            left.put(other, period, less(left.get(other, period), price));
+        }
+    }
+}
+
+// Holding costs, times the scale.
+fn scaled_costs(alloc: Global, instance: &Instance, scale: u64) -> Result<Grid, AllocError> {
+    let mut grid = Grid::zero(alloc, instance.items(), instance.periods())?;
+    for item in 1..instance.items() + 1 {
+        let mut period = 0u32;
+        for cost in instance.hold_costs(item) {
+            period = period.saturating_add(1);
+            grid.put(item, period, times(i128::from(scale), i128::from(*cost)));
+        }
+    }
+    Ok(grid)
+}
+
+// Prices of stock, from the raw components up: each echelon takes all that is left to it.
+fn split_stocks(
+    alloc: Global,
+    instance: &Instance,
+    explosion: &Explosion,
+    items: &Items,
+    prices: &mut Prices,
+) -> Result<(), AllocError> {
+    let mut left = scaled_costs(alloc, instance, prices.scale)?;
+    let count = instance.items();
+    for item in explosion.order().iter().rev() {
+        for place in 0..instance.periods() {
+            let period = place.wrapping_add(1);
+            take_share(&mut left, &mut prices.stock, items, *item, count, period);
+        }
+    }
+    Ok(())
+}
+
+/// Prices by which capacity costs nothing, and the holding and backlog costs of items are split among the echelons that
+/// they are in: from the raw components up each echelon holds stock at all that the items in it leave to it. The scale is
+/// the largest power of two up to 4096 by which no cost gets past 10^8, or 1.
+///
+/// The error is want of memory. It takes time in the square of the number of items times that of the periods.
+pub fn split_prices(
+    alloc: Global,
+    instance: &Instance,
+    explosion: &Explosion,
+) -> Result<Prices, AllocError>
+    requires explosion { IsExplosionOf instance.now explosion.now }
+{
+    let items = items_of(alloc, instance, explosion)?;
+    let scale = scale_for(largest_cost(instance));
+    let mut prices = Prices::zero(alloc, instance, scale)?;
+    split_stocks(alloc, instance, explosion, &items, &mut prices)?;
+    split_backs(instance, &items, &mut prices);
+    settle(instance, explosion, &items, &mut prices);
+    Ok(prices)
+}
