@@ -7,12 +7,12 @@ use Rattle.lot_io.specs.Outside.{GrewBy, OnlyReads, Printed, Rose, Shelved}
 use Rattle.lotplan.specs.declared.said.Said.{Said}
 use Rattle.lotplan.specs.declared.status.Status.{Status}
 use Rattle.lotplan.specs.declared.status.Status.TheVariants.{Done, NoCommand}
-use Rattle.lotplan.specs.Command.{AreApart, Asked, version, planning, judging, checking, upgrading}
+use Rattle.lotplan.specs.Command.{AreApart, Asked, version, planning, judging, checking, upgrading, bounding}
 use Rattle.lotplan.specs.Status.{code_of}
 use Rattle.lotplan.specs.Saying.{Ends, Gains, Prints}
 use Rattle.lotplan.specs.Reading.{ReadAnswer, refused, missing, unread, too_long, read_status}
 use Rattle.lotplan.specs.Laws.{StatusesAreOne}
-use Rattle.lotplan.specs.Planning.{CannotPlan, FindsNoPlan, PlanAnswer, PlanExplains, PlansBest, StartsAtMost, StartsAtMostBoth, StartsOnly, plan_line, plan_status}
+use Rattle.lotplan.specs.Planning.{CannotPlan, PlanAnswer, PlanExplains, PlansBest, StartsAtMost, StartsAtMostBoth, StartsOnly, plan_line, plan_status}
 use Rattle.lotplan.specs.Planning as plan
 use Rattle.lotplan.specs.Judging.{FindsFeasible, JudgeAnswer, JudgeExplains, judge_line, judge_status}
 use Rattle.lotplan.specs.Judging as judge
@@ -20,13 +20,16 @@ use Rattle.lotplan.specs.Checking.{Accepts, CheckAnswer, CheckExplains, check_li
 use Rattle.lotplan.specs.Checking as check
 use Rattle.lotplan.specs.Upgrading.{UpgradeAnswer, UpgradeExplains, Upgrades, upgrade_line, upgrade_status}
 use Rattle.lotplan.specs.Upgrading as upgrade
-use Rattle.lotplan.specs.Run.{CallFor, CallsForZero, CannotWrite, HadNoFault, IsFaulty, IsNoCommand, IsRun, ran_out, runs, Leaves, RunsAs, SaysFor, Stops, refused_line, version_line}
+use Rattle.lotplan.specs.Bounding.{BoundAnswer, BoundExplains, FindsBound, FindsNoBound, bound_line, bound_status}
+use Rattle.lotplan.specs.Bounding as bound
+use Rattle.lotplan.specs.Run.{CallFor, CallsForZero, CannotWrite, HadNoFault, IsFaulty, IsInfeasible, IsNoCommand, IsRun, ran_out, runs, Leaves, RunsAs, SaysFor, Stops, refused_line, version_line}
 use Rattle.lotplan.proofs.Outputs.{printed, prints_as}
 use Rattle.lotplan.proofs.Readings.{IsReading, reading, same_reads}
 use Rattle.lotplan.proofs.Planned as planned
 use Rattle.lotplan.proofs.Judged as judged
 use Rattle.lotplan.proofs.Checked as checked
 use Rattle.lotplan.proofs.Upgraded as upgraded
+use Rattle.lotplan.proofs.Bounded as bounded
 
 -- ---- from what is said and printed to the run
 runs_as : (asked : Option Asked) (code : ℕ) (old new : Shelved) (out_old out_new : Printed) (said : Said) → SaysFor asked old new said → Ends (Ok said) code out_old out_new → RunsAs asked code old new out_old out_new
@@ -36,6 +39,7 @@ runs_as (Some (planning m p c)) code old new out_old out_new said (answer, x, sa
 runs_as (Some (judging m p)) code old new out_old out_new said ((answer, x, says), reads) done = (answer, x, reads, prints_as (judge_line answer) (judge_status answer) said code out_old out_new says done)
 runs_as (Some (checking m p c)) code old new out_old out_new said ((answer, x, says), reads) done = (answer, x, reads, prints_as (check_line answer) (check_status answer) said code out_old out_new says done)
 runs_as (Some (upgrading m n)) code old new out_old out_new said (answer, x, says) done = (answer, x, prints_as (upgrade_line answer) (upgrade_status answer) said code out_old out_new says done)
+runs_as (Some (bounding m)) code old new out_old out_new said ((answer, x, says), reads) done = (answer, x, reads, prints_as (bound_line answer) (bound_status answer) said code out_old out_new says done)
 
 pub is_run : (asked : Option Asked) (code : ℕ) (old new : Shelved) (out_old out_new : Printed) (r : Result Said AllocError) → IfOk r (SaysFor asked old new) → OnErr r (Leaves asked old new) → Ends r code out_old out_new → IsRun asked code old new out_old out_new
 is_run asked code old new out_old out_new (Ok said) says left done = runs (runs_as asked code old new out_old out_new said says done)
@@ -53,6 +57,8 @@ EndsAs (Some (checking m p c)) code old new out_old out_new =
     (answer : CheckAnswer) × CheckExplains m p c old new answer × OnlyReads old new × (code ≡ code_of (check_status answer)) × Gains (check_line answer) out_old out_new
 EndsAs (Some (upgrading m n)) code old new out_old out_new =
     (answer : UpgradeAnswer) × UpgradeExplains m n old new answer × (code ≡ code_of (upgrade_status answer)) × Gains (upgrade_line answer) out_old out_new
+EndsAs (Some (bounding m)) code old new out_old out_new =
+    (answer : BoundAnswer) × BoundExplains m old new answer × OnlyReads old new × (code ≡ code_of (bound_status answer)) × Gains (bound_line answer) out_old out_new
 
 ends_by : (asked : Option Asked) (code : ℕ) (old new : Shelved) (out_old out_new : Printed) → RunsAs asked code old new out_old out_new → code ≢ 9 → EndsAs asked code old new out_old out_new
 ends_by None code old new out_old out_new x other =
@@ -71,6 +77,9 @@ ends_by (Some (checking m p c)) code old new out_old out_new (answer, x, reads, 
 ends_by (Some (upgrading m n)) code old new out_old out_new (answer, x, done) other =
     let d = printed (upgrade_line answer) (upgrade_status answer) code out_old out_new done other in
     (answer, x, d.0, d.1)
+ends_by (Some (bounding m)) code old new out_old out_new (answer, x, reads, done) other =
+    let d = printed (bound_line answer) (bound_status answer) code out_old out_new done other in
+    (answer, x, reads, d.0, d.1)
 
 ends : (asked : Option Asked) (code : ℕ) (old new : Shelved) (out_old out_new : Printed) → IsRun asked code old new out_old out_new → code ≢ 10 → code ≢ 9 → EndsAs asked code old new out_old out_new
 ends asked code old new out_old out_new (ran_out x) some other = absurd (some x.is)
@@ -122,17 +131,35 @@ pub rewrote : (asked : Option Asked) (code : ℕ) (old new : Shelved) (out_old o
 rewrote asked code old new out_old out_new run m n is none =
     (upgraded_by asked code old new out_old out_new m n is (ends asked code old new out_old out_new run (λ e. omega (arith, e, none)) (λ e. omega (arith, e, none))) none).1
 
-infeasible_by : (asked : Option Asked) (code : ℕ) (old new : Shelved) (out_old out_new : Printed) → EndsAs asked code old new out_old out_new → code ≡ 1 → IsTrue old.told → FindsNoPlan asked old.file new.file out_old out_new
+pub bounds : (asked : Option Asked) (code : ℕ) (old new : Shelved) (out_old out_new : Printed) → IsRun asked code old new out_old out_new → (m : List ℕ) → asked ≡ Some (bounding m) → code ≡ 0 → IsTrue old.told → FindsBound old.file m out_old out_new
+bounds asked code old new out_old out_new run m is none t =
+    let (answer, why, reads, number, line) = subst (λ a. EndsAs a code old new out_old out_new) is (ends asked code old new out_old out_new run (λ e. omega (arith, e, none)) (λ e. omega (arith, e, none))) in
+    bounded.bounded_at m code old new out_old out_new answer why number line none t
+
+infeasible_by : (asked : Option Asked) (code : ℕ) (old new : Shelved) (out_old out_new : Printed) → EndsAs asked code old new out_old out_new → code ≡ 1 → IsTrue old.told → IsInfeasible asked old.file new.file out_old out_new
 infeasible_by None code old new out_old out_new x one t = absurd (omega (arith, x.1, one))
 infeasible_by (Some version) code old new out_old out_new x one t = absurd (omega (arith, x.1, one))
 infeasible_by (Some (planning m p c)) code old new out_old out_new (answer, why, number, line) one t =
-    (planned.impossible_at m p c code old new out_old out_new answer why number line one).0 t
+    inl ((planned.impossible_at m p c code old new out_old out_new answer why number line one).0 t)
 infeasible_by (Some (judging m p)) code old new out_old out_new (answer, why, reads, number, line) one t = absurd ((judged.numbers answer code number).one one)
 infeasible_by (Some (checking m p c)) code old new out_old out_new (answer, why, reads, number, line) one t = absurd ((checked.numbers answer code number).one one)
 infeasible_by (Some (upgrading m n)) code old new out_old out_new (answer, why, number, line) one t = absurd ((upgraded.numbers answer code number).one one)
+infeasible_by (Some (bounding m)) code old new out_old out_new (answer, why, reads, number, line) one t = inr (bounded.empty_at m code old new out_old out_new answer why number line one t)
 
-pub infeasible : (asked : Option Asked) (code : ℕ) (old new : Shelved) (out_old out_new : Printed) → IsRun asked code old new out_old out_new → code ≡ 1 → IsTrue old.told → FindsNoPlan asked old.file new.file out_old out_new
+pub infeasible : (asked : Option Asked) (code : ℕ) (old new : Shelved) (out_old out_new : Printed) → IsRun asked code old new out_old out_new → code ≡ 1 → IsTrue old.told → IsInfeasible asked old.file new.file out_old out_new
 infeasible asked code old new out_old out_new run is t = infeasible_by asked code old new out_old out_new (ends asked code old new out_old out_new run (λ e. omega (arith, e, is)) (λ e. omega (arith, e, is))) is t
+
+undecided_by : (asked : Option Asked) (code : ℕ) (old new : Shelved) (out_old out_new : Printed) → EndsAs asked code old new out_old out_new → code ≡ 2 → IsTrue old.told → FindsNoBound asked old.file out_old out_new
+undecided_by None code old new out_old out_new x two t = absurd (omega (arith, x.1, two))
+undecided_by (Some version) code old new out_old out_new x two t = absurd (omega (arith, x.1, two))
+undecided_by (Some (planning m p c)) code old new out_old out_new (answer, why, number, line) two t = absurd ((planned.numbers answer code number).two two)
+undecided_by (Some (judging m p)) code old new out_old out_new (answer, why, reads, number, line) two t = absurd ((judged.numbers answer code number).two two)
+undecided_by (Some (checking m p c)) code old new out_old out_new (answer, why, reads, number, line) two t = absurd ((checked.numbers answer code number).two two)
+undecided_by (Some (upgrading m n)) code old new out_old out_new (answer, why, number, line) two t = absurd ((upgraded.numbers answer code number).two two)
+undecided_by (Some (bounding m)) code old new out_old out_new (answer, why, reads, number, line) two t = bounded.undecided_at m code old new out_old out_new answer why number line two t
+
+pub undecided : (asked : Option Asked) (code : ℕ) (old new : Shelved) (out_old out_new : Printed) → IsRun asked code old new out_old out_new → code ≡ 2 → IsTrue old.told → FindsNoBound asked old.file out_old out_new
+undecided asked code old new out_old out_new run is t = undecided_by asked code old new out_old out_new (ends asked code old new out_old out_new run (λ e. omega (arith, e, is)) (λ e. omega (arith, e, is))) is t
 
 coupled_by : (asked : Option Asked) (code : ℕ) (old new : Shelved) (out_old out_new : Printed) → EndsAs asked code old new out_old out_new → code ≡ 12 → IsTrue old.told → CannotPlan asked old.file out_old out_new
 coupled_by None code old new out_old out_new x twelve t = absurd (omega (arith, x.1, twelve))
@@ -142,6 +169,7 @@ coupled_by (Some (planning m p c)) code old new out_old out_new (answer, why, nu
 coupled_by (Some (judging m p)) code old new out_old out_new (answer, why, reads, number, line) twelve t = absurd ((judged.numbers answer code number).twelve twelve)
 coupled_by (Some (checking m p c)) code old new out_old out_new (answer, why, reads, number, line) twelve t = absurd ((checked.numbers answer code number).twelve twelve)
 coupled_by (Some (upgrading m n)) code old new out_old out_new (answer, why, number, line) twelve t = absurd ((upgraded.numbers answer code number).twelve twelve)
+coupled_by (Some (bounding m)) code old new out_old out_new (answer, why, reads, number, line) twelve t = absurd ((bounded.numbers answer code number).twelve twelve)
 
 pub not_built : (asked : Option Asked) (code : ℕ) (old new : Shelved) (out_old out_new : Printed) → IsRun asked code old new out_old out_new → code ≡ 12 → IsTrue old.told → CannotPlan asked old.file out_old out_new
 not_built asked code old new out_old out_new run is t = coupled_by asked code old new out_old out_new (ends asked code old new out_old out_new run (λ e. omega (arith, e, is)) (λ e. omega (arith, e, is))) is t
@@ -153,6 +181,7 @@ faulty_by (Some (planning m p c)) code old new out_old out_new (answer, why, num
 faulty_by (Some (judging m p)) code old new out_old out_new (answer, why, reads, number, line) three t = inl (judged.fault_at m p code old new out_old out_new answer why number line three t)
 faulty_by (Some (checking m p c)) code old new out_old out_new (answer, why, reads, number, line) three t = inr (checked.refused_at m p c code old new out_old out_new answer why number line three t)
 faulty_by (Some (upgrading m n)) code old new out_old out_new (answer, why, number, line) three t = absurd ((upgraded.numbers answer code number).three three)
+faulty_by (Some (bounding m)) code old new out_old out_new (answer, why, reads, number, line) three t = absurd ((bounded.numbers answer code number).three three)
 
 pub faulty : (asked : Option Asked) (code : ℕ) (old new : Shelved) (out_old out_new : Printed) → IsRun asked code old new out_old out_new → code ≡ 3 → IsTrue old.told → IsFaulty asked old.file out_old out_new
 faulty asked code old new out_old out_new run is t = faulty_by asked code old new out_old out_new (ends asked code old new out_old out_new run (λ e. omega (arith, e, is)) (λ e. omega (arith, e, is))) is t
@@ -164,6 +193,7 @@ unwritten_by (Some (planning m p c)) code old new out_old out_new (answer, why, 
 unwritten_by (Some (judging m p)) code old new out_old out_new (answer, why, reads, number, line) eight = absurd ((judged.numbers answer code number).eight eight)
 unwritten_by (Some (checking m p c)) code old new out_old out_new (answer, why, reads, number, line) eight = absurd ((checked.numbers answer code number).eight eight)
 unwritten_by (Some (upgrading m n)) code old new out_old out_new (answer, why, number, line) eight = inr (upgraded.unwritten_at m n code old new out_old out_new answer why number line eight)
+unwritten_by (Some (bounding m)) code old new out_old out_new (answer, why, reads, number, line) eight = absurd ((bounded.numbers answer code number).eight eight)
 
 pub unwritten : (asked : Option Asked) (code : ℕ) (old new : Shelved) (out_old out_new : Printed) → IsRun asked code old new out_old out_new → code ≡ 8 → CannotWrite asked old new out_old out_new
 unwritten asked code old new out_old out_new run is = unwritten_by asked code old new out_old out_new (ends asked code old new out_old out_new run (λ e. omega (arith, e, is)) (λ e. omega (arith, e, is))) is
@@ -181,6 +211,7 @@ no_command_by (Some (planning m p c)) code old new out_old out_new (answer, why,
 no_command_by (Some (judging m p)) code old new out_old out_new (answer, why, reads, number, line) four = judge_not_four answer code number four
 no_command_by (Some (checking m p c)) code old new out_old out_new (answer, why, reads, number, line) four = absurd ((checked.numbers answer code number).four four)
 no_command_by (Some (upgrading m n)) code old new out_old out_new (answer, why, number, line) four = absurd ((upgraded.numbers answer code number).four four)
+no_command_by (Some (bounding m)) code old new out_old out_new (answer, why, reads, number, line) four = absurd ((bounded.numbers answer code number).four four)
 
 pub no_command : (asked : Option Asked) (code : ℕ) (old new : Shelved) (out_old out_new : Printed) → IsRun asked code old new out_old out_new → code ≡ 4 → IsNoCommand asked out_old out_new
 no_command asked code old new out_old out_new run is = no_command_by asked code old new out_old out_new (ends asked code old new out_old out_new run (λ e. omega (arith, e, is)) (λ e. omega (arith, e, is))) is
@@ -214,6 +245,13 @@ upgrade_stop m n code old new out_old out_new (upgrade.written file) x is line r
 upgrade_stop m n code old new out_old out_new (upgrade.unwritten file) x is line r = absurd (r.other is)
 upgrade_stop m n code old new out_old out_new (upgrade.stopped why) x is line r = (why, record { cause = x.0; line = line }, is)
 
+bound_stop : (m : List ℕ) (code : ℕ) (old new : Shelved) (out_old out_new : Printed) (answer : BoundAnswer) → BoundExplains m old new answer → code ≡ code_of (bound_status answer) → Gains (bound_line answer) out_old out_new → IsReading code → SomeStop (Some (bounding m)) code old new out_old out_new
+bound_stop m code old new out_old out_new (bound.bound n) x is line r = absurd (omega (arith, is, r.low))
+bound_stop m code old new out_old out_new bound.empty x is line r = absurd (omega (arith, is, r.low))
+bound_stop m code old new out_old out_new bound.skipped x is line r = absurd (omega (arith, is, r.low))
+bound_stop m code old new out_old out_new bound.passed x is line r = absurd (omega (arith, is, r.low))
+bound_stop m code old new out_old out_new (bound.stopped why) x is line r = (why, record { cause = x; line = line }, is)
+
 stop_by : (asked : Option Asked) (code : ℕ) (old new : Shelved) (out_old out_new : Printed) → EndsAs asked code old new out_old out_new → IsReading code → SomeStop asked code old new out_old out_new
 stop_by None code old new out_old out_new x r = absurd (omega (arith, x.1, r.low))
 stop_by (Some version) code old new out_old out_new x r = absurd (omega (arith, x.1, r.low))
@@ -221,6 +259,7 @@ stop_by (Some (planning m p c)) code old new out_old out_new (answer, why, numbe
 stop_by (Some (judging m p)) code old new out_old out_new (answer, why, reads, number, line) r = judge_stop m p code old new out_old out_new answer why number line r
 stop_by (Some (checking m p c)) code old new out_old out_new (answer, why, reads, number, line) r = check_stop m p c code old new out_old out_new answer why number line r
 stop_by (Some (upgrading m n)) code old new out_old out_new (answer, why, number, line) r = upgrade_stop m n code old new out_old out_new answer why number line r
+stop_by (Some (bounding m)) code old new out_old out_new (answer, why, reads, number, line) r = bound_stop m code old new out_old out_new answer why number line r
 
 stop : (asked : Option Asked) (code : ℕ) (old new : Shelved) (out_old out_new : Printed) → IsRun asked code old new out_old out_new → IsReading code → code ≢ 9 → code ≢ 10 → SomeStop asked code old new out_old out_new
 stop asked code old new out_old out_new run r nine ten = stop_by asked code old new out_old out_new (ends asked code old new out_old out_new run ten nine) r
@@ -297,6 +336,13 @@ upgrade_shown (upgrade.written file) = record { nine = λ e. omega (arith, e); t
 upgrade_shown (upgrade.unwritten file) = record { nine = λ e. omega (arith, e); ten = λ e. omega (arith, e) }
 upgrade_shown (upgrade.stopped why) = read_shown why
 
+bound_shown : (answer : BoundAnswer) → IsShown (code_of (bound_status answer))
+bound_shown (bound.bound n) = record { nine = λ e. omega (arith, e); ten = λ e. omega (arith, e) }
+bound_shown bound.empty = record { nine = λ e. omega (arith, e); ten = λ e. omega (arith, e) }
+bound_shown bound.skipped = record { nine = λ e. omega (arith, e); ten = λ e. omega (arith, e) }
+bound_shown bound.passed = record { nine = λ e. omega (arith, e); ten = λ e. omega (arith, e) }
+bound_shown (bound.stopped why) = read_shown why
+
 -- a failed print raised its count, and no print ends with the number of memory
 pub record IsPrint (code : ℕ) (old new : Printed) : Type 0 where
   pub failed : code ≡ 9 → Rose old.faults new.faults
@@ -315,6 +361,7 @@ print_by (Some (planning m p c)) code old new out_old out_new (answer, x, done) 
 print_by (Some (judging m p)) code old new out_old out_new (answer, x, reads, done) = print_of (judge_line answer) (judge_status answer) code out_old out_new (judge_shown answer) done
 print_by (Some (checking m p c)) code old new out_old out_new (answer, x, reads, done) = print_of (check_line answer) (check_status answer) code out_old out_new (check_shown answer) done
 print_by (Some (upgrading m n)) code old new out_old out_new (answer, x, done) = print_of (upgrade_line answer) (upgrade_status answer) code out_old out_new (upgrade_shown answer) done
+print_by (Some (bounding m)) code old new out_old out_new (answer, x, reads, done) = print_of (bound_line answer) (bound_status answer) code out_old out_new (bound_shown answer) done
 
 pub unprinted : (asked : Option Asked) (code : ℕ) (old new : Shelved) (out_old out_new : Printed) → IsRun asked code old new out_old out_new → code ≡ 9 → Rose out_old.faults out_new.faults
 unprinted asked code old new out_old out_new (ran_out x) nine = absurd (omega (arith, x.is, nine))
@@ -332,6 +379,7 @@ leaves_reads (Some (planning m p c)) old new x = x
 leaves_reads (Some (judging m p)) old new x = x
 leaves_reads (Some (checking m p c)) old new x = x
 leaves_reads (Some (upgrading m n)) old new x = x
+leaves_reads (Some (bounding m)) old new x = x
 
 quiet_by : (asked : Option Asked) (code : ℕ) (old new : Shelved) (out_old out_new : Printed) → EndsAs asked code old new out_old out_new → code ≢ 0 → code ≢ 1 → code ≢ 8 → OnlyReads old new
 quiet_by None code old new out_old out_new x some one eight = same_reads old new x.0
@@ -340,6 +388,7 @@ quiet_by (Some (planning m p c)) code old new out_old out_new (answer, why, numb
 quiet_by (Some (judging m p)) code old new out_old out_new (answer, why, reads, number, line) some one eight = reads
 quiet_by (Some (checking m p c)) code old new out_old out_new (answer, why, reads, number, line) some one eight = reads
 quiet_by (Some (upgrading m n)) code old new out_old out_new (answer, why, number, line) some one eight = upgraded.quiet_at m n code old new answer why number some eight
+quiet_by (Some (bounding m)) code old new out_old out_new (answer, why, reads, number, line) some one eight = reads
 
 pub quiet : (asked : Option Asked) (code : ℕ) (old new : Shelved) (out_old out_new : Printed) → IsRun asked code old new out_old out_new → code ≢ 0 → code ≢ 1 → code ≢ 8 → code ≢ 9 → OnlyReads old new
 quiet asked code old new out_old out_new (ran_out x) some one eight nine = leaves_reads asked old new x.left
@@ -373,6 +422,13 @@ checking_by code old new out_old out_new m p c (runs (answer, x, reads, done)) =
 pub check_reads : (asked : Option Asked) (code : ℕ) (old new : Shelved) (out_old out_new : Printed) → IsRun asked code old new out_old out_new → (m p c : List ℕ) → asked ≡ Some (checking m p c) → OnlyReads old new
 check_reads asked code old new out_old out_new run m p c is = checking_by code old new out_old out_new m p c (subst (λ a. IsRun a code old new out_old out_new) is run)
 
+bounding_by : (code : ℕ) (old new : Shelved) (out_old out_new : Printed) (m : List ℕ) → IsRun (Some (bounding m)) code old new out_old out_new → OnlyReads old new
+bounding_by code old new out_old out_new m (ran_out x) = x.left
+bounding_by code old new out_old out_new m (runs (answer, x, reads, done)) = reads
+
+pub bound_reads : (asked : Option Asked) (code : ℕ) (old new : Shelved) (out_old out_new : Printed) → IsRun asked code old new out_old out_new → (m : List ℕ) → asked ≡ Some (bounding m) → OnlyReads old new
+bound_reads asked code old new out_old out_new run m is = bounding_by code old new out_old out_new m (subst (λ a. IsRun a code old new out_old out_new) is run)
+
 idle_by : (code : ℕ) (old new : Shelved) (out_old out_new : Printed) → IsRun None code old new out_old out_new → new ≡ old
 idle_by code old new out_old out_new (ran_out x) = x.left
 idle_by code old new out_old out_new (runs x) = x.0
@@ -387,6 +443,7 @@ told_by (Some (planning m p c)) code old new out_old out_new (answer, x, done) =
 told_by (Some (judging m p)) code old new out_old out_new (answer, x, reads, done) = reads.told
 told_by (Some (checking m p c)) code old new out_old out_new (answer, x, reads, done) = reads.told
 told_by (Some (upgrading m n)) code old new out_old out_new (answer, x, done) = (upgraded.others_at m n old new answer x).1
+told_by (Some (bounding m)) code old new out_old out_new (answer, x, reads, done) = reads.told
 
 pub tells : (asked : Option Asked) (code : ℕ) (old new : Shelved) (out_old out_new : Printed) → IsRun asked code old new out_old out_new → new.told ≡ old.told
 tells asked code old new out_old out_new (ran_out x) = (leaves_reads asked old new x.left).told
@@ -400,6 +457,7 @@ called_by (Some (planning m p c)) code old new out_old out_new fine t (answer, x
 called_by (Some (judging m p)) code old new out_old out_new fine t (answer, x, reads, number, line) = judged.called_at m p code old new out_old out_new fine t answer x number
 called_by (Some (checking m p c)) code old new out_old out_new fine t (answer, x, reads, number, line) = checked.called_at m p c code old new out_old out_new fine t answer x number
 called_by (Some (upgrading m n)) code old new out_old out_new fine t (answer, x, number, line) = upgraded.called_at m n code old new out_old out_new fine t answer x number
+called_by (Some (bounding m)) code old new out_old out_new fine t (answer, x, reads, number, line) = bounded.called_at m code old new out_old out_new fine t answer x number
 
 pub called : (asked : Option Asked) (code : ℕ) (old new : Shelved) (out_old out_new : Printed) → IsRun asked code old new out_old out_new → IsTrue old.told → HadNoFault old new out_old out_new → (code ≡ 10) ⊎ CallFor asked old.file code
 called asked code old new out_old out_new (ran_out x) t fine = inl x.is
@@ -415,7 +473,7 @@ checks_by one asked code old new out_old out_new m p c apart is x done t =
     let (answer, why, number, lines) = subst (λ a. EndsAs a code old new out_old out_new) is x in
     let (claim, all) = planned.accepted_at m p c code old new apart t answer why number done in
     let zero : CallFor (Some (checking m p c)) new.file 0 = checked.accepted_called m p c 0 new claim all refl in
-    record { zero = zero; alone = λ status calls. one (Some (checking m p c)) new.file status 0 calls zero }
+    record { zero = zero; alone = λ status calls. ⊎_elim (λ same. same) (λ may. absurd may) (one (Some (checking m p c)) new.file status 0 calls zero) }
 
 pub checks : StatusesAreOne → (asked : Option Asked) (code : ℕ) (old new : Shelved) (out_old out_new : Printed) → ((m p c : List ℕ) → asked ≡ Some (planning m p c) → AreApart m p c) → IsRun asked code old new out_old out_new → (m p c : List ℕ) → asked ≡ Some (planning m p c) → (code ≡ 0) ⊎ (code ≡ 1) → IsTrue old.told → CallsForZero new.file m p c
 checks one asked code old new out_old out_new apart run m p c is done t =

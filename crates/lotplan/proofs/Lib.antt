@@ -7,6 +7,7 @@ pub mod Planned
 pub mod Judged
 pub mod Checked
 pub mod Upgraded
+pub mod Bounded
 pub mod Explained
 pub mod Certified
 pub mod Statuses

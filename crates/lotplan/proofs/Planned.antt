@@ -103,17 +103,18 @@ module _ (m p c : List ℕ) (code : ℕ) (old new : Shelved) (out_old out_new : 
 
 -- `plan` has no other number
 pub record IsPlanning (code : ℕ) : Type 0 where
+  pub two : code ≡ 2 → ⊥
   pub three : code ≡ 3 → ⊥
   pub four : code ≡ 4 → ⊥
 
 pub numbers : (answer : PlanAnswer) (code : ℕ) → code ≡ code_of (plan_status answer) → IsPlanning code
-numbers (optimal says nodes amount) code is = record { three = λ e. omega (arith, is, e); four = λ e. omega (arith, is, e) }
-numbers (infeasible says nodes) code is = record { three = λ e. omega (arith, is, e); four = λ e. omega (arith, is, e) }
-numbers not_built code is = record { three = λ e. omega (arith, is, e); four = λ e. omega (arith, is, e) }
-numbers (unwritten file) code is = record { three = λ e. omega (arith, is, e); four = λ e. omega (arith, is, e) }
+numbers (optimal says nodes amount) code is = record { two = λ e. omega (arith, is, e); three = λ e. omega (arith, is, e); four = λ e. omega (arith, is, e) }
+numbers (infeasible says nodes) code is = record { two = λ e. omega (arith, is, e); three = λ e. omega (arith, is, e); four = λ e. omega (arith, is, e) }
+numbers not_built code is = record { two = λ e. omega (arith, is, e); three = λ e. omega (arith, is, e); four = λ e. omega (arith, is, e) }
+numbers (unwritten file) code is = record { two = λ e. omega (arith, is, e); three = λ e. omega (arith, is, e); four = λ e. omega (arith, is, e) }
 numbers (stopped why) code is =
     let r = reading why code is in
-    record { three = λ e. omega (arith, r.low, e); four = λ e. omega (arith, r.low, e) }
+    record { two = λ e. omega (arith, r.low, e); three = λ e. omega (arith, r.low, e); four = λ e. omega (arith, r.low, e) }
 
 -- ---- what is written
 pub quiet_at : (m p c : List ℕ) (code : ℕ) (old new : Shelved) (answer : PlanAnswer) → PlanExplains m p c old new answer → code ≡ code_of (plan_status answer) → code ≢ 0 → code ≢ 1 → code ≢ 8 → OnlyReads old new

@@ -1,5 +1,5 @@
 -- The words and the files call for one status.
-use Rattle.std.proofs.Common.{◌≡◌, ◌≢◌, ◌⊎◌, ◌≤◌, ◌∙◌, ⊎_elim, ℕ, sym, subst, arith, List, Option, Some, None}
+use Rattle.std.proofs.Common.{◌≡◌, ◌≢◌, ◌⊎◌, ◌≤◌, ◌∙◌, ⊎_elim, inl, inr, ℕ, sym, subst, arith, List, Option, Some, None}
 use Rattle.std.specs.Prelude.{Ok, Err}
 use Rattle.bill.specs.Laws.{TotalsExist, WeightsExist}
 use Rattle.plan_rules.specs.Held.{AllFit, plan_of}
@@ -14,6 +14,7 @@ use Rattle.certificate.specs.Laws.{TextsMeanOneThing}
 use Rattle.certificate.specs.Limits.{IsTextOf}
 use Rattle.certificate.specs.Shapes.{Shape}
 use Rattle.cert_checker.specs.Laws.{CertifiedIsNotRefused}
+use Rattle.base_bound.specs.Bounds.{BaseBoundsAreOne, CellsAreOne, HasFewCells}
 use Rattle.plan_file.specs.declared.fault.PlanFault.{PlanFault}
 use Rattle.lot_sizing.specs.Problem.{Problem}
 use Rattle.lot_sizing.specs.Plan.{IsFeasible, Plan}
@@ -26,11 +27,13 @@ use Rattle.instance_reader.specs.declared.versions.TheConstants.{FIRST_VERSION, 
 use Rattle.instance_reader.proofs.Meanings.{bytes_one}
 use Rattle.plan_file.specs.Records.{IsPlanOf, records_of}
 use Rattle.plan_file.proofs.Meanings.{means_one}
-use Rattle.lotplan.specs.Command.{Asked, version, planning, judging, checking, upgrading}
+use Rattle.lotplan.specs.Command.{Asked, version, planning, judging, checking, upgrading, bounding}
 use Rattle.lotplan.specs.Planning.{BytesCallFor, FileCallsFor, ProblemCallsFor}
 use Rattle.lotplan.specs.Judging.{AreBroken, AreFeasible, AreNoPlan, JudgeCallsFor, PlanCallsFor}
 use Rattle.lotplan.specs.Checking.{CheckCallsFor, ClaimCallsFor, GivenCallsFor, PlannedCallsFor, ProofCallsFor}
 use Rattle.lotplan.specs.Upgrading.{UpgradeCallsFor}
+use Rattle.lotplan.specs.Bounding.{BoundCallsFor, BoundedCallsFor, HasBaseBound, HasManyCells, HasNoPoint, MayPass, RunPasses}
+use Rattle.lotplan.specs.Laws.{MayBeUndecided}
 use Rattle.lotplan.specs.Run.{CallFor}
 use Rattle.lotplan.proofs.Certified.{IsMeant, given_call, meant, planned_call}
 
@@ -175,6 +178,8 @@ pub record AreLaws : Type 0 where
   pub weights : WeightsExist
   pub texts : TextsMeanOneThing
   pub checks : CertifiedIsNotRefused
+  pub bounds : BaseBoundsAreOne
+  pub cells : CellsAreOne
 
 -- what the bytes of a plan file, of a certificate file and of a model file may be
 abbrev HasPlan : Problem → Shape → List ℕ → ℕ → Type 0
@@ -255,10 +260,54 @@ check_call laws (Some bytes) plan certificate s t a b = ⊎_elim
         d)
         c
 
-pub call_one : AreLaws → (asked : Option Asked) (file : Files) (s t : ℕ) → CallFor asked file s → CallFor asked file t → s ≡ t
-call_one laws None file s t a b = a ∙ sym b
-call_one laws (Some version) file s t a b = a ∙ sym b
-call_one laws (Some (planning m p c)) file s t a b = file_call (file m) s t a b
-call_one laws (Some (judging m p)) file s t a b = judge_call (file m) (file p) s t a b
-call_one laws (Some (checking m p c)) file s t a b = check_call laws (file m) (file p) (file c) s t a b
-call_one laws (Some (upgrading m n)) file s t a b = upgrade_call (file m) s t a b
+-- ---- of the base bound
+module _ (laws : AreLaws) (m : Problem) (known : IsMeant m) where
+  few_or_many : HasFewCells m → HasManyCells m → ⊥
+  few_or_many few many =
+      let total = known.totals in
+      let same = laws.cells m total.0 few.0 many.0 total.1 few.1 many.1 in
+      omega (arith, same, few.2, many.2)
+
+  bound_or_none : (n : ℕ) → HasBaseBound m n → HasNoPoint m → ⊥
+  bound_or_none n some none =
+      let total = known.totals in
+      (laws.bounds m total.0 total.1).apart n some.bound none.none
+
+  bounded_call : (s t : ℕ) → BoundedCallsFor m s → BoundedCallsFor m t → (s ≡ t) ⊎ RunPasses m
+  bounded_call s t (inl (a, is)) (inl (b, too)) = inl (is ∙ sym too)
+  bounded_call s t (inl (a, is)) (inr (inl (b, too))) = absurd (bound_or_none a.0 a.1 b)
+  bounded_call s t (inl (a, is)) (inr (inr (inl (b, too)))) = absurd (few_or_many a.1.few b)
+  bounded_call s t (inl (a, is)) (inr (inr (inr (b, too)))) = inr b
+  bounded_call s t (inr (inl (a, is))) (inl (b, too)) = absurd (bound_or_none b.0 b.1 a)
+  bounded_call s t (inr (inl (a, is))) (inr (inl (b, too))) = inl (is ∙ sym too)
+  bounded_call s t (inr (inl (a, is))) (inr (inr (inl (b, too)))) = absurd (few_or_many a.few b)
+  bounded_call s t (inr (inl (a, is))) (inr (inr (inr (b, too)))) = inr b
+  bounded_call s t (inr (inr (inl (a, is)))) (inl (b, too)) = absurd (few_or_many b.1.few a)
+  bounded_call s t (inr (inr (inl (a, is)))) (inr (inl (b, too))) = absurd (few_or_many b.few a)
+  bounded_call s t (inr (inr (inl (a, is)))) (inr (inr (inl (b, too)))) = inl (is ∙ sym too)
+  bounded_call s t (inr (inr (inl (a, is)))) (inr (inr (inr (b, too)))) = inr b
+  bounded_call s t (inr (inr (inr (a, is)))) other = inr a
+
+bound_call : AreLaws → (file : Option (List ℕ)) (s t : ℕ) → BoundCallsFor file s → BoundCallsFor file t → (s ≡ t) ⊎ MayPass file
+bound_call laws None s t a b = inl (a ∙ sym b)
+bound_call laws (Some bytes) s t (inl a) (inl b) = inl (a.1 ∙ sym b.1)
+bound_call laws (Some bytes) s t (inl a) (inr b) = absurd (omega (arith, a.0, b.0))
+bound_call laws (Some bytes) s t (inr a) (inl b) = absurd (omega (arith, a.0, b.0))
+bound_call laws (Some bytes) s t (inr (short, inr (f, reads, is))) (inr (also, inr (g, too, other))) = inl (is ∙ sym other)
+bound_call laws (Some bytes) s t (inr (short, inr (f, reads, is))) (inr (also, inl (m, too, calls))) = absurd (no_fault bytes m f too reads)
+bound_call laws (Some bytes) s t (inr (short, inl (m, reads, calls))) (inr (also, inr (f, too, is))) = absurd (no_fault bytes m f reads too)
+bound_call laws (Some bytes) s t (inr (short, inl (m, reads, calls))) (inr (also, inl (n, too, other))) =
+    let known = meant laws.totals laws.weights bytes m reads in
+    ⊎_elim
+    (λ same. inl same)
+    (λ passes. inr (m, reads, passes))
+    (bounded_call laws m known s t calls (subst (λ k. BoundedCallsFor k t) (one_problem bytes n m too reads) other))
+
+pub call_one : AreLaws → (asked : Option Asked) (file : Files) (s t : ℕ) → CallFor asked file s → CallFor asked file t → (s ≡ t) ⊎ MayBeUndecided asked file
+call_one laws None file s t a b = inl (a ∙ sym b)
+call_one laws (Some version) file s t a b = inl (a ∙ sym b)
+call_one laws (Some (planning m p c)) file s t a b = inl (file_call (file m) s t a b)
+call_one laws (Some (judging m p)) file s t a b = inl (judge_call (file m) (file p) s t a b)
+call_one laws (Some (checking m p c)) file s t a b = inl (check_call laws (file m) (file p) (file c) s t a b)
+call_one laws (Some (upgrading m n)) file s t a b = inl (upgrade_call (file m) s t a b)
+call_one laws (Some (bounding m)) file s t a b = bound_call laws (file m) s t a b

@@ -2,7 +2,7 @@
 use Rattle.std.proofs.Common.{◌≡◌, ◌≢◌, ◌∙◌, ◌⊎◌, ⊎_elim, inl, inr, Bool, true, false, not, ◌&&◌, ℕ, List, [], ◌∷◌, Some, None, if◌then◌else◌, codes, refl, sym}
 use Rattle.std.specs.Str.{bytes_eq}
 use Rattle.std.proofs.lemmas.Slice.Eq.{bytes_eq-Decides}
-use Rattle.lotplan.specs.Command.{AreApart, Asked, planning, judging, checking, upgrading, are_file_names, are_two_names, command_of, is_file_name}
+use Rattle.lotplan.specs.Command.{AreApart, Asked, planning, judging, checking, upgrading, bounding, are_file_names, are_two_names, command_of, is_file_name}
 
 -- the parts of a test that came out true
 first_true : (a b : Bool) → (a && b) ≡ true → a ≡ true
@@ -39,6 +39,11 @@ one_of true b x y asked is = inl (refl, cc is)
 one_of false true x y asked is = inr (cc is)
 one_of false false x y asked is = absurd (cc is)
 
+-- one name asks for no plan
+only_of : (a : Bool) (n m p c : List ℕ) → (if a then Some (bounding n) else None) ≡ Some (planning m p c) → ⊥
+only_of true n m p c is = cc is
+only_of false n m p c is = cc is
+
 apart_as : (a b d m p c : List ℕ) → planning a b d ≡ planning m p c → AreApart a b d → AreApart m p c
 apart_as a b d m p c is apart =
     let first : a ≡ m = cc is in
@@ -53,7 +58,7 @@ apart_as a b d m p c is apart =
 pub planned_apart : (words : List (List ℕ)) (m p c : List ℕ) → command_of words ≡ Some (planning m p c) → AreApart m p c
 planned_apart [] m p c is = absurd (cc is)
 planned_apart (w ∷ []) m p c is = absurd (cc is)
-planned_apart (w ∷ a ∷ []) m p c is = absurd (cc is)
+planned_apart (w ∷ a ∷ []) m p c is = absurd (only_of (bytes_eq w (codes "bound") && is_file_name a) a m p c is)
 planned_apart (w ∷ a ∷ b ∷ []) m p c is = ⊎_elim
     (λ x. let other = x.1 in absurd (cc other))
     (λ other. absurd (cc other))

@@ -13,6 +13,8 @@ pub data Asked : Type 0 where
   checking : List ℕ → List ℕ → List ℕ → Asked
   -- to write a model of the first version as one of the newest, with the names of the model file and the new file
   upgrading : List ℕ → List ℕ → Asked
+  -- to bound the cost of plans of the model in this file
+  bounding : List ℕ → Asked
 
 -- a file's name isn't empty and doesn't begin with `-`
 abbrev pub is_file_name : List ℕ → Bool
@@ -33,9 +35,10 @@ pub record AreApart (model_file plan_file certificate_file : List ℕ) : Type 0 
 abbrev pub are_two_names : List ℕ → List ℕ → Bool
 are_two_names m p = is_file_name m && (is_file_name p && not (bytes_eq m p))
 
--- no words, or `judge` or `upgrade` and two names, or `plan` or `check` and three
+-- no words, or `bound` and one name, or `judge` or `upgrade` and two, or `plan` or `check` and three
 abbrev pub command_of : List (List ℕ) → Option Asked
 command_of [] = Some version
+command_of (word ∷ m ∷ []) = if bytes_eq word (codes "bound") && is_file_name m then Some (bounding m) else None
 command_of (word ∷ m ∷ p ∷ []) =
     if bytes_eq word (codes "judge") && are_two_names m p then Some (judging m p)
     else (if bytes_eq word (codes "upgrade") && are_two_names m p then Some (upgrading m p) else None)

@@ -6,8 +6,9 @@ use Rattle.lotplan.specs.Planning as planning
 use Rattle.lotplan.specs.Judging as judging
 use Rattle.lotplan.specs.Checking as checking
 use Rattle.lotplan.specs.Upgrading as upgrading
+use Rattle.lotplan.specs.Bounding as bounding
 use Rattle.lotplan.specs.declared.command.Command.{Command}
-use Rattle.lotplan.specs.declared.command.Command.TheVariants.{Name, Plan, Judge, Check, Upgrade}
+use Rattle.lotplan.specs.declared.command.Command.TheVariants.{Name, Plan, Judge, Check, Upgrade, Bound}
 use Rattle.lotplan.specs.declared.model_file.ReadAnswer.{ReadAnswer}
 use Rattle.lotplan.specs.declared.model_file.ReadAnswer.TheVariants.{Refused, Missing, Unread, TooLong}
 use Rattle.lotplan.specs.declared.model_file.Stop.{Stop}
@@ -22,6 +23,8 @@ use Rattle.lotplan.specs.declared.commands.check.CheckStop.{CheckStop}
 use Rattle.lotplan.specs.declared.commands.check.CheckStop.TheVariants as check_stop
 use Rattle.lotplan.specs.declared.commands.upgrade.UpgradeAnswer.{UpgradeAnswer}
 use Rattle.lotplan.specs.declared.commands.upgrade.UpgradeAnswer.TheVariants as upgrade
+use Rattle.lotplan.specs.declared.commands.bound.BoundAnswer.{BoundAnswer}
+use Rattle.lotplan.specs.declared.commands.bound.BoundAnswer.TheVariants as bound
 
 -- what a command asks for
 abbrev pub asked_by : Command → command.Asked
@@ -29,6 +32,7 @@ asked_by Name = command.version
 asked_by (Judge names) = command.judging names.model.now names.plan.now
 asked_by (Check names) = command.checking names.model.now names.plan.now names.certificate.now
 asked_by (Upgrade names) = command.upgrading names.model.now names.upgraded.now
+asked_by (Bound model) = command.bounding model.now
 asked_by (Plan names) = command.planning names.model.now names.plan.now names.certificate.now
 
 -- answers
@@ -62,6 +66,13 @@ abbrev pub upgrade_meant : UpgradeAnswer → upgrading.UpgradeAnswer
 upgrade_meant (upgrade.Written file) = upgrading.written file.now
 upgrade_meant (upgrade.Unwritten file) = upgrading.unwritten file.now
 upgrade_meant (upgrade.Stopped why) = upgrading.stopped (read_meant why)
+
+abbrev pub bound_meant : BoundAnswer → bounding.BoundAnswer
+bound_meant (bound.Bound n) = bounding.bound n
+bound_meant bound.Empty = bounding.empty
+bound_meant bound.Skipped = bounding.skipped
+bound_meant bound.Passed = bounding.passed
+bound_meant (bound.Stopped why) = bounding.stopped (read_meant why)
 
 -- the answer has its cause; want of memory needs none
 abbrev pub IsStop : (reading.ReadAnswer → Type 0) → Stop → Type 0

@@ -1,8 +1,20 @@
 -- What a command calls for is one status.
-use Rattle.std.specs.Prelude.{◌≡◌, ℕ, Option}
+use Rattle.std.specs.Prelude.{◌≡◌, ◌⊎◌, ℕ, Option, Some, None}
 use Rattle.lot_io.specs.Outside.{Files}
-use Rattle.lotplan.specs.Command.{Asked}
+use Rattle.lotplan.specs.Bounding.{MayPass}
+use Rattle.lotplan.specs.Command.{Asked, version, planning, judging, checking, upgrading, bounding}
 use Rattle.lotplan.specs.Run.{CallFor}
 
+-- the words ask to bound a model whose run comes to a number that doesn't fit
+abbrev pub MayBeUndecided : Option Asked → Files → Type 0
+MayBeUndecided None file = ⊥
+MayBeUndecided (Some version) file = ⊥
+MayBeUndecided (Some (planning m p c)) file = ⊥
+MayBeUndecided (Some (judging m p)) file = ⊥
+MayBeUndecided (Some (checking m p c)) file = ⊥
+MayBeUndecided (Some (upgrading m n)) file = ⊥
+MayBeUndecided (Some (bounding m)) file = MayPass (file m)
+
 abbrev pub StatusesAreOne : Type 0
-StatusesAreOne = (asked : Option Asked) (file : Files) (status other : ℕ) → CallFor asked file status → CallFor asked file other → status ≡ other
+StatusesAreOne =
+    (asked : Option Asked) (file : Files) (status other : ℕ) → CallFor asked file status → CallFor asked file other → (status ≡ other) ⊎ MayBeUndecided asked file

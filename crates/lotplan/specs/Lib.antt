@@ -6,6 +6,7 @@ pub mod Planning
 pub mod Judging
 pub mod Checking
 pub mod Upgrading
+pub mod Bounding
 pub mod Run
 pub mod Held
 pub mod Laws

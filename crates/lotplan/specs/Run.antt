@@ -2,14 +2,15 @@
 use Rattle.std.specs.Prelude.{◌≡◌, ◌⊎◌, ◌+◌, ◌*◌, ℕ, List, codes, Option, Some, None}
 use Rattle.lot_io.specs.Outside.{Files, OnlyReads, Printed, Rose, Shelved, piece_size}
 use Rattle.stream_check.specs.Streams.{pass_size}
-use Rattle.lotplan.specs.Command.{Asked, version, planning, judging, checking, upgrading}
+use Rattle.lotplan.specs.Command.{Asked, version, planning, judging, checking, upgrading, bounding}
 use Rattle.lotplan.specs.Status.{code_of}
 use Rattle.lotplan.specs.Saying.{Gains, IsSaid, Prints}
 use Rattle.lotplan.specs.Reading.{FirstExplains, ModelExplains, ReadAnswer, file_limit, read_line}
-use Rattle.lotplan.specs.Planning.{FailsToWrite, FileCallsFor, PlanAnswer, PlanExplains, PlanSays, plan_line, plan_status}
+use Rattle.lotplan.specs.Planning.{FailsToWrite, FileCallsFor, FindsNoPlan, PlanAnswer, PlanExplains, PlanSays, plan_line, plan_status}
 use Rattle.lotplan.specs.Judging.{FilesStop, FindsFault, JudgeAnswer, JudgeCallsFor, JudgeExplains, JudgeSays, judge_line, judge_status}
 use Rattle.lotplan.specs.Checking.{CheckAnswer, CheckCallsFor, CheckExplains, CheckSays, CheckStops, FindsRefused, check_line, check_status}
 use Rattle.lotplan.specs.Upgrading.{FailsToUpgrade, UpgradeAnswer, UpgradeCallsFor, UpgradeExplains, UpgradeSays, upgrade_line, upgrade_status}
+use Rattle.lotplan.specs.Bounding.{BoundAnswer, BoundCallsFor, BoundExplains, BoundIsSaid, FindsNoPoint, bound_line, bound_status}
 use Rattle.lotplan.specs.declared.said.Said.{Said}
 use Rattle.lotplan.specs.declared.status.Status.TheVariants.{Done, NoCommand, NoMemory}
 
@@ -28,6 +29,7 @@ SaysFor (Some (planning m p c)) old new said = PlanSays m p c old new said
 SaysFor (Some (judging m p)) old new said = JudgeSays m p old new said × OnlyReads old new
 SaysFor (Some (checking m p c)) old new said = CheckSays m p c old new said × OnlyReads old new
 SaysFor (Some (upgrading m n)) old new said = UpgradeSays m n old new said
+SaysFor (Some (bounding m)) old new said = BoundIsSaid m old new said × OnlyReads old new
 
 -- what is left where memory ran out
 abbrev pub Leaves : Option Asked → Shelved → Shelved → Type 0
@@ -37,6 +39,7 @@ Leaves (Some (planning m p c)) old new = OnlyReads old new
 Leaves (Some (judging m p)) old new = OnlyReads old new
 Leaves (Some (checking m p c)) old new = OnlyReads old new
 Leaves (Some (upgrading m n)) old new = OnlyReads old new
+Leaves (Some (bounding m)) old new = OnlyReads old new
 
 -- what a run did, printed and gave, where memory didn't run out
 abbrev pub RunsAs : Option Asked → ℕ → Shelved → Shelved → Printed → Printed → Type 0
@@ -50,6 +53,8 @@ RunsAs (Some (checking m p c)) code old new out_old out_new =
     (answer : CheckAnswer) × CheckExplains m p c old new answer × OnlyReads old new × Prints (check_line answer) (check_status answer) code out_old out_new
 RunsAs (Some (upgrading m n)) code old new out_old out_new =
     (answer : UpgradeAnswer) × UpgradeExplains m n old new answer × Prints (upgrade_line answer) (upgrade_status answer) code out_old out_new
+RunsAs (Some (bounding m)) code old new out_old out_new =
+    (answer : BoundAnswer) × BoundExplains m old new answer × OnlyReads old new × Prints (bound_line answer) (bound_status answer) code out_old out_new
 
 -- memory ran out before anything was written or printed
 pub record RanOut (asked : Option Asked) (code : ℕ) (old new : Shelved) (out_old out_new : Printed) : Type 0 where
@@ -70,6 +75,7 @@ CallFor (Some (planning m p c)) file status = FileCallsFor (file m) status
 CallFor (Some (judging m p)) file status = JudgeCallsFor (file m) (file p) status
 CallFor (Some (checking m p c)) file status = CheckCallsFor (file m) (file p) (file c) status
 CallFor (Some (upgrading m n)) file status = UpgradeCallsFor (file m) status
+CallFor (Some (bounding m)) file status = BoundCallsFor (file m) status
 
 -- `check` of these files calls for 0, and for no other status
 pub record CallsForZero (after : Files) (model_file plan_file certificate_file : List ℕ) : Type 0 where
@@ -77,7 +83,7 @@ pub record CallsForZero (after : Files) (model_file plan_file certificate_file :
   pub alone : (status : ℕ) → CallFor (Some (checking model_file plan_file certificate_file)) after status → status ≡ 0
 
 -- ---- how many bytes are read
--- two files within the limit, and where a certificate is checked three passes over its file
+-- two files within the limit, one where a model is bounded, and where a certificate is checked three passes over its file besides
 abbrev pub most_given : Option Asked → ℕ
 most_given None = 2 * (file_limit + piece_size)
 most_given (Some version) = 2 * (file_limit + piece_size)
@@ -85,6 +91,7 @@ most_given (Some (planning m p c)) = 2 * (file_limit + piece_size)
 most_given (Some (judging m p)) = 2 * (file_limit + piece_size)
 most_given (Some (checking m p c)) = 2 * (file_limit + piece_size) + 3 * pass_size
 most_given (Some (upgrading m n)) = 2 * (file_limit + piece_size)
+most_given (Some (bounding m)) = file_limit + piece_size
 
 -- no call on files or output failed
 pub record HadNoFault (old new : Shelved) (out_old out_new : Printed) : Type 0 where
@@ -97,6 +104,10 @@ pub record HadNoFault (old new : Shelved) (out_old out_new : Printed) : Type 0 w
 pub record IsNoCommand (asked : Option Asked) (out_old out_new : Printed) : Type 0 where
   pub is : asked ≡ None
   pub line : Gains refused_line out_old out_new
+
+-- no plan is feasible: `plan` finds it, or `bound` does since no point meets the base rows
+abbrev pub IsInfeasible : Option Asked → Files → Files → Printed → Printed → Type 0
+IsInfeasible asked before after out_old out_new = FindsNoPlan asked before after out_old out_new ⊎ FindsNoPoint asked before out_old out_new
 
 -- a plan that was judged, or a certificate that was checked, has a fault, and the line names the first
 abbrev pub IsFaulty : Option Asked → Files → Printed → Printed → Type 0
@@ -114,6 +125,7 @@ StopsFor (Some (planning m p c)) old new why = ModelExplains m old new why
 StopsFor (Some (judging m p)) old new why = FilesStop m p old new why
 StopsFor (Some (checking m p c)) old new why = CheckStops m p c old new why
 StopsFor (Some (upgrading m n)) old new why = FirstExplains m old new why
+StopsFor (Some (bounding m)) old new why = ModelExplains m old new why
 
 -- they did for this cause, and the line names it
 pub record Stops (asked : Option Asked) (old new : Shelved) (out_old out_new : Printed) (why : ReadAnswer) : Type 0 where

@@ -6,6 +6,7 @@ use Rattle.lotplan.specs.declared.status.Status.TheVariants as status
 abbrev pub code_of : Status → ℕ
 code_of status.Done = 0
 code_of status.NoPlan = 1
+code_of status.Undecided = 2
 code_of status.Faulty = 3
 code_of status.NoCommand = 4
 code_of status.Refused = 5

@@ -40,7 +40,7 @@ const BY_A_BLOCK_CUT: &str = "lotcert 1\nclaim optimal 28\ncuts 1\n\
     block 1 f 100 20 g 0 0 h 1 1 b 2 2 p 28 28\nlinear 1 1\npart cut 1 1\nend\n";
 
 // A shop that has less time than its demand takes, and the certificate that no plan is feasible.
-const SHORT_SHOP: &str =
+pub const SHORT_SHOP: &str =
     "version = 1\nperiods = 1\n[[resource]]\nname = \"m\"\ncapacity = 9\n[[item]]\nname = \"A\"\ndemand = [10]\nuses = [{ resource = \"m\", unit = 1, setup = 0 }]\n";
 
 const BY_CAPACITY: &str = "lotcert 1\nclaim infeasible\ncuts 0\nfarkas 2\npart balance 1 1 1\n\

@@ -16,6 +16,8 @@ pub enum Command<'a> {
     Check(Names<'a>),
     /// To write a model of the first version as one of the newest.
     Upgrade(UpgradeNames<'a>),
+    /// To bound the cost of all plans of the model in the file of this name.
+    Bound(&'a str),
 }
 
 /// The names of the files of a plan or of a check, no two of them the same.
@@ -96,6 +98,14 @@ pub fn read_words<'a>(words: &'a [String]) -> Option<Command<'a>>
 {
     match words {
         [] => Some(Command::Name),
+        [word, model] => {
+            let model = model.as_str();
+            if word.as_str() == "bound" && is_file_name(model) {
+                Some(Command::Bound(model))
+            } else {
+                None
+            }
+        }
         [word, model, other] => {
             let (model, other) = (model.as_str(), other.as_str());
             if word.as_str() == "judge" && are_two_names(model, other) {

@@ -1,4 +1,5 @@
 // The commands, a file each.
+pub mod bound;
 pub mod check;
 pub mod judge;
 pub mod plan;

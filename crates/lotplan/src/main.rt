@@ -1,8 +1,8 @@
 //! `lotplan`: plans lots in whole numbers, with proof that no plan costs less.
 //!
 //! `main` gives the command line, the machine's files and standard output to `run`, and ends with
-//! its status. `run` reads the words, plans, judges, checks or upgrades, writes and prints; what each status
-//! means is its contract. So far models are planned in which no item takes time on a resource, goes
+//! its status. `run` reads the words, plans, judges, checks, upgrades or bounds, writes and prints; what each
+//! status means is its contract. So far models are planned in which no item takes time on a resource, goes
 //! into another, or has a lead time or a bound on its lots.
 #![tactic(auto)]
 
@@ -55,6 +55,8 @@ fn refuse_words<K: Sink>(out: &mut K) -> u8
     }
 }
 
+#[cfg(test)]
+mod bound_tests;
 #[cfg(test)]
 mod check_tests;
 #[cfg(test)]

@@ -2,16 +2,18 @@
 ghost use Rattle.std.specs.Prelude.{◌≡◌, ◌≢◌, ◌⊎◌, ◌≤◌, ◌+◌, ℕ, List, IsTrue, Some, None, map, string_bytes, IfOk, OnErr};
 ghost use Rattle.lot_draft.specs.declared.fault.ModelFault.{ModelFault};
 ghost use Rattle.lot_io.specs.Outside.{GrewBy, OnlyReads, Rose};
-ghost use Rattle.lotplan.specs.Command.{checking, command_of, judging, planning, upgrading};
+ghost use Rattle.lotplan.specs.Command.{bounding, checking, command_of, judging, planning, upgrading};
 ghost use Rattle.lotplan.specs.Saying.{Ends};
 ghost use Rattle.lotplan.specs.Reading.{missing, refused, too_long, unread};
-ghost use Rattle.lotplan.specs.Planning.{CannotPlan, FindsNoPlan, PlansBest, StartsAtMost, StartsAtMostBoth, StartsOnly};
+ghost use Rattle.lotplan.specs.Planning.{CannotPlan, PlansBest, StartsAtMost, StartsAtMostBoth, StartsOnly};
 ghost use Rattle.lotplan.specs.Judging.{FindsFeasible};
 ghost use Rattle.lotplan.specs.Checking.{Accepts};
 ghost use Rattle.lotplan.specs.Upgrading.{Upgrades};
-ghost use Rattle.lotplan.specs.Run.{CallFor, CallsForZero, CannotWrite, HadNoFault, IsFaulty, IsNoCommand, IsRun, Leaves, SaysFor, Stops, most_given};
+ghost use Rattle.lotplan.specs.Bounding.{FindsBound, FindsNoBound};
+ghost use Rattle.lotplan.specs.Run.{CallFor, CallsForZero, CannotWrite, HadNoFault, IsFaulty, IsInfeasible, IsNoCommand, IsRun, Leaves, SaysFor, Stops, most_given};
 
 use crate::command::{Command, read_words};
+use crate::commands::bound::bound_files;
 use crate::commands::check::check_files;
 use crate::commands::judge::judge_files;
 use crate::commands::plan::plan_files;
@@ -25,13 +27,13 @@ use std::alloc::{AllocError, Global};
 /// Does what the words ask for, prints a line, or three of a plan, and gives the number of the status.
 ///
 /// `words` are those after the program's name: none for the program's name and version,
-/// `plan MODEL PLAN CERTIFICATE`, `judge MODEL PLAN`, `check MODEL PLAN CERTIFICATE` or `upgrade MODEL NEW`. The numbers
-/// are 0 done, 1 no plan is feasible, 3 the plan file holds no plan or one that breaks a rule, or the
-/// certificate is refused, 4 no command, 5 the model is refused, 6 a file is absent, 7 it could not be
-/// read, 8 it could not be written, 9 the lines could not be printed, 10 out of memory, 11 a file is longer
-/// than 16,777,216 bytes, or a certificate file than 2^63 - 1, 12 the model can't be planned yet. All
-/// memory is taken before the first write. `plan` writes the plan file before the certificate file, and on
-/// status 1 the certificate file alone.
+/// `plan MODEL PLAN CERTIFICATE`, `judge MODEL PLAN`, `check MODEL PLAN CERTIFICATE`, `upgrade MODEL NEW` or `bound MODEL`.
+/// The numbers are 0 done, 1 no plan is feasible, 2 the bound was not found, 3 the plan file holds no plan or one
+/// that breaks a rule, or the certificate is refused, 4 no command, 5 the model is refused, 6 a file is absent, 7 it
+/// could not be read, 8 it could not be written, 9 the lines could not be printed, 10 out of memory, 11 a file is
+/// longer than 16,777,216 bytes, or a certificate file than 2^63 - 1, 12 the model can't be planned yet. All memory is
+/// taken before the first write. `plan` writes the plan file before the certificate file, and on status 1 the
+/// certificate file alone.
 ///
 /// What is said of counts holds over every shelf and sink, the machine's own too; what is said of
 /// contents holds where they are told.
@@ -64,15 +66,22 @@ pub fn run<S: Shelf, K: Sink>(alloc: Global, words: &[String], shelf: &mut S, ou
         → IsTrue (S.shown shelf.old).told
         → Upgrades (S.shown shelf.old).file (S.shown shelf.new).file m n (K.shown out.old) (K.shown out.new) }
 
+    // After `bound` with status 0 the number on the line is the base bound of the problem, and no plan costs less.
+    ensures bounded { (m : List ℕ) → command_of (map string_bytes words.now) ≡ Some (bounding m) → result ≡ 0
+        → IsTrue (S.shown shelf.old).told
+        → FindsBound (S.shown shelf.old).file m (K.shown out.old) (K.shown out.new) }
+
     // Without a fault the status is 10, or exactly what the words and the files call for.
     ensures called_for { IsTrue (S.shown shelf.old).told
         → HadNoFault (S.shown shelf.old) (S.shown shelf.new) (K.shown out.old) (K.shown out.new)
         → (result ≡ 10) ⊎ CallFor (command_of (map string_bytes words.now)) (S.shown shelf.old).file result }
 
-    // The cause of each other status, and its lines. On status 1 the certificate file proves that there is no
-    // plan, and the plan file is as it was.
+    // The cause of each other status, and its lines. On status 1 there is no plan; after `plan` the certificate file
+    // proves it, and the plan file is as it was.
     ensures infeasible { result ≡ 1 → IsTrue (S.shown shelf.old).told
-        → FindsNoPlan (command_of (map string_bytes words.now)) (S.shown shelf.old).file (S.shown shelf.new).file (K.shown out.old) (K.shown out.new) }
+        → IsInfeasible (command_of (map string_bytes words.now)) (S.shown shelf.old).file (S.shown shelf.new).file (K.shown out.old) (K.shown out.new) }
+    ensures undecided { result ≡ 2 → IsTrue (S.shown shelf.old).told
+        → FindsNoBound (command_of (map string_bytes words.now)) (S.shown shelf.old).file (K.shown out.old) (K.shown out.new) }
     ensures faulty { result ≡ 3 → IsTrue (S.shown shelf.old).told
         → IsFaulty (command_of (map string_bytes words.now)) (S.shown shelf.old).file (K.shown out.old) (K.shown out.new) }
     ensures no_command { result ≡ 4 → IsNoCommand (command_of (map string_bytes words.now)) (K.shown out.old) (K.shown out.new) }
@@ -106,8 +115,10 @@ pub fn run<S: Shelf, K: Sink>(alloc: Global, words: &[String], shelf: &mut S, ou
         → OnlyReads (S.shown shelf.old) (S.shown shelf.new) }
     ensures check_only_reads { (m p c : List ℕ) → command_of (map string_bytes words.now) ≡ Some (checking m p c)
         → OnlyReads (S.shown shelf.old) (S.shown shelf.new) }
+    ensures bound_only_reads { (m : List ℕ) → command_of (map string_bytes words.now) ≡ Some (bounding m)
+        → OnlyReads (S.shown shelf.old) (S.shown shelf.new) }
 
-    // What is read: nothing for words that are no command, at most two files within the limit, and by
+    // What is read: nothing for words that are no command, at most two files within the limit, by `bound` one, and by
     // `check` three times a certificate file.
     ensures idle { command_of (map string_bytes words.now) ≡ None → S.shown shelf.new ≡ S.shown shelf.old }
     ensures given { (S.shown shelf.new).given ≤ (S.shown shelf.old).given + most_given (command_of (map string_bytes words.now)) }
@@ -159,5 +170,6 @@ fn said<S: Shelf>(alloc: Global, words: &[String], shelf: &mut S) -> Result<Said
             check_files(alloc, names.model, names.plan, names.certificate, shelf)
         }
         Some(Command::Upgrade(names)) => upgrade_files(alloc, names.model, names.upgraded, shelf),
+        Some(Command::Bound(model)) => bound_files(alloc, model, shelf),
     }
 }

@@ -9,6 +9,8 @@ pub enum Status {
     Done,
     /// No plan is feasible.
     NoPlan,
+    /// What was looked for was not found.
+    Undecided,
     /// The plan file holds no plan, or one that breaks a rule, or the certificate is refused.
     Faulty,
     /// The words are no command.
@@ -39,6 +41,7 @@ impl Status {
         match self {
             Status::Done => 0,
             Status::NoPlan => 1,
+            Status::Undecided => 2,
             Status::Faulty => 3,
             Status::NoCommand => 4,
             Status::Refused => 5,

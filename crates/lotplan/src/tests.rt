@@ -634,7 +634,7 @@ fn a_judgement_names_the_file_that_is_absent(rt: HostRuntime) -> Result<(), Fail
 #[test]
 fn words_are_refused(rt: HostRuntime) -> Result<(), Fail> {
     let alloc = rt.alloc();
-    let cases: [(&[&str], u8, &str); 18] = [
+    let cases: [(&[&str], u8, &str); 21] = [
         (&[], 0, "lotplan 1\n"),
         (&["judge", "m", "m"], 4, "refused words\n"),
         (&["judge", "m", "p", "c"], 4, "refused words\n"),
@@ -653,6 +653,9 @@ fn words_are_refused(rt: HostRuntime) -> Result<(), Fail> {
         (&["upgrade", "m", "m"], 4, "refused words\n"),
         (&["upgrade", "m", "n", "c"], 4, "refused words\n"),
         (&["plan", "m", "p", "c", "--nodes"], 4, "refused words\n"),
+        (&["bound"], 4, "refused words\n"),
+        (&["bound", "-m"], 4, "refused words\n"),
+        (&["bound", "m", "p"], 4, "refused words\n"),
     ];
     for (words, status, line) in cases {
         let mut shelf = shelf_with(alloc, TEN.as_bytes(), &[], &[], &[])?;

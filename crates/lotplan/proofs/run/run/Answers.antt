@@ -1,7 +1,7 @@
 use Rattle.std.proofs.Common.{map, string_bytes}
 use Rattle.lotplan.specs.Command.{command_of}
 use Rattle.lotplan.proofs.Words.{planned_apart}
-use Rattle.lotplan.proofs.Explained.{accepts, called, check_reads, checks, fails_to_read, faulty, feasible, idle, infeasible, is_long, is_run, judge_reads, misses, no_command, not_built, optimal, others, quiet, refuses, silent, tells, unprinted, unwritten, upgrade_others, upgrades, rewrote, wrote, wrote_one}
+use Rattle.lotplan.proofs.Explained.{accepts, bound_reads, bounds, called, check_reads, checks, fails_to_read, faulty, feasible, idle, infeasible, is_long, is_run, judge_reads, misses, no_command, not_built, optimal, others, quiet, refuses, silent, tells, undecided, unprinted, unwritten, upgrade_others, upgrades, rewrote, wrote, wrote_one}
 use Rattle.lotplan.proofs.run.run.Goals as goal
 
 pub returns-clause-run : goal.returns-clause-run
@@ -87,3 +87,12 @@ returns-clause-rewrote g c = rewrote (command_of (map string_bytes c.args.words.
 
 pub returns-clause-upgrade_others : goal.returns-clause-upgrade_others
 returns-clause-upgrade_others g c = upgrade_others (command_of (map string_bytes c.args.words.now)) c.end_with.result (g.S.Shelf.shown c.args.shelf.now) (g.S.Shelf.shown c.said-said.new.shelf) (g.K.Sink.shown c.args.out.now) (g.K.Sink.shown c.end_with.new.out) (is_run (command_of (map string_bytes c.args.words.now)) c.end_with.result (g.S.Shelf.shown c.args.shelf.now) (g.S.Shelf.shown c.said-said.new.shelf) (g.K.Sink.shown c.args.out.now) (g.K.Sink.shown c.end_with.new.out) c.said-said.result c.said-said.ensures.said c.said-said.ensures.memory c.end_with.ensures.ends)
+
+pub returns-clause-bounded : goal.returns-clause-bounded
+returns-clause-bounded g c = bounds (command_of (map string_bytes c.args.words.now)) c.end_with.result (g.S.Shelf.shown c.args.shelf.now) (g.S.Shelf.shown c.said-said.new.shelf) (g.K.Sink.shown c.args.out.now) (g.K.Sink.shown c.end_with.new.out) (is_run (command_of (map string_bytes c.args.words.now)) c.end_with.result (g.S.Shelf.shown c.args.shelf.now) (g.S.Shelf.shown c.said-said.new.shelf) (g.K.Sink.shown c.args.out.now) (g.K.Sink.shown c.end_with.new.out) c.said-said.result c.said-said.ensures.said c.said-said.ensures.memory c.end_with.ensures.ends)
+
+pub returns-clause-undecided : goal.returns-clause-undecided
+returns-clause-undecided g c = undecided (command_of (map string_bytes c.args.words.now)) c.end_with.result (g.S.Shelf.shown c.args.shelf.now) (g.S.Shelf.shown c.said-said.new.shelf) (g.K.Sink.shown c.args.out.now) (g.K.Sink.shown c.end_with.new.out) (is_run (command_of (map string_bytes c.args.words.now)) c.end_with.result (g.S.Shelf.shown c.args.shelf.now) (g.S.Shelf.shown c.said-said.new.shelf) (g.K.Sink.shown c.args.out.now) (g.K.Sink.shown c.end_with.new.out) c.said-said.result c.said-said.ensures.said c.said-said.ensures.memory c.end_with.ensures.ends)
+
+pub returns-clause-bound_only_reads : goal.returns-clause-bound_only_reads
+returns-clause-bound_only_reads g c = bound_reads (command_of (map string_bytes c.args.words.now)) c.end_with.result (g.S.Shelf.shown c.args.shelf.now) (g.S.Shelf.shown c.said-said.new.shelf) (g.K.Sink.shown c.args.out.now) (g.K.Sink.shown c.end_with.new.out) (is_run (command_of (map string_bytes c.args.words.now)) c.end_with.result (g.S.Shelf.shown c.args.shelf.now) (g.S.Shelf.shown c.said-said.new.shelf) (g.K.Sink.shown c.args.out.now) (g.K.Sink.shown c.end_with.new.out) c.said-said.result c.said-said.ensures.said c.said-said.ensures.memory c.end_with.ensures.ends)

@@ -1,0 +1,145 @@
+-- What `bound` answers, and why.
+use Rattle.std.specs.Prelude.{◌≡◌, ◌⊎◌, ◌<◌, ◌≤◌, ◌*◌, ◌^◌, ℕ, List, ◌++◌, length, codes, decimal, IsTrue, Option, Some, None, Ok, Err, ⊤}
+use Rattle.lot_sizing.specs.Problem.{Problem}
+use Rattle.lot_sizing.specs.Best.{IsFloor, IsImpossible}
+use Rattle.lot_io.specs.Outside.{Files, Printed, Shelved}
+use Rattle.lot_draft.specs.declared.fault.ModelFault.{ModelFault}
+use Rattle.instance_reader.specs.Model.{BytesMean}
+use Rattle.tableau.specs.declared.outcome.Outcome.TheVariants as outcome
+use Rattle.tableau.specs.Program.{Program}
+use Rattle.tableau.specs.Stepwise.{IsEndOf}
+use Rattle.base_bound.specs.Bounds.{HasFewCells, HasNoBasePoint, IsBaseBound, IsBaseProgram, cell_count}
+use Rattle.lotplan.specs.Command.{Asked, bounding}
+use Rattle.lotplan.specs.Reading.{ModelExplains, OfModel, ReadAnswer, file_limit, read_line, read_status}
+use Rattle.lotplan.specs.Saying.{Gains, IsSaid}
+use Rattle.lotplan.specs.declared.said.Said.{Said}
+use Rattle.lotplan.specs.declared.status.Status.{Status}
+use Rattle.lotplan.specs.declared.status.Status.TheVariants as status
+
+-- ---- answers
+pub data BoundAnswer : Type 0 where
+  -- this is the base bound
+  bound : ℕ → BoundAnswer
+  -- no point meets all base rows
+  empty : BoundAnswer
+  -- the tableau is too large
+  skipped : BoundAnswer
+  -- a number of the run doesn't fit 128 bits
+  passed : BoundAnswer
+  -- the model file gave no problem
+  stopped : ReadAnswer → BoundAnswer
+
+abbrev pub bound_status : BoundAnswer → Status
+bound_status (bound n) = status.Done
+bound_status empty = status.NoPlan
+bound_status skipped = status.Undecided
+bound_status passed = status.Undecided
+bound_status (stopped why) = read_status why
+
+abbrev pub bound_line : BoundAnswer → List ℕ
+bound_line (bound n) = codes "bound " ++ (decimal n ++ codes "\n")
+bound_line empty = codes "empty\n"
+bound_line skipped = codes "skipped\n"
+bound_line passed = codes "passed\n"
+bound_line (stopped why) = read_line why
+
+-- ---- causes
+-- of the points that meet all base rows the least cost, rounded up, is n, and no plan costs less
+pub record HasBaseBound (problem : Problem) (n : ℕ) : Type 0 where
+  pub bound : IsBaseBound problem n
+  pub floor : IsFloor problem n
+  pub few : HasFewCells problem
+
+-- there is no such point, and no plan
+pub record HasNoPoint (problem : Problem) : Type 0 where
+  pub none : HasNoBasePoint problem
+  pub impossible : IsImpossible problem
+  pub few : HasFewCells problem
+
+-- the tableau of the base rows has more than two million cells
+abbrev pub HasManyCells : Problem → Type 0
+HasManyCells problem = (p : Program) × IsBaseProgram problem p × (2 * 10 ^ 6 < cell_count p)
+
+-- it has fewer, and the exact run by the least-index rule comes to a number that doesn't fit 128 bits
+pub record RunPasses (problem : Problem) : Type 0 where
+  pub program : Program
+  pub base : IsBaseProgram problem program
+  pub pivot : ℕ
+  pub row : ℕ
+  pub column : ℕ
+  pub passes : IsEndOf program (outcome.Passed pivot row column)
+  pub few : HasFewCells problem
+
+-- what is known of the base bound of a problem
+abbrev pub IsBounded : Problem → BoundAnswer → Type 0
+IsBounded problem (bound n) = HasBaseBound problem n
+IsBounded problem empty = HasNoPoint problem
+IsBounded problem skipped = HasManyCells problem
+IsBounded problem passed = RunPasses problem
+IsBounded problem (stopped why) = ⊥
+
+-- the model file means a problem of which this is known
+abbrev pub ModelIsBounded : Files → List ℕ → BoundAnswer → Type 0
+ModelIsBounded before m answer = OfModel before m (λ problem. IsBounded problem answer)
+
+-- why bounding the model in this file ends in this answer
+abbrev pub BoundExplains : List ℕ → Shelved → Shelved → BoundAnswer → Type 0
+BoundExplains m old new (bound n) = IsTrue old.told → ModelIsBounded old.file m (bound n)
+BoundExplains m old new empty = IsTrue old.told → ModelIsBounded old.file m empty
+BoundExplains m old new skipped = IsTrue old.told → ModelIsBounded old.file m skipped
+BoundExplains m old new passed = IsTrue old.told → ModelIsBounded old.file m passed
+BoundExplains m old new (stopped why) = ModelExplains m old new why
+
+-- what is said is an answer that has its cause
+abbrev pub BoundIsSaid : List ℕ → Shelved → Shelved → Said → Type 0
+BoundIsSaid m old new said = (answer : BoundAnswer) × BoundExplains m old new answer × IsSaid (bound_line answer) (bound_status answer) said
+
+-- ---- the status that the model file calls for, faults and want of memory aside
+-- for a problem 0 where it has a base bound, 1 where no point meets the base rows, 2 where the tableau is too large, or a number of the run doesn't fit
+abbrev pub BoundedCallsFor : Problem → ℕ → Type 0
+BoundedCallsFor problem status =
+    (((n : ℕ) × HasBaseBound problem n) × (status ≡ 0))
+    ⊎ ((HasNoPoint problem × (status ≡ 1)) ⊎ ((HasManyCells problem × (status ≡ 2)) ⊎ (RunPasses problem × (status ≡ 2))))
+
+abbrev pub BoundCallsFor : Option (List ℕ) → ℕ → Type 0
+BoundCallsFor None status = status ≡ 6
+BoundCallsFor (Some bytes) status =
+    ((file_limit < length bytes) × (status ≡ 11))
+    ⊎ ((length bytes ≤ file_limit)
+    × (((problem : Problem) × BytesMean bytes (Ok problem) × BoundedCallsFor problem status) ⊎ ((fault : ModelFault) × BytesMean bytes (Err fault) × (status ≡ 5))))
+
+-- the file means a problem whose run comes to a number that doesn't fit, so that 2 is called for, beside what is known of the base bound
+abbrev pub MayPass : Option (List ℕ) → Type 0
+MayPass None = ⊥
+MayPass (Some bytes) = (problem : Problem) × BytesMean bytes (Ok problem) × RunPasses problem
+
+-- ---- what each status says
+-- the model file means a problem with this base bound, and the line has it
+pub record FindsBound (before : Files) (model_file : List ℕ) (out_old out_new : Printed) : Type 0 where
+  pub n : ℕ
+  pub holds : ModelIsBounded before model_file (bound n)
+  pub line : Gains (bound_line (bound n)) out_old out_new
+
+-- they ask to bound one without a point, and the line says so
+pub record FindsNoPoint (asked : Option Asked) (before : Files) (out_old out_new : Printed) : Type 0 where
+  pub model_file : List ℕ
+  pub words : asked ≡ Some (bounding model_file)
+  pub holds : ModelIsBounded before model_file empty
+  pub line : Gains (bound_line empty) out_old out_new
+
+-- no bound and no such point was looked for, or found
+abbrev pub IsUndecided : BoundAnswer → Type 0
+IsUndecided (bound n) = ⊥
+IsUndecided empty = ⊥
+IsUndecided skipped = ⊤
+IsUndecided passed = ⊤
+IsUndecided (stopped why) = ⊥
+
+-- they ask to bound one whose tableau is too large, or whose run comes to a number that doesn't fit, and the line says which
+pub record FindsNoBound (asked : Option Asked) (before : Files) (out_old out_new : Printed) : Type 0 where
+  pub model_file : List ℕ
+  pub words : asked ≡ Some (bounding model_file)
+  pub answer : BoundAnswer
+  pub undecided : IsUndecided answer
+  pub holds : ModelIsBounded before model_file answer
+  pub line : Gains (bound_line answer) out_old out_new
