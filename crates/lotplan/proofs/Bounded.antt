@@ -57,16 +57,15 @@ pub record IsBounding (code : ℕ) : Type 0 where
   pub three : code ≡ 3 → ⊥
   pub four : code ≡ 4 → ⊥
   pub eight : code ≡ 8 → ⊥
-  pub twelve : code ≡ 12 → ⊥
 
 pub numbers : (answer : BoundAnswer) (code : ℕ) → code ≡ code_of (bound_status answer) → IsBounding code
-numbers (bound n) code is = record { three = λ e. omega (arith, is, e); four = λ e. omega (arith, is, e); eight = λ e. omega (arith, is, e); twelve = λ e. omega (arith, is, e) }
-numbers empty code is = record { three = λ e. omega (arith, is, e); four = λ e. omega (arith, is, e); eight = λ e. omega (arith, is, e); twelve = λ e. omega (arith, is, e) }
-numbers skipped code is = record { three = λ e. omega (arith, is, e); four = λ e. omega (arith, is, e); eight = λ e. omega (arith, is, e); twelve = λ e. omega (arith, is, e) }
-numbers passed code is = record { three = λ e. omega (arith, is, e); four = λ e. omega (arith, is, e); eight = λ e. omega (arith, is, e); twelve = λ e. omega (arith, is, e) }
+numbers (bound n) code is = record { three = λ e. omega (arith, is, e); four = λ e. omega (arith, is, e); eight = λ e. omega (arith, is, e) }
+numbers empty code is = record { three = λ e. omega (arith, is, e); four = λ e. omega (arith, is, e); eight = λ e. omega (arith, is, e) }
+numbers skipped code is = record { three = λ e. omega (arith, is, e); four = λ e. omega (arith, is, e); eight = λ e. omega (arith, is, e) }
+numbers passed code is = record { three = λ e. omega (arith, is, e); four = λ e. omega (arith, is, e); eight = λ e. omega (arith, is, e) }
 numbers (stopped why) code is =
     let r = reading why code is in
-    record { three = λ e. omega (arith, r.low, e); four = λ e. omega (arith, r.low, e); eight = r.other; twelve = λ e. omega (arith, r.high, e) }
+    record { three = λ e. omega (arith, r.low, e); four = λ e. omega (arith, r.low, e); eight = r.other }
 
 -- ---- what the model file calls for
 module _ (m : List ℕ) (code : ℕ) (old : Shelved) where

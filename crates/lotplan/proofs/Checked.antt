@@ -227,16 +227,15 @@ pub record IsChecking (code : ℕ) : Type 0 where
   pub two : code ≡ 2 → ⊥
   pub four : code ≡ 4 → ⊥
   pub eight : code ≡ 8 → ⊥
-  pub twelve : code ≡ 12 → ⊥
 
 pub numbers : (answer : CheckAnswer) (code : ℕ) → code ≡ code_of (check_status answer) → IsChecking code
-numbers (accepted claim) code is = record { one = λ e. omega (arith, is, e); two = λ e. omega (arith, is, e); four = λ e. omega (arith, is, e); eight = λ e. omega (arith, is, e); twelve = λ e. omega (arith, is, e) }
-numbers (no_certificate fault) code is = record { one = λ e. omega (arith, is, e); two = λ e. omega (arith, is, e); four = λ e. omega (arith, is, e); eight = λ e. omega (arith, is, e); twelve = λ e. omega (arith, is, e) }
-numbers (no_plan fault) code is = record { one = λ e. omega (arith, is, e); two = λ e. omega (arith, is, e); four = λ e. omega (arith, is, e); eight = λ e. omega (arith, is, e); twelve = λ e. omega (arith, is, e) }
-numbers (rejected at w) code is = record { one = λ e. omega (arith, is, e); two = λ e. omega (arith, is, e); four = λ e. omega (arith, is, e); eight = λ e. omega (arith, is, e); twelve = λ e. omega (arith, is, e) }
+numbers (accepted claim) code is = record { one = λ e. omega (arith, is, e); two = λ e. omega (arith, is, e); four = λ e. omega (arith, is, e); eight = λ e. omega (arith, is, e) }
+numbers (no_certificate fault) code is = record { one = λ e. omega (arith, is, e); two = λ e. omega (arith, is, e); four = λ e. omega (arith, is, e); eight = λ e. omega (arith, is, e) }
+numbers (no_plan fault) code is = record { one = λ e. omega (arith, is, e); two = λ e. omega (arith, is, e); four = λ e. omega (arith, is, e); eight = λ e. omega (arith, is, e) }
+numbers (rejected at w) code is = record { one = λ e. omega (arith, is, e); two = λ e. omega (arith, is, e); four = λ e. omega (arith, is, e); eight = λ e. omega (arith, is, e) }
 numbers (stopped w) code is =
     let r = reading w code is in
-    record { one = λ e. omega (arith, r.low, e); two = λ e. omega (arith, r.low, e); four = λ e. omega (arith, r.low, e); eight = r.other; twelve = λ e. omega (arith, r.high, e) }
+    record { one = λ e. omega (arith, r.low, e); two = λ e. omega (arith, r.low, e); four = λ e. omega (arith, r.low, e); eight = r.other }
 
 -- ---- what the three files call for
 module _ (m p c : List ℕ) (code : ℕ) (old : Shelved) where

@@ -12,7 +12,7 @@ use Rattle.lotplan.specs.Status.{code_of}
 use Rattle.lotplan.specs.Saying.{Ends, Gains, Prints}
 use Rattle.lotplan.specs.Reading.{ReadAnswer, refused, missing, unread, too_long, read_status}
 use Rattle.lotplan.specs.Laws.{StatusesAreOne}
-use Rattle.lotplan.specs.Planning.{CannotPlan, PlanAnswer, PlanExplains, PlansBest, StartsAtMost, StartsAtMostBoth, StartsOnly, plan_line, plan_status}
+use Rattle.lotplan.specs.Planning.{PlanAnswer, PlanExplains, PlansBest, StartsAtMost, StartsAtMostBoth, StartsBoth, StartsOnly, plan_line, plan_status}
 use Rattle.lotplan.specs.Planning as plan
 use Rattle.lotplan.specs.Judging.{FindsFeasible, JudgeAnswer, JudgeExplains, judge_line, judge_status}
 use Rattle.lotplan.specs.Judging as judge
@@ -20,12 +20,14 @@ use Rattle.lotplan.specs.Checking.{Accepts, CheckAnswer, CheckExplains, check_li
 use Rattle.lotplan.specs.Checking as check
 use Rattle.lotplan.specs.Upgrading.{UpgradeAnswer, UpgradeExplains, Upgrades, upgrade_line, upgrade_status}
 use Rattle.lotplan.specs.Upgrading as upgrade
-use Rattle.lotplan.specs.Bounding.{BoundAnswer, BoundExplains, FindsBound, FindsNoBound, bound_line, bound_status}
+use Rattle.lotplan.specs.Bounding.{BoundAnswer, BoundExplains, FindsBound, bound_line, bound_status}
 use Rattle.lotplan.specs.Bounding as bound
-use Rattle.lotplan.specs.Run.{CallFor, CallsForZero, CannotWrite, HadNoFault, IsFaulty, IsInfeasible, IsNoCommand, IsRun, ran_out, runs, Leaves, RunsAs, SaysFor, Stops, refused_line, version_line}
+use Rattle.lotplan.specs.Run.{CallFor, CallsForZero, CannotWrite, HadNoFault, IsFaulty, IsInfeasible, IsNoCommand, IsRun, ran_out, runs, Leaves, LeavesUndecided, RunsAs, SaysFor, Stops, refused_line, version_line}
 use Rattle.lotplan.proofs.Outputs.{printed, prints_as}
 use Rattle.lotplan.proofs.Readings.{IsReading, reading, same_reads}
+use Rattle.lotplan.proofs.Planned.{EndsSearch}
 use Rattle.lotplan.proofs.Planned as planned
+use Rattle.lotplan.proofs.Words.{IsPlanned}
 use Rattle.lotplan.proofs.Judged as judged
 use Rattle.lotplan.proofs.Checked as checked
 use Rattle.lotplan.proofs.Upgraded as upgraded
@@ -35,7 +37,7 @@ use Rattle.lotplan.proofs.Bounded as bounded
 runs_as : (asked : Option Asked) (code : ℕ) (old new : Shelved) (out_old out_new : Printed) (said : Said) → SaysFor asked old new said → Ends (Ok said) code out_old out_new → RunsAs asked code old new out_old out_new
 runs_as None code old new out_old out_new said (same, says) done = (same, prints_as refused_line NoCommand said code out_old out_new says done)
 runs_as (Some version) code old new out_old out_new said (same, says) done = (same, prints_as version_line Done said code out_old out_new says done)
-runs_as (Some (planning m p c)) code old new out_old out_new said (answer, x, says) done = (answer, x, prints_as (plan_line answer) (plan_status answer) said code out_old out_new says done)
+runs_as (Some (planning m p c budget)) code old new out_old out_new said (answer, x, says) done = (answer, x, prints_as (plan_line answer) (plan_status answer) said code out_old out_new says done)
 runs_as (Some (judging m p)) code old new out_old out_new said ((answer, x, says), reads) done = (answer, x, reads, prints_as (judge_line answer) (judge_status answer) said code out_old out_new says done)
 runs_as (Some (checking m p c)) code old new out_old out_new said ((answer, x, says), reads) done = (answer, x, reads, prints_as (check_line answer) (check_status answer) said code out_old out_new says done)
 runs_as (Some (upgrading m n)) code old new out_old out_new said (answer, x, says) done = (answer, x, prints_as (upgrade_line answer) (upgrade_status answer) said code out_old out_new says done)
@@ -49,8 +51,8 @@ is_run asked code old new out_old out_new (Err e) says left done = ran_out (reco
 abbrev EndsAs : Option Asked → ℕ → Shelved → Shelved → Printed → Printed → Type 0
 EndsAs None code old new out_old out_new = (new ≡ old) × (code ≡ 4) × Gains refused_line out_old out_new
 EndsAs (Some version) code old new out_old out_new = (new ≡ old) × (code ≡ 0)
-EndsAs (Some (planning m p c)) code old new out_old out_new =
-    (answer : PlanAnswer) × PlanExplains m p c old new answer × (code ≡ code_of (plan_status answer)) × Gains (plan_line answer) out_old out_new
+EndsAs (Some (planning m p c budget)) code old new out_old out_new =
+    (answer : PlanAnswer) × PlanExplains m p c budget old new answer × (code ≡ code_of (plan_status answer)) × Gains (plan_line answer) out_old out_new
 EndsAs (Some (judging m p)) code old new out_old out_new =
     (answer : JudgeAnswer) × JudgeExplains m p old new answer × OnlyReads old new × (code ≡ code_of (judge_status answer)) × Gains (judge_line answer) out_old out_new
 EndsAs (Some (checking m p c)) code old new out_old out_new =
@@ -65,7 +67,7 @@ ends_by None code old new out_old out_new x other =
     let d = printed refused_line NoCommand code out_old out_new x.1 other in
     (x.0, d.0, d.1)
 ends_by (Some version) code old new out_old out_new x other = (x.0, (printed version_line Done code out_old out_new x.1 other).0)
-ends_by (Some (planning m p c)) code old new out_old out_new (answer, x, done) other =
+ends_by (Some (planning m p c budget)) code old new out_old out_new (answer, x, done) other =
     let d = printed (plan_line answer) (plan_status answer) code out_old out_new done other in
     (answer, x, d.0, d.1)
 ends_by (Some (judging m p)) code old new out_old out_new (answer, x, reads, done) other =
@@ -86,27 +88,36 @@ ends asked code old new out_old out_new (ran_out x) some other = absurd (some x.
 ends asked code old new out_old out_new (runs x) some other = ends_by asked code old new out_old out_new x other
 
 -- ---- what each number says
-optimal_by : (asked : Option Asked) (code : ℕ) (old new : Shelved) (out_old out_new : Printed) (m p c : List ℕ) → asked ≡ Some (planning m p c) → EndsAs asked code old new out_old out_new → code ≡ 0 → (IsTrue old.told → PlansBest old.file new.file m p c out_old out_new) × GrewBy 2 old.starts new.starts
-optimal_by asked code old new out_old out_new m p c is x zero =
+optimal_by : (asked : Option Asked) (code : ℕ) (old new : Shelved) (out_old out_new : Printed) (m p c : List ℕ) (budget : ℕ) → asked ≡ Some (planning m p c budget) → EndsAs asked code old new out_old out_new → code ≡ 0 → (IsTrue old.told → PlansBest old.file new.file m p c budget out_old out_new) × GrewBy 2 old.starts new.starts
+optimal_by asked code old new out_old out_new m p c budget is x zero =
     let (answer, why, number, line) = subst (λ a. EndsAs a code old new out_old out_new) is x in
-    planned.optimal_at m p c code old new out_old out_new answer why number line zero
+    planned.optimal_at m p c budget code old new out_old out_new answer why number line zero
 
-pub optimal : (asked : Option Asked) (code : ℕ) (old new : Shelved) (out_old out_new : Printed) → IsRun asked code old new out_old out_new → (m p c : List ℕ) → asked ≡ Some (planning m p c) → code ≡ 0 → IsTrue old.told → PlansBest old.file new.file m p c out_old out_new
-optimal asked code old new out_old out_new run m p c is zero t =
-    (optimal_by asked code old new out_old out_new m p c is (ends asked code old new out_old out_new run (λ e. omega (arith, e, zero)) (λ e. omega (arith, e, zero))) zero).0 t
+pub optimal : (asked : Option Asked) (code : ℕ) (old new : Shelved) (out_old out_new : Printed) → IsRun asked code old new out_old out_new → (m p c : List ℕ) (budget : ℕ) → asked ≡ Some (planning m p c budget) → code ≡ 0 → IsTrue old.told → PlansBest old.file new.file m p c budget out_old out_new
+optimal asked code old new out_old out_new run m p c budget is zero t =
+    (optimal_by asked code old new out_old out_new m p c budget is (ends asked code old new out_old out_new run (λ e. omega (arith, e, zero)) (λ e. omega (arith, e, zero))) zero).0 t
 
-pub wrote : (asked : Option Asked) (code : ℕ) (old new : Shelved) (out_old out_new : Printed) → IsRun asked code old new out_old out_new → (m p c : List ℕ) → asked ≡ Some (planning m p c) → code ≡ 0 → GrewBy 2 old.starts new.starts
-wrote asked code old new out_old out_new run m p c is zero =
-    (optimal_by asked code old new out_old out_new m p c is (ends asked code old new out_old out_new run (λ e. omega (arith, e, zero)) (λ e. omega (arith, e, zero))) zero).1
+pub wrote : (asked : Option Asked) (code : ℕ) (old new : Shelved) (out_old out_new : Printed) → IsRun asked code old new out_old out_new → (m p c : List ℕ) (budget : ℕ) → asked ≡ Some (planning m p c budget) → code ≡ 0 → GrewBy 2 old.starts new.starts
+wrote asked code old new out_old out_new run m p c budget is zero =
+    (optimal_by asked code old new out_old out_new m p c budget is (ends asked code old new out_old out_new run (λ e. omega (arith, e, zero)) (λ e. omega (arith, e, zero))) zero).1
 
-wrote_one_by : (asked : Option Asked) (code : ℕ) (old new : Shelved) (out_old out_new : Printed) (m p c : List ℕ) → asked ≡ Some (planning m p c) → EndsAs asked code old new out_old out_new → code ≡ 1 → StartsOnly c old new
-wrote_one_by asked code old new out_old out_new m p c is x one =
+wrote_one_by : (asked : Option Asked) (code : ℕ) (old new : Shelved) (out_old out_new : Printed) (m p c : List ℕ) (budget : ℕ) → asked ≡ Some (planning m p c budget) → EndsAs asked code old new out_old out_new → code ≡ 1 → StartsOnly c old new
+wrote_one_by asked code old new out_old out_new m p c budget is x one =
     let (answer, why, number, line) = subst (λ a. EndsAs a code old new out_old out_new) is x in
-    (planned.impossible_at m p c code old new out_old out_new answer why number line one).1
+    (planned.impossible_at m p c budget code old new out_old out_new answer why number line one).1
 
-pub wrote_one : (asked : Option Asked) (code : ℕ) (old new : Shelved) (out_old out_new : Printed) → IsRun asked code old new out_old out_new → (m p c : List ℕ) → asked ≡ Some (planning m p c) → code ≡ 1 → StartsOnly c old new
-wrote_one asked code old new out_old out_new run m p c is one =
-    wrote_one_by asked code old new out_old out_new m p c is (ends asked code old new out_old out_new run (λ e. omega (arith, e, one)) (λ e. omega (arith, e, one))) one
+pub wrote_one : (asked : Option Asked) (code : ℕ) (old new : Shelved) (out_old out_new : Printed) → IsRun asked code old new out_old out_new → (m p c : List ℕ) (budget : ℕ) → asked ≡ Some (planning m p c budget) → code ≡ 1 → StartsOnly c old new
+wrote_one asked code old new out_old out_new run m p c budget is one =
+    wrote_one_by asked code old new out_old out_new m p c budget is (ends asked code old new out_old out_new run (λ e. omega (arith, e, one)) (λ e. omega (arith, e, one))) one
+
+wrote_some_by : (asked : Option Asked) (code : ℕ) (old new : Shelved) (out_old out_new : Printed) (m p c : List ℕ) (budget : ℕ) → asked ≡ Some (planning m p c budget) → EndsAs asked code old new out_old out_new → code ≡ 2 → StartsBoth p c old new ⊎ StartsOnly c old new
+wrote_some_by asked code old new out_old out_new m p c budget is x two =
+    let (answer, why, number, line) = subst (λ a. EndsAs a code old new out_old out_new) is x in
+    (planned.open_at m p c budget code old new out_old out_new answer why number line two).1
+
+pub wrote_some : (asked : Option Asked) (code : ℕ) (old new : Shelved) (out_old out_new : Printed) → IsRun asked code old new out_old out_new → (m p c : List ℕ) (budget : ℕ) → asked ≡ Some (planning m p c budget) → code ≡ 2 → StartsBoth p c old new ⊎ StartsOnly c old new
+wrote_some asked code old new out_old out_new run m p c budget is two =
+    wrote_some_by asked code old new out_old out_new m p c budget is (ends asked code old new out_old out_new run (λ e. omega (arith, e, two)) (λ e. omega (arith, e, two))) two
 
 pub feasible : (asked : Option Asked) (code : ℕ) (old new : Shelved) (out_old out_new : Printed) → IsRun asked code old new out_old out_new → (m p : List ℕ) → asked ≡ Some (judging m p) → code ≡ 0 → IsTrue old.told → FindsFeasible old.file m p out_old out_new
 feasible asked code old new out_old out_new run m p is zero t =
@@ -139,8 +150,8 @@ bounds asked code old new out_old out_new run m is none t =
 infeasible_by : (asked : Option Asked) (code : ℕ) (old new : Shelved) (out_old out_new : Printed) → EndsAs asked code old new out_old out_new → code ≡ 1 → IsTrue old.told → IsInfeasible asked old.file new.file out_old out_new
 infeasible_by None code old new out_old out_new x one t = absurd (omega (arith, x.1, one))
 infeasible_by (Some version) code old new out_old out_new x one t = absurd (omega (arith, x.1, one))
-infeasible_by (Some (planning m p c)) code old new out_old out_new (answer, why, number, line) one t =
-    inl ((planned.impossible_at m p c code old new out_old out_new answer why number line one).0 t)
+infeasible_by (Some (planning m p c budget)) code old new out_old out_new (answer, why, number, line) one t =
+    inl ((planned.impossible_at m p c budget code old new out_old out_new answer why number line one).0 t)
 infeasible_by (Some (judging m p)) code old new out_old out_new (answer, why, reads, number, line) one t = absurd ((judged.numbers answer code number).one one)
 infeasible_by (Some (checking m p c)) code old new out_old out_new (answer, why, reads, number, line) one t = absurd ((checked.numbers answer code number).one one)
 infeasible_by (Some (upgrading m n)) code old new out_old out_new (answer, why, number, line) one t = absurd ((upgraded.numbers answer code number).one one)
@@ -149,35 +160,22 @@ infeasible_by (Some (bounding m)) code old new out_old out_new (answer, why, rea
 pub infeasible : (asked : Option Asked) (code : ℕ) (old new : Shelved) (out_old out_new : Printed) → IsRun asked code old new out_old out_new → code ≡ 1 → IsTrue old.told → IsInfeasible asked old.file new.file out_old out_new
 infeasible asked code old new out_old out_new run is t = infeasible_by asked code old new out_old out_new (ends asked code old new out_old out_new run (λ e. omega (arith, e, is)) (λ e. omega (arith, e, is))) is t
 
-undecided_by : (asked : Option Asked) (code : ℕ) (old new : Shelved) (out_old out_new : Printed) → EndsAs asked code old new out_old out_new → code ≡ 2 → IsTrue old.told → FindsNoBound asked old.file out_old out_new
+undecided_by : (asked : Option Asked) (code : ℕ) (old new : Shelved) (out_old out_new : Printed) → EndsAs asked code old new out_old out_new → code ≡ 2 → IsTrue old.told → LeavesUndecided asked old.file new.file out_old out_new
 undecided_by None code old new out_old out_new x two t = absurd (omega (arith, x.1, two))
 undecided_by (Some version) code old new out_old out_new x two t = absurd (omega (arith, x.1, two))
-undecided_by (Some (planning m p c)) code old new out_old out_new (answer, why, number, line) two t = absurd ((planned.numbers answer code number).two two)
+undecided_by (Some (planning m p c budget)) code old new out_old out_new (answer, why, number, line) two t = inl ((planned.open_at m p c budget code old new out_old out_new answer why number line two).0 t)
 undecided_by (Some (judging m p)) code old new out_old out_new (answer, why, reads, number, line) two t = absurd ((judged.numbers answer code number).two two)
 undecided_by (Some (checking m p c)) code old new out_old out_new (answer, why, reads, number, line) two t = absurd ((checked.numbers answer code number).two two)
 undecided_by (Some (upgrading m n)) code old new out_old out_new (answer, why, number, line) two t = absurd ((upgraded.numbers answer code number).two two)
-undecided_by (Some (bounding m)) code old new out_old out_new (answer, why, reads, number, line) two t = bounded.undecided_at m code old new out_old out_new answer why number line two t
+undecided_by (Some (bounding m)) code old new out_old out_new (answer, why, reads, number, line) two t = inr (bounded.undecided_at m code old new out_old out_new answer why number line two t)
 
-pub undecided : (asked : Option Asked) (code : ℕ) (old new : Shelved) (out_old out_new : Printed) → IsRun asked code old new out_old out_new → code ≡ 2 → IsTrue old.told → FindsNoBound asked old.file out_old out_new
+pub undecided : (asked : Option Asked) (code : ℕ) (old new : Shelved) (out_old out_new : Printed) → IsRun asked code old new out_old out_new → code ≡ 2 → IsTrue old.told → LeavesUndecided asked old.file new.file out_old out_new
 undecided asked code old new out_old out_new run is t = undecided_by asked code old new out_old out_new (ends asked code old new out_old out_new run (λ e. omega (arith, e, is)) (λ e. omega (arith, e, is))) is t
-
-coupled_by : (asked : Option Asked) (code : ℕ) (old new : Shelved) (out_old out_new : Printed) → EndsAs asked code old new out_old out_new → code ≡ 12 → IsTrue old.told → CannotPlan asked old.file out_old out_new
-coupled_by None code old new out_old out_new x twelve t = absurd (omega (arith, x.1, twelve))
-coupled_by (Some version) code old new out_old out_new x twelve t = absurd (omega (arith, x.1, twelve))
-coupled_by (Some (planning m p c)) code old new out_old out_new (answer, why, number, line) twelve t =
-    planned.coupled_at m p c code old new out_old out_new answer why number line twelve t
-coupled_by (Some (judging m p)) code old new out_old out_new (answer, why, reads, number, line) twelve t = absurd ((judged.numbers answer code number).twelve twelve)
-coupled_by (Some (checking m p c)) code old new out_old out_new (answer, why, reads, number, line) twelve t = absurd ((checked.numbers answer code number).twelve twelve)
-coupled_by (Some (upgrading m n)) code old new out_old out_new (answer, why, number, line) twelve t = absurd ((upgraded.numbers answer code number).twelve twelve)
-coupled_by (Some (bounding m)) code old new out_old out_new (answer, why, reads, number, line) twelve t = absurd ((bounded.numbers answer code number).twelve twelve)
-
-pub not_built : (asked : Option Asked) (code : ℕ) (old new : Shelved) (out_old out_new : Printed) → IsRun asked code old new out_old out_new → code ≡ 12 → IsTrue old.told → CannotPlan asked old.file out_old out_new
-not_built asked code old new out_old out_new run is t = coupled_by asked code old new out_old out_new (ends asked code old new out_old out_new run (λ e. omega (arith, e, is)) (λ e. omega (arith, e, is))) is t
 
 faulty_by : (asked : Option Asked) (code : ℕ) (old new : Shelved) (out_old out_new : Printed) → EndsAs asked code old new out_old out_new → code ≡ 3 → IsTrue old.told → IsFaulty asked old.file out_old out_new
 faulty_by None code old new out_old out_new x three t = absurd (omega (arith, x.1, three))
 faulty_by (Some version) code old new out_old out_new x three t = absurd (omega (arith, x.1, three))
-faulty_by (Some (planning m p c)) code old new out_old out_new (answer, why, number, line) three t = absurd ((planned.numbers answer code number).three three)
+faulty_by (Some (planning m p c budget)) code old new out_old out_new (answer, why, number, line) three t = absurd ((planned.numbers answer code number).three three)
 faulty_by (Some (judging m p)) code old new out_old out_new (answer, why, reads, number, line) three t = inl (judged.fault_at m p code old new out_old out_new answer why number line three t)
 faulty_by (Some (checking m p c)) code old new out_old out_new (answer, why, reads, number, line) three t = inr (checked.refused_at m p c code old new out_old out_new answer why number line three t)
 faulty_by (Some (upgrading m n)) code old new out_old out_new (answer, why, number, line) three t = absurd ((upgraded.numbers answer code number).three three)
@@ -189,7 +187,7 @@ faulty asked code old new out_old out_new run is t = faulty_by asked code old ne
 unwritten_by : (asked : Option Asked) (code : ℕ) (old new : Shelved) (out_old out_new : Printed) → EndsAs asked code old new out_old out_new → code ≡ 8 → CannotWrite asked old new out_old out_new
 unwritten_by None code old new out_old out_new x eight = absurd (omega (arith, x.1, eight))
 unwritten_by (Some version) code old new out_old out_new x eight = absurd (omega (arith, x.1, eight))
-unwritten_by (Some (planning m p c)) code old new out_old out_new (answer, why, number, line) eight = inl (planned.unwritten_at m p c code old new out_old out_new answer why number line eight)
+unwritten_by (Some (planning m p c budget)) code old new out_old out_new (answer, why, number, line) eight = inl (planned.unwritten_at m p c budget code old new out_old out_new answer why number line eight)
 unwritten_by (Some (judging m p)) code old new out_old out_new (answer, why, reads, number, line) eight = absurd ((judged.numbers answer code number).eight eight)
 unwritten_by (Some (checking m p c)) code old new out_old out_new (answer, why, reads, number, line) eight = absurd ((checked.numbers answer code number).eight eight)
 unwritten_by (Some (upgrading m n)) code old new out_old out_new (answer, why, number, line) eight = inr (upgraded.unwritten_at m n code old new out_old out_new answer why number line eight)
@@ -207,7 +205,7 @@ judge_not_four (judge.stopped why) code is four = absurd (omega (arith, (reading
 no_command_by : (asked : Option Asked) (code : ℕ) (old new : Shelved) (out_old out_new : Printed) → EndsAs asked code old new out_old out_new → code ≡ 4 → IsNoCommand asked out_old out_new
 no_command_by None code old new out_old out_new x four = record { is = refl; line = x.2 }
 no_command_by (Some version) code old new out_old out_new x four = absurd (omega (arith, x.1, four))
-no_command_by (Some (planning m p c)) code old new out_old out_new (answer, why, number, line) four = absurd ((planned.numbers answer code number).four four)
+no_command_by (Some (planning m p c budget)) code old new out_old out_new (answer, why, number, line) four = absurd ((planned.numbers answer code number).four four)
 no_command_by (Some (judging m p)) code old new out_old out_new (answer, why, reads, number, line) four = judge_not_four answer code number four
 no_command_by (Some (checking m p c)) code old new out_old out_new (answer, why, reads, number, line) four = absurd ((checked.numbers answer code number).four four)
 no_command_by (Some (upgrading m n)) code old new out_old out_new (answer, why, number, line) four = absurd ((upgraded.numbers answer code number).four four)
@@ -220,12 +218,13 @@ no_command asked code old new out_old out_new run is = no_command_by asked code 
 abbrev SomeStop : Option Asked → ℕ → Shelved → Shelved → Printed → Printed → Type 0
 SomeStop asked code old new out_old out_new = (why : ReadAnswer) × Stops asked old new out_old out_new why × (code ≡ code_of (read_status why))
 
-plan_stop : (m p c : List ℕ) (code : ℕ) (old new : Shelved) (out_old out_new : Printed) (answer : PlanAnswer) → PlanExplains m p c old new answer → code ≡ code_of (plan_status answer) → Gains (plan_line answer) out_old out_new → IsReading code → SomeStop (Some (planning m p c)) code old new out_old out_new
-plan_stop m p c code old new out_old out_new (plan.optimal says nodes amount) x is line r = absurd (omega (arith, is, r.low))
-plan_stop m p c code old new out_old out_new (plan.infeasible says nodes) x is line r = absurd (omega (arith, is, r.low))
-plan_stop m p c code old new out_old out_new plan.not_built x is line r = absurd (omega (arith, is, r.high))
-plan_stop m p c code old new out_old out_new (plan.unwritten file) x is line r = absurd (r.other is)
-plan_stop m p c code old new out_old out_new (plan.stopped why) x is line r = (why, record { cause = x.0; line = line }, is)
+plan_stop : (m p c : List ℕ) (budget code : ℕ) (old new : Shelved) (out_old out_new : Printed) (answer : PlanAnswer) → PlanExplains m p c budget old new answer → code ≡ code_of (plan_status answer) → Gains (plan_line answer) out_old out_new → IsReading code → SomeStop (Some (planning m p c budget)) code old new out_old out_new
+plan_stop m p c budget code old new out_old out_new (plan.optimal says nodes amount) x is line r = absurd (omega (arith, is, r.low))
+plan_stop m p c budget code old new out_old out_new (plan.infeasible says nodes) x is line r = absurd (omega (arith, is, r.low))
+plan_stop m p c budget code old new out_old out_new (plan.between says nodes least amount) x is line r = absurd (omega (arith, is, r.low))
+plan_stop m p c budget code old new out_old out_new (plan.above says nodes least) x is line r = absurd (omega (arith, is, r.low))
+plan_stop m p c budget code old new out_old out_new (plan.unwritten file) x is line r = absurd (r.other is)
+plan_stop m p c budget code old new out_old out_new (plan.stopped why) x is line r = (why, record { cause = x.0; line = line }, is)
 
 judge_stop : (m p : List ℕ) (code : ℕ) (old new : Shelved) (out_old out_new : Printed) (answer : JudgeAnswer) → JudgeExplains m p old new answer → code ≡ code_of (judge_status answer) → Gains (judge_line answer) out_old out_new → IsReading code → SomeStop (Some (judging m p)) code old new out_old out_new
 judge_stop m p code old new out_old out_new (judge.feasible amount) x is line r = absurd (omega (arith, is, r.low))
@@ -255,7 +254,7 @@ bound_stop m code old new out_old out_new (bound.stopped why) x is line r = (why
 stop_by : (asked : Option Asked) (code : ℕ) (old new : Shelved) (out_old out_new : Printed) → EndsAs asked code old new out_old out_new → IsReading code → SomeStop asked code old new out_old out_new
 stop_by None code old new out_old out_new x r = absurd (omega (arith, x.1, r.low))
 stop_by (Some version) code old new out_old out_new x r = absurd (omega (arith, x.1, r.low))
-stop_by (Some (planning m p c)) code old new out_old out_new (answer, why, number, line) r = plan_stop m p c code old new out_old out_new answer why number line r
+stop_by (Some (planning m p c budget)) code old new out_old out_new (answer, why, number, line) r = plan_stop m p c budget code old new out_old out_new answer why number line r
 stop_by (Some (judging m p)) code old new out_old out_new (answer, why, reads, number, line) r = judge_stop m p code old new out_old out_new answer why number line r
 stop_by (Some (checking m p c)) code old new out_old out_new (answer, why, reads, number, line) r = check_stop m p c code old new out_old out_new answer why number line r
 stop_by (Some (upgrading m n)) code old new out_old out_new (answer, why, number, line) r = upgrade_stop m n code old new out_old out_new answer why number line r
@@ -314,7 +313,8 @@ read_shown (too_long file) = record { nine = λ e. omega (arith, e); ten = λ e.
 plan_shown : (answer : PlanAnswer) → IsShown (code_of (plan_status answer))
 plan_shown (plan.optimal says nodes amount) = record { nine = λ e. omega (arith, e); ten = λ e. omega (arith, e) }
 plan_shown (plan.infeasible says nodes) = record { nine = λ e. omega (arith, e); ten = λ e. omega (arith, e) }
-plan_shown plan.not_built = record { nine = λ e. omega (arith, e); ten = λ e. omega (arith, e) }
+plan_shown (plan.between says nodes least amount) = record { nine = λ e. omega (arith, e); ten = λ e. omega (arith, e) }
+plan_shown (plan.above says nodes least) = record { nine = λ e. omega (arith, e); ten = λ e. omega (arith, e) }
 plan_shown (plan.unwritten file) = record { nine = λ e. omega (arith, e); ten = λ e. omega (arith, e) }
 plan_shown (plan.stopped why) = read_shown why
 
@@ -357,7 +357,7 @@ print_of text ending code old new shown done = ⊎_elim
 print_by : (asked : Option Asked) (code : ℕ) (old new : Shelved) (out_old out_new : Printed) → RunsAs asked code old new out_old out_new → IsPrint code out_old out_new
 print_by None code old new out_old out_new x = print_of refused_line NoCommand code out_old out_new (record { nine = λ e. omega (arith, e); ten = λ e. omega (arith, e) }) x.1
 print_by (Some version) code old new out_old out_new x = print_of version_line Done code out_old out_new (record { nine = λ e. omega (arith, e); ten = λ e. omega (arith, e) }) x.1
-print_by (Some (planning m p c)) code old new out_old out_new (answer, x, done) = print_of (plan_line answer) (plan_status answer) code out_old out_new (plan_shown answer) done
+print_by (Some (planning m p c budget)) code old new out_old out_new (answer, x, done) = print_of (plan_line answer) (plan_status answer) code out_old out_new (plan_shown answer) done
 print_by (Some (judging m p)) code old new out_old out_new (answer, x, reads, done) = print_of (judge_line answer) (judge_status answer) code out_old out_new (judge_shown answer) done
 print_by (Some (checking m p c)) code old new out_old out_new (answer, x, reads, done) = print_of (check_line answer) (check_status answer) code out_old out_new (check_shown answer) done
 print_by (Some (upgrading m n)) code old new out_old out_new (answer, x, done) = print_of (upgrade_line answer) (upgrade_status answer) code out_old out_new (upgrade_shown answer) done
@@ -375,31 +375,31 @@ silent asked code old new out_old out_new (runs x) ten = absurd ((print_by asked
 leaves_reads : (asked : Option Asked) (old new : Shelved) → Leaves asked old new → OnlyReads old new
 leaves_reads None old new x = same_reads old new x
 leaves_reads (Some version) old new x = same_reads old new x
-leaves_reads (Some (planning m p c)) old new x = x
+leaves_reads (Some (planning m p c budget)) old new x = x
 leaves_reads (Some (judging m p)) old new x = x
 leaves_reads (Some (checking m p c)) old new x = x
 leaves_reads (Some (upgrading m n)) old new x = x
 leaves_reads (Some (bounding m)) old new x = x
 
-quiet_by : (asked : Option Asked) (code : ℕ) (old new : Shelved) (out_old out_new : Printed) → EndsAs asked code old new out_old out_new → code ≢ 0 → code ≢ 1 → code ≢ 8 → OnlyReads old new
-quiet_by None code old new out_old out_new x some one eight = same_reads old new x.0
-quiet_by (Some version) code old new out_old out_new x some one eight = same_reads old new x.0
-quiet_by (Some (planning m p c)) code old new out_old out_new (answer, why, number, line) some one eight = planned.quiet_at m p c code old new answer why number some one eight
-quiet_by (Some (judging m p)) code old new out_old out_new (answer, why, reads, number, line) some one eight = reads
-quiet_by (Some (checking m p c)) code old new out_old out_new (answer, why, reads, number, line) some one eight = reads
-quiet_by (Some (upgrading m n)) code old new out_old out_new (answer, why, number, line) some one eight = upgraded.quiet_at m n code old new answer why number some eight
-quiet_by (Some (bounding m)) code old new out_old out_new (answer, why, reads, number, line) some one eight = reads
+quiet_by : (asked : Option Asked) (code : ℕ) (old new : Shelved) (out_old out_new : Printed) → EndsAs asked code old new out_old out_new → code ≢ 0 → code ≢ 1 → code ≢ 2 → code ≢ 8 → OnlyReads old new
+quiet_by None code old new out_old out_new x some one two eight = same_reads old new x.0
+quiet_by (Some version) code old new out_old out_new x some one two eight = same_reads old new x.0
+quiet_by (Some (planning m p c budget)) code old new out_old out_new (answer, why, number, line) some one two eight = planned.quiet_at m p c budget code old new answer why number some one two eight
+quiet_by (Some (judging m p)) code old new out_old out_new (answer, why, reads, number, line) some one two eight = reads
+quiet_by (Some (checking m p c)) code old new out_old out_new (answer, why, reads, number, line) some one two eight = reads
+quiet_by (Some (upgrading m n)) code old new out_old out_new (answer, why, number, line) some one two eight = upgraded.quiet_at m n code old new answer why number some eight
+quiet_by (Some (bounding m)) code old new out_old out_new (answer, why, reads, number, line) some one two eight = reads
 
-pub quiet : (asked : Option Asked) (code : ℕ) (old new : Shelved) (out_old out_new : Printed) → IsRun asked code old new out_old out_new → code ≢ 0 → code ≢ 1 → code ≢ 8 → code ≢ 9 → OnlyReads old new
-quiet asked code old new out_old out_new (ran_out x) some one eight nine = leaves_reads asked old new x.left
-quiet asked code old new out_old out_new (runs x) some one eight nine = quiet_by asked code old new out_old out_new (ends_by asked code old new out_old out_new x nine) some one eight
+pub quiet : (asked : Option Asked) (code : ℕ) (old new : Shelved) (out_old out_new : Printed) → IsRun asked code old new out_old out_new → code ≢ 0 → code ≢ 1 → code ≢ 2 → code ≢ 8 → code ≢ 9 → OnlyReads old new
+quiet asked code old new out_old out_new (ran_out x) some one two eight nine = leaves_reads asked old new x.left
+quiet asked code old new out_old out_new (runs x) some one two eight nine = quiet_by asked code old new out_old out_new (ends_by asked code old new out_old out_new x nine) some one two eight
 
-others_by : (code : ℕ) (old new : Shelved) (out_old out_new : Printed) (m p c : List ℕ) → IsRun (Some (planning m p c)) code old new out_old out_new → StartsAtMostBoth p c old new
-others_by code old new out_old out_new m p c (ran_out x) = planned.reads_few p c old new x.left
-others_by code old new out_old out_new m p c (runs (answer, x, done)) = (planned.others_at p c old new m answer x).0
+others_by : (code : ℕ) (old new : Shelved) (out_old out_new : Printed) (m p c : List ℕ) (budget : ℕ) → IsRun (Some (planning m p c budget)) code old new out_old out_new → StartsAtMostBoth p c old new
+others_by code old new out_old out_new m p c budget (ran_out x) = planned.reads_few p c old new x.left
+others_by code old new out_old out_new m p c budget (runs (answer, x, done)) = (planned.others_at p c old new m budget answer x).0
 
-pub others : (asked : Option Asked) (code : ℕ) (old new : Shelved) (out_old out_new : Printed) → IsRun asked code old new out_old out_new → (m p c : List ℕ) → asked ≡ Some (planning m p c) → StartsAtMostBoth p c old new
-others asked code old new out_old out_new run m p c is = others_by code old new out_old out_new m p c (subst (λ a. IsRun a code old new out_old out_new) is run)
+pub others : (asked : Option Asked) (code : ℕ) (old new : Shelved) (out_old out_new : Printed) → IsRun asked code old new out_old out_new → (m p c : List ℕ) (budget : ℕ) → asked ≡ Some (planning m p c budget) → StartsAtMostBoth p c old new
+others asked code old new out_old out_new run m p c budget is = others_by code old new out_old out_new m p c budget (subst (λ a. IsRun a code old new out_old out_new) is run)
 
 new_by : (code : ℕ) (old new : Shelved) (out_old out_new : Printed) (m n : List ℕ) → IsRun (Some (upgrading m n)) code old new out_old out_new → StartsAtMost n old new
 new_by code old new out_old out_new m n (ran_out x) = planned.reads_at_most n old new x.left
@@ -439,7 +439,7 @@ idle asked code old new out_old out_new run is = idle_by code old new out_old ou
 told_by : (asked : Option Asked) (code : ℕ) (old new : Shelved) (out_old out_new : Printed) → RunsAs asked code old new out_old out_new → new.told ≡ old.told
 told_by None code old new out_old out_new x = (same_reads old new x.0).told
 told_by (Some version) code old new out_old out_new x = (same_reads old new x.0).told
-told_by (Some (planning m p c)) code old new out_old out_new (answer, x, done) = (planned.others_at p c old new m answer x).1
+told_by (Some (planning m p c budget)) code old new out_old out_new (answer, x, done) = (planned.others_at p c old new m budget answer x).1
 told_by (Some (judging m p)) code old new out_old out_new (answer, x, reads, done) = reads.told
 told_by (Some (checking m p c)) code old new out_old out_new (answer, x, reads, done) = reads.told
 told_by (Some (upgrading m n)) code old new out_old out_new (answer, x, done) = (upgraded.others_at m n old new answer x).1
@@ -453,7 +453,7 @@ tells asked code old new out_old out_new (runs x) = told_by asked code old new o
 called_by : (asked : Option Asked) (code : ℕ) (old new : Shelved) (out_old out_new : Printed) → HadNoFault old new out_old out_new → IsTrue old.told → EndsAs asked code old new out_old out_new → CallFor asked old.file code
 called_by None code old new out_old out_new fine t x = x.1
 called_by (Some version) code old new out_old out_new fine t x = x.1
-called_by (Some (planning m p c)) code old new out_old out_new fine t (answer, x, number, line) = planned.called_at m p c code old new out_old out_new fine t answer x number
+called_by (Some (planning m p c budget)) code old new out_old out_new fine t (answer, x, number, line) = planned.called_at m budget code old p c new out_old out_new fine t answer x number
 called_by (Some (judging m p)) code old new out_old out_new fine t (answer, x, reads, number, line) = judged.called_at m p code old new out_old out_new fine t answer x number
 called_by (Some (checking m p c)) code old new out_old out_new fine t (answer, x, reads, number, line) = checked.called_at m p c code old new out_old out_new fine t answer x number
 called_by (Some (upgrading m n)) code old new out_old out_new fine t (answer, x, number, line) = upgraded.called_at m n code old new out_old out_new fine t answer x number
@@ -465,16 +465,16 @@ called asked code old new out_old out_new (runs x) t fine =
     inr (called_by asked code old new out_old out_new fine t (ends_by asked code old new out_old out_new x (λ nine. fine.put ((print_by asked code old new out_old out_new x).failed nine))))
 
 -- ---- what `check` calls for on what was written
-neither : (code other : ℕ) → 2 ≤ other → (code ≡ 0) ⊎ (code ≡ 1) → code ≢ other
-neither code other above done is = ⊎_elim (λ e. omega (arith, above, is, e)) (λ e. omega (arith, above, is, e)) done
+neither : (code other : ℕ) → 3 ≤ other → EndsSearch code → code ≢ other
+neither code other above done is = ⊎_elim (λ e. omega (arith, above, is, e)) (λ rest. ⊎_elim (λ e. omega (arith, above, is, e)) (λ e. omega (arith, above, is, e)) rest) done
 
-checks_by : StatusesAreOne → (asked : Option Asked) (code : ℕ) (old new : Shelved) (out_old out_new : Printed) (m p c : List ℕ) → AreApart m p c → asked ≡ Some (planning m p c) → EndsAs asked code old new out_old out_new → (code ≡ 0) ⊎ (code ≡ 1) → IsTrue old.told → CallsForZero new.file m p c
-checks_by one asked code old new out_old out_new m p c apart is x done t =
+checks_by : StatusesAreOne → (asked : Option Asked) (code : ℕ) (old new : Shelved) (out_old out_new : Printed) (m p c : List ℕ) (budget : ℕ) → AreApart m p c → asked ≡ Some (planning m p c budget) → EndsAs asked code old new out_old out_new → EndsSearch code → IsTrue old.told → CallsForZero new.file m p c
+checks_by one asked code old new out_old out_new m p c budget apart is x done t =
     let (answer, why, number, lines) = subst (λ a. EndsAs a code old new out_old out_new) is x in
-    let (claim, all) = planned.accepted_at m p c code old new apart t answer why number done in
+    let (claim, all) = planned.accepted_at m p c budget code old new apart t answer why number done in
     let zero : CallFor (Some (checking m p c)) new.file 0 = checked.accepted_called m p c 0 new claim all refl in
     record { zero = zero; alone = λ status calls. ⊎_elim (λ same. same) (λ may. absurd may) (one (Some (checking m p c)) new.file status 0 calls zero) }
 
-pub checks : StatusesAreOne → (asked : Option Asked) (code : ℕ) (old new : Shelved) (out_old out_new : Printed) → ((m p c : List ℕ) → asked ≡ Some (planning m p c) → AreApart m p c) → IsRun asked code old new out_old out_new → (m p c : List ℕ) → asked ≡ Some (planning m p c) → (code ≡ 0) ⊎ (code ≡ 1) → IsTrue old.told → CallsForZero new.file m p c
-checks one asked code old new out_old out_new apart run m p c is done t =
-    checks_by one asked code old new out_old out_new m p c (apart m p c is) is (ends asked code old new out_old out_new run (neither code 10 (omega arith) done) (neither code 9 (omega arith) done)) done t
+pub checks : StatusesAreOne → (asked : Option Asked) (code : ℕ) (old new : Shelved) (out_old out_new : Printed) → ((m p c : List ℕ) (budget : ℕ) → asked ≡ Some (planning m p c budget) → IsPlanned m p c budget) → IsRun asked code old new out_old out_new → (m p c : List ℕ) (budget : ℕ) → asked ≡ Some (planning m p c budget) → EndsSearch code → IsTrue old.told → CallsForZero new.file m p c
+checks one asked code old new out_old out_new planned_as run m p c budget is done t =
+    checks_by one asked code old new out_old out_new m p c budget (planned_as m p c budget is).apart is (ends asked code old new out_old out_new run (neither code 10 (omega arith) done) (neither code 9 (omega arith) done)) done t

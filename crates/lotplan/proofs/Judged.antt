@@ -67,15 +67,14 @@ pub record IsJudging (code : ℕ) : Type 0 where
   pub one : code ≡ 1 → ⊥
   pub two : code ≡ 2 → ⊥
   pub eight : code ≡ 8 → ⊥
-  pub twelve : code ≡ 12 → ⊥
 
 pub numbers : (answer : JudgeAnswer) (code : ℕ) → code ≡ code_of (judge_status answer) → IsJudging code
-numbers (feasible amount) code is = record { one = λ e. omega (arith, is, e); two = λ e. omega (arith, is, e); eight = λ e. omega (arith, is, e); twelve = λ e. omega (arith, is, e) }
-numbers (no_plan fault) code is = record { one = λ e. omega (arith, is, e); two = λ e. omega (arith, is, e); eight = λ e. omega (arith, is, e); twelve = λ e. omega (arith, is, e) }
-numbers (broken rule) code is = record { one = λ e. omega (arith, is, e); two = λ e. omega (arith, is, e); eight = λ e. omega (arith, is, e); twelve = λ e. omega (arith, is, e) }
+numbers (feasible amount) code is = record { one = λ e. omega (arith, is, e); two = λ e. omega (arith, is, e); eight = λ e. omega (arith, is, e) }
+numbers (no_plan fault) code is = record { one = λ e. omega (arith, is, e); two = λ e. omega (arith, is, e); eight = λ e. omega (arith, is, e) }
+numbers (broken rule) code is = record { one = λ e. omega (arith, is, e); two = λ e. omega (arith, is, e); eight = λ e. omega (arith, is, e) }
 numbers (stopped why) code is =
     let r = reading why code is in
-    record { one = λ e. omega (arith, r.low, e); two = λ e. omega (arith, r.low, e); eight = r.other; twelve = λ e. omega (arith, r.high, e) }
+    record { one = λ e. omega (arith, r.low, e); two = λ e. omega (arith, r.low, e); eight = r.other }
 
 -- ---- what the two files call for
 judge_call : (found plan : Option (List ℕ)) (bytes : List ℕ) (code : ℕ) → found ≡ Some bytes → JudgeCallsFor (Some bytes) plan code → JudgeCallsFor found plan code

@@ -1,30 +1,31 @@
 -- What was found and written proves what is answered.
-use Rattle.std.proofs.Common.{◌≡◌, ◌≢◌, ◌∙◌, ◌≤◌, ◌<◌, ⊎_elim, inl, inr, ℕ, List, length, Option, Some, None, IsTrue, refl, sym, subst, arith}
+use Rattle.std.proofs.Common.{◌≡◌, ◌≢◌, ◌∙◌, ◌⊎◌, ◌≤◌, ◌<◌, ⊎_elim, inl, inr, ℕ, List, length, Option, Some, None, IsTrue, refl, sym, subst, arith}
 use Rattle.std.specs.Prelude.{IfSome}
-use Rattle.bill.specs.Laws.{WeightsExist}
 use Rattle.lot_sizing.specs.Problem.{IsUncoupled, Problem}
-use Rattle.lot_sizing.specs.Bill.{bill_of}
 use Rattle.lot_sizing.specs.Plan as terms
 use Rattle.lot_sizing.specs.Plan.{cost}
-use Rattle.lot_sizing.specs.Best.{IsBest}
+use Rattle.lot_sizing.specs.Best.{IsBest, IsImpossible}
 use Rattle.lot_sizing.specs.Texts.{plan_text}
-use Rattle.lot_model.specs.Views.{IsInstance}
 use Rattle.lot_io.specs.Outside.{Files, GrewBy, Shelved}
-use Rattle.plan_rules.specs.Held.{AllFit, plan_of}
+use Rattle.plan_rules.specs.Held.{plan_of}
 use Rattle.plan_rules.specs.declared.plan.Plan.{Plan}
 use Rattle.plan_file.specs.Records.{IsPlanOf, records_of}
 use Rattle.cert_lines.specs.declared.parts.Claim.{Claim}
 use Rattle.cert_lines.specs.declared.parts.Claim.TheVariants.{Optimal, Infeasible, Bound as BoundOf}
 use Rattle.certificate.specs.Limits.{IsTextOf}
 use Rattle.certificate.specs.Shapes.{shape_of}
-use Rattle.acceptance.specs.Accepts.{IsTrueOf}
-use Rattle.cert_checker.specs.Checks.{ComesWith, plan_given}
+use Rattle.split_trees.specs.Ranges.{whole_ranges}
+use Rattle.acceptance.specs.Accepts.{GoesWith, IsTrueOf}
+use Rattle.cert_checker.specs.Checks.{ComesWith, IsGoodCertificate, plan_given}
 use Rattle.stream_check.specs.Streams.{too_many}
-use Rattle.branching.specs.Found.{GoesWithPlan, IsDecidedAlone, IsProved}
+use Rattle.first_plans.specs.OwnPeriod.{HasOwnPeriod}
 use Rattle.branching.specs.declared.found.Found.{Found}
+use Rattle.branching.specs.declared.found.RootSays.TheVariants as at_root
+use Rattle.branch_and_cut.specs.Search.{GoesTogether, IsDecided, IsGoodPlan, KeepsOwn, UsesRoot, cost_of}
 use Rattle.lotplan.specs.declared.said.Said.{Said}
 use Rattle.lotplan.specs.Checking.{IsGiven}
-use Rattle.lotplan.specs.Planning.{PlanAnswer, unwritten, plan_line, plan_status, IsAnswerTo, IsPlannedAlone, IsUnwritten, IsWritten, StartsBoth, StartsOnly, WriteExplains, WriteSays, WritesAndSays, WritesBest, WritesProof}
+use Rattle.lotplan.specs.Finding.{IsFound, PlanCosts}
+use Rattle.lotplan.specs.Planning.{PlanAnswer, unwritten, plan_line, plan_status, IsAnswerTo, IsUnwritten, IsWritten, ShowsFound, StartsBoth, StartsOnly, WriteExplains, WriteSays, WritesAndSays, WritesFeasible, WritesPlan, WritesProof}
 use Rattle.lotplan.specs.Reading.{file_limit}
 use Rattle.lotplan.specs.Saying.{IsSaid}
 
@@ -42,93 +43,159 @@ starts_both p c old mid new first second = record {
 same_plan : (a b : terms.Plan) → Some a ≡ Some b → a ≡ b
 same_plan a b is = cc is
 
-no_plan : {A : Type 0} (amount : ℕ) (given : Option Plan) → GoesWithPlan (Optimal amount) given → given ≡ None → A
-no_plan amount (Some plan) goes is = absurd (cc is)
-no_plan amount None goes is = absurd (cc goes)
+-- no plan goes with an infeasible claim, and one with an optimal one
+no_plan : {A : Type 0} (m : Problem) (amount : ℕ) (given : Option Plan) → GoesTogether m (Optimal amount) given → given ≡ None → A
+no_plan m amount (Some plan) goes is = absurd (cc is)
+no_plan m amount None goes is = absurd (cc goes)
 
-some_plan : {A : Type 0} (given : Option Plan) (plan : Plan) → GoesWithPlan Infeasible given → given ≡ Some plan → A
-some_plan (Some other) plan goes is = absurd (cc goes)
-some_plan None plan goes is = absurd (cc is)
+some_plan : {A : Type 0} (m : Problem) (given : Option Plan) (plan : Plan) → GoesTogether m Infeasible given → given ≡ Some plan → A
+some_plan m (Some other) plan goes is = absurd (cc goes)
+some_plan m None plan goes is = absurd (cc is)
 
--- the grids of a plan that was found have the problem's items and periods
-fits_at : (m : Problem) (claim : Claim) (given : Option Plan) → GoesWithPlan claim given → ComesWith m claim given → IfSome given (AllFit m)
-fits_at m claim None goes comes = tt
-fits_at m (Optimal amount) (Some plan) goes comes = comes.0
-fits_at m Infeasible (Some plan) goes comes = absurd (cc goes)
-fits_at m (BoundOf amount) (Some plan) goes comes = absurd goes
-
-pub found_fits : WeightsExist → (m : Problem) (found : Found) → IsInstance m → IsProved m found → IsDecidedAlone found → IfSome found.plan (AllFit m)
-found_fits weights m found is proved decided =
-    let weight = weights (bill_of m) is.ranked.0 is.ranked.1 in
-    let certified = proved.certified is.totals.0 weight.0 is.totals.1 weight.1 in
-    fits_at m found.certificate.claim found.plan decided.decided certified.plan
+-- without coupling a bound is never claimed
+pub left_alone : {A : Type 0} (found : Found) (bound : ℕ) → found.certificate.claim ≡ BoundOf bound → found.root ≡ at_root.Uncoupled → UsesRoot found found.root → A
+left_alone found bound claims is uses =
+    let by = subst (λ r. UsesRoot found r) is uses in
+    absurd (subst IsDecided claims by.decided)
 
 -- what was found, and the text of its certificate
-module _ (m : Problem) (found : Found) (uncoupled : IsUncoupled m) (proved : IsProved m found) (decided : IsDecidedAlone found) (p c : List ℕ) (apart : p ≢ c) (bytes : List ℕ) (text : IsTextOf bytes (shape_of found.certificate)) (short : length bytes < too_many) where
-  planned_alone : IsPlannedAlone m found.root found.nodes
-  planned_alone = record { uncoupled = uncoupled; root = decided.root; alone = decided.alone }
-
+module _ (m : Problem) (budget : ℕ) (found : Found) (is_found : IsFound m budget found) (p c : List ℕ) (apart : p ≢ c) (bytes : List ℕ) (text : IsTextOf bytes (shape_of found.certificate)) (short : length bytes < too_many) where
   claim_true : (claim : Claim) → found.certificate.claim ≡ claim → IsTrueOf m claim (plan_given found.plan)
-  claim_true claim is = subst (λ k. IsTrueOf m k (plan_given found.plan)) is proved.claim
+  claim_true claim is = subst (λ k. IsTrueOf m k (plan_given found.plan)) is is_found.proved.claim
 
-  claim_goes : (claim : Claim) → found.certificate.claim ≡ claim → GoesWithPlan claim found.plan
-  claim_goes claim is = subst (λ k. GoesWithPlan k found.plan) is decided.decided
+  claim_goes : (claim : Claim) (given : Option Plan) → found.certificate.claim ≡ claim → found.plan ≡ given → GoesTogether m claim given
+  claim_goes claim given is same = subst (λ g. GoesTogether m claim g) same (subst (λ k. GoesTogether m k found.plan) is is_found.together)
+
+  within_own : (given : Option Plan) → found.plan ≡ given → KeepsOwn m given
+  within_own given same = subst (KeepsOwn m) same is_found.own
+
+  never_alone : {A : Type 0} (bound : ℕ) → found.certificate.claim ≡ BoundOf bound → IsUncoupled m → A
+  never_alone bound is alone = left_alone found bound is (is_found.uncoupled.1 alone) is_found.used
+
+  -- a bound is accepted without a plan
+  bound_certified : (bound : ℕ) → found.certificate.claim ≡ BoundOf bound → IsGoodCertificate m (shape_of found.certificate) None
+  bound_certified bound is total weight ts ws =
+      let certified = is_found.proved.certified total weight ts ws in
+      let a = certified.accepted in
+      record {
+        accepted = record { rows = a.rows; cuts = a.cuts; tree = a.tree; leaves = a.leaves; plan = subst (λ k. GoesWith m (whole_ranges total) k None) (sym is) tt };
+        fits = record { cuts = certified.fits.cuts; leaves = certified.fits.leaves };
+        plan = subst (λ k. ComesWith m k None) (sym is) tt;
+      }
 
   -- the certificate file proves the claim
-  proves : (after : Files) (claim : Claim) → found.certificate.claim ≡ claim → after c ≡ Some bytes → IsGiven after p m claim found.plan → WritesProof after m p c claim found.nodes
-  proves after claim is written goes = record {
+  proves : (after : Files) (claim : Claim) (given : Option Plan) → found.certificate.claim ≡ claim → after c ≡ Some bytes → IsGiven after p m claim given → IsTrueOf m claim (plan_given given) → IsGoodCertificate m (shape_of found.certificate) given → WritesProof after m p c claim found.nodes
+  proves after claim given is written goes is_true certified = record {
     proof = record {
       holds = record {
         certificate = shape_of found.certificate;
         text = (bytes, written, short, text);
-        given = found.plan;
-        goes_with = subst (λ k. IsGiven after p m k found.plan) (sym is) goes;
+        given = given;
+        goes_with = subst (λ k. IsGiven after p m k given) (sym is) goes;
       };
       claims = is;
-      is_true = claim_true claim is;
-      certified = proved.certified;
+      is_true = is_true;
+      certified = certified;
     };
-    counted = proved.nodes;
+    counted = is_found.proved.nodes;
+  }
+
+  shows : (after : Files) (claim : Claim) (costs : Option ℕ) → found.certificate.claim ≡ claim → PlanCosts m found.plan costs → after c ≡ Some bytes → ShowsFound after m c budget found.root found.nodes claim costs
+  shows after claim costs is plan written = record {
+    found = found;
+    is = is_found;
+    root = refl;
+    counted = refl;
+    claims = is;
+    plan = plan;
+    text = (bytes, written, short, text);
   }
 
   -- ---- where there is no plan
   module _ (none : found.plan ≡ None) (old new : Shelved) where
-    proved_at : (claim : Claim) → found.certificate.claim ≡ claim → (answer : PlanAnswer) → IsAnswerTo claim found.root found.nodes answer → IsWritten c bytes old new → WriteExplains m p c old new answer
-    proved_at (Optimal amount) is answer answers w = no_plan amount found.plan (claim_goes (Optimal amount) is) none
-    proved_at Infeasible is answer answers w = subst (WriteExplains m p c old new) (sym answers) (
-      λ t. record { alone = planned_alone; impossible = claim_true Infeasible is; proof = proves new.file Infeasible is (w.written t) none; kept = w.touches.others t p apart },
+    no_own : HasOwnPeriod m → ⊥
+    no_own own = within_own None none own.0 own.1 own.2
+
+    costs_none : PlanCosts m found.plan None
+    costs_none = subst (λ g. PlanCosts m g None) (sym none) tt
+
+    given_none : (claim : Claim) → found.certificate.claim ≡ claim → IsTrueOf m claim (plan_given None)
+    given_none claim is = subst (λ g. IsTrueOf m claim (plan_given g)) none (claim_true claim is)
+
+    certified_none : IsGoodCertificate m (shape_of found.certificate) None
+    certified_none = subst (λ g. IsGoodCertificate m (shape_of found.certificate) g) none is_found.proved.certified
+
+    proved_at : (claim : Claim) → found.certificate.claim ≡ claim → (answer : PlanAnswer) → IsAnswerTo m claim None found.root found.nodes answer → IsWritten c bytes old new → WriteExplains m budget p c old new answer
+    proved_at (Optimal amount) is answer answers w = no_plan m amount None (claim_goes (Optimal amount) None is none) refl
+    proved_at Infeasible is answer answers w = subst (WriteExplains m budget p c old new) (sym answers) (
+      λ t. record {
+        impossible = given_none Infeasible is;
+        proof = proves new.file Infeasible None is (w.written t) refl (given_none Infeasible is) certified_none;
+        kept = w.touches.others t p apart;
+        shows = shows new.file Infeasible None is costs_none (w.written t);
+      },
       w.touches,
     )
-    proved_at (BoundOf amount) is answer answers w = absurd answers
+    proved_at (BoundOf bound) is answer answers w = subst (WriteExplains m budget p c old new) (sym answers) (
+      λ t. record {
+        floor = given_none (BoundOf bound) is;
+        own = no_own;
+        proof = proves new.file (BoundOf bound) None is (w.written t) refl (given_none (BoundOf bound) is) certified_none;
+        kept = w.touches.others t p apart;
+        shows = shows new.file (BoundOf bound) None is costs_none (w.written t);
+      },
+      w.touches,
+    )
 
-    unproved_at : (claim : Claim) → found.certificate.claim ≡ claim → IsUnwritten c old new → WriteExplains m p c old new (unwritten c)
-    unproved_at (Optimal amount) is w = no_plan amount found.plan (claim_goes (Optimal amount) is) none
-    unproved_at Infeasible is w = (w.failed, inr (inr (refl, λ t. record { uncoupled = uncoupled; impossible = claim_true Infeasible is }, w.touches)))
-    unproved_at (BoundOf amount) is w = absurd (claim_goes (BoundOf amount) is)
+    none_alone : (claim : Claim) → found.certificate.claim ≡ claim → IsUncoupled m → IsImpossible m
+    none_alone (Optimal amount) is alone = no_plan m amount None (claim_goes (Optimal amount) None is none) refl
+    none_alone Infeasible is alone = given_none Infeasible is
+    none_alone (BoundOf bound) is alone = never_alone bound is alone
 
-    pub says_proved : (answer : PlanAnswer) (written lost said : Said) → IsAnswerTo found.certificate.claim found.root found.nodes answer → IsSaid (plan_line answer) (plan_status answer) written → IsSaid (plan_line (unwritten c)) (plan_status (unwritten c)) lost → WritesAndSays c bytes written lost old new said → WriteSays m p c old new said
-    says_proved answer written lost said answers says says_lost done = ⊎_elim
-        (λ x. (answer, proved_at found.certificate.claim refl answer answers x.1, subst (IsSaid (plan_line answer) (plan_status answer)) (sym x.0) says))
-        (λ x. (unwritten c, unproved_at found.certificate.claim refl x.1, subst (IsSaid (plan_line (unwritten c)) (plan_status (unwritten c))) (sym x.0) says_lost))
+    unproved_at : IsUnwritten c old new → WriteExplains m budget p c old new (unwritten c)
+    unproved_at w = (w.failed, inr (inr (refl, λ t. record { own = no_own; impossible = none_alone found.certificate.claim refl }, w.touches)))
+
+    pub says_proved : (answer : PlanAnswer) (written lost said : Said) → IsAnswerTo m found.certificate.claim found.plan found.root found.nodes answer → IsSaid (plan_line answer) (plan_status answer) written → IsSaid (plan_line (unwritten c)) (plan_status (unwritten c)) lost → WritesAndSays c bytes written lost old new said → WriteSays m budget p c old new said
+    says_proved answer written lost said answers says says_lost done =
+        let answers_none = subst (λ g. IsAnswerTo m found.certificate.claim g found.root found.nodes answer) none answers in
+        ⊎_elim
+        (λ x. (answer, proved_at found.certificate.claim refl answer answers_none x.1, subst (IsSaid (plan_line answer) (plan_status answer)) (sym x.0) says))
+        (λ x. (unwritten c, unproved_at x.1, subst (IsSaid (plan_line (unwritten c)) (plan_status (unwritten c))) (sym x.0) says_lost))
         done
 
   -- ---- where there is one, and its text
-  module _ (plan : Plan) (is_plan : found.plan ≡ Some plan) (fits : AllFit m plan) (records : List ℕ) (are : records ≡ plan_text m (plan_of plan)) (read : IsPlanOf m (records_of records) (plan_of plan)) (few : length records ≤ file_limit) where
+  module _ (plan : Plan) (is_plan : found.plan ≡ Some plan) (records : List ℕ) (are : records ≡ plan_text m (plan_of plan)) (read : IsPlanOf m (records_of records) (plan_of plan)) (few : length records ≤ file_limit) where
+    good : IsGoodPlan m plan
+    good = subst (λ g. IfSome g (IsGoodPlan m)) is_plan is_found.plan
+
+    costs_some : PlanCosts m found.plan (Some (cost_of m plan))
+    costs_some = subst (λ g. PlanCosts m g (Some (cost_of m plan))) (sym is_plan) refl
+
     best_plan : (amount : ℕ) → found.certificate.claim ≡ Optimal amount → IsBest m (plan_of plan) × (cost m (plan_of plan) ≡ amount)
     best_plan amount is =
         let (q, given, best, costs) = subst (λ g. IsTrueOf m (Optimal amount) (plan_given g)) is_plan (claim_true (Optimal amount) is) in
         let same = same_plan (plan_of plan) q given in
         (subst (IsBest m) (sym same) best, subst (λ r. cost m r ≡ amount) (sym same) costs)
 
-    writes_best : (after : Files) (amount : ℕ) → found.certificate.claim ≡ Optimal amount → after p ≡ Some records → WritesBest after m p amount
-    writes_best after amount is written =
-        let best = best_plan amount is in
-        record { uncoupled = uncoupled; chosen = plan_of plan; best = best.0; costs = best.1; bytes = records; written = written; text = are; read = read }
+    best_alone : (claim : Claim) → found.certificate.claim ≡ claim → IsUncoupled m → IsBest m (plan_of plan)
+    best_alone (Optimal amount) is alone = (best_plan amount is).0
+    best_alone Infeasible is alone = some_plan m (Some plan) plan (claim_goes Infeasible (Some plan) is is_plan) refl
+    best_alone (BoundOf bound) is alone = never_alone bound is alone
 
-    pub unplanned_at : (old new : Shelved) (claim : Claim) → found.certificate.claim ≡ claim → IsUnwritten p old new → WriteExplains m p c old new (unwritten p)
-    unplanned_at old new (Optimal amount) is w = (w.failed, inl (refl, λ t. record { uncoupled = uncoupled; chosen = plan_of plan; best = (best_plan amount is).0 }, w.touches))
-    unplanned_at old new Infeasible is w = some_plan found.plan plan (claim_goes Infeasible is) is_plan
-    unplanned_at old new (BoundOf amount) is w = absurd (claim_goes (BoundOf amount) is)
+    writes_plan : (after : Files) → after p ≡ Some records → WritesPlan after m p (plan_of plan)
+    writes_plan after written = record { bytes = records; written = written; text = are; read = read }
+
+    writes_feasible : (after : Files) → after p ≡ Some records → WritesFeasible after m p (cost_of m plan)
+    writes_feasible after written = record {
+      chosen = plan_of plan;
+      feasible = good.feasible;
+      costs = refl;
+      best = best_alone found.certificate.claim refl;
+      written = writes_plan after written;
+    }
+
+    pub unplanned_at : (old new : Shelved) → IsUnwritten p old new → WriteExplains m budget p c old new (unwritten p)
+    unplanned_at old new w = (w.failed, inl (refl, λ t. record { chosen = plan_of plan; feasible = good.feasible; best = best_alone found.certificate.claim refl }, w.touches))
 
     -- the plan file was written before the certificate file
     module _ (old mid new : Shelved) (first : IsWritten p records old mid) where
@@ -138,28 +205,43 @@ module _ (m : Problem) (found : Found) (uncoupled : IsUncoupled m) (proved : IsP
       plan_stays : StartsOnly c mid new → IsTrue old.told → new.file p ≡ Some records
       plan_stays touches t = touches.others (told_between t) p apart ∙ first.written t
 
-      planned_at : (claim : Claim) → found.certificate.claim ≡ claim → (answer : PlanAnswer) → IsAnswerTo claim found.root found.nodes answer → IsWritten c bytes mid new → WriteExplains m p c old new answer
-      planned_at (Optimal amount) is answer answers w = subst (WriteExplains m p c old new) (sym answers) (
+      planned_at : (claim : Claim) → found.certificate.claim ≡ claim → (answer : PlanAnswer) → IsAnswerTo m claim (Some plan) found.root found.nodes answer → IsWritten c bytes mid new → WriteExplains m budget p c old new answer
+      planned_at (Optimal amount) is answer answers w = subst (WriteExplains m budget p c old new) (sym answers) (
         λ t.
             let stays = plan_stays w.touches t in
+            let best = best_plan amount is in
+            let certified = subst (λ g. IsGoodCertificate m (shape_of found.certificate) g) is_plan is_found.proved.certified in
+            let is_true = subst (λ g. IsTrueOf m (Optimal amount) (plan_given g)) is_plan (claim_true (Optimal amount) is) in
             record {
-              alone = planned_alone;
-              best = writes_best new.file amount is stays;
-              proof = proves new.file (Optimal amount) is (w.written (told_between t)) (subst (IsGiven new.file p m (Optimal amount)) (sym is_plan) (record { bytes = records; read = stays; short = few; fits = fits; is = read }));
+              best = record { chosen = plan_of plan; best = best.0; costs = best.1; written = writes_plan new.file stays };
+              proof = proves new.file (Optimal amount) (Some plan) is (w.written (told_between t)) (record { bytes = records; read = stays; short = few; fits = good.fits; is = read }) is_true certified;
+              shows = shows new.file (Optimal amount) (Some amount) is (subst (λ n. PlanCosts m found.plan (Some n)) best.1 costs_some) (w.written (told_between t));
             },
         starts_both p c old mid new first.touches w.touches,
       )
-      planned_at Infeasible is answer answers w = some_plan found.plan plan (claim_goes Infeasible is) is_plan
-      planned_at (BoundOf amount) is answer answers w = absurd answers
+      planned_at Infeasible is answer answers w = some_plan m (Some plan) plan (claim_goes Infeasible (Some plan) is is_plan) refl
+      planned_at (BoundOf bound) is answer answers w = subst (WriteExplains m budget p c old new) (sym answers) (
+        λ t.
+            let stays = plan_stays w.touches t in
+            record {
+              floor = claim_true (BoundOf bound) is;
+              below = claim_goes (BoundOf bound) (Some plan) is is_plan;
+              own = within_own (Some plan) is_plan;
+              plan = writes_feasible new.file stays;
+              proof = proves new.file (BoundOf bound) None is (w.written (told_between t)) refl (claim_true (BoundOf bound) is) (bound_certified bound is);
+              shows = shows new.file (BoundOf bound) (Some (cost_of m plan)) is costs_some (w.written (told_between t));
+            },
+        starts_both p c old mid new first.touches w.touches,
+      )
 
-      uncertified_at : (claim : Claim) → found.certificate.claim ≡ claim → IsUnwritten c mid new → WriteExplains m p c old new (unwritten c)
-      uncertified_at (Optimal amount) is w =
-          (omega (arith, w.failed, first.fine), inr (inl (refl, λ t. (amount, writes_best new.file amount is (plan_stays w.touches t)), starts_both p c old mid new first.touches w.touches)))
-      uncertified_at Infeasible is w = some_plan found.plan plan (claim_goes Infeasible is) is_plan
-      uncertified_at (BoundOf amount) is w = absurd (claim_goes (BoundOf amount) is)
+      uncertified_at : IsUnwritten c mid new → WriteExplains m budget p c old new (unwritten c)
+      uncertified_at w =
+          (omega (arith, w.failed, first.fine), inr (inl (refl, λ t. (cost_of m plan, writes_feasible new.file (plan_stays w.touches t)), starts_both p c old mid new first.touches w.touches)))
 
-      pub says_planned : (answer : PlanAnswer) (written lost said : Said) → IsAnswerTo found.certificate.claim found.root found.nodes answer → IsSaid (plan_line answer) (plan_status answer) written → IsSaid (plan_line (unwritten c)) (plan_status (unwritten c)) lost → WritesAndSays c bytes written lost mid new said → WriteSays m p c old new said
-      says_planned answer written lost said answers says says_lost done = ⊎_elim
-          (λ x. (answer, planned_at found.certificate.claim refl answer answers x.1, subst (IsSaid (plan_line answer) (plan_status answer)) (sym x.0) says))
-          (λ x. (unwritten c, uncertified_at found.certificate.claim refl x.1, subst (IsSaid (plan_line (unwritten c)) (plan_status (unwritten c))) (sym x.0) says_lost))
+      pub says_planned : (answer : PlanAnswer) (written lost said : Said) → IsAnswerTo m found.certificate.claim found.plan found.root found.nodes answer → IsSaid (plan_line answer) (plan_status answer) written → IsSaid (plan_line (unwritten c)) (plan_status (unwritten c)) lost → WritesAndSays c bytes written lost mid new said → WriteSays m budget p c old new said
+      says_planned answer written lost said answers says says_lost done =
+          let answers_some = subst (λ g. IsAnswerTo m found.certificate.claim g found.root found.nodes answer) is_plan answers in
+          ⊎_elim
+          (λ x. (answer, planned_at found.certificate.claim refl answer answers_some x.1, subst (IsSaid (plan_line answer) (plan_status answer)) (sym x.0) says))
+          (λ x. (unwritten c, uncertified_at x.1, subst (IsSaid (plan_line (unwritten c)) (plan_status (unwritten c))) (sym x.0) says_lost))
           done

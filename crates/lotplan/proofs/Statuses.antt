@@ -28,7 +28,7 @@ use Rattle.instance_reader.proofs.Meanings.{bytes_one}
 use Rattle.plan_file.specs.Records.{IsPlanOf, records_of}
 use Rattle.plan_file.proofs.Meanings.{means_one}
 use Rattle.lotplan.specs.Command.{Asked, version, planning, judging, checking, upgrading, bounding}
-use Rattle.lotplan.specs.Planning.{BytesCallFor, FileCallsFor, ProblemCallsFor}
+use Rattle.lotplan.specs.Planning.{FileCallsFor, MayBeLeft, MayLeave, ProblemCallsFor}
 use Rattle.lotplan.specs.Judging.{AreBroken, AreFeasible, AreNoPlan, JudgeCallsFor, PlanCallsFor}
 use Rattle.lotplan.specs.Checking.{CheckCallsFor, ClaimCallsFor, GivenCallsFor, PlannedCallsFor, ProofCallsFor}
 use Rattle.lotplan.specs.Upgrading.{UpgradeCallsFor}
@@ -37,17 +37,14 @@ use Rattle.lotplan.specs.Laws.{MayBeUndecided}
 use Rattle.lotplan.specs.Run.{CallFor}
 use Rattle.lotplan.proofs.Certified.{IsMeant, given_call, meant, planned_call}
 
-problem_one : (m : Problem) (s t : ℕ) → ProblemCallsFor m s → ProblemCallsFor m t → s ≡ t
-problem_one m s t a b = ⊎_elim
-    (λ x. ⊎_elim (λ y. kinds x.1 y.1) (λ y. absurd (y.0 x.0)) b)
-    (λ x. ⊎_elim (λ y. absurd (x.0 y.0)) (λ y. x.1 ∙ sym y.1) b)
-    a
-  where
-    kinds : ((s ≡ 0) × (p : Plan) × IsFeasible m p) ⊎ ((s ≡ 1) × ((p : Plan) → IsFeasible m p → ⊥)) → ((t ≡ 0) × (p : Plan) × IsFeasible m p) ⊎ ((t ≡ 1) × ((p : Plan) → IsFeasible m p → ⊥)) → s ≡ t
-    kinds c d = ⊎_elim
-        (λ x. ⊎_elim (λ y. x.0 ∙ sym y.0) (λ y. let (is, p, feasible) = x in absurd (y.1 p feasible)) d)
-        (λ x. ⊎_elim (λ y. let (is, p, feasible) = y in absurd (x.1 p feasible)) (λ y. x.0 ∙ sym y.0) d)
-        c
+problem_one : (m : Problem) (budget s t : ℕ) → ProblemCallsFor m budget s → ProblemCallsFor m budget t → (s ≡ t) ⊎ MayBeLeft m budget
+problem_one m budget s t (inl a) (inl b) = inl (a.0 ∙ sym b.0)
+problem_one m budget s t (inl (is, p, feasible)) (inr (inl b)) = absurd (b.1 p feasible)
+problem_one m budget s t (inl a) (inr (inr b)) = inr b.1
+problem_one m budget s t (inr (inl a)) (inl (is, p, feasible)) = absurd (a.1 p feasible)
+problem_one m budget s t (inr (inl a)) (inr (inl b)) = inl (a.0 ∙ sym b.0)
+problem_one m budget s t (inr (inl a)) (inr (inr b)) = inr b.1
+problem_one m budget s t (inr (inr a)) other = inr a.1
 
 -- no bytes mean two problems, or a problem and a fault
 one_problem : (bytes : List ℕ) (m n : Problem) → BytesMean bytes (Ok m) → BytesMean bytes (Ok n) → m ≡ n
@@ -56,24 +53,19 @@ one_problem bytes m n a b = let same = bytes_one NEWEST_VERSION bytes (Ok m) (Ok
 no_fault : (bytes : List ℕ) (m : Problem) (f : ModelFault) → BytesMean bytes (Ok m) → BytesMean bytes (Err f) → ⊥
 no_fault bytes m f a b = let same = bytes_one NEWEST_VERSION bytes (Ok m) (Err f) a b in cc same
 
-bytes_call : (bytes : List ℕ) (s t : ℕ) → BytesCallFor bytes s → BytesCallFor bytes t → s ≡ t
-bytes_call bytes s t a b = ⊎_elim
-    (λ x. let (m, means, calls) = x in ⊎_elim
-    (λ y. let (n, also, other) = y in problem_one m s t calls (subst (λ k. ProblemCallsFor k t) (one_problem bytes n m also means) other))
-    (λ y. let (f, also, is) = y in absurd (no_fault bytes m f means also))
-    b)
-    (λ x. let (f, means, is) = x in ⊎_elim
-    (λ y. let (n, also, other) = y in absurd (no_fault bytes n f also means))
-    (λ y. let (g, also, other) = y in is ∙ sym other)
-    b)
-    a
-
-file_call : (file : Option (List ℕ)) (s t : ℕ) → FileCallsFor file s → FileCallsFor file t → s ≡ t
-file_call None s t a b = a ∙ sym b
-file_call (Some bytes) s t a b = ⊎_elim
-    (λ x. ⊎_elim (λ y. x.1 ∙ sym y.1) (λ y. absurd (omega (arith, x.0, y.0))) b)
-    (λ x. ⊎_elim (λ y. absurd (omega (arith, x.0, y.0))) (λ y. bytes_call bytes s t x.1 y.1) b)
-    a
+file_call : (file : Option (List ℕ)) (budget s t : ℕ) → FileCallsFor file budget s → FileCallsFor file budget t → (s ≡ t) ⊎ MayLeave file budget
+file_call None budget s t a b = inl (a ∙ sym b)
+file_call (Some bytes) budget s t (inl a) (inl b) = inl (a.1 ∙ sym b.1)
+file_call (Some bytes) budget s t (inl a) (inr b) = absurd (omega (arith, a.0, b.0))
+file_call (Some bytes) budget s t (inr a) (inl b) = absurd (omega (arith, a.0, b.0))
+file_call (Some bytes) budget s t (inr (short, inr (f, reads, is))) (inr (also, inr (g, too, other))) = inl (is ∙ sym other)
+file_call (Some bytes) budget s t (inr (short, inr (f, reads, is))) (inr (also, inl (m, too, calls))) = absurd (no_fault bytes m f too reads)
+file_call (Some bytes) budget s t (inr (short, inl (m, reads, calls))) (inr (also, inr (f, too, is))) = absurd (no_fault bytes m f reads too)
+file_call (Some bytes) budget s t (inr (short, inl (m, reads, calls))) (inr (also, inl (n, too, other))) =
+    ⊎_elim
+    (λ same. inl same)
+    (λ left. inr (m, reads, left))
+    (problem_one m budget s t calls (subst (λ k. ProblemCallsFor k budget t) (one_problem bytes n m too reads) other))
 
 -- a problem that bytes mean has a period
 has_period : (bytes : List ℕ) (m : Problem) → BytesMean bytes (Ok m) → 1 ≤ m.periods
@@ -306,7 +298,7 @@ bound_call laws (Some bytes) s t (inr (short, inl (m, reads, calls))) (inr (also
 pub call_one : AreLaws → (asked : Option Asked) (file : Files) (s t : ℕ) → CallFor asked file s → CallFor asked file t → (s ≡ t) ⊎ MayBeUndecided asked file
 call_one laws None file s t a b = inl (a ∙ sym b)
 call_one laws (Some version) file s t a b = inl (a ∙ sym b)
-call_one laws (Some (planning m p c)) file s t a b = inl (file_call (file m) s t a b)
+call_one laws (Some (planning m p c budget)) file s t a b = file_call (file m) budget s t a b
 call_one laws (Some (judging m p)) file s t a b = inl (judge_call (file m) (file p) s t a b)
 call_one laws (Some (checking m p c)) file s t a b = inl (check_call laws (file m) (file p) (file c) s t a b)
 call_one laws (Some (upgrading m n)) file s t a b = inl (upgrade_call (file m) s t a b)

@@ -93,14 +93,13 @@ pub record IsUpgrading (code : ℕ) : Type 0 where
   pub two : code ≡ 2 → ⊥
   pub three : code ≡ 3 → ⊥
   pub four : code ≡ 4 → ⊥
-  pub twelve : code ≡ 12 → ⊥
 
 pub numbers : (answer : UpgradeAnswer) (code : ℕ) → code ≡ code_of (upgrade_status answer) → IsUpgrading code
-numbers (written file) code is = record { one = λ e. omega (arith, is, e); two = λ e. omega (arith, is, e); three = λ e. omega (arith, is, e); four = λ e. omega (arith, is, e); twelve = λ e. omega (arith, is, e) }
-numbers (unwritten file) code is = record { one = λ e. omega (arith, is, e); two = λ e. omega (arith, is, e); three = λ e. omega (arith, is, e); four = λ e. omega (arith, is, e); twelve = λ e. omega (arith, is, e) }
+numbers (written file) code is = record { one = λ e. omega (arith, is, e); two = λ e. omega (arith, is, e); three = λ e. omega (arith, is, e); four = λ e. omega (arith, is, e) }
+numbers (unwritten file) code is = record { one = λ e. omega (arith, is, e); two = λ e. omega (arith, is, e); three = λ e. omega (arith, is, e); four = λ e. omega (arith, is, e) }
 numbers (stopped why) code is =
     let r = reading why code is in
-    record { one = λ e. omega (arith, r.low, e); two = λ e. omega (arith, r.low, e); three = λ e. omega (arith, r.low, e); four = λ e. omega (arith, r.low, e); twelve = λ e. omega (arith, r.high, e) }
+    record { one = λ e. omega (arith, r.low, e); two = λ e. omega (arith, r.low, e); three = λ e. omega (arith, r.low, e); four = λ e. omega (arith, r.low, e) }
 
 -- ---- what is written
 pub quiet_at : (m n : List ℕ) (code : ℕ) (old new : Shelved) (answer : UpgradeAnswer) → UpgradeExplains m n old new answer → code ≡ code_of (upgrade_status answer) → code ≢ 0 → code ≢ 8 → OnlyReads old new

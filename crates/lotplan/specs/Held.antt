@@ -33,7 +33,7 @@ asked_by (Judge names) = command.judging names.model.now names.plan.now
 asked_by (Check names) = command.checking names.model.now names.plan.now names.certificate.now
 asked_by (Upgrade names) = command.upgrading names.model.now names.upgraded.now
 asked_by (Bound model) = command.bounding model.now
-asked_by (Plan names) = command.planning names.model.now names.plan.now names.certificate.now
+asked_by (Plan names budget) = command.planning names.model.now names.plan.now names.certificate.now budget
 
 -- answers
 abbrev pub read_meant : ReadAnswer → reading.ReadAnswer
@@ -45,7 +45,8 @@ read_meant (TooLong file) = reading.too_long file.now
 abbrev pub plan_meant : PlanAnswer → planning.PlanAnswer
 plan_meant (plan.Optimal says nodes amount) = planning.optimal says nodes amount
 plan_meant (plan.Infeasible says nodes) = planning.infeasible says nodes
-plan_meant plan.NotBuilt = planning.not_built
+plan_meant (plan.Between says nodes least amount) = planning.between says nodes least amount
+plan_meant (plan.Above says nodes least) = planning.above says nodes least
 plan_meant (plan.Unwritten file) = planning.unwritten file.now
 plan_meant (plan.Stopped why) = planning.stopped (read_meant why)
 

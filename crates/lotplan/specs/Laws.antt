@@ -3,13 +3,14 @@ use Rattle.std.specs.Prelude.{◌≡◌, ◌⊎◌, ℕ, Option, Some, None}
 use Rattle.lot_io.specs.Outside.{Files}
 use Rattle.lotplan.specs.Bounding.{MayPass}
 use Rattle.lotplan.specs.Command.{Asked, version, planning, judging, checking, upgrading, bounding}
+use Rattle.lotplan.specs.Planning.{MayLeave}
 use Rattle.lotplan.specs.Run.{CallFor}
 
--- the words ask to bound a model whose run comes to a number that doesn't fit
+-- the words ask to plan a model that the search may leave open, or to bound one whose run comes to a number that doesn't fit
 abbrev pub MayBeUndecided : Option Asked → Files → Type 0
 MayBeUndecided None file = ⊥
 MayBeUndecided (Some version) file = ⊥
-MayBeUndecided (Some (planning m p c)) file = ⊥
+MayBeUndecided (Some (planning m p c budget)) file = MayLeave (file m) budget
 MayBeUndecided (Some (judging m p)) file = ⊥
 MayBeUndecided (Some (checking m p c)) file = ⊥
 MayBeUndecided (Some (upgrading m n)) file = ⊥

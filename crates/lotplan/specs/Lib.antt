@@ -2,6 +2,7 @@ pub mod Command
 pub mod Status
 pub mod Saying
 pub mod Reading
+pub mod Finding
 pub mod Planning
 pub mod Judging
 pub mod Checking

@@ -2,20 +2,29 @@
 use Rattle.std.specs.Prelude.{◌≡◌, ◌≢◌, ◌⊎◌, ◌<◌, ◌≤◌, ◌+◌, ℕ, List, ◌++◌, length, codes, decimal, IsTrue, Option, Some, None, Ok, Err}
 use Rattle.lot_sizing.specs.Problem.{IsUncoupled, Problem}
 use Rattle.lot_sizing.specs.Plan.{IsFeasible, Plan, cost}
-use Rattle.lot_sizing.specs.Best.{IsBest, IsImpossible}
+use Rattle.lot_sizing.specs.Best.{IsBest, IsFloor, IsImpossible}
 use Rattle.lot_sizing.specs.Texts.{optimal_line, plan_text}
 use Rattle.lot_io.specs.Outside.{Files, GrewBy, OnlyReads, Printed, Rose, SameElsewhere, Shelved}
 use Rattle.lot_draft.specs.declared.fault.ModelFault.{ModelFault}
 use Rattle.instance_reader.specs.Model.{BytesMean}
+use Rattle.plan_rules.specs.declared.plan.Plan.{Plan as Grids}
 use Rattle.plan_file.specs.Records.{IsPlanOf, records_of}
 use Rattle.cert_lines.specs.declared.parts.Claim.{Claim}
 use Rattle.cert_lines.specs.declared.parts.Claim.TheVariants.{Optimal, Infeasible, Bound as BoundOf}
 use Rattle.certificate.specs.Counts.{node_count}
+use Rattle.certificate.specs.Limits.{IsTextOf}
+use Rattle.certificate.specs.Shapes.{shape_of}
+use Rattle.split_trees.specs.Ranges.{WithTotals}
+use Rattle.stream_check.specs.Streams.{OfBytes}
+use Rattle.first_plans.specs.OwnPeriod.{HasOwnPeriod, IsOwnPeriod}
+use Rattle.branching.specs.declared.found.Found.{Found}
 use Rattle.branching.specs.declared.found.RootSays.{RootSays}
 use Rattle.branching.specs.declared.found.RootSays.TheVariants as at_root
+use Rattle.branch_and_cut.specs.Search.{HasBudgetForAll, cost_of}
 use Rattle.lotplan.specs.Command.{Asked, planning}
 use Rattle.lotplan.specs.Reading.{ModelExplains, OfModel, ReadAnswer, file_limit, read_line, read_status}
 use Rattle.lotplan.specs.Checking.{HoldsProof}
+use Rattle.lotplan.specs.Finding.{IsFound, PlanCosts}
 use Rattle.lotplan.specs.Saying.{Gains, IsSaid}
 use Rattle.lotplan.specs.declared.said.Said.{Said}
 use Rattle.lotplan.specs.declared.status.Status.{Status}
@@ -27,8 +36,10 @@ pub data PlanAnswer : Type 0 where
   optimal : RootSays → ℕ → ℕ → PlanAnswer
   -- no plan is feasible, and the certificate of that was written: what was said at the root, and the nodes of its tree
   infeasible : RootSays → ℕ → PlanAnswer
-  -- the model can't be planned yet
-  not_built : PlanAnswer
+  -- a plan and the certificate of a bound were written: what was said at the root, the nodes, the bound, and the plan's cost
+  between : RootSays → ℕ → ℕ → ℕ → PlanAnswer
+  -- no plan was found, and the certificate of a bound was written: what was said at the root, the nodes, and the bound
+  above : RootSays → ℕ → ℕ → PlanAnswer
   -- the plan file or the certificate file, of this name, could not be written
   unwritten : List ℕ → PlanAnswer
   -- the model file gave no problem
@@ -37,7 +48,8 @@ pub data PlanAnswer : Type 0 where
 abbrev pub plan_status : PlanAnswer → Status
 plan_status (optimal says nodes amount) = status.Done
 plan_status (infeasible says nodes) = status.NoPlan
-plan_status not_built = status.NotBuilt
+plan_status (between says nodes bound amount) = status.Undecided
+plan_status (above says nodes bound) = status.Undecided
 plan_status (unwritten file) = status.Unwritten
 plan_status (stopped why) = read_status why
 
@@ -56,6 +68,13 @@ nodes_line nodes = codes "nodes " ++ (decimal nodes ++ codes "\n")
 abbrev pub infeasible_line : List ℕ
 infeasible_line = codes "infeasible\n"
 
+-- with a plan and without one
+abbrev pub between_line : ℕ → ℕ → List ℕ
+between_line bound amount = codes "undecided " ++ (decimal bound ++ (codes " plan " ++ (decimal amount ++ codes "\n")))
+
+abbrev pub above_line : ℕ → List ℕ
+above_line bound = codes "undecided " ++ (decimal bound ++ codes "\n")
+
 -- the root line, the nodes line and the line of the result
 abbrev pub three_lines : RootSays → ℕ → List ℕ → List ℕ
 three_lines says nodes result = root_line says ++ (nodes_line nodes ++ result)
@@ -66,65 +85,100 @@ unwritten_line file = codes "refused write " ++ (file ++ codes "\n")
 abbrev pub plan_line : PlanAnswer → List ℕ
 plan_line (optimal says nodes amount) = three_lines says nodes (optimal_line amount)
 plan_line (infeasible says nodes) = three_lines says nodes infeasible_line
-plan_line not_built = codes "refused notbuilt\n"
+plan_line (between says nodes bound amount) = three_lines says nodes (between_line bound amount)
+plan_line (above says nodes bound) = three_lines says nodes (above_line bound)
 plan_line (unwritten file) = unwritten_line file
 plan_line (stopped why) = read_line why
 
--- what is answered to a claim, once what was found is written; a bound is no answer yet
-abbrev pub IsAnswerTo : Claim → RootSays → ℕ → PlanAnswer → Type 0
-IsAnswerTo (Optimal amount) says nodes answer = answer ≡ optimal says nodes amount
-IsAnswerTo Infeasible says nodes answer = answer ≡ infeasible says nodes
-IsAnswerTo (BoundOf amount) says nodes answer = ⊥
+-- what is answered to a claim with a plan or without one, once what was found is written
+abbrev pub IsAnswerTo : Problem → Claim → Option Grids → RootSays → ℕ → PlanAnswer → Type 0
+IsAnswerTo problem (Optimal amount) given says nodes answer = answer ≡ optimal says nodes amount
+IsAnswerTo problem Infeasible given says nodes answer = answer ≡ infeasible says nodes
+IsAnswerTo problem (BoundOf bound) (Some plan) says nodes answer = answer ≡ between says nodes bound (cost_of problem plan)
+IsAnswerTo problem (BoundOf bound) None says nodes answer = answer ≡ above says nodes bound
 
 -- ---- causes
--- the items of a problem have nothing to do with each other, which is what is said at the root, and one node is proof enough
-pub record IsPlannedAlone (problem : Problem) (says : RootSays) (nodes : ℕ) : Type 0 where
-  pub uncoupled : IsUncoupled problem
-  pub root : says ≡ at_root.Uncoupled
-  pub alone : nodes ≡ 1
-
--- the plan file's bytes are those of a best plan of the problem and are read as that plan, which costs this amount
-pub record WritesBest (after : Files) (problem : Problem) (plan_file : List ℕ) (amount : ℕ) : Type 0 where
-  pub uncoupled : IsUncoupled problem
-  pub chosen : Plan
-  pub best : IsBest problem chosen
-  pub costs : cost problem chosen ≡ amount
-  pub bytes : List ℕ
-  pub written : after plan_file ≡ Some bytes
-  pub text : bytes ≡ plan_text problem chosen
-  pub read : IsPlanOf problem (records_of bytes) chosen
+-- the certificate file has the text of the certificate that was found, with this claim and beside a plan of this cost or none; the lines have what was said at the root and the number of nodes
+pub record ShowsFound (after : Files) (problem : Problem) (certificate_file : List ℕ) (budget : ℕ) (says : RootSays) (nodes : ℕ) (claim : Claim) (costs : Option ℕ) : Type 0 where
+  pub found : Found
+  pub is : IsFound problem budget found
+  pub root : found.root ≡ says
+  pub counted : found.nodes ≡ nodes
+  pub claims : found.certificate.claim ≡ claim
+  pub plan : PlanCosts problem found.plan costs
+  pub text : OfBytes (after certificate_file) (λ bytes. IsTextOf bytes (shape_of found.certificate))
 
 -- the certificate file holds a certificate of this claim, which is accepted and true, of an optimal cost with the plan in the plan file; its tree has so many nodes
 pub record WritesProof (after : Files) (problem : Problem) (plan_file certificate_file : List ℕ) (claim : Claim) (nodes : ℕ) : Type 0 where
   pub proof : HoldsProof after plan_file certificate_file problem claim
   pub counted : nodes ≡ node_count proof.holds.certificate.tree
 
+-- the plan file's bytes are those of this plan and are read as it
+pub record WritesPlan (after : Files) (problem : Problem) (plan_file : List ℕ) (chosen : Plan) : Type 0 where
+  pub bytes : List ℕ
+  pub written : after plan_file ≡ Some bytes
+  pub text : bytes ≡ plan_text problem chosen
+  pub read : IsPlanOf problem (records_of bytes) chosen
+
+-- they are those of a best plan of the problem, which costs this amount
+pub record WritesBest (after : Files) (problem : Problem) (plan_file : List ℕ) (amount : ℕ) : Type 0 where
+  pub chosen : Plan
+  pub best : IsBest problem chosen
+  pub costs : cost problem chosen ≡ amount
+  pub written : WritesPlan after problem plan_file chosen
+
+-- they are those of a feasible plan, which costs this amount, and is best where the problem is uncoupled
+pub record WritesFeasible (after : Files) (problem : Problem) (plan_file : List ℕ) (amount : ℕ) : Type 0 where
+  pub chosen : Plan
+  pub feasible : IsFeasible problem chosen
+  pub costs : cost problem chosen ≡ amount
+  pub best : IsUncoupled problem → IsBest problem chosen
+  pub written : WritesPlan after problem plan_file chosen
+
 -- a best plan of the problem was written, which costs this amount, and a certificate that no plan costs less
-pub record WritesOptimal (after : Files) (problem : Problem) (plan_file certificate_file : List ℕ) (says : RootSays) (nodes amount : ℕ) : Type 0 where
-  pub alone : IsPlannedAlone problem says nodes
+pub record WritesOptimal (after : Files) (problem : Problem) (plan_file certificate_file : List ℕ) (budget : ℕ) (says : RootSays) (nodes amount : ℕ) : Type 0 where
   pub best : WritesBest after problem plan_file amount
   pub proof : WritesProof after problem plan_file certificate_file (Optimal amount) nodes
+  pub shows : ShowsFound after problem certificate_file budget says nodes (Optimal amount) (Some amount)
 
 -- no plan of the problem is feasible, a certificate of that was written, and the plan file is as it was
-pub record WritesInfeasible (before after : Files) (problem : Problem) (plan_file certificate_file : List ℕ) (says : RootSays) (nodes : ℕ) : Type 0 where
-  pub alone : IsPlannedAlone problem says nodes
+pub record WritesInfeasible (before after : Files) (problem : Problem) (plan_file certificate_file : List ℕ) (budget : ℕ) (says : RootSays) (nodes : ℕ) : Type 0 where
   pub impossible : IsImpossible problem
   pub proof : WritesProof after problem plan_file certificate_file Infeasible nodes
   pub kept : after plan_file ≡ before plan_file
+  pub shows : ShowsFound after problem certificate_file budget says nodes Infeasible None
 
--- a problem that has a best plan, and one that has no plan
-pub record HasBest (problem : Problem) : Type 0 where
-  pub uncoupled : IsUncoupled problem
+-- no feasible own-period plan costs less than this
+abbrev pub IsWithinOwn : Problem → ℕ → Type 0
+IsWithinOwn problem amount = (own : Plan) → IsOwnPeriod problem own → IsFeasible problem own → amount ≤ cost problem own
+
+-- each plan costs at least the bound, a certificate of that was written, and a plan that costs this amount, which is above the bound
+pub record WritesBetween (after : Files) (problem : Problem) (plan_file certificate_file : List ℕ) (budget : ℕ) (says : RootSays) (nodes bound amount : ℕ) : Type 0 where
+  pub floor : IsFloor problem bound
+  pub below : bound < amount
+  pub own : IsWithinOwn problem amount
+  pub plan : WritesFeasible after problem plan_file amount
+  pub proof : WritesProof after problem plan_file certificate_file (BoundOf bound) nodes
+  pub shows : ShowsFound after problem certificate_file budget says nodes (BoundOf bound) (Some amount)
+
+-- each plan costs at least the bound, a certificate of that was written, no own-period plan is feasible, and the plan file is as it was
+pub record WritesAbove (before after : Files) (problem : Problem) (plan_file certificate_file : List ℕ) (budget : ℕ) (says : RootSays) (nodes bound : ℕ) : Type 0 where
+  pub floor : IsFloor problem bound
+  pub own : HasOwnPeriod problem → ⊥
+  pub proof : WritesProof after problem plan_file certificate_file (BoundOf bound) nodes
+  pub kept : after plan_file ≡ before plan_file
+  pub shows : ShowsFound after problem certificate_file budget says nodes (BoundOf bound) None
+
+-- a plan was found of the problem; without coupling it is best
+pub record HasPlan (problem : Problem) : Type 0 where
   pub chosen : Plan
-  pub best : IsBest problem chosen
+  pub feasible : IsFeasible problem chosen
+  pub best : IsUncoupled problem → IsBest problem chosen
 
+-- none was found; without coupling there is none
 pub record HasNone (problem : Problem) : Type 0 where
-  pub uncoupled : IsUncoupled problem
-  pub impossible : IsImpossible problem
-
--- one that can't be planned yet
-abbrev pub IsCoupled : Problem → Type 0
-IsCoupled problem = IsUncoupled problem → ⊥
+  pub own : HasOwnPeriod problem → ⊥
+  pub impossible : IsUncoupled problem → IsImpossible problem
 
 -- ---- what is written
 -- only the file of this name was touched, and it was started once
@@ -159,69 +213,84 @@ abbrev pub WritesAndSays : (name bytes : List ℕ) → (first second : Said) →
 WritesAndSays name bytes first second old new said =
     ((said ≡ first) × IsWritten name bytes old new) ⊎ ((said ≡ second) × IsUnwritten name old new)
 
--- which file could not be written, what holds `Of` the problem, and what is left: the plan file of one with a best plan, before the certificate file is touched; the certificate file, after the plan file holds a best plan; or the certificate file of one without a plan
+-- which file could not be written, what holds `Of` the problem, and what is left: the plan file of one with a plan, before the certificate file is touched; the certificate file, after the plan file holds a plan; or the certificate file of one of which no plan was found
 abbrev pub FailsAt : ((Problem → Type 0) → Type 0) → (plan_file certificate_file : List ℕ) → Shelved → Shelved → (file : List ℕ) → Type 0
 FailsAt Of p c old new file =
-    ((file ≡ p) × Of HasBest × StartsOnly p old new)
-    ⊎ (((file ≡ c) × Of (λ problem. (amount : ℕ) × WritesBest new.file problem p amount) × StartsBoth p c old new)
+    ((file ≡ p) × Of HasPlan × StartsOnly p old new)
+    ⊎ (((file ≡ c) × Of (λ problem. (amount : ℕ) × WritesFeasible new.file problem p amount) × StartsBoth p c old new)
     ⊎ ((file ≡ c) × Of HasNone × StartsOnly c old new))
 
--- why planning a problem ends in this answer, and what it leaves
-abbrev pub WriteExplains : Problem → List ℕ → List ℕ → Shelved → Shelved → PlanAnswer → Type 0
-WriteExplains problem p c old new (optimal says nodes amount) =
-    (IsTrue old.told → WritesOptimal new.file problem p c says nodes amount) × StartsBoth p c old new
-WriteExplains problem p c old new (infeasible says nodes) =
-    (IsTrue old.told → WritesInfeasible old.file new.file problem p c says nodes) × StartsOnly c old new
-WriteExplains problem p c old new not_built = IsCoupled problem × (new ≡ old)
-WriteExplains problem p c old new (unwritten file) =
+-- why planning a problem with a budget of nodes ends in this answer, and what it leaves
+abbrev pub WriteExplains : Problem → ℕ → List ℕ → List ℕ → Shelved → Shelved → PlanAnswer → Type 0
+WriteExplains problem budget p c old new (optimal says nodes amount) =
+    (IsTrue old.told → WritesOptimal new.file problem p c budget says nodes amount) × StartsBoth p c old new
+WriteExplains problem budget p c old new (infeasible says nodes) =
+    (IsTrue old.told → WritesInfeasible old.file new.file problem p c budget says nodes) × StartsOnly c old new
+WriteExplains problem budget p c old new (between says nodes bound amount) =
+    (IsTrue old.told → WritesBetween new.file problem p c budget says nodes bound amount) × StartsBoth p c old new
+WriteExplains problem budget p c old new (above says nodes bound) =
+    (IsTrue old.told → WritesAbove old.file new.file problem p c budget says nodes bound) × StartsOnly c old new
+WriteExplains problem budget p c old new (unwritten file) =
     Rose old.write_faults new.write_faults × FailsAt (λ P. IsTrue old.told → P problem) p c old new file
-WriteExplains problem p c old new (stopped why) = ⊥
+WriteExplains problem budget p c old new (stopped why) = ⊥
 
 -- why planning these files ends in this answer, and what it leaves
-abbrev pub PlanExplains : List ℕ → List ℕ → List ℕ → Shelved → Shelved → PlanAnswer → Type 0
-PlanExplains m p c old new (optimal says nodes amount) =
-    (IsTrue old.told → OfModel old.file m (λ problem. WritesOptimal new.file problem p c says nodes amount)) × StartsBoth p c old new
-PlanExplains m p c old new (infeasible says nodes) =
-    (IsTrue old.told → OfModel old.file m (λ problem. WritesInfeasible old.file new.file problem p c says nodes)) × StartsOnly c old new
-PlanExplains m p c old new not_built = (IsTrue old.told → OfModel old.file m IsCoupled) × OnlyReads old new
-PlanExplains m p c old new (unwritten file) =
+abbrev pub PlanExplains : List ℕ → List ℕ → List ℕ → ℕ → Shelved → Shelved → PlanAnswer → Type 0
+PlanExplains m p c budget old new (optimal says nodes amount) =
+    (IsTrue old.told → OfModel old.file m (λ problem. WritesOptimal new.file problem p c budget says nodes amount)) × StartsBoth p c old new
+PlanExplains m p c budget old new (infeasible says nodes) =
+    (IsTrue old.told → OfModel old.file m (λ problem. WritesInfeasible old.file new.file problem p c budget says nodes)) × StartsOnly c old new
+PlanExplains m p c budget old new (between says nodes bound amount) =
+    (IsTrue old.told → OfModel old.file m (λ problem. WritesBetween new.file problem p c budget says nodes bound amount)) × StartsBoth p c old new
+PlanExplains m p c budget old new (above says nodes bound) =
+    (IsTrue old.told → OfModel old.file m (λ problem. WritesAbove old.file new.file problem p c budget says nodes bound)) × StartsOnly c old new
+PlanExplains m p c budget old new (unwritten file) =
     Rose old.write_faults new.write_faults × FailsAt (λ P. IsTrue old.told → OfModel old.file m P) p c old new file
-PlanExplains m p c old new (stopped why) = ModelExplains m old new why × OnlyReads old new
+PlanExplains m p c budget old new (stopped why) = ModelExplains m old new why × OnlyReads old new
 
 -- what is said is an answer that has its cause
-abbrev pub WriteSays : Problem → List ℕ → List ℕ → Shelved → Shelved → Said → Type 0
-WriteSays problem p c old new said = (answer : PlanAnswer) × WriteExplains problem p c old new answer × IsSaid (plan_line answer) (plan_status answer) said
+abbrev pub WriteSays : Problem → ℕ → List ℕ → List ℕ → Shelved → Shelved → Said → Type 0
+WriteSays problem budget p c old new said = (answer : PlanAnswer) × WriteExplains problem budget p c old new answer × IsSaid (plan_line answer) (plan_status answer) said
 
-abbrev pub PlanSays : List ℕ → List ℕ → List ℕ → Shelved → Shelved → Said → Type 0
-PlanSays m p c old new said = (answer : PlanAnswer) × PlanExplains m p c old new answer × IsSaid (plan_line answer) (plan_status answer) said
+abbrev pub PlanSays : List ℕ → List ℕ → List ℕ → ℕ → Shelved → Shelved → Said → Type 0
+PlanSays m p c budget old new said = (answer : PlanAnswer) × PlanExplains m p c budget old new answer × IsSaid (plan_line answer) (plan_status answer) said
 
 -- ---- the status that the model file calls for, faults and want of memory aside
--- for a problem 0 and 1 where its items have nothing to do with each other, and else 12
-abbrev pub ProblemCallsFor : Problem → ℕ → Type 0
-ProblemCallsFor problem status =
-    (IsUncoupled problem × (((status ≡ 0) × (p : Plan) × IsFeasible problem p) ⊎ ((status ≡ 1) × IsImpossible problem)))
-    ⊎ ((IsUncoupled problem → ⊥) × (status ≡ 12))
+-- the search may leave the problem open: it is coupled, and the budget isn't enough for all choices
+pub record MayBeLeft (problem : Problem) (budget : ℕ) : Type 0 where
+  pub coupled : IsUncoupled problem → ⊥
+  pub large : WithTotals problem (λ total. HasBudgetForAll problem budget total → ⊥)
 
-abbrev pub BytesCallFor : List ℕ → ℕ → Type 0
-BytesCallFor bytes status =
-    ((problem : Problem) × BytesMean bytes (Ok problem) × ProblemCallsFor problem status)
+-- for a problem 0 where a plan is feasible and 1 where none is; 2 only where it may be left open
+abbrev pub ProblemCallsFor : Problem → ℕ → ℕ → Type 0
+ProblemCallsFor problem budget status =
+    ((status ≡ 0) × (p : Plan) × IsFeasible problem p) ⊎ (((status ≡ 1) × IsImpossible problem) ⊎ ((status ≡ 2) × MayBeLeft problem budget))
+
+abbrev pub BytesCallFor : List ℕ → ℕ → ℕ → Type 0
+BytesCallFor bytes budget status =
+    ((problem : Problem) × BytesMean bytes (Ok problem) × ProblemCallsFor problem budget status)
     ⊎ ((fault : ModelFault) × BytesMean bytes (Err fault) × (status ≡ 5))
 
-abbrev pub FileCallsFor : Option (List ℕ) → ℕ → Type 0
-FileCallsFor None status = status ≡ 6
-FileCallsFor (Some bytes) status = ((file_limit < length bytes) × (status ≡ 11)) ⊎ ((length bytes ≤ file_limit) × BytesCallFor bytes status)
+abbrev pub FileCallsFor : Option (List ℕ) → ℕ → ℕ → Type 0
+FileCallsFor None budget status = status ≡ 6
+FileCallsFor (Some bytes) budget status = ((file_limit < length bytes) × (status ≡ 11)) ⊎ ((length bytes ≤ file_limit) × BytesCallFor bytes budget status)
+
+-- the file means a problem that the search may leave open, so that 2 is called for, beside 0 or 1
+abbrev pub MayLeave : Option (List ℕ) → ℕ → Type 0
+MayLeave None budget = ⊥
+MayLeave (Some bytes) budget = (problem : Problem) × BytesMean bytes (Ok problem) × MayBeLeft problem budget
 
 -- ---- what each status says
--- the words ask to plan a model file
-pub record IsAsked (asked : Option Asked) (model_file plan_file certificate_file : List ℕ) : Type 0 where
-  pub is : asked ≡ Some (planning model_file plan_file certificate_file)
+-- the words ask to plan a model file with a budget of nodes
+pub record IsAsked (asked : Option Asked) (model_file plan_file certificate_file : List ℕ) (budget : ℕ) : Type 0 where
+  pub is : asked ≡ Some (planning model_file plan_file certificate_file budget)
 
 -- the plan file holds a best plan of the problem in the model file, the certificate file proves that it is, and the lines have its cost
-pub record PlansBest (before after : Files) (model_file plan_file certificate_file : List ℕ) (out_old out_new : Printed) : Type 0 where
+pub record PlansBest (before after : Files) (model_file plan_file certificate_file : List ℕ) (budget : ℕ) (out_old out_new : Printed) : Type 0 where
   pub says : RootSays
   pub nodes : ℕ
   pub amount : ℕ
-  pub holds : OfModel before model_file (λ problem. WritesOptimal after problem plan_file certificate_file says nodes amount)
+  pub holds : OfModel before model_file (λ problem. WritesOptimal after problem plan_file certificate_file budget says nodes amount)
   pub lines : Gains (three_lines says nodes (optimal_line amount)) out_old out_new
 
 -- they ask to plan one of whose problem no plan is feasible, the certificate file proves it, and the lines say so
@@ -229,27 +298,40 @@ pub record FindsNoPlan (asked : Option Asked) (before after : Files) (out_old ou
   pub model_file : List ℕ
   pub plan_file : List ℕ
   pub certificate_file : List ℕ
-  pub words : IsAsked asked model_file plan_file certificate_file
+  pub budget : ℕ
+  pub words : IsAsked asked model_file plan_file certificate_file budget
   pub says : RootSays
   pub nodes : ℕ
-  pub holds : OfModel before model_file (λ problem. WritesInfeasible before after problem plan_file certificate_file says nodes)
+  pub holds : OfModel before model_file (λ problem. WritesInfeasible before after problem plan_file certificate_file budget says nodes)
   pub lines : Gains (three_lines says nodes infeasible_line) out_old out_new
 
--- they ask to plan one that can't be planned yet, and the line says so
-pub record CannotPlan (asked : Option Asked) (before : Files) (out_old out_new : Printed) : Type 0 where
+-- the best cost was left open: between the bound and what the plan in the plan file costs, or above the bound
+abbrev pub IsLeftOpen : Files → Files → Problem → List ℕ → List ℕ → ℕ → PlanAnswer → Type 0
+IsLeftOpen before after problem p c budget (optimal says nodes amount) = ⊥
+IsLeftOpen before after problem p c budget (infeasible says nodes) = ⊥
+IsLeftOpen before after problem p c budget (between says nodes bound amount) = WritesBetween after problem p c budget says nodes bound amount
+IsLeftOpen before after problem p c budget (above says nodes bound) = WritesAbove before after problem p c budget says nodes bound
+IsLeftOpen before after problem p c budget (unwritten file) = ⊥
+IsLeftOpen before after problem p c budget (stopped why) = ⊥
+
+-- they ask to plan one whose best cost was left open, the certificate file proves the bound, and the lines say so
+pub record LeavesOpen (asked : Option Asked) (before after : Files) (out_old out_new : Printed) : Type 0 where
   pub model_file : List ℕ
   pub plan_file : List ℕ
   pub certificate_file : List ℕ
-  pub words : IsAsked asked model_file plan_file certificate_file
-  pub holds : OfModel before model_file IsCoupled
-  pub line : Gains (codes "refused notbuilt\n") out_old out_new
+  pub budget : ℕ
+  pub words : IsAsked asked model_file plan_file certificate_file budget
+  pub answer : PlanAnswer
+  pub holds : OfModel before model_file (λ problem. IsLeftOpen before after problem plan_file certificate_file budget answer)
+  pub lines : Gains (plan_line answer) out_old out_new
 
--- they ask to plan one that can be, the plan file or the certificate file could not be written, and the line names it
+-- they ask to plan a model, the plan file or the certificate file could not be written, and the line names it
 pub record FailsToWrite (asked : Option Asked) (old new : Shelved) (out_old out_new : Printed) : Type 0 where
   pub model_file : List ℕ
   pub plan_file : List ℕ
   pub certificate_file : List ℕ
-  pub words : IsAsked asked model_file plan_file certificate_file
+  pub budget : ℕ
+  pub words : IsAsked asked model_file plan_file certificate_file budget
   pub file : List ℕ
   pub failed : Rose old.write_faults new.write_faults
   pub left : FailsAt (λ P. IsTrue old.told → OfModel old.file model_file P) plan_file certificate_file old new file

@@ -6,11 +6,11 @@ use Rattle.lotplan.specs.Command.{Asked, version, planning, judging, checking, u
 use Rattle.lotplan.specs.Status.{code_of}
 use Rattle.lotplan.specs.Saying.{Gains, IsSaid, Prints}
 use Rattle.lotplan.specs.Reading.{FirstExplains, ModelExplains, ReadAnswer, file_limit, read_line}
-use Rattle.lotplan.specs.Planning.{FailsToWrite, FileCallsFor, FindsNoPlan, PlanAnswer, PlanExplains, PlanSays, plan_line, plan_status}
+use Rattle.lotplan.specs.Planning.{FailsToWrite, FileCallsFor, FindsNoPlan, LeavesOpen, PlanAnswer, PlanExplains, PlanSays, plan_line, plan_status}
 use Rattle.lotplan.specs.Judging.{FilesStop, FindsFault, JudgeAnswer, JudgeCallsFor, JudgeExplains, JudgeSays, judge_line, judge_status}
 use Rattle.lotplan.specs.Checking.{CheckAnswer, CheckCallsFor, CheckExplains, CheckSays, CheckStops, FindsRefused, check_line, check_status}
 use Rattle.lotplan.specs.Upgrading.{FailsToUpgrade, UpgradeAnswer, UpgradeCallsFor, UpgradeExplains, UpgradeSays, upgrade_line, upgrade_status}
-use Rattle.lotplan.specs.Bounding.{BoundAnswer, BoundCallsFor, BoundExplains, BoundIsSaid, FindsNoPoint, bound_line, bound_status}
+use Rattle.lotplan.specs.Bounding.{BoundAnswer, BoundCallsFor, BoundExplains, BoundIsSaid, FindsNoBound, FindsNoPoint, bound_line, bound_status}
 use Rattle.lotplan.specs.declared.said.Said.{Said}
 use Rattle.lotplan.specs.declared.status.Status.TheVariants.{Done, NoCommand, NoMemory}
 
@@ -25,7 +25,7 @@ refused_line = codes "refused words\n"
 abbrev pub SaysFor : Option Asked → Shelved → Shelved → Said → Type 0
 SaysFor None old new said = (new ≡ old) × IsSaid refused_line NoCommand said
 SaysFor (Some version) old new said = (new ≡ old) × IsSaid version_line Done said
-SaysFor (Some (planning m p c)) old new said = PlanSays m p c old new said
+SaysFor (Some (planning m p c budget)) old new said = PlanSays m p c budget old new said
 SaysFor (Some (judging m p)) old new said = JudgeSays m p old new said × OnlyReads old new
 SaysFor (Some (checking m p c)) old new said = CheckSays m p c old new said × OnlyReads old new
 SaysFor (Some (upgrading m n)) old new said = UpgradeSays m n old new said
@@ -35,7 +35,7 @@ SaysFor (Some (bounding m)) old new said = BoundIsSaid m old new said × OnlyRea
 abbrev pub Leaves : Option Asked → Shelved → Shelved → Type 0
 Leaves None old new = new ≡ old
 Leaves (Some version) old new = new ≡ old
-Leaves (Some (planning m p c)) old new = OnlyReads old new
+Leaves (Some (planning m p c budget)) old new = OnlyReads old new
 Leaves (Some (judging m p)) old new = OnlyReads old new
 Leaves (Some (checking m p c)) old new = OnlyReads old new
 Leaves (Some (upgrading m n)) old new = OnlyReads old new
@@ -45,8 +45,8 @@ Leaves (Some (bounding m)) old new = OnlyReads old new
 abbrev pub RunsAs : Option Asked → ℕ → Shelved → Shelved → Printed → Printed → Type 0
 RunsAs None code old new out_old out_new = (new ≡ old) × Prints refused_line NoCommand code out_old out_new
 RunsAs (Some version) code old new out_old out_new = (new ≡ old) × Prints version_line Done code out_old out_new
-RunsAs (Some (planning m p c)) code old new out_old out_new =
-    (answer : PlanAnswer) × PlanExplains m p c old new answer × Prints (plan_line answer) (plan_status answer) code out_old out_new
+RunsAs (Some (planning m p c budget)) code old new out_old out_new =
+    (answer : PlanAnswer) × PlanExplains m p c budget old new answer × Prints (plan_line answer) (plan_status answer) code out_old out_new
 RunsAs (Some (judging m p)) code old new out_old out_new =
     (answer : JudgeAnswer) × JudgeExplains m p old new answer × OnlyReads old new × Prints (judge_line answer) (judge_status answer) code out_old out_new
 RunsAs (Some (checking m p c)) code old new out_old out_new =
@@ -71,7 +71,7 @@ pub data IsRun (asked : Option Asked) (code : ℕ) (old new : Shelved) (out_old 
 abbrev pub CallFor : Option Asked → Files → ℕ → Type 0
 CallFor None file status = status ≡ 4
 CallFor (Some version) file status = status ≡ 0
-CallFor (Some (planning m p c)) file status = FileCallsFor (file m) status
+CallFor (Some (planning m p c budget)) file status = FileCallsFor (file m) budget status
 CallFor (Some (judging m p)) file status = JudgeCallsFor (file m) (file p) status
 CallFor (Some (checking m p c)) file status = CheckCallsFor (file m) (file p) (file c) status
 CallFor (Some (upgrading m n)) file status = UpgradeCallsFor (file m) status
@@ -87,7 +87,7 @@ pub record CallsForZero (after : Files) (model_file plan_file certificate_file :
 abbrev pub most_given : Option Asked → ℕ
 most_given None = 2 * (file_limit + piece_size)
 most_given (Some version) = 2 * (file_limit + piece_size)
-most_given (Some (planning m p c)) = 2 * (file_limit + piece_size)
+most_given (Some (planning m p c budget)) = 2 * (file_limit + piece_size)
 most_given (Some (judging m p)) = 2 * (file_limit + piece_size)
 most_given (Some (checking m p c)) = 2 * (file_limit + piece_size) + 3 * pass_size
 most_given (Some (upgrading m n)) = 2 * (file_limit + piece_size)
@@ -109,6 +109,10 @@ pub record IsNoCommand (asked : Option Asked) (out_old out_new : Printed) : Type
 abbrev pub IsInfeasible : Option Asked → Files → Files → Printed → Printed → Type 0
 IsInfeasible asked before after out_old out_new = FindsNoPlan asked before after out_old out_new ⊎ FindsNoPoint asked before out_old out_new
 
+-- the best cost was left open by `plan`, or the bound was not found by `bound`
+abbrev pub LeavesUndecided : Option Asked → Files → Files → Printed → Printed → Type 0
+LeavesUndecided asked before after out_old out_new = LeavesOpen asked before after out_old out_new ⊎ FindsNoBound asked before out_old out_new
+
 -- a plan that was judged, or a certificate that was checked, has a fault, and the line names the first
 abbrev pub IsFaulty : Option Asked → Files → Printed → Printed → Type 0
 IsFaulty asked before out_old out_new = FindsFault asked before out_old out_new ⊎ FindsRefused asked before out_old out_new
@@ -121,7 +125,7 @@ CannotWrite asked old new out_old out_new = FailsToWrite asked old new out_old o
 abbrev pub StopsFor : Option Asked → Shelved → Shelved → ReadAnswer → Type 0
 StopsFor None old new why = ⊥
 StopsFor (Some version) old new why = ⊥
-StopsFor (Some (planning m p c)) old new why = ModelExplains m old new why
+StopsFor (Some (planning m p c budget)) old new why = ModelExplains m old new why
 StopsFor (Some (judging m p)) old new why = FilesStop m p old new why
 StopsFor (Some (checking m p c)) old new why = CheckStops m p c old new why
 StopsFor (Some (upgrading m n)) old new why = FirstExplains m old new why

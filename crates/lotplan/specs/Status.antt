@@ -16,4 +16,3 @@ code_of status.Unwritten = 8
 code_of status.Unprinted = 9
 code_of status.NoMemory = 10
 code_of status.TooLong = 11
-code_of status.NotBuilt = 12

@@ -5,7 +5,7 @@ use std::alloc::{AllocError, Global};
 use std::test::Fail;
 
 // A best plan of the shop, which costs 23.
-const SHOP_PLAN: &str = "A,1,5,1,3,0\nA,2,5,1,0,0\n";
+pub const SHOP_PLAN: &str = "A,1,5,1,3,0\nA,2,5,1,0,0\n";
 
 // The shop's plan is best, by branches on setups.
 const BY_BRANCHES: &str = "lotcert 1\nclaim optimal 23\ncuts 0\nbranch y 1 1 0\nfarkas 3\n\

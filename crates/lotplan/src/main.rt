@@ -2,8 +2,7 @@
 //!
 //! `main` gives the command line, the machine's files and standard output to `run`, and ends with
 //! its status. `run` reads the words, plans, judges, checks, upgrades or bounds, writes and prints; what each
-//! status means is its contract. So far models are planned in which no item takes time on a resource, goes
-//! into another, or has a lead time or a bound on its lots.
+//! status means is its contract.
 #![tactic(auto)]
 
 ghost use Rattle.lotplan.specs.Run.{refused_line};
@@ -59,5 +58,7 @@ fn refuse_words<K: Sink>(out: &mut K) -> u8
 mod bound_tests;
 #[cfg(test)]
 mod check_tests;
+#[cfg(test)]
+mod search_tests;
 #[cfg(test)]
 mod tests;

@@ -5,12 +5,12 @@ ghost use Rattle.lot_io.specs.Outside.{GrewBy, OnlyReads, Rose};
 ghost use Rattle.lotplan.specs.Command.{bounding, checking, command_of, judging, planning, upgrading};
 ghost use Rattle.lotplan.specs.Saying.{Ends};
 ghost use Rattle.lotplan.specs.Reading.{missing, refused, too_long, unread};
-ghost use Rattle.lotplan.specs.Planning.{CannotPlan, PlansBest, StartsAtMost, StartsAtMostBoth, StartsOnly};
+ghost use Rattle.lotplan.specs.Planning.{PlansBest, StartsAtMost, StartsAtMostBoth, StartsBoth, StartsOnly};
 ghost use Rattle.lotplan.specs.Judging.{FindsFeasible};
 ghost use Rattle.lotplan.specs.Checking.{Accepts};
 ghost use Rattle.lotplan.specs.Upgrading.{Upgrades};
-ghost use Rattle.lotplan.specs.Bounding.{FindsBound, FindsNoBound};
-ghost use Rattle.lotplan.specs.Run.{CallFor, CallsForZero, CannotWrite, HadNoFault, IsFaulty, IsInfeasible, IsNoCommand, IsRun, Leaves, SaysFor, Stops, most_given};
+ghost use Rattle.lotplan.specs.Bounding.{FindsBound};
+ghost use Rattle.lotplan.specs.Run.{CallFor, CallsForZero, CannotWrite, HadNoFault, IsFaulty, IsInfeasible, IsNoCommand, IsRun, Leaves, LeavesUndecided, SaysFor, Stops, most_given};
 
 use crate::command::{Command, read_words};
 use crate::commands::bound::bound_files;
@@ -27,13 +27,13 @@ use std::alloc::{AllocError, Global};
 /// Does what the words ask for, prints a line, or three of a plan, and gives the number of the status.
 ///
 /// `words` are those after the program's name: none for the program's name and version,
-/// `plan MODEL PLAN CERTIFICATE`, `judge MODEL PLAN`, `check MODEL PLAN CERTIFICATE`, `upgrade MODEL NEW` or `bound MODEL`.
-/// The numbers are 0 done, 1 no plan is feasible, 2 the bound was not found, 3 the plan file holds no plan or one
-/// that breaks a rule, or the certificate is refused, 4 no command, 5 the model is refused, 6 a file is absent, 7 it
-/// could not be read, 8 it could not be written, 9 the lines could not be printed, 10 out of memory, 11 a file is
-/// longer than 16,777,216 bytes, or a certificate file than 2^63 - 1, 12 the model can't be planned yet. All memory is
-/// taken before the first write. `plan` writes the plan file before the certificate file, and on status 1 the
-/// certificate file alone.
+/// `plan MODEL PLAN CERTIFICATE`, which `--nodes N` may follow, `judge MODEL PLAN`, `check MODEL PLAN CERTIFICATE`,
+/// `upgrade MODEL NEW` or `bound MODEL`. N is the most nodes that the certificate's tree may have, from 1 to 1,000,000, and
+/// else 1,000. The numbers are 0 done, 1 no plan is feasible, 2 the best cost was left open, or the bound was not
+/// found, 3 the plan file holds no plan or one that breaks a rule, or the certificate is refused, 4 no command, 5 the
+/// model is refused, 6 a file is absent, 7 it could not be read, 8 it could not be written, 9 the lines could not be printed, 10 out of memory, 11 a file is
+/// longer than 16,777,216 bytes, or a certificate file than 2^63 - 1. All memory is taken before the first write. `plan`
+/// writes the plan file before the certificate file, and where it found no plan the certificate file alone.
 ///
 /// What is said of counts holds over every shelf and sink, the machine's own too; what is said of
 /// contents holds where they are told.
@@ -41,13 +41,13 @@ pub fn run<S: Shelf, K: Sink>(alloc: Global, words: &[String], shelf: &mut S, ou
     // After `plan` with status 0 the plan file holds a best plan, the certificate file one that is accepted
     // with it and proves that no plan costs less, and the lines have the certificate's number of nodes and
     // the plan's cost.
-    ensures optimal { (m p c : List ℕ) → command_of (map string_bytes words.now) ≡ Some (planning m p c) → result ≡ 0
+    ensures optimal { (m p c : List ℕ) (n : ℕ) → command_of (map string_bytes words.now) ≡ Some (planning m p c n) → result ≡ 0
         → IsTrue (S.shown shelf.old).told
-        → PlansBest (S.shown shelf.old).file (S.shown shelf.new).file m p c (K.shown out.old) (K.shown out.new) }
+        → PlansBest (S.shown shelf.old).file (S.shown shelf.new).file m p c n (K.shown out.old) (K.shown out.new) }
 
-    // After `plan` with status 0 or 1 `check` calls for 0 on the files that it left.
-    ensures checks { (m p c : List ℕ) → command_of (map string_bytes words.now) ≡ Some (planning m p c)
-        → (result ≡ 0) ⊎ (result ≡ 1) → IsTrue (S.shown shelf.old).told → CallsForZero (S.shown shelf.new).file m p c }
+    // After `plan` with status 0, 1 or 2 `check` calls for 0 on the files that it left.
+    ensures checks { (m p c : List ℕ) (n : ℕ) → command_of (map string_bytes words.now) ≡ Some (planning m p c n)
+        → (result ≡ 0) ⊎ ((result ≡ 1) ⊎ (result ≡ 2)) → IsTrue (S.shown shelf.old).told → CallsForZero (S.shown shelf.new).file m p c }
 
     // After `judge` with status 0 the plan file holds a feasible plan, and the line has its cost.
     ensures judged { (m p : List ℕ) → command_of (map string_bytes words.now) ≡ Some (judging m p) → result ≡ 0
@@ -77,11 +77,12 @@ pub fn run<S: Shelf, K: Sink>(alloc: Global, words: &[String], shelf: &mut S, ou
         → (result ≡ 10) ⊎ CallFor (command_of (map string_bytes words.now)) (S.shown shelf.old).file result }
 
     // The cause of each other status, and its lines. On status 1 there is no plan; after `plan` the certificate file
-    // proves it, and the plan file is as it was.
+    // proves it, and the plan file is as it was. On status 2 of `plan` the certificate file proves the bound, and the
+    // plan file holds a plan that costs more, or is as it was.
     ensures infeasible { result ≡ 1 → IsTrue (S.shown shelf.old).told
         → IsInfeasible (command_of (map string_bytes words.now)) (S.shown shelf.old).file (S.shown shelf.new).file (K.shown out.old) (K.shown out.new) }
     ensures undecided { result ≡ 2 → IsTrue (S.shown shelf.old).told
-        → FindsNoBound (command_of (map string_bytes words.now)) (S.shown shelf.old).file (K.shown out.old) (K.shown out.new) }
+        → LeavesUndecided (command_of (map string_bytes words.now)) (S.shown shelf.old).file (S.shown shelf.new).file (K.shown out.old) (K.shown out.new) }
     ensures faulty { result ≡ 3 → IsTrue (S.shown shelf.old).told
         → IsFaulty (command_of (map string_bytes words.now)) (S.shown shelf.old).file (K.shown out.old) (K.shown out.new) }
     ensures no_command { result ≡ 4 → IsNoCommand (command_of (map string_bytes words.now)) (K.shown out.old) (K.shown out.new) }
@@ -96,16 +97,16 @@ pub fn run<S: Shelf, K: Sink>(alloc: Global, words: &[String], shelf: &mut S, ou
     ensures unprinted { result ≡ 9 → Rose (K.shown out.old).faults (K.shown out.new).faults }
     ensures too_long { result ≡ 11 → (file : List ℕ) × Stops (command_of (map string_bytes words.now))
         (S.shown shelf.old) (S.shown shelf.new) (K.shown out.old) (K.shown out.new) (too_long file) }
-    ensures not_built { result ≡ 12 → IsTrue (S.shown shelf.old).told
-        → CannotPlan (command_of (map string_bytes words.now)) (S.shown shelf.old).file (K.shown out.old) (K.shown out.new) }
 
-    // What is written: nothing on a status but 0, 1, 8 and 9, and by `plan` and `upgrade` alone; never another file.
-    ensures quiet { result ≢ 0 → result ≢ 1 → result ≢ 8 → result ≢ 9 → OnlyReads (S.shown shelf.old) (S.shown shelf.new) }
-    ensures wrote { (m p c : List ℕ) → command_of (map string_bytes words.now) ≡ Some (planning m p c) → result ≡ 0
+    // What is written: nothing on a status but 0, 1, 2, 8 and 9, and by `plan` and `upgrade` alone; never another file.
+    ensures quiet { result ≢ 0 → result ≢ 1 → result ≢ 2 → result ≢ 8 → result ≢ 9 → OnlyReads (S.shown shelf.old) (S.shown shelf.new) }
+    ensures wrote { (m p c : List ℕ) (n : ℕ) → command_of (map string_bytes words.now) ≡ Some (planning m p c n) → result ≡ 0
         → GrewBy 2 (S.shown shelf.old).starts (S.shown shelf.new).starts }
-    ensures wrote_certificate { (m p c : List ℕ) → command_of (map string_bytes words.now) ≡ Some (planning m p c) → result ≡ 1
+    ensures wrote_certificate { (m p c : List ℕ) (n : ℕ) → command_of (map string_bytes words.now) ≡ Some (planning m p c n) → result ≡ 1
         → StartsOnly c (S.shown shelf.old) (S.shown shelf.new) }
-    ensures others { (m p c : List ℕ) → command_of (map string_bytes words.now) ≡ Some (planning m p c)
+    ensures wrote_some { (m p c : List ℕ) (n : ℕ) → command_of (map string_bytes words.now) ≡ Some (planning m p c n) → result ≡ 2
+        → StartsBoth p c (S.shown shelf.old) (S.shown shelf.new) ⊎ StartsOnly c (S.shown shelf.old) (S.shown shelf.new) }
+    ensures others { (m p c : List ℕ) (n : ℕ) → command_of (map string_bytes words.now) ≡ Some (planning m p c n)
         → StartsAtMostBoth p c (S.shown shelf.old) (S.shown shelf.new) }
     ensures rewrote { (m n : List ℕ) → command_of (map string_bytes words.now) ≡ Some (upgrading m n) → result ≡ 0
         → GrewBy 1 (S.shown shelf.old).starts (S.shown shelf.new).starts }
@@ -162,9 +163,14 @@ fn said<S: Shelf>(alloc: Global, words: &[String], shelf: &mut S) -> Result<Said
     match read_words(words) {
         None => Said::new(alloc, "refused words\n", Status::NoCommand),
         Some(Command::Name) => Said::new(alloc, "lotplan 1\n", Status::Done),
-        Some(Command::Plan(names)) => {
-            plan_files(alloc, names.model, names.plan, names.certificate, shelf)
-        }
+        Some(Command::Plan { names, budget }) => plan_files(
+            alloc,
+            names.model,
+            names.plan,
+            names.certificate,
+            budget,
+            shelf,
+        ),
         Some(Command::Judge(names)) => judge_files(alloc, names.model, names.plan, shelf),
         Some(Command::Check(names)) => {
             check_files(alloc, names.model, names.plan, names.certificate, shelf)

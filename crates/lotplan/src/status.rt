@@ -29,8 +29,6 @@ pub enum Status {
     NoMemory,
     /// A file is too long.
     TooLong,
-    /// The model can't be planned yet.
-    NotBuilt,
 }
 
 impl Status {
@@ -51,7 +49,6 @@ impl Status {
             Status::Unprinted => 9,
             Status::NoMemory => 10,
             Status::TooLong => 11,
-            Status::NotBuilt => 12,
         }
     }
 }

@@ -76,12 +76,11 @@ fn ends_in(alloc: Global, model: &str, status: u8, line: &str) -> Result<bool, A
     Ok(said && shelf.files.len() == 1 && shelf.starts == 0 && holds(&shelf, "m", model))
 }
 
-// Whether the files of a model, a plan and a certificate are accepted, and prove this claim.
-fn is_accepted(alloc: Global, shelf: &mut MemoryShelf, claim: &str) -> Result<bool, AllocError> {
+// Whether the files of a model, a plan and a certificate are accepted, and this line is printed.
+pub fn is_checked(alloc: Global, shelf: &mut MemoryShelf, line: &str) -> Result<bool, AllocError> {
     let words = texts(alloc, &["check", "m", "p", "c"])?;
     let mut out = MemorySink::new(alloc, Vec::new(alloc));
     let ended = run(alloc, words.as_slice(), shelf, &mut out);
-    let line = format!(in alloc; "accepted {claim}\n")?;
     Ok(ended == 0 && out.bytes.as_slice() == line.as_bytes())
 }
 
@@ -101,6 +100,7 @@ fn is_planned(
     let ended = run(alloc, words.as_slice(), &mut shelf, &mut out);
     let lines = format!(in alloc; "root uncoupled\nnodes 1\n{claim}\n")?;
     let said = ended == status && out.bytes.as_slice() == lines.as_bytes();
+    let accepted = format!(in alloc; "accepted {claim}\n")?;
     let text = format!(in alloc; "{HEADER}{records}")?;
     let plan = if records.is_empty() {
         "old\n"
@@ -109,7 +109,11 @@ fn is_planned(
     };
     let starts = if records.is_empty() { 1 } else { 2 };
     let kept = shelf.files.len() == 3 && shelf.starts == starts && holds(&shelf, "p", plan);
-    Ok(said && kept && is_accepted(alloc, &mut shelf, claim)? && holds(&shelf, "m", model))
+    Ok(
+        said && kept
+            && is_checked(alloc, &mut shelf, accepted.as_str())?
+            && holds(&shelf, "m", model),
+    )
 }
 
 #[test]
@@ -197,7 +201,7 @@ fn twelve_periods_are_planned(rt: HostRuntime) -> Result<(), Fail> {
 }
 
 // A model of two items over one period, with these lines.
-fn two_items(alloc: Global, first: &str, second: &str) -> Result<String, AllocError> {
+pub fn two_items(alloc: Global, first: &str, second: &str) -> Result<String, AllocError> {
     format!(in alloc;
         "version = 1\nperiods = 1\n[[item]]\nname = \"A\"\n{first}\n[[item]]\nname = \"B\"\n{second}\n"
     )
@@ -244,12 +248,6 @@ fn models_are_refused(rt: HostRuntime) -> Result<(), Fail> {
             5,
             "refused model M11 item 2\n",
         ),
-        (
-            "demand = [5]\nneeds = [{ item = \"B\", quantity = 2 }]",
-            "demand = [0]\nhold_cost = 1",
-            12,
-            "refused notbuilt\n",
-        ),
     ] {
         let model = two_items(alloc, first, second)?;
         assert!(rt; ends_in(alloc, model.as_str(), status, line)?);
@@ -278,13 +276,12 @@ fn damaged_models_are_refused(rt: HostRuntime) -> Result<(), Fail> {
     let demand = "demand = [2, 8]";
     let uses = "resource = \"m\"";
     for (root, name, more, uses, status, line) in [
-        (good, "A", demand, uses, 12u8, "refused notbuilt\n"),
         (
             "version = 1\nperiods =",
             "A",
             demand,
             uses,
-            5,
+            5u8,
             "refused model M1 root\n",
         ),
         (
@@ -506,7 +503,6 @@ fn lead_times_and_lots_are_judged(rt: HostRuntime) -> Result<(), Fail> {
     )?;
     let few = "broken 8 item 1 period 1\n";
     assert!(rt; judged_as(alloc, lots.as_str(), "A,1,4,1,0,0\n", 3, few)?);
-    assert!(rt; ends_in(alloc, later.as_str(), 12, "refused notbuilt\n")?);
     Ok(())
 }
 
@@ -634,7 +630,7 @@ fn a_judgement_names_the_file_that_is_absent(rt: HostRuntime) -> Result<(), Fail
 #[test]
 fn words_are_refused(rt: HostRuntime) -> Result<(), Fail> {
     let alloc = rt.alloc();
-    let cases: [(&[&str], u8, &str); 21] = [
+    let cases: [(&[&str], u8, &str); 27] = [
         (&[], 0, "lotplan 1\n"),
         (&["judge", "m", "m"], 4, "refused words\n"),
         (&["judge", "m", "p", "c"], 4, "refused words\n"),
@@ -653,6 +649,36 @@ fn words_are_refused(rt: HostRuntime) -> Result<(), Fail> {
         (&["upgrade", "m", "m"], 4, "refused words\n"),
         (&["upgrade", "m", "n", "c"], 4, "refused words\n"),
         (&["plan", "m", "p", "c", "--nodes"], 4, "refused words\n"),
+        (
+            &["plan", "m", "p", "c", "--nodes", "0"],
+            4,
+            "refused words\n",
+        ),
+        (
+            &["plan", "m", "p", "c", "--nodes", "01"],
+            4,
+            "refused words\n",
+        ),
+        (
+            &["plan", "m", "p", "c", "--nodes", "1000001"],
+            4,
+            "refused words\n",
+        ),
+        (
+            &["plan", "m", "p", "c", "--node", "1"],
+            4,
+            "refused words\n",
+        ),
+        (
+            &["plan", "m", "p", "m", "--nodes", "1"],
+            4,
+            "refused words\n",
+        ),
+        (
+            &["check", "m", "p", "c", "--nodes", "1"],
+            4,
+            "refused words\n",
+        ),
         (&["bound"], 4, "refused words\n"),
         (&["bound", "-m"], 4, "refused words\n"),
         (&["bound", "m", "p"], 4, "refused words\n"),
@@ -706,7 +732,7 @@ fn faults_of_the_outside_are_named(rt: HostRuntime) -> Result<(), Fail> {
             "{printed}"
         );
         assert!(rt;
-            whole < 2 || is_accepted(alloc, &mut shelf, "optimal 25")?,
+            whole < 2 || is_checked(alloc, &mut shelf, "accepted optimal 25\n")?,
             "{printed}"
         );
     }

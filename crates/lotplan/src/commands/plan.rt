@@ -1,9 +1,9 @@
-// `plan`: plans the model in a file, and writes a best plan and the certificate of what is claimed to two others.
+// `plan`: plans the model in a file, and writes the plan that was found and the certificate of what is claimed to two
+// others.
 ghost use Rattle.std.specs.Prelude.{◌≡◌, ◌≢◌, ◌≤◌, ◌+◌, string_bytes, IfOk, IfSome, OnErr};
 ghost use Rattle.lot_io.specs.Outside.{OnlyReads, piece_size};
-ghost use Rattle.lot_sizing.specs.Problem.{IsUncoupled};
-ghost use Rattle.plan_rules.specs.Held.{AllFit};
-ghost use Rattle.branching.specs.Found.{GoesWithPlan, IsDecidedAlone, IsProved};
+ghost use Rattle.branch_and_cut.specs.Search.{IsGoodPlan, cost_of};
+ghost use Rattle.lotplan.specs.Finding.{IsFound};
 ghost use Rattle.lotplan.specs.Held.{plan_meant};
 ghost use Rattle.lotplan.specs.Planning.{IsAnswerTo, PlanSays, WriteSays, WritesAndSays, plan_line, plan_status, root_line};
 ghost use Rattle.lotplan.specs.Reading.{file_limit};
@@ -12,12 +12,13 @@ ghost use Rattle.lotplan.specs.Saying.{IsSaid};
 use crate::model_file::{ReadAnswer, Stop, read_model};
 use crate::said::Said;
 use crate::status::Status;
-use bill::totals_exist;
-use branching::{Found, RootSays, plan_uncoupled};
+use branch_and_cut::search;
+use branching::{Found, RootSays};
 use certificate::{Claim, write_certificate};
 use lot_io::{Shelf, write_file};
-use lot_model::{Instance, is_uncoupled};
+use lot_model::Instance;
 use plan_file::write_plan;
+use plan_rules::{Plan, judge};
 use std::alloc::{AllocError, Global};
 
 /// What `plan` answers.
@@ -39,8 +40,26 @@ pub enum PlanAnswer<'a> {
         /// The number of nodes of the certificate's tree.
         nodes: u64,
     },
-    /// The model can't be planned yet.
-    NotBuilt,
+    /// A plan and the certificate of a bound below its cost were written.
+    Between {
+        /// What was said at the root.
+        root: RootSays,
+        /// The number of nodes of the certificate's tree.
+        nodes: u64,
+        /// What each plan costs at least, in money.
+        bound: u128,
+        /// What the plan costs, in money.
+        cost: u128,
+    },
+    /// No plan was found, and the certificate of a bound was written.
+    Above {
+        /// What was said at the root.
+        root: RootSays,
+        /// The number of nodes of the certificate's tree.
+        nodes: u64,
+        /// What each plan costs at least, in money.
+        bound: u128,
+    },
     /// The plan file or the certificate file, of this name, could not be written.
     Unwritten(&'a str),
     /// The model file gave no instance.
@@ -65,7 +84,7 @@ impl PlanAnswer<'_> {
         match self {
             PlanAnswer::Optimal { .. } => Status::Done,
             PlanAnswer::Infeasible { .. } => Status::NoPlan,
-            PlanAnswer::NotBuilt => Status::NotBuilt,
+            PlanAnswer::Between { .. } | PlanAnswer::Above { .. } => Status::Undecided,
             PlanAnswer::Unwritten(_) => Status::Unwritten,
             PlanAnswer::Stopped(why) => why.status(),
         }
@@ -84,7 +103,19 @@ impl PlanAnswer<'_> {
                 let root = line_of_root(alloc, root)?;
                 format!(in alloc; "{root}nodes {nodes}\ninfeasible\n")
             }
-            PlanAnswer::NotBuilt => String::from_str(alloc, "refused notbuilt\n"),
+            PlanAnswer::Between {
+                root,
+                nodes,
+                bound,
+                cost,
+            } => {
+                let root = line_of_root(alloc, root)?;
+                format!(in alloc; "{root}nodes {nodes}\nundecided {bound} plan {cost}\n")
+            }
+            PlanAnswer::Above { root, nodes, bound } => {
+                let root = line_of_root(alloc, root)?;
+                format!(in alloc; "{root}nodes {nodes}\nundecided {bound}\n")
+            }
             PlanAnswer::Unwritten(file) => format!(in alloc; "refused write {file}\n"),
             PlanAnswer::Stopped(why) => why.line(alloc),
         }
@@ -105,28 +136,36 @@ fn line_of_root(alloc: Global, root: &RootSays) -> Result<String, AllocError>
     }
 }
 
+// What a feasible plan costs.
+fn cost_of(instance: &Instance, plan: &Plan) -> u128
+    requires { IsGoodPlan instance.now plan.now }
+    ensures { result ≡ cost_of instance.now plan.now }
+{
+    match judge(instance, plan) {
+        Ok(cost) => cost,
+        Err(_) => unreachable!(),
+    }
+}
+
 // What is answered once what was found is written.
-fn answer_of(found: &Found) -> PlanAnswer<'static>
-    requires { GoesWithPlan found.now.certificate.claim found.now.plan }
-    ensures { IsAnswerTo found.now.certificate.claim found.now.root found.now.nodes (plan_meant result) }
+fn answer_of(instance: &Instance, found: &Found) -> PlanAnswer<'static>
+    requires { IfSome found.now.plan (IsGoodPlan instance.now) }
+    ensures { IsAnswerTo instance.now found.now.certificate.claim found.now.plan found.now.root found.now.nodes (plan_meant result) }
 {
     let (root, nodes) = (found.root, found.nodes);
     match found.certificate.claim {
         Claim::Optimal(cost) => PlanAnswer::Optimal { root, nodes, cost },
         Claim::Infeasible => PlanAnswer::Infeasible { root, nodes },
-        Claim::Bound(_) => unreachable!(),
+        Claim::Bound(bound) => match &found.plan {
+            Some(plan) => PlanAnswer::Between {
+                root,
+                nodes,
+                bound,
+                cost: cost_of(instance, plan),
+            },
+            None => PlanAnswer::Above { root, nodes, bound },
+        },
     }
-}
-
-// The grids of a plan that was found are those of the instance: its certificate was accepted with it, whatever
-// the instance's totals and weights are, and there are some.
-fn plan_fits(instance: &Instance, found: &Found)
-    requires proved { IsProved instance.now found.now }
-    requires decided { IsDecidedAlone found.now }
-    ensures { IfSome found.now.plan (AllFit instance.now) }
-{
-    instance.periods();
-    totals_exist();
 }
 
 // Writes the certificate file, which is the last, and gives what is said then.
@@ -146,26 +185,25 @@ fn write_last<S: Shelf>(
     }
 }
 
-// Writes what was found: the plan file, where there is a plan, and then the certificate file. All memory is taken
-// before the first of them is started.
+// Writes what was found with a budget of nodes: the plan file, where there is a plan, and then the certificate file.
+// All memory is taken before the first of them is started.
 fn write_found<S: Shelf>(
     alloc: Global,
     instance: &Instance,
+    budget: u64,
     found: &Found,
     plan: &str,
     certificate: &str,
     shelf: &mut S,
 ) -> Result<Said, AllocError>
-    requires uncoupled { IsUncoupled instance.now }
-    requires proved { IsProved instance.now found.now }
-    requires decided { IsDecidedAlone found.now }
+    requires found { IsFound instance.now budget found.now }
     requires apart { plan.now ≢ certificate.now }
-    ensures said { IfOk result (WriteSays instance.now plan.now certificate.now (S.shown shelf.old) (S.shown shelf.new)) }
+    ensures said { IfOk result (WriteSays instance.now budget plan.now certificate.now (S.shown shelf.old) (S.shown shelf.new)) }
     ensures memory { OnErr result (S.shown shelf.new ≡ S.shown shelf.old) }
     ensures given { (S.shown shelf.new).given ≡ (S.shown shelf.old).given }
 {
     let proof = write_certificate(alloc, &found.certificate)?;
-    let written = answer_of(found).said(alloc)?;
+    let written = answer_of(instance, found).said(alloc)?;
     let unproved = PlanAnswer::Unwritten(certificate).said(alloc)?;
     let chosen = match &found.plan {
         Some(chosen) => chosen,
@@ -173,7 +211,6 @@ fn write_found<S: Shelf>(
             return Ok(write_last(certificate, proof.as_slice(), written, unproved, shelf));
         }
     };
-    plan_fits(instance, found);
     let bytes = write_plan(alloc, instance, chosen)?;
     let unplanned = PlanAnswer::Unwritten(plan).said(alloc)?;
     match write_file(shelf, plan, bytes.as_slice()) {
@@ -182,41 +219,51 @@ fn write_found<S: Shelf>(
     }
 }
 
-// Plans an instance, and writes a best plan where there is one, and the certificate of what is claimed.
+// What the search finds of an instance with a budget of nodes.
+fn found_of(alloc: Global, instance: &Instance, budget: u64) -> Result<Found, AllocError>
+    requires { 1 ≤ budget }
+    ensures { IfOk result (IsFound instance.now budget) }
+{
+    search(alloc, instance, budget, None)
+}
+
+// Plans an instance, and writes the plan that was found, where there is one, and the certificate of what is claimed.
 fn plan_instance<S: Shelf>(
     alloc: Global,
     instance: &Instance,
+    budget: u64,
     plan: &str,
     certificate: &str,
     shelf: &mut S,
 ) -> Result<Said, AllocError>
-    requires { plan.now ≢ certificate.now }
-    ensures said { IfOk result (WriteSays instance.now plan.now certificate.now (S.shown shelf.old) (S.shown shelf.new)) }
+    requires budget { 1 ≤ budget }
+    requires apart { plan.now ≢ certificate.now }
+    ensures said { IfOk result (WriteSays instance.now budget plan.now certificate.now (S.shown shelf.old) (S.shown shelf.new)) }
     ensures memory { OnErr result (S.shown shelf.new ≡ S.shown shelf.old) }
     ensures given { (S.shown shelf.new).given ≡ (S.shown shelf.old).given }
 {
-    if !is_uncoupled(instance) {
-        return PlanAnswer::NotBuilt.said(alloc);
-    }
-    let found = plan_uncoupled(alloc, instance)?;
-    write_found(alloc, instance, &found, plan, certificate, shelf)
+    let found = found_of(alloc, instance, budget)?;
+    write_found(alloc, instance, budget, &found, plan, certificate, shelf)
 }
 
-/// Plans the model in a file, and writes the plan and the certificate of what is claimed to two others.
+/// Plans the model in a file with a budget of nodes, and writes the plan that was found and the certificate of what is
+/// claimed to two others.
 pub fn plan_files<S: Shelf>(
     alloc: Global,
     model: &str,
     plan: &str,
     certificate: &str,
+    budget: u64,
     shelf: &mut S,
 ) -> Result<Said, AllocError>
-    requires { plan.now ≢ certificate.now }
-    ensures said { IfOk result (PlanSays model.now plan.now certificate.now (S.shown shelf.old) (S.shown shelf.new)) }
+    requires budget { 1 ≤ budget }
+    requires apart { plan.now ≢ certificate.now }
+    ensures said { IfOk result (PlanSays model.now plan.now certificate.now budget (S.shown shelf.old) (S.shown shelf.new)) }
     ensures memory { OnErr result (OnlyReads (S.shown shelf.old) (S.shown shelf.new)) }
     ensures given { (S.shown shelf.new).given ≤ (S.shown shelf.old).given + (file_limit + piece_size) }
 {
     match read_model(alloc, model, shelf) {
-        Ok(instance) => plan_instance(alloc, &instance, plan, certificate, shelf),
+        Ok(instance) => plan_instance(alloc, &instance, budget, plan, certificate, shelf),
         Err(Stop::Answered(why)) => PlanAnswer::Stopped(why).said(alloc),
         Err(Stop::Memory) => Err(AllocError),
     }

@@ -3,12 +3,19 @@ use Rattle.lotplan.specs.Run.{Leaves, SaysFor}
 use Rattle.lotplan.proofs.Words.{planned_apart}
 use Rattle.lotplan.proofs.run.said.Goals as goal
 
-pub plan_files-requires : goal.plan_files-requires
-plan_files-requires g c =
+pub plan_files-requires-clause-budget : goal.plan_files-requires-clause-budget
+plan_files-requires-clause-budget g c =
     let asked = rw (c.in-Some-Plan.field-0-is) at c.in-Some-Plan.ensures in
     let names = c.in-Some-Plan.names in
-    let apart = planned_apart (map string_bytes c.args.words.now) names.model.now names.plan.now names.certificate.now (sym asked) in
-    apart.written
+    let is = planned_apart (map string_bytes c.args.words.now) names.model.now names.plan.now names.certificate.now c.in-Some-Plan.budget (sym asked) in
+    is.some
+
+pub plan_files-requires-clause-apart : goal.plan_files-requires-clause-apart
+plan_files-requires-clause-apart g c =
+    let asked = rw (c.in-Some-Plan.field-0-is) at c.in-Some-Plan.ensures in
+    let names = c.in-Some-Plan.names in
+    let is = planned_apart (map string_bytes c.args.words.now) names.model.now names.plan.now names.certificate.now c.in-Some-Plan.budget (sym asked) in
+    is.apart.written
 
 pub returns-in-Some-Plan-clause-said : goal.returns-in-Some-Plan-clause-said
 returns-in-Some-Plan-clause-said g c =

@@ -1,0 +1,181 @@
+use crate::check_tests::{SHOP_PLAN, SHORT_SHOP};
+use crate::run;
+use crate::tests::{
+    HEADER, SHOP, WORKSHOP, holds, is_checked, one_item, put, shelf_with, texts, two_items,
+};
+use lot_io::{MemoryShelf, MemorySink};
+use std::alloc::{AllocError, Global};
+use std::test::Fail;
+
+// What planning a model leaves: the status, the printed lines and the files.
+#[derive(Drop)]
+struct Planning {
+    status: u8,
+    lines: Vec<u8>,
+    shelf: MemoryShelf,
+}
+
+impl Planning {
+    // Whether the lines begin with these and end with those.
+    fn prints(&self, first: &str, last: &str) -> bool {
+        let lines = self.lines.as_slice();
+        lines.starts_with(first.as_bytes()) && lines.ends_with(last.as_bytes())
+    }
+}
+
+// Plans a model with a number of nodes, where one is given. The plan file is there before.
+fn plan_model(alloc: Global, model: &str, nodes: Option<&str>) -> Result<Planning, AllocError> {
+    let words = match nodes {
+        Some(nodes) => texts(alloc, &["plan", "m", "p", "c", "--nodes", nodes])?,
+        None => texts(alloc, &["plan", "m", "p", "c"])?,
+    };
+    let mut shelf = shelf_with(alloc, model.as_bytes(), &[], &[], &[])?;
+    put(alloc, &mut shelf, "p", b"old\n")?;
+    let mut out = MemorySink::new(alloc, Vec::new(alloc));
+    let status = run(alloc, words.as_slice(), &mut shelf, &mut out);
+    Ok(Planning {
+        status,
+        lines: out.bytes,
+        shelf,
+    })
+}
+
+// Whether a model is planned: the lines begin with that of the root and end with that of a best plan of this cost,
+// these records are left in the plan file, and the certificate is accepted.
+fn is_searched(
+    alloc: Global,
+    model: &str,
+    nodes: Option<&str>,
+    root: &str,
+    cost: u32,
+    records: &str,
+) -> Result<bool, AllocError> {
+    let mut left = plan_model(alloc, model, nodes)?;
+    let first = format!(in alloc; "root {root}\nnodes ")?;
+    let last = format!(in alloc; "\noptimal {cost}\n")?;
+    let accepted = format!(in alloc; "accepted optimal {cost}\n")?;
+    let plan = format!(in alloc; "{HEADER}{records}")?;
+    let said = left.status == 0 && left.prints(first.as_str(), last.as_str());
+    let kept = holds(&left.shelf, "p", plan.as_str()) && holds(&left.shelf, "m", model);
+    Ok(said && kept && is_checked(alloc, &mut left.shelf, accepted.as_str())?)
+}
+
+// Two units of B go into one of A.
+const PARTS: &str =
+    "version = 1\nperiods = 2\n[[item]]\nname = \"A\"\ndemand = [0, 5]\nsetup_cost = 10\nhold_cost = 3\nneeds = [{ item = \"B\", quantity = 2 }]\n[[item]]\nname = \"B\"\ndemand = 0\nsetup_cost = 10\nhold_cost = 1\n";
+
+#[test]
+fn coupled_models_are_planned(rt: HostRuntime) -> Result<(), Fail> {
+    let alloc = rt.alloc();
+    assert!(rt; is_searched(alloc, SHOP, None, "closed 20", 23, SHOP_PLAN)?);
+    let lots = "A,1,0,0,0,0\nA,2,5,1,0,0\nB,1,0,0,0,0\nB,2,10,1,0,0\n";
+    assert!(rt; is_searched(alloc, PARTS, None, "closed 20", 20, lots)?);
+    Ok(())
+}
+
+#[test]
+fn the_workshop_is_planned(rt: HostRuntime) -> Result<(), Fail> {
+    let alloc = rt.alloc();
+    let mut left = plan_model(alloc, WORKSHOP, None)?;
+    assert_eq!(rt; left.status, 0);
+    assert!(rt; left.prints("root ", "\noptimal 160\n"));
+    let lots =
+        "table,1,20,1,0,0\ntable,2,0,0,0,0\ntable,3,40,1,10,0\ntable,4,0,0,0,0\nleg,1,80,1,0,0\nleg,2,0,0,0,0\nleg,3,160,1,0,0\nleg,4,0,0,0,0\n";
+    let plan = format!(in alloc; "{HEADER}{lots}")?;
+    assert!(rt; holds(&left.shelf, "p", plan.as_str()));
+    assert!(rt; is_checked(alloc, &mut left.shelf, "accepted optimal 160\n")?);
+    Ok(())
+}
+
+#[test]
+fn a_model_without_a_point_takes_one_node(rt: HostRuntime) -> Result<(), Fail> {
+    let alloc = rt.alloc();
+    let mut left = plan_model(alloc, SHORT_SHOP, None)?;
+    assert_eq!(rt; left.status, 1);
+    assert!(rt; left.lines.as_slice() == b"root empty\nnodes 1\ninfeasible\n".as_slice());
+    assert!(rt; holds(&left.shelf, "p", "old\n"));
+    assert_eq!(rt; left.shelf.starts, 1);
+    assert!(rt; is_checked(alloc, &mut left.shelf, "accepted infeasible\n")?);
+    Ok(())
+}
+
+// With one node the best cost of 23 is proved, or a bound from 20 to 22 is told.
+#[test]
+fn one_node_leaves_a_bound(rt: HostRuntime) -> Result<(), Fail> {
+    let alloc = rt.alloc();
+    let mut left = plan_model(alloc, SHOP, Some("1"))?;
+    assert!(rt; left.prints("root closed 20\nnodes 1\n", "\n"));
+    let mut accepted = false;
+    if left.status == 0 {
+        assert!(rt; left.prints("root closed 20\nnodes 1\noptimal 23\n", ""));
+        accepted = is_checked(alloc, &mut left.shelf, "accepted optimal 23\n")?;
+    } else {
+        assert_eq!(rt; left.status, 2);
+        for bound in 20u32..23 {
+            let first = format!(in alloc; "root closed 20\nnodes 1\nundecided {bound} plan ")?;
+            let line = format!(in alloc; "accepted bound {bound}\n")?;
+            if left.prints(first.as_str(), "\n") {
+                accepted = is_checked(alloc, &mut left.shelf, line.as_str())?;
+            }
+        }
+    }
+    assert!(rt; accepted);
+    Ok(())
+}
+
+// Without coupling one node is enough.
+#[test]
+fn one_node_decides_an_uncoupled_model(rt: HostRuntime) -> Result<(), Fail> {
+    let alloc = rt.alloc();
+    let model = one_item(alloc, 1, "demand = [10]\nsetup_cost = 5\nunit_cost = 2")?;
+    let left = plan_model(alloc, model.as_str(), Some("1"))?;
+    assert_eq!(rt; left.status, 0);
+    assert!(rt; left.lines.as_slice() == b"root uncoupled\nnodes 1\noptimal 25\n".as_slice());
+    Ok(())
+}
+
+// Four choices of quantity and setup: seven nodes are enough for all.
+#[test]
+fn a_budget_for_all_choices_decides(rt: HostRuntime) -> Result<(), Fail> {
+    let alloc = rt.alloc();
+    let model =
+        "version = 1\nperiods = 1\n[[resource]]\nname = \"m\"\ncapacity = 2\n[[item]]\nname = \"A\"\ndemand = [1]\nsetup_cost = 5\nuses = [{ resource = \"m\", unit = 1 }]\n";
+    let left = plan_model(alloc, model, Some("7"))?;
+    assert_eq!(rt; left.status, 0);
+    assert!(rt; left.prints("root ", "\noptimal 5\n"));
+    Ok(())
+}
+
+// Forty setups cost 200, which the items cost apart, and all can be made in the first period.
+#[test]
+fn a_large_model_is_skipped_at_the_root(rt: HostRuntime) -> Result<(), Fail> {
+    let alloc = rt.alloc();
+    let mut model = String::from_str(
+        alloc,
+        "version = 1\nperiods = 60\n[[resource]]\nname = \"m\"\ncapacity = 2460\n",
+    )?;
+    for number in 1u32..41 {
+        let needs = if number == 1 {
+            "needs = [{ item = \"i2\", quantity = 1 }]\n"
+        } else {
+            ""
+        };
+        let item = format!(in alloc;
+            "[[item]]\nname = \"i{number}\"\ndemand = 1\nsetup_cost = 5\n{needs}uses = [{{ resource = \"m\", unit = 1 }}]\n"
+        )?;
+        model.push_str(item.as_str())?;
+    }
+    let mut left = plan_model(alloc, model.as_str(), Some("1"))?;
+    assert!(rt; left.prints("root skipped\nnodes 1\n", "\n"));
+    let proved = left.status == 0 && left.prints("root skipped\nnodes 1\noptimal 200\n", "");
+    let bounded = left.status == 2
+        && left.prints("root skipped\nnodes 1\nundecided 200 plan ", "\n");
+    assert!(rt; proved || bounded);
+    let line = if proved {
+        "accepted optimal 200\n"
+    } else {
+        "accepted bound 200\n"
+    };
+    assert!(rt; is_checked(alloc, &mut left.shelf, line)?);
+    Ok(())
+}
