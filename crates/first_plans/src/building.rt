@@ -29,34 +29,55 @@ fn work_before(instance: &Instance, built: &Construction, resource: u32, period:
     total
 }
 
-// The time that setups take on a resource in a period in which all items are set up of which units are left.
-fn setups_before(instance: &Instance, built: &Construction, resource: u32, period: u32) -> u128
+// The time that setups take on a resource in an earlier period, of items of which units are left then: of all of them, or
+// of those with a wanted setup there.
+fn setups_in(
+    instance: &Instance,
+    wanted: &Grid,
+    built: &Construction,
+    resource: u32,
+    period: u32,
+    earlier: u32,
+    all: bool,
+) -> u128
+    requires wanted { Fits instance.now wanted.now }
     requires shape { HasShape instance.now built.now }
+    requires earlier_low { 1 ≤ earlier }
+    requires earlier_high { earlier ≤ instance.now.periods }
     requires low { 1 ≤ period }
     requires high { period ≤ instance.now.periods }
 {
     let mut total = 0u128;
     for item in 1..instance.items() + 1 {
-        if built.left[(item - 1) as usize] > built.make.get(item, period) {
+        let is_left = built.left[(item - 1) as usize] > built.make.get(item, period);
+        if is_left && (all || is_wanted(instance, wanted, built, item, earlier)) {
             total = total.saturating_add(instance.setup_time(item, resource) as u128);
         }
     }
     total
 }
 
-// Whether a resource has the time before a period for the units that are left, with setups of all these items
-// in each period.
-fn has_time_before(instance: &Instance, built: &Construction, resource: u32, period: u32) -> bool
+// Whether a resource has the time before a period for the units that are left, with the setups that are wanted there or
+// with setups of all these items in each period.
+fn has_time_before(
+    instance: &Instance,
+    wanted: &Grid,
+    built: &Construction,
+    resource: u32,
+    period: u32,
+    all: bool,
+) -> bool
+    requires wanted { Fits instance.now wanted.now }
     requires shape { HasShape instance.now built.now }
     requires resource_low { 1 ≤ resource }
     requires resource_high { resource ≤ resource_count instance.now }
     requires low { 1 ≤ period }
     requires high { period ≤ instance.now.periods }
 {
-    let setups = setups_before(instance, built, resource, period);
     let mut work = work_before(instance, built, resource, period);
     let mut room = 0u128;
     for earlier in 1..period {
+        let setups = setups_in(instance, wanted, built, resource, period, earlier, all);
         work = work.saturating_add(setups);
         room = room.saturating_add(instance.capacity(resource, earlier) as u128);
     }
@@ -64,13 +85,20 @@ fn has_time_before(instance: &Instance, built: &Construction, resource: u32, per
 }
 
 // Whether all resources have that time.
-fn rest_fits(instance: &Instance, built: &Construction, period: u32) -> bool
+fn rest_fits(
+    instance: &Instance,
+    wanted: &Grid,
+    built: &Construction,
+    period: u32,
+    all: bool,
+) -> bool
+    requires wanted { Fits instance.now wanted.now }
     requires shape { HasShape instance.now built.now }
     requires low { 1 ≤ period }
     requires high { period ≤ instance.now.periods }
 {
     for resource in 1..instance.resources() + 1 {
-        if !has_time_before(instance, built, resource, period) {
+        if !has_time_before(instance, wanted, built, resource, period, all) {
             return false;
         }
     }
@@ -92,7 +120,13 @@ fn open(instance: &Instance, wanted: &Grid, built: &mut Construction, period: u3
 }
 
 // Sets the lots of a period, once those of later ones are set.
-fn build_period(instance: &Instance, wanted: &Grid, built: &mut Construction, period: u32)
+fn build_period(
+    instance: &Instance,
+    wanted: &Grid,
+    built: &mut Construction,
+    period: u32,
+    careful: bool,
+)
     requires wanted { Fits instance.now wanted.now }
     requires shape { HasShape instance.now built.old }
     requires low { 1 ≤ period }
@@ -101,7 +135,7 @@ fn build_period(instance: &Instance, wanted: &Grid, built: &mut Construction, pe
 {
     open(instance, wanted, built, period, false);
     set_lots(instance, built, period);
-    if !rest_fits(instance, built, period) {
+    if !rest_fits(instance, wanted, built, period, careful) {
         open(instance, wanted, built, period, true);
         set_lots(instance, built, period);
     }
@@ -112,23 +146,44 @@ fn build_period(instance: &Instance, wanted: &Grid, built: &mut Construction, pe
 }
 
 // Sets the lots of all periods, the last one first.
-fn build(alloc: Global, instance: &Instance, wanted: &Grid) -> Result<Construction, AllocError>
+fn build(
+    alloc: Global,
+    instance: &Instance,
+    wanted: &Grid,
+    careful: bool,
+) -> Result<Construction, AllocError>
     requires wanted { Fits instance.now wanted.now }
     ensures { IfOk result (HasShape instance.now) }
 {
     let mut built = begin(alloc, instance)?;
     for back in 0..instance.periods() {
         let period = instance.periods() - back;
-        build_period(instance, wanted, &mut built, period);
+        build_period(instance, wanted, &mut built, period, careful);
     }
     Ok(built)
 }
 
+// The plan that is built so, if it is feasible.
+fn built_so(
+    alloc: Global,
+    instance: &Instance,
+    wanted: &Grid,
+    careful: bool,
+) -> Result<Option<Planned>, AllocError>
+    requires wanted { Fits instance.now wanted.now }
+    ensures plan { IfFound result (IsMade instance.now) }
+{
+    let Construction { make, setup, .. } = build(alloc, instance, wanted, careful)?;
+    complete_at_cost(alloc, instance, make, setup)
+}
+
 /// A feasible plan with its cost, made backward by periods, parents before their components: an item is made
-/// where a setup is wanted (1 in the grid), and earlier where a resource has no time left. None where that
-/// comes to no feasible plan.
+/// where a setup is wanted (1 in the grid), and earlier where a resource has no time left. Where the time before a
+/// period isn't enough for what is left and the setups that are wanted there, all items are made in it. If that comes to no
+/// feasible plan, it is done once more as if all setups were wanted before. None where that comes to none either.
 ///
-/// It takes memory for five grids. The error is that memory ran out.
+/// It takes memory for five grids, and time in the number of resources times that of items and the square of that of
+/// periods. The error is that memory ran out.
 pub fn built_plan(
     alloc: Global,
     instance: &Instance,
@@ -137,6 +192,8 @@ pub fn built_plan(
     requires wanted { Fits instance.now wanted.now }
     ensures plan { IfFound result (IsMade instance.now) }
 {
-    let Construction { make, setup, .. } = build(alloc, instance, wanted)?;
-    complete_at_cost(alloc, instance, make, setup)
+    match built_so(alloc, instance, wanted, false)? {
+        Some(planned) => Ok(Some(planned)),
+        None => built_so(alloc, instance, wanted, true),
+    }
 }
