@@ -1,14 +1,13 @@
 // The block cut of an item.
-use crate::costs::{Costs, are_positive};
-use crate::items::Item;
-use crate::recursion::Served;
 use cert_lines::Cut;
 use echelon_rows::limits::{MAX_PRICE, MAX_STEP};
 use lin_rows::Potentials;
+use priced_items::numbers::are_positive;
+use priced_items::{Costs, Item, Served};
 use std::alloc::{AllocError, Global};
 
 // Prices as a cut has them; None where one is below 0 or past the largest one.
-fn cut_prices(alloc: Global, list: &[i128]) -> Result<Option<Vec<u64>>, AllocError> {
+fn cut_prices(alloc: Global, list: &[i64]) -> Result<Option<Vec<u64>>, AllocError> {
     let mut found = Vec::with_capacity(alloc, list.len())?;
     for number in list {
         match u64::try_from(*number) {

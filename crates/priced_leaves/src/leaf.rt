@@ -1,23 +1,15 @@
 // Leaves of prices.
 ghost use Rattle.std.specs.Prelude.{◌≡◌, ◌≤◌, IfOk, IfSome};
 ghost use Rattle.lot_sizing.specs.Problem.{item_count};
-ghost use Rattle.echelon.specs.Weights.{IsExplosionOf};
 ghost use Rattle.priced_leaves.specs.Proposals.{IsProposal};
 
-use crate::costs::{Costs, costs_of, fees_of};
 use crate::cutting::item_cut;
-use crate::fixed::{Fixed, Held};
-use crate::grid::Grid;
-use crate::items::{Item, Items, items_of};
-use crate::numbers::{at, less, times};
-use crate::prices::Prices;
-use crate::recursion::serve_all;
-use crate::settling::settle;
 use crate::writable::tested;
 use cert_lines::{Cut, Part};
-use echelon::Explosion;
 use lin_rows::RowName;
 use lot_model::Instance;
+use priced_items::numbers::{at, less, of_amount, times};
+use priced_items::{Costs, Fixed, Grid, Held, Item, Prices, Pricing, Serving};
 use std::alloc::{AllocError, Global};
 
 /// Block cuts, and the parts of a leaf that takes each of them once.
@@ -55,9 +47,12 @@ impl Making {
     }
 
     // A row is taken so many times, if it is at all.
-    fn put(&mut self, row: RowName, times: i128) -> Result<(), AllocError> {
+    fn put(&mut self, row: RowName, times: i64) -> Result<(), AllocError> {
         if times != 0 {
-            self.parts.push(Part { row, times })?;
+            self.parts.push(Part {
+                row,
+                times: i128::from(times),
+            })?;
         }
         Ok(())
     }
@@ -77,33 +72,23 @@ impl Making {
         Ok(())
     }
 
-    // The rows of an item by which prices of stock of an echelon were moved to units.
-    fn move_item(&mut self, costs: &Costs, item: u32, weight: i128) {
-        let mut period = 0u32;
-        for shift in costs.shift.iter() {
-            period = period.saturating_add(1);
-            let number = times(weight, *shift);
-            self.balances.add(item, period, less(0, number));
-        }
-        self.ends.add(item, 1, times(weight, costs.lift));
-    }
-
-    // The same of all items in an echelon.
+    // The rows of all items in an echelon, by which prices of its stock were moved to units.
     fn move_back(&mut self, item: &Item, costs: &Costs) {
         let mut other = 0u32;
         for weight in item.weights.iter() {
             other = other.saturating_add(1);
-            if *weight > 0 {
-                self.move_item(costs, other, i128::from(*weight));
-            }
+            let weight = of_amount(*weight);
+            self.balances
+                .add_times(other, &costs.shift, less(0, weight));
+            self.ends.add_times(other, &[costs.lift], weight);
         }
     }
 
     // The bounds of the path on an item's setups: what the cut's setup lacks or has too much.
     fn put_fixed(
         &mut self,
-        fees: &[i128],
-        setups: &[i128],
+        fees: &[i64],
+        setups: &[i64],
         fixed: &Fixed,
         item: u32,
     ) -> Result<(), AllocError> {
@@ -144,65 +129,75 @@ impl Making {
     }
 }
 
+// The lists in which items are planned, one after the other.
+#[derive(Debug, Drop)]
+struct Planning {
+    costs: Costs,
+    serving: Serving,
+}
+
+// What leaves are made of: the items of an instance, prices, and what a path says of setups.
+#[derive(Clone, Copy)]
+struct Given<'a> {
+    instance: &'a Instance,
+    pricing: &'a Pricing,
+    prices: &'a Prices,
+    fixed: &'a Fixed,
+}
+
 // The cut of an item and what goes with it; the bounds of its setups alone where there is nothing to cut.
 fn put_item(
     alloc: Global,
-    instance: &Instance,
-    items: &Items,
-    prices: &Prices,
-    fixed: &Fixed,
+    given: Given<'_>,
+    planning: &mut Planning,
     number: u32,
     first_cut: u32,
     making: &mut Making,
 ) -> Result<(), AllocError>
     requires low { 1 ≤ number }
-    requires high { number ≤ item_count instance.now }
+    requires high { number ≤ item_count given.instance.now }
 {
-    let Some(item) = items.get(number) else {
-        let fees = fees_of(alloc, instance, prices, number)?;
-        return making.put_fixed(&fees, &[], fixed, number);
+    let costs = &mut planning.costs;
+    let Some(item) = given.pricing.get(number) else {
+        costs.write_fees(given.instance, given.prices, number)?;
+        return making.put_fixed(&costs.fee, &[], given.fixed, number);
     };
-    let costs = costs_of(alloc, instance, item, prices, fixed)?;
-    let places = serve_all(alloc, item, &costs)?;
-    match item_cut(alloc, item, &costs, &places)? {
+    costs.write(given.instance, item, given.prices, given.fixed)?;
+    planning.serving.serve_all(item, costs)?;
+    match item_cut(alloc, item, costs, &planning.serving.places)? {
         Some(cut) => making.put_cut(cut, first_cut)?,
         None => {
             making.is_whole = false;
         }
     }
-    making.move_back(item, &costs);
-    making.put_fixed(&costs.fee, &costs.setup, fixed, number)
+    making.move_back(item, costs);
+    making.put_fixed(&costs.fee, &costs.setup, given.fixed, number)
 }
 
-// The leaf of prices that are within their bounds.
+// The leaf of prices.
 fn leaf_at(
     alloc: Global,
     instance: &Instance,
-    items: &Items,
-    prices: &Prices,
-    fixed: &Fixed,
+    given: Given<'_>,
     first_cut: u32,
 ) -> Result<Option<Priced>, AllocError>
+    requires same { given.instance.now ≡ instance.now }
     ensures { IfOk result (λ found. IfSome found (IsProposal instance.now)) }
 {
     let mut making = Making::new(alloc, instance)?;
+    let mut planning = Planning {
+        costs: Costs::new(alloc),
+        serving: Serving::new(alloc),
+    };
     for number in 1..instance.items() + 1 {
-        put_item(
-            alloc,
-            instance,
-            items,
-            prices,
-            fixed,
-            number,
-            first_cut,
-            &mut making,
-        )?;
+        put_item(alloc, given, &mut planning, number, first_cut, &mut making)?;
     }
-    making.put_rows(instance, prices)?;
+    making.put_rows(instance, given.prices)?;
     if !making.is_whole {
         return Ok(None);
     }
-    Ok(tested(instance, making.cuts, making.parts, prices.scale.max(1)))
+    let den = given.prices.scale.max(1);
+    Ok(tested(instance, making.cuts, making.parts, den))
 }
 
 /// The leaf of prices at a node whose path fixes some setups: a block cut of each lead-free item, by its costs with the
@@ -211,56 +206,28 @@ fn leaf_at(
 ///
 /// With the denominator `den` the parts are those of a leaf by linear duality. A proposal is tested by who takes it:
 /// nothing is claimed of what it says, but that its lines are within the limits of certificates (`IsProposal`). None
-/// where a number is past its limit. Prices are first brought within their bounds. The parts name the cuts `first_cut`,
-/// `first_cut + 1` and so on: that is one more than the number of cuts before these, and the bounds by their numbers in
-/// `fixed`.
+/// where a number is past its limit. The parts name the cuts `first_cut`, `first_cut + 1` and so on: that is one more than
+/// the number of cuts before these, and the bounds by their numbers in `fixed`.
 ///
 /// The error is want of memory. It takes time in the square of the number of items times that of the periods, and in the
 /// number of items times the square of that of the periods.
 pub fn priced_leaf(
     alloc: Global,
     instance: &Instance,
-    explosion: &Explosion,
+    pricing: &Pricing,
     prices: &Prices,
     fixed: &Fixed,
     first_cut: u32,
 ) -> Result<Option<Priced>, AllocError>
-    requires explosion { IsExplosionOf instance.now explosion.now }
     ensures { IfOk result (λ found. IfSome found (IsProposal instance.now)) }
 {
-    let items = items_of(alloc, instance, explosion)?;
-    let mut settled = prices.copy(alloc)?;
-    settle(instance, explosion, &items, &mut settled);
-    leaf_at(alloc, instance, &items, &settled, fixed, first_cut)
-}
-
-// The same prices with all costs dropped: what a unit in stock costs is taken off its price.
-pub(crate) fn dropped(
-    alloc: Global,
-    instance: &Instance,
-    explosion: &Explosion,
-    items: &Items,
-    prices: &Prices,
-) -> Result<Prices, AllocError> {
-    let scale = i128::from(prices.scale);
-    let mut found = Prices::zero(alloc, instance, 0)?;
-    for resource in 1..instance.resources() + 1 {
-        for period in 1..instance.periods() + 1 {
-            let price = prices.capacity.get(resource, period);
-            found.capacity.put(resource, period, price);
-        }
-    }
-    for item in 1..instance.items() + 1 {
-        let mut period = 0u32;
-        for cost in instance.hold_costs(item) {
-            period = period.saturating_add(1);
-            let whole = times(scale, i128::from(*cost));
-            let price = less(prices.stock.get(item, period), whole);
-            found.stock.put(item, period, price);
-        }
-    }
-    settle(instance, explosion, items, &mut found);
-    Ok(found)
+    let given = Given {
+        instance,
+        pricing,
+        prices,
+        fixed,
+    };
+    leaf_at(alloc, instance, given, first_cut)
 }
 
 /// The leaf of the same prices with all costs dropped. Its parts are those of a leaf by Farkas' lemma, which says that
@@ -269,15 +236,13 @@ pub(crate) fn dropped(
 pub fn dropped_leaf(
     alloc: Global,
     instance: &Instance,
-    explosion: &Explosion,
+    pricing: &Pricing,
     prices: &Prices,
     fixed: &Fixed,
     first_cut: u32,
 ) -> Result<Option<Priced>, AllocError>
-    requires explosion { IsExplosionOf instance.now explosion.now }
     ensures { IfOk result (λ found. IfSome found (IsProposal instance.now)) }
 {
-    let items = items_of(alloc, instance, explosion)?;
-    let found = dropped(alloc, instance, explosion, &items, prices)?;
-    leaf_at(alloc, instance, &items, &found, fixed, first_cut)
+    let free = prices.dropped(alloc, instance, pricing)?;
+    priced_leaf(alloc, instance, pricing, &free, fixed, first_cut)
 }

@@ -1,4 +1,7 @@
-use crate::{Held, Priced, Prices, dropped_leaf, fixed_setups, priced_leaf, rounds, split_prices};
+use crate::{
+    Held, Priced, Prices, Pricing, Reached, Rounds, dropped_leaf, fixed_setups, priced_leaf,
+    split_prices,
+};
 use cert_checker::{check, lines_are_bytes};
 use cert_lines::{Claim, Cut, Leaf, Part};
 use certificate::{Certificate, Tree, read_certificate, write_certificate};
@@ -143,21 +146,28 @@ fn rounded(number: i128, scale: u64) -> u128 {
     u128::try_from(whole.saturating_add(up)).unwrap_or(0)
 }
 
-// The prices of so many rounds at a node, and what their leaf is to say.
+// What is needed of an instance.
+fn pricing_of(alloc: Global, instance: &Instance) -> Result<Pricing, Fail> {
+    let explosion = Explosion::of(alloc, instance)?;
+    Ok(Pricing::new(alloc, instance, &explosion)?)
+}
+
+// The prices of so many rounds at a node, what their leaf is to say, and what was reached.
 fn improved(
     alloc: Global,
     instance: &Instance,
     path: &[Bound],
     count: u32,
-) -> Result<(Prices, u128), Fail> {
-    let explosion = Explosion::of(alloc, instance)?;
-    let start = split_prices(alloc, instance, &explosion)?;
+) -> Result<(Prices, u128, Reached), Fail> {
+    let pricing = pricing_of(alloc, instance)?;
+    let start = split_prices(alloc, instance, &pricing)?;
     let fixed = fixed_setups(alloc, instance, path)?;
-    let found = rounds(
-        alloc, instance, &explosion, start, None, &fixed, None, count,
-    )?;
-    let says = rounded(found.number, found.prices.scale);
-    Ok((found.prices, says))
+    let mut rounds = Rounds::start(alloc, instance, &pricing, start, None, &fixed)?;
+    let reached = rounds.go_on(alloc, instance, &pricing, &fixed, None, count)?;
+    let found = rounds.number();
+    let improved = rounds.into_improved();
+    let says = rounded(found, improved.prices.scale);
+    Ok((improved.prices, says, reached))
 }
 
 // The leaf of prices at a node.
@@ -168,9 +178,9 @@ fn proposal(
     prices: &Prices,
     first_cut: u32,
 ) -> Result<Priced, Fail> {
-    let explosion = Explosion::of(alloc, instance)?;
+    let pricing = pricing_of(alloc, instance)?;
     let fixed = fixed_setups(alloc, instance, path)?;
-    let found = priced_leaf(alloc, instance, &explosion, prices, &fixed, first_cut)?;
+    let found = priced_leaf(alloc, instance, &pricing, prices, &fixed, first_cut)?;
     Ok(found.ok_or("no leaf")?)
 }
 
@@ -197,8 +207,8 @@ fn says(alloc: Global, instance: &Instance, prices: &Prices, amount: u128) -> Re
 // Whether the leaves of rounds at both sides of the first setup say an amount that takes them both.
 fn split_says(alloc: Global, instance: &Instance, count: u32, more: u128) -> Result<bool, Fail> {
     let (low_path, high_path) = ([first_setup(true)], [first_setup(false)]);
-    let (low_prices, low_says) = improved(alloc, instance, &low_path, count)?;
-    let (high_prices, high_says) = improved(alloc, instance, &high_path, count)?;
+    let (low_prices, low_says, _) = improved(alloc, instance, &low_path, count)?;
+    let (high_prices, high_says, _) = improved(alloc, instance, &high_path, count)?;
     let low = proposal(alloc, instance, &low_path, &low_prices, 1)?;
     let mut cuts = low.cuts;
     let first = u32::try_from(cuts.len().saturating_add(1))
@@ -226,7 +236,7 @@ fn split_says(alloc: Global, instance: &Instance, count: u32, more: u128) -> Res
 fn a_split_leaf_has_a_cut(rt: HostRuntime) -> Result<(), Fail> {
     let alloc = rt.alloc();
     let instance = alone(alloc, 6)?;
-    let (prices, amount) = improved(alloc, &instance, &[], 0)?;
+    let (prices, amount, _) = improved(alloc, &instance, &[], 0)?;
     // All is made in the first period: 10 and the holding of 8 units.
     assert_eq!(rt; (prices.scale, amount), (4096, 18));
     let found = proposal(alloc, &instance, &[], &prices, 7)?;
@@ -244,7 +254,7 @@ fn a_split_leaf_has_a_cut(rt: HostRuntime) -> Result<(), Fail> {
 fn rounds_come_near_their_limit(rt: HostRuntime) -> Result<(), Fail> {
     let alloc = rt.alloc();
     let instance = alone(alloc, 6)?;
-    let (prices, amount) = improved(alloc, &instance, &[], 100)?;
+    let (prices, amount, _) = improved(alloc, &instance, &[], 100)?;
     assert_eq!(rt; amount, 20);
     assert!(rt; says(alloc, &instance, &prices, 20)?);
     assert!(rt; !says(alloc, &instance, &prices, 21)?);
@@ -252,10 +262,26 @@ fn rounds_come_near_their_limit(rt: HostRuntime) -> Result<(), Fail> {
 }
 
 #[test]
+fn rounds_end_at_the_cost_of_a_plan(rt: HostRuntime) -> Result<(), Fail> {
+    let alloc = rt.alloc();
+    let instance = alone(alloc, 6)?;
+    let pricing = pricing_of(alloc, &instance)?;
+    let start = split_prices(alloc, &instance, &pricing)?;
+    let fixed = fixed_setups(alloc, &instance, &[])?;
+    let mut rounds = Rounds::start(alloc, &instance, &pricing, start, None, &fixed)?;
+    // The leaf of the first prices says 18.
+    let first = rounds.go_on(alloc, &instance, &pricing, &fixed, Some(18), 10)?;
+    assert_eq!(rt; first, Reached::Closed);
+    let second = rounds.go_on(alloc, &instance, &pricing, &fixed, Some(30), 10)?;
+    assert_eq!(rt; second, Reached::Open);
+    Ok(())
+}
+
+#[test]
 fn leaves_say_what_rounds_claim(rt: HostRuntime) -> Result<(), Fail> {
     let alloc = rt.alloc();
     for instance in models(alloc)?.iter() {
-        let (prices, amount) = improved(alloc, instance, &[], 25)?;
+        let (prices, amount, _) = improved(alloc, instance, &[], 25)?;
         assert!(rt; says(alloc, instance, &prices, amount)?);
         assert!(rt; !says(alloc, instance, &prices, amount.saturating_add(1))?);
         assert!(rt; split_says(alloc, instance, 25, 0)?);
@@ -269,12 +295,11 @@ fn too_few_hours_are_refuted(rt: HostRuntime) -> Result<(), Fail> {
     let alloc = rt.alloc();
     // 10 units and a setup take 11 hours.
     let instance = alone(alloc, 5)?;
-    let explosion = Explosion::of(alloc, &instance)?;
-    let start = split_prices(alloc, &instance, &explosion)?;
+    let (prices, _, reached) = improved(alloc, &instance, &[], 60)?;
+    assert_eq!(rt; reached, Reached::Refuted);
+    let pricing = pricing_of(alloc, &instance)?;
     let fixed = fixed_setups(alloc, &instance, &[])?;
-    let found = rounds(alloc, &instance, &explosion, start, None, &fixed, None, 60)?;
-    assert!(rt; found.refutes);
-    let dropped = dropped_leaf(alloc, &instance, &explosion, &found.prices, &fixed, 1)?;
+    let dropped = dropped_leaf(alloc, &instance, &pricing, &prices, &fixed, 1)?;
     let dropped = dropped.ok_or("no leaf")?;
     let made = Certificate {
         version: 1,

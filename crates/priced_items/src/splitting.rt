@@ -1,12 +1,9 @@
 // The costs of items, split among the echelons.
-ghost use Rattle.echelon.specs.Weights.{IsExplosionOf};
-
 use crate::grid::Grid;
-use crate::items::{Items, items_of};
-use crate::numbers::{less, over, plus, times};
+use crate::numbers::{less, of_amount, over, plus, times};
 use crate::prices::Prices;
+use crate::pricing::Pricing;
 use crate::settling::{settle, split_backs};
-use echelon::Explosion;
 use lot_model::Instance;
 use std::alloc::{AllocError, Global};
 
@@ -51,9 +48,9 @@ fn scale_for(cost: u64) -> u64 {
 }
 
 // What is left of the price of stock of an item, for each of another one in it.
-fn share_of(left: &Grid, items: &Items, item: u32, count: u32, period: u32) -> i128 {
-    let mut least = i128::MAX;
-    if let Some(found) = items.get(item) {
+fn share_of(left: &Grid, pricing: &Pricing, item: u32, count: u32, period: u32) -> i64 {
+    let mut least = i64::MAX;
+    if let Some(found) = pricing.get(item) {
         for place in 0..count {
             let other = place.wrapping_add(1);
             let weight = found.weight_in(other);
@@ -69,17 +66,17 @@ fn share_of(left: &Grid, items: &Items, item: u32, count: u32, period: u32) -> i
 fn take_share(
     left: &mut Grid,
     stock: &mut Grid,
-    items: &Items,
+    pricing: &Pricing,
     item: u32,
     count: u32,
     period: u32,
 ) {
-    let part = share_of(left, items, item, count, period);
-    if let Some(found) = items.get(item) {
+    let part = share_of(left, pricing, item, count, period);
+    if let Some(found) = pricing.get(item) {
         for place in 0..count {
             let other = place.wrapping_add(1);
             let price = times(found.weight_in(other), part);
-            stock.add(other, period, price);
+            stock.put(other, period, plus(stock.get(other, period), price));
             left.put(other, period, less(left.get(other, period), price));
         }
     }
@@ -92,7 +89,7 @@ fn scaled_costs(alloc: Global, instance: &Instance, scale: u64) -> Result<Grid, 
         let mut period = 0u32;
         for cost in instance.hold_costs(item) {
             period = period.saturating_add(1);
-            grid.put(item, period, times(i128::from(scale), i128::from(*cost)));
+            grid.put(item, period, times(of_amount(scale), of_amount(*cost)));
         }
     }
     Ok(grid)
@@ -102,16 +99,15 @@ fn scaled_costs(alloc: Global, instance: &Instance, scale: u64) -> Result<Grid, 
 fn split_stocks(
     alloc: Global,
     instance: &Instance,
-    explosion: &Explosion,
-    items: &Items,
+    pricing: &Pricing,
     prices: &mut Prices,
 ) -> Result<(), AllocError> {
     let mut left = scaled_costs(alloc, instance, prices.scale)?;
     let count = instance.items();
-    for item in explosion.order().iter().rev() {
+    for item in pricing.order().iter().rev() {
         for place in 0..instance.periods() {
             let period = place.wrapping_add(1);
-            take_share(&mut left, &mut prices.stock, items, *item, count, period);
+            take_share(&mut left, &mut prices.stock, pricing, *item, count, period);
         }
     }
     Ok(())
@@ -125,15 +121,12 @@ fn split_stocks(
 pub fn split_prices(
     alloc: Global,
     instance: &Instance,
-    explosion: &Explosion,
-) -> Result<Prices, AllocError>
-    requires explosion { IsExplosionOf instance.now explosion.now }
-{
-    let items = items_of(alloc, instance, explosion)?;
+    pricing: &Pricing,
+) -> Result<Prices, AllocError> {
     let scale = scale_for(largest_cost(instance));
     let mut prices = Prices::zero(alloc, instance, scale)?;
-    split_stocks(alloc, instance, explosion, &items, &mut prices)?;
-    split_backs(instance, &items, &mut prices);
-    settle(instance, explosion, &items, &mut prices);
+    split_stocks(alloc, instance, pricing, &mut prices)?;
+    split_backs(instance, pricing, &mut prices);
+    settle(instance, pricing, &mut prices);
     Ok(prices)
 }

@@ -1,9 +1,12 @@
 // Prices of capacity, of stock and of backlog.
 use crate::grid::Grid;
+use crate::numbers::{less, of_amount, times};
+use crate::pricing::Pricing;
+use crate::settling::settle;
 use lot_model::Instance;
 use std::alloc::{AllocError, Global};
 
-/// Prices of the time of resources, of stock and of backlog, by period, all times a scale.
+/// Prices of the time of resources, of stock and of backlog, by period, all times a scale, and within their bounds.
 ///
 /// Each item by itself is planned with a price for the time that it takes, and with its echelon's prices of stock and
 /// of backlog, in place of the capacities and of what items take of each other: any such prices bound the cost of all
@@ -12,12 +15,12 @@ use std::alloc::{AllocError, Global};
 pub struct Prices {
     /// By how much prices are larger than money.
     pub scale: u64,
-    // A unit of time, by resource and period: at least 0.
-    pub(crate) capacity: Grid,
-    // A unit of an item in stock at the end of a period, by item: at most the scale times its holding cost.
-    pub(crate) stock: Grid,
-    // A unit of an item's echelon owed at the end of a period, by item: at least 0.
-    pub(crate) back: Grid,
+    /// A unit of time, by resource and period: at least 0.
+    pub capacity: Grid,
+    /// A unit of an item in stock at the end of a period, by item: at most the scale times its holding cost.
+    pub stock: Grid,
+    /// A unit of an item's echelon owed at the end of a period, by item: at least 0.
+    pub back: Grid,
 }
 
 impl Prices {
@@ -48,23 +51,51 @@ impl Prices {
 
     /// The price of a time unit of a resource in a period, times the scale.
     pub fn of_capacity(&self, resource: u32, period: u32) -> i128 {
-        self.capacity.get(resource, period)
+        i128::from(self.capacity.get(resource, period))
     }
 
     /// The price of a unit of an item in stock at the end of a period, times the scale. It may be below 0.
     pub fn of_stock(&self, item: u32, period: u32) -> i128 {
-        self.stock.get(item, period)
+        i128::from(self.stock.get(item, period))
     }
 
     /// Another price of a time unit of a resource in a period, times the scale.
     pub fn set_capacity(&mut self, resource: u32, period: u32, price: u64) {
-        self.capacity.put(resource, period, i128::from(price));
+        self.capacity.put(resource, period, of_amount(price));
     }
 
-    // These prices are those of another list, of the same problem.
-    pub(crate) fn take_from(&mut self, other: &Prices) {
+    /// These prices are those of another list, of the same problem.
+    pub fn take_from(&mut self, other: &Prices) {
         self.capacity.take_from(&other.capacity);
         self.stock.take_from(&other.stock);
         self.back.take_from(&other.back);
+    }
+
+    /// The same prices with all costs dropped: their scale is 0, and what a unit in stock costs is taken off its price.
+    /// The error is want of memory.
+    pub fn dropped(
+        &self,
+        alloc: Global,
+        instance: &Instance,
+        pricing: &Pricing,
+    ) -> Result<Prices, AllocError> {
+        let mut found = Prices::zero(alloc, instance, 0)?;
+        found.capacity.take_from(&self.capacity);
+        found.stock.take_from(&self.stock);
+        let scale = of_amount(self.scale);
+        for item in 1..instance.items() + 1 {
+            if let Some(line) = found.stock.line_mut(item) {
+                take_costs(line, instance.hold_costs(item), scale);
+            }
+        }
+        settle(instance, pricing, &mut found);
+        Ok(found)
+    }
+}
+
+// What a unit in stock costs is taken off its price.
+fn take_costs(line: &mut [i64], costs: &[u64], scale: i64) {
+    for (cell, cost) in line.iter_mut().zip(costs) {
+        *cell = less(*cell, times(scale, of_amount(*cost)));
     }
 }

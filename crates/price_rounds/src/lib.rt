@@ -1,0 +1,18 @@
+//! Rounds that improve prices of capacity and of stock.
+//!
+//! Family: search. It stands on `priced_items`, which plans each item by itself at prices; `priced_leaves` makes leaves of
+//! the prices that are found.
+//!
+//! `Rounds` improve prices (a volume method: Barahona and Anbil 2000), and give the average of the single-item plans, by
+//! which a search may choose where it branches.
+//!
+//! All of it is a proposal: nothing is claimed of what prices say. What is proved is that the calls are safe and return.
+#![tactic(auto)]
+
+mod lots;
+mod rounds;
+mod slopes;
+mod valuing;
+
+pub use lots::Average;
+pub use rounds::{Improved, Reached, Rounds};

@@ -1,0 +1,144 @@
+// Quantities, setups, stocks and backlogs of single-item plans.
+use priced_items::numbers::{UNIT, at, less, plus, times, write};
+use priced_items::{Fixed, Grid, Held, Item, Served};
+use std::alloc::{AllocError, Global};
+
+/// Averages of single-item plans, by item and period, in units of 1/4096.
+#[derive(Debug, Drop)]
+pub struct Average {
+    pub(crate) units: Grid,
+    pub(crate) setups: Grid,
+    // Stocks and backlogs of echelons.
+    pub(crate) stocks: Grid,
+    pub(crate) owed: Grid,
+}
+
+// No units, and the setups that the path fixes.
+fn write_fixed(units: &mut [i64], setups: &mut [i64], held: &[Held]) {
+    for cell in units.iter_mut() {
+        *cell = 0;
+    }
+    for (cell, held) in setups.iter_mut().zip(held) {
+        *cell = match held {
+            Held::AtLeastOne(_) => UNIT,
+            _ => 0,
+        };
+    }
+}
+
+// The lots of an item, from the last position to the first: each server makes all that its block asks for.
+fn write_lots(units: &mut [i64], setups: &mut [i64], item: &Item, places: &[Served]) {
+    let mut server = 0;
+    let mut start = u32::MAX;
+    let mut position = u32::try_from(places.len()).unwrap_or(0);
+    for place in places.iter().rev() {
+        if position < start {
+            server = place.server;
+            start = place.start;
+        }
+        let more = times(at(&item.net, place.period), UNIT);
+        let made = plus(at(units, server), more);
+        write(units, server, made);
+        write(setups, server, UNIT);
+        position = position.saturating_sub(1);
+    }
+}
+
+// What the lots leave in stock at the end of each period.
+fn write_stocks(stocks: &mut [i64], units: &[i64], item: &Item) {
+    let mut made = 0;
+    let mut period = 0u32;
+    for cell in stocks.iter_mut() {
+        period = period.saturating_add(1);
+        let asked = times(at(&item.net, period), UNIT);
+        made = less(plus(made, at(units, period)), asked);
+        let left = times(at(&item.left, period), UNIT);
+        *cell = plus(made.max(0), left);
+    }
+}
+
+// What they leave owed.
+fn write_owed(owed: &mut [i64], units: &[i64], item: &Item) {
+    let mut made = 0;
+    let mut period = 0u32;
+    for cell in owed.iter_mut() {
+        period = period.saturating_add(1);
+        let asked = times(at(&item.net, period), UNIT);
+        made = less(plus(made, at(units, period)), asked);
+        *cell = less(0, made.min(0));
+    }
+}
+
+impl Average {
+    // Of plans without lots.
+    pub(crate) fn zero(alloc: Global, items: u32, periods: u32) -> Result<Average, AllocError> {
+        Ok(Average {
+            units: Grid::zero(alloc, items, periods)?,
+            setups: Grid::zero(alloc, items, periods)?,
+            stocks: Grid::zero(alloc, items, periods)?,
+            owed: Grid::zero(alloc, items, periods)?,
+        })
+    }
+
+    /// The same averages once more. The error is want of memory.
+    pub fn copy(&self, alloc: Global) -> Result<Average, AllocError> {
+        Ok(Average {
+            units: self.units.copy(alloc)?,
+            setups: self.setups.copy(alloc)?,
+            stocks: self.stocks.copy(alloc)?,
+            owed: self.owed.copy(alloc)?,
+        })
+    }
+
+    /// How often an item is set up in a period, in units of 1/4096: from 0 to 4096.
+    pub fn setup(&self, item: u32, period: u32) -> i128 {
+        i128::from(self.setups.get(item, period))
+    }
+
+    /// How many units of an item are made in a period, in units of 1/4096.
+    pub fn made(&self, item: u32, period: u32) -> i128 {
+        i128::from(self.units.get(item, period))
+    }
+
+    // The lots of an item, by the servers of its positions.
+    fn write_made(&mut self, item: &Item, places: &[Served], fixed: &Fixed) {
+        let Some(units) = self.units.line_mut(item.number) else {
+            return;
+        };
+        let Some(setups) = self.setups.line_mut(item.number) else {
+            return;
+        };
+        write_fixed(units, setups, fixed.line(item.number));
+        write_lots(units, setups, item, places);
+    }
+
+    // The plan of an item, by the servers of its positions.
+    pub(crate) fn write_item(&mut self, item: &Item, places: &[Served], fixed: &Fixed) {
+        self.write_made(item, places, fixed);
+        let units = self.units.line(item.number);
+        if let Some(stocks) = self.stocks.line_mut(item.number) {
+            write_stocks(stocks, units, item);
+        }
+        if item.backlogged {
+            if let Some(owed) = self.owed.line_mut(item.number) {
+                write_owed(owed, units, item);
+            }
+        }
+    }
+
+    // Other plans enter with a weight, in units of 1/4096.
+    pub(crate) fn mix(&mut self, plan: &Average, weight: i64) {
+        self.units.mix(&plan.units, weight);
+        self.setups.mix(&plan.setups, weight);
+        self.stocks.mix(&plan.stocks, weight);
+        self.owed.mix(&plan.owed, weight);
+    }
+
+    // These are other plans.
+    pub(crate) fn take_from(&mut self, plan: &Average) {
+        self.units.take_from(&plan.units);
+        self.setups.take_from(&plan.setups);
+        self.stocks.take_from(&plan.stocks);
+        self.owed.take_from(&plan.owed);
+    }
+}

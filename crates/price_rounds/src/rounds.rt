@@ -1,0 +1,328 @@
+// Rounds that improve prices.
+ghost use Rattle.std.specs.Prelude.{◌≡◌};
+
+use crate::lots::Average;
+use crate::slopes::Slopes;
+use crate::valuing::Planning;
+use lot_model::Instance;
+use priced_items::numbers::{ONE, Rate, UNIT};
+use priced_items::{Fixed, Prices, Pricing, settle};
+use std::alloc::{AllocError, Global};
+use std::marker::Model;
+
+// The first step at the root and below, the whole step, the largest and the least one; after how many rounds without
+// growth it shrinks.
+const ROOT_STEP: i128 = 500_000;
+
+const NODE_STEP: i128 = 100_000;
+
+const WHOLE_STEP: i128 = 1_000_000;
+
+const MOST_STEP: i128 = 2_000_000;
+
+const LEAST_STEP: i128 = 1_000;
+
+const PATIENCE: u32 = 4;
+// The least and the largest weight of a plan in the average, in units of 1/4096.
+const LEAST_WEIGHT: i64 = 164;
+
+const MOST_WEIGHT: i64 = 1638;
+// After how many rounds the costs are dropped on trial.
+const TRIAL: u32 = 10;
+
+/// What rounds come to.
+#[derive(Clone, Copy, Debug, PartialEq, Eq)]
+pub enum Reached {
+    /// All rounds were made.
+    Open,
+    /// The leaf of the best prices is expected to say as much as a plan at hand costs.
+    Closed,
+    /// The leaf of the best prices with all costs dropped is expected to say that there is no plan.
+    Refuted,
+}
+
+/// The best prices of rounds, and the average of their single-item plans.
+#[derive(Debug, Drop)]
+pub struct Improved {
+    /// The best prices.
+    pub prices: Prices,
+    /// The average of the single-item plans of the rounds.
+    pub average: Average,
+}
+
+// What is given to all rounds.
+#[derive(Clone, Copy)]
+struct Given<'a> {
+    alloc: Global,
+    instance: &'a Instance,
+    pricing: &'a Pricing,
+    fixed: &'a Fixed,
+    plan_cost: Option<u128>,
+}
+
+/// Rounds that improve prices (a volume method: Barahona and Anbil 2000).
+///
+/// Each round goes from the best prices so far in the direction in which the plans of the rounds, on the average, miss
+/// the capacities and each other's demand, plans each item by itself at the new prices, and takes the plan into the
+/// average. Nothing is claimed of what they find: a leaf of the prices is tested by who takes it.
+#[derive(Debug, Drop)]
+pub struct Rounds {
+    best: Prices,
+    number: i128,
+    average: Average,
+    // The plans at the best prices.
+    best_plan: Average,
+    step: i128,
+    // Rounds without growth, and rounds since costs were dropped.
+    stood: u32,
+    since: u32,
+    // Whether the best prices were tried with all costs dropped, which then refuted nothing.
+    is_tried: bool,
+    // Prices on trial, their plans, and directions at the average and at these plans.
+    trial: Prices,
+    plan: Average,
+    slopes: Slopes,
+    others: Slopes,
+}
+
+impl Model for Rounds {
+    ghost use Rattle.price_rounds.specs.declared.rounds.Improved.{Improved};
+
+    ghost Value = { Improved };
+
+    ghost view = { λ r. record { prices = r.best; average = r.average } };
+}
+
+// What a plan costs, times the scale, where there is one whose cost fits.
+fn scaled(scale: u64, plan_cost: Option<u128>) -> Option<i128> {
+    match i128::try_from(plan_cost?) {
+        Ok(cost) => Some(cost.saturating_mul(i128::from(scale))),
+        Err(_) => None,
+    }
+}
+
+// By how much the number is to grow: up to what the plan costs, but by no more than a twentieth.
+fn gap_to(number: i128, scale: u64, plan_cost: Option<u128>) -> i128 {
+    let near = (number.max(0) / 20).saturating_add(i128::from(scale));
+    match scaled(scale, plan_cost) {
+        Some(cost) => near.min(cost.saturating_sub(number)),
+        None => near,
+    }
+}
+
+// Whether a leaf of this number says as much as the plan costs.
+fn is_closed(number: i128, scale: u64, plan_cost: Option<u128>) -> bool {
+    match scaled(scale, plan_cost) {
+        Some(cost) => number > cost.saturating_sub(i128::from(scale)),
+        None => false,
+    }
+}
+
+// The weight that makes a direction shortest, by its square and its products with the other one.
+fn weight_of(square: i128, both: i128, other: i128) -> i64 {
+    let apart = square
+        .saturating_sub(both.saturating_mul(2))
+        .saturating_add(other);
+    let weight = Rate::new(square.saturating_sub(both), apart).of(UNIT);
+    weight.max(LEAST_WEIGHT).min(MOST_WEIGHT)
+}
+
+impl Rounds {
+    /// The state before the first round. `average` is that of the node above, where there is one: then the steps begin
+    /// shorter. The error is want of memory.
+    pub fn start(
+        alloc: Global,
+        instance: &Instance,
+        pricing: &Pricing,
+        prices: Prices,
+        average: Option<Average>,
+        fixed: &Fixed,
+    ) -> Result<Rounds, AllocError> {
+        let (items, periods) = (instance.items(), instance.periods());
+        let mut planning = Planning::new(alloc);
+        let mut best_plan = Average::zero(alloc, items, periods)?;
+        let number = planning.value(instance, pricing, &prices, fixed, &mut best_plan)?;
+        let (average, step) = match average {
+            Some(average) => (average, NODE_STEP),
+            None => (best_plan.copy(alloc)?, ROOT_STEP),
+        };
+        Ok(Rounds {
+            trial: prices.copy(alloc)?,
+            best: prices,
+            number,
+            average,
+            best_plan,
+            step,
+            stood: 0,
+            since: 0,
+            is_tried: false,
+            plan: Average::zero(alloc, items, periods)?,
+            slopes: Slopes::zero(alloc, instance)?,
+            others: Slopes::zero(alloc, instance)?,
+        })
+    }
+
+    // The plan at the prices on trial enters the average, with the weight that makes the new direction shortest. It is told
+    // whether the plan's direction is still the old one.
+    fn mix(&mut self, given: Given<'_>, square: i128) -> bool {
+        self.others
+            .write(given.instance, given.pricing, &self.best, &self.plan);
+        let both = self.slopes.dot(&self.others);
+        let other = self.others.dot(&self.others);
+        self.average.mix(&self.plan, weight_of(square, both, other));
+        both >= 0
+    }
+
+    // The prices on trial are the best ones, or they aren't. Steps get longer where they may.
+    fn take(&mut self, number: i128, may_grow: bool) {
+        if number > self.number {
+            self.number = number;
+            self.best.take_from(&self.trial);
+            self.best_plan.take_from(&self.plan);
+            self.is_tried = false;
+            self.stood = 0;
+            if may_grow {
+                self.step = (self.step.saturating_mul(115) / 100).min(MOST_STEP);
+            }
+        } else {
+            self.stood = self.stood.saturating_add(1);
+        }
+        if self.stood >= PATIENCE {
+            self.step = (self.step.saturating_mul(7) / 10).max(LEAST_STEP);
+            self.stood = 0;
+        }
+    }
+
+    // The prices on trial: the best ones, further in the direction of the average.
+    fn try_prices(&mut self, given: Given<'_>, square: i128) {
+        let gap = gap_to(self.number, self.best.scale, given.plan_cost);
+        let part = gap.saturating_mul(ONE).saturating_mul(self.step) / WHOLE_STEP;
+        let rate = Rate::new(part, square);
+        self.slopes.go(&self.best, &mut self.trial, rate);
+        settle(given.instance, given.pricing, &mut self.trial);
+    }
+
+    // One round.
+    fn round(&mut self, given: Given<'_>, planning: &mut Planning) -> Result<(), AllocError> {
+        self.slopes
+            .write(given.instance, given.pricing, &self.best, &self.average);
+        let square = self.slopes.dot(&self.slopes);
+        if square == 0 {
+            self.average.take_from(&self.best_plan);
+            self.step = (self.step / 2).max(LEAST_STEP);
+            return Ok(());
+        }
+        self.try_prices(given, square);
+        let number = planning.value(
+            given.instance,
+            given.pricing,
+            &self.trial,
+            given.fixed,
+            &mut self.plan,
+        )?;
+        let goes_on = self.mix(given, square);
+        self.take(number, goes_on);
+        Ok(())
+    }
+
+    // Whether the best prices with all costs dropped refute that there is a plan.
+    fn refutes(&mut self, given: Given<'_>, planning: &mut Planning) -> Result<bool, AllocError> {
+        self.since = 0;
+        if self.is_tried {
+            return Ok(false);
+        }
+        self.is_tried = true;
+        let free = self
+            .best
+            .dropped(given.alloc, given.instance, given.pricing)?;
+        let number = planning.value(
+            given.instance,
+            given.pricing,
+            &free,
+            given.fixed,
+            &mut self.plan,
+        )?;
+        self.is_tried = number <= 0;
+        Ok(number > 0)
+    }
+
+    // What has been reached, where the costs are dropped on trial or not.
+    fn reached(
+        &mut self,
+        given: Given<'_>,
+        planning: &mut Planning,
+        is_tried: bool,
+    ) -> Result<Reached, AllocError> {
+        if is_closed(self.number, self.best.scale, given.plan_cost) {
+            return Ok(Reached::Closed);
+        }
+        if is_tried && self.refutes(given, planning)? {
+            return Ok(Reached::Refuted);
+        }
+        Ok(Reached::Open)
+    }
+
+    /// So many rounds at most. They end early where the leaf of the best prices says as much as `plan_cost`, what a plan
+    /// at hand costs, or where the same leaf without costs says that there is no plan. It can be called again, and goes
+    /// on with steps and average as they are.
+    ///
+    /// The error is want of memory, and the state is then that after the rounds made. Each round takes time in the number
+    /// of items times the square of that of the periods.
+    pub fn go_on(
+        &mut self,
+        alloc: Global,
+        instance: &Instance,
+        pricing: &Pricing,
+        fixed: &Fixed,
+        plan_cost: Option<u128>,
+        count: u32,
+    ) -> Result<Reached, AllocError> {
+        let given = Given {
+            alloc,
+            instance,
+            pricing,
+            fixed,
+            plan_cost,
+        };
+        let mut planning = Planning::new(alloc);
+        for _ in 0..count {
+            let is_time = self.since >= TRIAL;
+            match self.reached(given, &mut planning, is_time)? {
+                Reached::Open => {}
+                end => return Ok(end),
+            }
+            self.round(given, &mut planning)?;
+            self.since = self.since.saturating_add(1);
+        }
+        self.reached(given, &mut planning, true)
+    }
+
+    /// What the leaf of the best prices is expected to say, times the scale.
+    pub fn number(&self) -> i128 {
+        self.number
+    }
+
+    /// The best prices.
+    pub fn prices(&self) -> &Prices
+        ensures { result.now ≡ self.now.prices }
+    {
+        &self.best
+    }
+
+    /// The average of the single-item plans of the rounds.
+    pub fn average(&self) -> &Average
+        ensures { result.now ≡ self.now.average }
+    {
+        &self.average
+    }
+
+    /// The best prices and the average.
+    pub fn into_improved(self) -> Improved
+        ensures { result ≡ self }
+    {
+        Improved {
+            prices: self.best,
+            average: self.average,
+        }
+    }
+}

@@ -1,0 +1,211 @@
+// In which direction prices are better.
+ghost use Rattle.std.specs.Prelude.{◌≤◌};
+ghost use Rattle.lot_sizing.specs.Problem.{item_count};
+
+use crate::lots::Average;
+use lot_model::Instance;
+use priced_items::numbers::{Rate, UNIT, less, of_amount, times};
+use priced_items::{Grid, Prices, Pricing, clear};
+use std::alloc::{AllocError, Global};
+
+// By how much what the leaf says changes with each price, at plans of the items.
+#[derive(Debug, Drop)]
+pub(crate) struct Slopes {
+    capacity: Grid,
+    stock: Grid,
+    back: Grid,
+}
+
+// What there is of a resource, below 0.
+fn write_room(line: &mut [i64], capacities: &[u64]) {
+    for (cell, time) in line.iter_mut().zip(capacities) {
+        *cell = less(0, times(UNIT, of_amount(*time)));
+    }
+}
+
+// A direction is 0 where the price is 0, or less, and would get lower.
+fn stay_positive(line: &mut [i64], prices: &[i64]) {
+    for (slope, price) in line.iter_mut().zip(prices) {
+        if *price <= 0 {
+            *slope = (*slope).max(0);
+        }
+    }
+}
+
+// A direction is 0 where the price is what a unit in stock costs, or more, and would get higher.
+fn stay_below(line: &mut [i64], prices: &[i64], costs: &[u64], scale: i64) {
+    for ((slope, price), cost) in line.iter_mut().zip(prices).zip(costs) {
+        if *price >= times(scale, of_amount(*cost)) {
+            *slope = (*slope).min(0);
+        }
+    }
+}
+
+impl Slopes {
+    pub(crate) fn zero(alloc: Global, instance: &Instance) -> Result<Slopes, AllocError> {
+        let periods = instance.periods();
+        Ok(Slopes {
+            capacity: Grid::zero(alloc, instance.resources(), periods)?,
+            stock: Grid::zero(alloc, instance.items(), periods)?,
+            back: Grid::zero(alloc, instance.items(), periods)?,
+        })
+    }
+
+    // The sum of the products with other directions.
+    pub(crate) fn dot(&self, other: &Slopes) -> i128 {
+        let capacity = self.capacity.dot(&other.capacity);
+        let stock = self.stock.dot(&other.stock);
+        capacity
+            .saturating_add(stock)
+            .saturating_add(self.back.dot(&other.back))
+    }
+
+    // The time that an item takes of each resource.
+    fn add_item(&mut self, instance: &Instance, plan: &Average, item: u32)
+        requires low { 1 ≤ item }
+        requires high { item ≤ item_count instance.now }
+    {
+        for usage in instance.uses(item) {
+            let (unit, setup) = (of_amount(usage.unit), of_amount(usage.setup));
+            self.capacity
+                .add_times(usage.resource, plan.units.line(item), unit);
+            self.capacity
+                .add_times(usage.resource, plan.setups.line(item), setup);
+        }
+    }
+
+    // By how much the plans use more than there is of each resource.
+    fn write_capacity(&mut self, instance: &Instance, prices: &Prices, plan: &Average) {
+        for resource in 1..instance.resources() + 1 {
+            if let Some(line) = self.capacity.line_mut(resource) {
+                write_room(line, instance.capacities(resource));
+            }
+        }
+        for item in 1..instance.items() + 1 {
+            self.add_item(instance, plan, item);
+        }
+        for resource in 1..instance.resources() + 1 {
+            if let Some(line) = self.capacity.line_mut(resource) {
+                stay_positive(line, prices.capacity.line(resource));
+            }
+        }
+    }
+
+    // What the components of an item have in stock for it isn't their own.
+    fn take_stocks(&mut self, instance: &Instance, plan: &Average, item: u32)
+        requires low { 1 ≤ item }
+        requires high { item ≤ item_count instance.now }
+    {
+        for need in instance.needs(item) {
+            let units = less(0, of_amount(need.quantity));
+            self.stock
+                .add_times(need.item, plan.stocks.line(item), units);
+        }
+    }
+
+    // A direction of a price of stock is 0 where the price can't be changed, or not in that direction.
+    fn keep_stock(&mut self, instance: &Instance, pricing: &Pricing, prices: &Prices, item: u32)
+        requires low { 1 ≤ item }
+        requires high { item ≤ item_count instance.now }
+    {
+        let scale = of_amount(prices.scale);
+        let own = prices.stock.line(item);
+        let Some(line) = self.stock.line_mut(item) else {
+            return;
+        };
+        match pricing.get(item) {
+            Some(found) => {
+                stay_below(line, own, instance.hold_costs(item), scale);
+                if !found.is_movable() {
+                    stay_positive(line, own);
+                }
+            }
+            None => clear(line),
+        }
+    }
+
+    // What of each echelon isn't in those of the items that it goes into.
+    fn write_stock(
+        &mut self,
+        instance: &Instance,
+        pricing: &Pricing,
+        prices: &Prices,
+        plan: &Average,
+    ) {
+        self.stock.take_from(&plan.stocks);
+        for item in 1..instance.items() + 1 {
+            self.take_stocks(instance, plan, item);
+        }
+        for item in 1..instance.items() + 1 {
+            self.keep_stock(instance, pricing, prices, item);
+        }
+    }
+
+    // What is owed of an end product is owed of its components.
+    fn take_owed(&mut self, instance: &Instance, pricing: &Pricing, plan: &Average, end: u32) {
+        for item in 1..instance.items() + 1 {
+            let weight = pricing.weight(item, end);
+            if weight > 0 {
+                self.back
+                    .add_times(item, plan.owed.line(end), less(0, weight));
+            }
+        }
+    }
+
+    // A direction of a price of backlog is 0 where it can't be changed, as of an end product, which keeps what is left.
+    fn keep_back(&mut self, instance: &Instance, pricing: &Pricing, prices: &Prices, item: u32)
+        requires low { 1 ≤ item }
+        requires high { item ≤ item_count instance.now }
+    {
+        let own = prices.back.line(item);
+        if let Some(line) = self.back.line_mut(item) {
+            if instance.has_backlog_cost(item) || !pricing.is_backlogged(item) {
+                clear(line);
+            } else {
+                stay_positive(line, own);
+            }
+        }
+    }
+
+    // What is owed of each echelon and of none of the end products that it goes into.
+    fn write_back(
+        &mut self,
+        instance: &Instance,
+        pricing: &Pricing,
+        prices: &Prices,
+        plan: &Average,
+    ) {
+        self.back.take_from(&plan.owed);
+        for end in 1..instance.items() + 1 {
+            if instance.has_backlog_cost(end) {
+                self.take_owed(instance, pricing, plan, end);
+            }
+        }
+        for item in 1..instance.items() + 1 {
+            self.keep_back(instance, pricing, prices, item);
+        }
+    }
+
+    // The directions at prices and plans.
+    pub(crate) fn write(
+        &mut self,
+        instance: &Instance,
+        pricing: &Pricing,
+        prices: &Prices,
+        plan: &Average,
+    ) {
+        self.write_capacity(instance, prices, plan);
+        self.write_stock(instance, pricing, prices, plan);
+        if pricing.may_owe() {
+            self.write_back(instance, pricing, prices, plan);
+        }
+    }
+
+    // Other prices: some further, by so much of these directions.
+    pub(crate) fn go(&self, from: &Prices, to: &mut Prices, rate: Rate) {
+        to.capacity.go(&from.capacity, &self.capacity, rate);
+        to.stock.go(&from.stock, &self.stock, rate);
+        to.back.go(&from.back, &self.back, rate);
+        to.capacity.cut_at_zero();
+    }
+}

@@ -1,0 +1,105 @@
+// What the leaf of prices says, and the single-item plans behind it.
+ghost use Rattle.std.specs.Prelude.{◌≤◌};
+ghost use Rattle.lot_sizing.specs.Problem.{item_count};
+
+use crate::lots::Average;
+use lot_model::Instance;
+use priced_items::numbers::{at, dot, dot_amounts, wide};
+use priced_items::{Costs, Fixed, Held, Item, Prices, Pricing, Serving};
+use std::alloc::{AllocError, Global};
+
+// The lists in which single items are planned, one after the other.
+#[derive(Debug, Drop)]
+pub(crate) struct Planning {
+    costs: Costs,
+    serving: Serving,
+}
+
+// The right sides of the bounds of an item's setups that are at least 1.
+fn fixed_value(fees: &[i64], held: &[Held]) -> i128 {
+    let mut sum = 0i128;
+    for (fee, held) in fees.iter().zip(held) {
+        if let Held::AtLeastOne(_) = held {
+            sum = sum.saturating_add(i128::from(*fee));
+        }
+    }
+    sum
+}
+
+// The right sides of all capacities.
+fn capacity_value(instance: &Instance, prices: &Prices) -> i128 {
+    let mut sum = 0i128;
+    for resource in 1..instance.resources() + 1 {
+        let line = prices.capacity.line(resource);
+        sum = sum.saturating_add(dot_amounts(line, instance.capacities(resource)));
+    }
+    sum
+}
+
+impl Planning {
+    // It takes no memory.
+    pub(crate) fn new(alloc: Global) -> Planning {
+        Planning {
+            costs: Costs::new(alloc),
+            serving: Serving::new(alloc),
+        }
+    }
+
+    // The right side of an item's cut, with that of the balances by which prices were moved.
+    fn item_value(&self, item: &Item) -> i128 {
+        let costs = &self.costs;
+        let held = dot(&costs.hold, &item.left);
+        let asked = dot(&costs.shift, &item.demand);
+        let opened = wide(at(&costs.shift, 1), item.opening);
+        let ended = wide(costs.lift, item.end_max);
+        self.serving
+            .cost()
+            .saturating_add(held)
+            .saturating_sub(asked)
+            .saturating_sub(ended)
+            .saturating_add(opened)
+    }
+
+    // What an item adds to the right side of the leaf. Its plan is written where it has one.
+    fn value_of(
+        &mut self,
+        instance: &Instance,
+        pricing: &Pricing,
+        prices: &Prices,
+        fixed: &Fixed,
+        number: u32,
+        plan: &mut Average,
+    ) -> Result<i128, AllocError>
+        requires low { 1 ≤ number }
+        requires high { number ≤ item_count instance.now }
+    {
+        let mut sum = 0i128;
+        match pricing.get(number) {
+            Some(item) => {
+                self.costs.write(instance, item, prices, fixed)?;
+                self.serving.serve_all(item, &self.costs)?;
+                plan.write_item(item, &self.serving.places, fixed);
+                sum = self.item_value(item);
+            }
+            None => self.costs.write_fees(instance, prices, number)?,
+        }
+        Ok(sum.saturating_add(fixed_value(&self.costs.fee, fixed.line(number))))
+    }
+
+    // What the leaf of prices says, times the scale. The plan is that of all items by themselves.
+    pub(crate) fn value(
+        &mut self,
+        instance: &Instance,
+        pricing: &Pricing,
+        prices: &Prices,
+        fixed: &Fixed,
+        plan: &mut Average,
+    ) -> Result<i128, AllocError> {
+        let mut sum = 0i128.saturating_sub(capacity_value(instance, prices));
+        for number in 1..instance.items() + 1 {
+            let more = self.value_of(instance, pricing, prices, fixed, number, plan)?;
+            sum = sum.saturating_add(more);
+        }
+        Ok(sum)
+    }
+}

@@ -1,0 +1,180 @@
+// What is asked of each lead-free item and of all that it goes into.
+ghost use Rattle.std.specs.Prelude.{◌≤◌, ◌↔◌, IsTrue, IsFalse};
+ghost use Rattle.lot_sizing.specs.Problem.{item_count};
+ghost use Rattle.echelon.specs.Weights.{IsExplosionOf};
+
+use crate::numbers::{of_amount, of_total, plus, times};
+use echelon::{EchelonItem, Explosion, echelon_of, lead_free, net_of};
+use lot_model::Instance;
+use std::alloc::{AllocError, Global};
+
+/// A lead-free item with its echelon: the item and all items that it goes into. Lists have an entry for each period.
+#[derive(Debug, Drop)]
+pub struct Item {
+    /// The item's number.
+    pub number: u32,
+    /// For each item the units of this one in one unit of it.
+    pub weights: Vec<u64>,
+    /// What is asked for.
+    pub demand: Vec<i64>,
+    /// What remains to be made.
+    pub net: Vec<i64>,
+    /// What is left of the opening stock.
+    pub left: Vec<i64>,
+    /// The stock before the first period.
+    pub opening: i64,
+    /// The largest stock at the end.
+    pub end_max: i64,
+    /// Whether the echelon may be owed.
+    pub backlogged: bool,
+    /// Whether all end stocks of the echelon have one value.
+    pub is_tight: bool,
+}
+
+impl Item {
+    /// Whether stock prices below 0 can be moved to units: the echelon is never owed, and its end stock is fixed.
+    pub fn is_movable(&self) -> bool
+        ensures { IsTrue result ↔ (IsTrue self.now.is_tight × IsFalse self.now.backlogged) }
+    {
+        self.is_tight && !self.backlogged
+    }
+
+    // The units of this item in one unit of another.
+    pub(crate) fn weight_in(&self, other: u32) -> i64 {
+        match self.weights.get((other as usize).wrapping_sub(1)) {
+            Some(weight) => of_amount(*weight),
+            None => 0,
+        }
+    }
+}
+
+/// What the rounds and the leaves of an instance need of it, made once: its lead-free items with their echelons, and the
+/// order in which items go into each other.
+#[derive(Debug, Drop)]
+pub struct Pricing {
+    // The items by their numbers; None where an item isn't lead-free.
+    all: Vec<Option<Item>>,
+    // All items, each one before its components.
+    order: Vec<u32>,
+    // Whether something may be owed.
+    may_owe: bool,
+}
+
+impl Pricing {
+    /// The items of an instance. The error is want of memory. It takes time in the square of their number times that of
+    /// the periods.
+    pub fn new(
+        alloc: Global,
+        instance: &Instance,
+        explosion: &Explosion,
+    ) -> Result<Pricing, AllocError>
+        requires explosion { IsExplosionOf instance.now explosion.now }
+    {
+        let mut all = Vec::with_capacity(alloc, instance.items() as usize)?;
+        let mut may_owe = false;
+        for number in 1..instance.items() + 1 {
+            may_owe = may_owe || instance.has_backlog_cost(number);
+            all.push(item_of(alloc, instance, explosion, number)?)?;
+        }
+        Ok(Pricing {
+            all,
+            order: explosion.order().to_vec(alloc)?,
+            may_owe,
+        })
+    }
+
+    /// A lead-free item by its number, counted from 1. It takes no memory.
+    pub fn get(&self, number: u32) -> Option<&Item> {
+        match self.all.get((number as usize).wrapping_sub(1)) {
+            Some(found) => found.as_ref(),
+            None => None,
+        }
+    }
+
+    /// All items, each one before its components.
+    pub fn order(&self) -> &[u32] {
+        &self.order
+    }
+
+    /// Whether something may be owed.
+    pub fn may_owe(&self) -> bool {
+        self.may_owe
+    }
+
+    /// The units of a lead-free item in one unit of another; 0 of one that isn't.
+    pub fn weight(&self, item: u32, other: u32) -> i64 {
+        match self.get(item) {
+            Some(found) => found.weight_in(other),
+            None => 0,
+        }
+    }
+
+    /// Whether the echelon of a lead-free item may be owed.
+    pub fn is_backlogged(&self, item: u32) -> bool {
+        match self.get(item) {
+            Some(found) => found.backlogged,
+            None => false,
+        }
+    }
+
+    /// Whether stock prices of an item may be below 0.
+    pub fn is_movable(&self, item: u32) -> bool {
+        match self.get(item) {
+            Some(found) => found.is_movable(),
+            None => false,
+        }
+    }
+}
+
+// The same numbers, with a sign.
+fn all_signed(alloc: Global, list: &[u128]) -> Result<Vec<i64>, AllocError> {
+    let mut found = Vec::with_capacity(alloc, list.len())?;
+    for number in list {
+        found.push(of_total(*number))?;
+    }
+    Ok(found)
+}
+
+// The largest end stocks of an echelon, weighed.
+fn end_max_of(instance: &Instance, echelon: &EchelonItem) -> i64 {
+    let mut sum = 0;
+    let mut item = 0u32;
+    for weight in echelon.weights.iter() {
+        item = item.saturating_add(1);
+        if item <= instance.items() {
+            let most = of_amount(instance.end_max(item));
+            sum = plus(sum, times(of_amount(*weight), most));
+        }
+    }
+    sum
+}
+
+// An item with its echelon.
+fn item_of(
+    alloc: Global,
+    instance: &Instance,
+    explosion: &Explosion,
+    number: u32,
+) -> Result<Option<Item>, AllocError>
+    requires explosion { IsExplosionOf instance.now explosion.now }
+    requires low { 1 ≤ number }
+    requires high { number ≤ item_count instance.now }
+{
+    if !lead_free(instance, explosion, number) {
+        return Ok(None);
+    }
+    let echelon = echelon_of(alloc, instance, explosion, number)?;
+    let net = net_of(alloc, &echelon)?;
+    let end_max = end_max_of(instance, &echelon);
+    Ok(Some(Item {
+        number,
+        demand: all_signed(alloc, &echelon.demand)?,
+        net: all_signed(alloc, &net.net)?,
+        left: all_signed(alloc, &net.left)?,
+        opening: of_total(echelon.opening),
+        end_max,
+        backlogged: echelon.backlogged,
+        is_tight: end_max == of_total(echelon.end_min),
+        weights: echelon.weights,
+    }))
+}

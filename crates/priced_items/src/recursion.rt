@@ -1,0 +1,195 @@
+// The recursion over servers of one item (Pochet and Wolsey).
+use crate::costs::Costs;
+use crate::numbers::{add_times, at, less, plus, refill, wide};
+use crate::pricing::Item;
+use std::alloc::{AllocError, Global};
+
+// A server that is open: what all positions so far cost with it, and the first position that it serves.
+#[derive(Clone, Copy, Debug)]
+struct Open {
+    cost: i128,
+    start: u32,
+}
+
+/// Which period serves a position in a cheapest way, from which position on, and what all positions so far cost.
+#[derive(Clone, Copy, Debug)]
+pub struct Served {
+    /// The period that asks.
+    pub period: u32,
+    /// The period that serves it.
+    pub server: u32,
+    /// The first position of the same block, counted from 1.
+    pub start: u32,
+    /// What all positions up to this one cost, times the scale of the prices.
+    pub cost: i128,
+}
+
+// A position: the period that asks, how much, and what all positions before it cost.
+#[derive(Clone, Copy)]
+struct Position {
+    number: u32,
+    period: u32,
+    asked: i64,
+    before: i128,
+}
+
+/// A cheapest way to serve an item by itself: one entry for each position, and the lists that are needed to find it.
+#[derive(Debug, Drop)]
+pub struct Serving {
+    /// The positions served, in order: the periods that ask for something.
+    pub places: Vec<Served>,
+    // The servers, one for each period.
+    open: Vec<Open>,
+    // What a unit costs that a server makes for a period on, less what it costs to hold, or owe, from the first one.
+    early: Vec<i64>,
+    late: Vec<i64>,
+    // What a unit costs that is held from the first period to each one, and that is owed.
+    held: Vec<i64>,
+    owed: Vec<i64>,
+}
+
+// For each period the sum of the numbers before it.
+fn write_sums(sums: &mut Vec<i64>, list: &[i64]) -> Result<(), AllocError> {
+    sums.clear();
+    let mut sum = 0;
+    for number in list {
+        sums.push(sum)?;
+        sum = plus(sum, *number);
+    }
+    Ok(())
+}
+
+// The numbers after so many.
+fn after(list: &[i64], count: usize) -> &[i64] {
+    let start = list.len().min(count);
+    &list[start..]
+}
+
+// A server after one more position: it goes on, or begins there.
+fn next_open(open: Open, begun: i128, position: u32, serving: i128) -> Open {
+    if begun < open.cost {
+        Open {
+            cost: begun.saturating_add(serving),
+            start: position,
+        }
+    } else {
+        Open {
+            cost: open.cost.saturating_add(serving),
+            start: open.start,
+        }
+    }
+}
+
+// A position is served by some servers, the first of which comes after a period: all of them go on or begin, and the
+// cheapest one is taken, where it is cheaper than the one at hand.
+fn serve(
+    open: &mut [Open],
+    units: &[i64],
+    setups: &[i64],
+    more: i64,
+    position: Position,
+    first: u32,
+    best: Served,
+) -> Served {
+    let mut best = best;
+    let mut server = first;
+    for ((now, unit), setup) in open.iter_mut().zip(units).zip(setups) {
+        server = server.saturating_add(1);
+        let serving = wide(position.asked, plus(*unit, more));
+        let begun = position.before.saturating_add(i128::from(*setup));
+        let next = next_open(*now, begun, position.number, serving);
+        *now = next;
+        if next.cost < best.cost {
+            best.server = server;
+            best.start = next.start;
+            best.cost = next.cost;
+        }
+    }
+    best
+}
+
+impl Serving {
+    /// Nothing is served yet. It takes no memory.
+    pub fn new(alloc: Global) -> Serving {
+        Serving {
+            places: Vec::new(alloc),
+            open: Vec::new(alloc),
+            early: Vec::new(alloc),
+            late: Vec::new(alloc),
+            held: Vec::new(alloc),
+            owed: Vec::new(alloc),
+        }
+    }
+
+    // What units cost, and no server is open.
+    fn begin(&mut self, costs: &Costs) -> Result<(), AllocError> {
+        write_sums(&mut self.held, &costs.hold)?;
+        refill(&mut self.early, &costs.unit)?;
+        add_times(&mut self.early, &self.held, -1);
+        write_sums(&mut self.owed, &costs.back)?;
+        refill(&mut self.late, &costs.unit)?;
+        add_times(&mut self.late, &self.owed, 1);
+        let closed = Open {
+            cost: i128::MAX,
+            start: 0,
+        };
+        self.open.clear();
+        self.open.resize(costs.unit.len(), closed)?;
+        self.places.clear();
+        Ok(())
+    }
+
+    // A position is served by the periods up to it, and by later ones where it may be owed.
+    fn serve_one(&mut self, costs: &Costs, position: Position, may_wait: bool) -> Served {
+        let split = (position.period as usize).min(self.open.len());
+        let none = Served {
+            period: position.period,
+            server: 0,
+            start: position.number,
+            cost: i128::MAX,
+        };
+        let (first, last) = self.open.split_at_mut(split);
+        let held = at(&self.held, position.period);
+        let best = serve(first, &self.early, &costs.setup, held, position, 0, none);
+        if !may_wait {
+            return best;
+        }
+        let owed = less(0, at(&self.owed, position.period));
+        let units = after(&self.late, split);
+        let setups = after(&costs.setup, split);
+        serve(last, units, setups, owed, position, position.period, best)
+    }
+
+    /// A cheapest way to serve what remains to be made of an item at its costs. The error is want of memory, of which
+    /// none is taken where as much was served before. It takes time in the square of the number of periods.
+    pub fn serve_all(&mut self, item: &Item, costs: &Costs) -> Result<(), AllocError> {
+        self.begin(costs)?;
+        let mut before = 0i128;
+        let (mut period, mut number) = (0u32, 0u32);
+        for asked in item.net.iter() {
+            period = period.saturating_add(1);
+            if *asked == 0 {
+                continue;
+            }
+            number = number.saturating_add(1);
+            let position = Position {
+                number,
+                period,
+                asked: *asked,
+                before,
+            };
+            let best = self.serve_one(costs, position, item.backlogged);
+            before = best.cost;
+            self.places.push(best)?;
+        }
+        Ok(())
+    }
+
+    /// What all positions cost, times the scale of the prices.
+    pub fn cost(&self) -> i128 {
+        match self.places.last() {
+            Some(place) => place.cost,
+            None => 0,
+        }
+    }
+}

@@ -1,0 +1,245 @@
+// Prices are kept within their bounds.
+ghost use Rattle.std.specs.Prelude.{◌≤◌};
+ghost use Rattle.lot_sizing.specs.Problem.{item_count};
+
+use crate::grid::{Grid, clear, cut_line};
+use crate::numbers::{less, of_amount, over, plus, share, times};
+use crate::prices::Prices;
+use crate::pricing::Pricing;
+use lot_model::{Instance, Need};
+
+// Prices of stock are at most the holding costs.
+fn bound_above(line: &mut [i64], costs: &[u64], scale: i64) {
+    for (cell, cost) in line.iter_mut().zip(costs) {
+        *cell = (*cell).min(times(scale, of_amount(*cost)));
+    }
+}
+
+// Prices of stock of an item are at most its holding costs, 0 where the item isn't lead-free, and at least 0 where they
+// can't be moved.
+fn bound_stock(instance: &Instance, pricing: &Pricing, prices: &mut Prices, item: u32)
+    requires low { 1 ≤ item }
+    requires high { item ≤ item_count instance.now }
+{
+    let scale = of_amount(prices.scale);
+    if let Some(line) = prices.stock.line_mut(item) {
+        match pricing.get(item) {
+            Some(found) => {
+                bound_above(line, instance.hold_costs(item), scale);
+                if !found.is_movable() {
+                    cut_line(line);
+                }
+            }
+            None => clear(line),
+        }
+    }
+}
+
+// The price of an item's stock, less those of the components in it.
+fn echelon_price(stock: &Grid, needs: &[Need], item: u32, period: u32) -> i64 {
+    let mut price = stock.get(item, period);
+    for need in needs {
+        let units = of_amount(need.quantity);
+        price = less(price, times(units, stock.get(need.item, period)));
+    }
+    price
+}
+
+// What the components of an item cost in stock, those with a price above 0.
+fn components_price(prices: &Prices, needs: &[Need], period: u32) -> i64 {
+    let mut sum = 0;
+    for need in needs {
+        let price = prices.stock.get(need.item, period).max(0);
+        sum = plus(sum, times(of_amount(need.quantity), price));
+    }
+    sum
+}
+
+// Prices of components are lowered in proportion, so that they cost no more than the item.
+fn lower_components(prices: &mut Prices, needs: &[Need], item: u32, period: u32) {
+    if echelon_price(&prices.stock, needs, item, period) >= 0 {
+        return;
+    }
+    let whole = components_price(prices, needs, period);
+    let most = prices.stock.get(item, period);
+    for need in needs {
+        let price = prices.stock.get(need.item, period);
+        if price > 0 {
+            prices
+                .stock
+                .put(need.item, period, share(price, most, whole));
+        }
+    }
+}
+
+// The same in each period.
+fn lower_all(instance: &Instance, prices: &mut Prices, item: u32) {
+    if item < 1 || item > instance.items() {
+        return;
+    }
+    let needs = instance.needs(item);
+    for period in 1..instance.periods() + 1 {
+        lower_components(prices, needs, item, period);
+    }
+}
+
+// Echelons whose prices can't be moved to units have none below 0.
+fn order_stocks(instance: &Instance, pricing: &Pricing, prices: &mut Prices) {
+    for item in pricing.order() {
+        if pricing.get(*item).is_some() && !pricing.is_movable(*item) {
+            lower_all(instance, prices, *item);
+        }
+    }
+}
+
+// What is owed of all components in an end product costs in a period.
+fn owed_price(
+    instance: &Instance,
+    pricing: &Pricing,
+    prices: &Prices,
+    end: u32,
+    period: u32,
+) -> i64 {
+    let mut sum = 0;
+    for item in 1..instance.items() + 1 {
+        if item != end {
+            let weight = pricing.weight(item, end);
+            sum = plus(sum, times(weight, prices.back.get(item, period)));
+        }
+    }
+    sum
+}
+
+// Prices of what is owed of components are lowered, so that together they cost no more than the end product.
+fn lower_owed(
+    instance: &Instance,
+    pricing: &Pricing,
+    prices: &mut Prices,
+    end: u32,
+    period: u32,
+    most: i64,
+) {
+    let whole = owed_price(instance, pricing, prices, end, period);
+    if whole <= most {
+        return;
+    }
+    for item in 1..instance.items() + 1 {
+        if item != end && pricing.weight(item, end) > 0 {
+            let price = prices.back.get(item, period);
+            prices.back.put(item, period, share(price, most, whole));
+        }
+    }
+}
+
+// What a lead-free item costs that is owed in a period, times the scale; 0 where it can't be.
+fn owed_cost(
+    instance: &Instance,
+    pricing: &Pricing,
+    prices: &Prices,
+    item: u32,
+    period: u32,
+) -> i64 {
+    if item < 1 || item > instance.items() || pricing.get(item).is_none() {
+        return 0;
+    }
+    if period < 1 || period > instance.periods() {
+        return 0;
+    }
+    match instance.backlog_cost(item, period) {
+        Some(cost) => times(of_amount(prices.scale), of_amount(cost)),
+        None => 0,
+    }
+}
+
+// Prices of backlog are at least 0, and 0 where nothing may be owed.
+fn bound_backs(instance: &Instance, pricing: &Pricing, prices: &mut Prices) {
+    for item in 1..instance.items() + 1 {
+        for period in 1..instance.periods() + 1 {
+            let price = prices.back.get(item, period).max(0);
+            let owing = pricing.is_backlogged(item);
+            prices.back.put(item, period, if owing { price } else { 0 });
+        }
+    }
+}
+
+// Components leave something of what an end product costs that is owed.
+fn lower_backs(instance: &Instance, pricing: &Pricing, prices: &mut Prices, end: u32) {
+    for period in 1..instance.periods() + 1 {
+        let most = owed_cost(instance, pricing, prices, end, period);
+        lower_owed(instance, pricing, prices, end, period, most);
+    }
+}
+
+// An end product keeps what its components leave.
+fn keep_rest(instance: &Instance, pricing: &Pricing, prices: &mut Prices, end: u32) {
+    for period in 1..instance.periods() + 1 {
+        let most = owed_cost(instance, pricing, prices, end, period);
+        let rest = less(most, owed_price(instance, pricing, prices, end, period));
+        prices.back.put(end, period, rest.max(0));
+    }
+}
+
+// Prices of backlog are kept within the backlog costs of the end products.
+fn order_backs(instance: &Instance, pricing: &Pricing, prices: &mut Prices) {
+    for end in 1..instance.items() + 1 {
+        if instance.has_backlog_cost(end) {
+            lower_backs(instance, pricing, prices, end);
+        }
+    }
+    for end in 1..instance.items() + 1 {
+        if instance.has_backlog_cost(end) {
+            keep_rest(instance, pricing, prices, end);
+        }
+    }
+}
+
+/// All prices are kept within their bounds.
+pub fn settle(instance: &Instance, pricing: &Pricing, prices: &mut Prices) {
+    for item in 1..instance.items() + 1 {
+        bound_stock(instance, pricing, prices, item);
+    }
+    order_stocks(instance, pricing, prices);
+    if pricing.may_owe() {
+        bound_backs(instance, pricing, prices);
+        order_backs(instance, pricing, prices);
+    }
+}
+
+// How many echelons an item is in.
+fn echelons_with(instance: &Instance, pricing: &Pricing, end: u32) -> i64 {
+    let mut count = 0;
+    for item in 1..instance.items() + 1 {
+        if pricing.weight(item, end) > 0 {
+            count = plus(count, 1);
+        }
+    }
+    count
+}
+
+// A component gets a part of what an end product costs that is owed, or keeps a smaller one of another end product.
+fn split_back(instance: &Instance, pricing: &Pricing, prices: &mut Prices, item: u32, end: u32) {
+    let parts = times(
+        echelons_with(instance, pricing, end),
+        pricing.weight(item, end),
+    );
+    for period in 1..instance.periods() + 1 {
+        let part = over(owed_cost(instance, pricing, prices, end, period), parts);
+        let before = prices.back.get(item, period);
+        if before == 0 || part < before {
+            prices.back.put(item, period, part);
+        }
+    }
+}
+
+// Each echelon that an end product is in gets the same part of what it costs that is owed.
+pub(crate) fn split_backs(instance: &Instance, pricing: &Pricing, prices: &mut Prices) {
+    for end in 1..instance.items() + 1 {
+        if instance.has_backlog_cost(end) {
+            for item in 1..instance.items() + 1 {
+                if item != end && pricing.weight(item, end) > 0 {
+                    split_back(instance, pricing, prices, item, end);
+                }
+            }
+        }
+    }
+}
