@@ -1,6 +1,6 @@
 -- What the relaxation on a path says of a node, over any rows of cuts.
-use Rattle.std.proofs.Common.{◌≡◌, ◌⊎◌, ◌≤◌, ◌<◌, ◌^◌, ⊎_elim, inl, ℕ, sym, ap, subst, arith, true, List, [], Option, Some, None, Ok, Err}
-use Rattle.std.specs.Prelude.{IfOk, IfSome, Result}
+use Rattle.std.proofs.Common.{◌≡◌, ◌≤◌, ◌<◌, ◌^◌, ⊎_elim, inl, ℕ, sym, ap, subst, arith, true, List, [], Option, Some, None, Ok, Err}
+use Rattle.std.specs.Prelude.{IfOk, IfSome, OnOk, Result}
 use Rattle.std.proofs.lemmas.Nat.{mul-le}
 use Rattle.lot_sizing.specs.Problem.{Problem}
 use Rattle.lot_sizing.specs.Totals.{AreLargestTotals}
@@ -158,3 +158,8 @@ raised_asked old new leaf bound raised = ⊎_elim (λ same. ap (λ (p : Proposal
 
 pub asked_asked : (old new : Proposal) → new ≡ asked_of old → new.asked ≡ true
 asked_asked old new same = ap (λ (p : Proposal). p.asked) same
+
+-- what holds anyway holds on success
+pub anyway : {A E : Type 0} (r : Result A E) (P : Type 0) → P → OnOk r P
+anyway (Ok a) P is = is
+anyway (Err e) P is = tt

@@ -1,5 +1,5 @@
 -- What a tree that was sought shows, as a certificate says it.
-use Rattle.std.proofs.Common.{◌≡◌, ◌⊎◌, ◌≤◌, ◌<◌, ◌^◌, ◌∙◌, ⊎_elim, inl, inr, ℕ, refl, sym, ap, subst, arith, List, [], Option, Some, None}
+use Rattle.std.proofs.Common.{◌≡◌, ◌≤◌, ◌<◌, ◌^◌, ◌∙◌, ⊎_elim, inl, inr, ℕ, refl, sym, ap, subst, arith, List, [], Option, Some, None}
 use Rattle.std.specs.Prelude.{IfSome, map}
 use Rattle.lot_sizing.specs.Best.{IsFloor}
 use Rattle.lot_sizing.specs.Problem.{Problem, item_count}

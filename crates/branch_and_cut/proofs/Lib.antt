@@ -8,3 +8,5 @@ mod Filled
 mod Translating
 mod Proved
 mod Finished
+mod Added
+mod Judged

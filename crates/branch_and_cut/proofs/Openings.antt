@@ -43,7 +43,7 @@ pub record AreMadeTo (m : Problem) (cuts : List CutShape) (k : ℕ) (rows : List
   pub good : HaveGoodRows m (take k cuts) rows
   pub columns_exist : AreOfProblem m rows
 
-columns_more : (m : Problem) (rows : List LinRow) (r : LinRow) → AreOfProblem m rows → All (λ a. IsColumn m a.column) r.terms → AreOfProblem m (rows ++ (r ∷ []))
+pub columns_more : (m : Problem) (rows : List LinRow) (r : LinRow) → AreOfProblem m rows → All (λ a. IsColumn m a.column) r.terms → AreOfProblem m (rows ++ (r ∷ []))
 columns_more m [] r are is = (is, tt)
 columns_more m (s ∷ rows) r are is = (are.0, columns_more m rows r are.1 is)
 

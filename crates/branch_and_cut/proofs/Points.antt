@@ -1,5 +1,5 @@
 -- The leaf of a node that is one choice of quantities and setups.
-use Rattle.std.proofs.Common.{◌≡◌, ◌≤◌, ◌<◌, ◌+◌, ◌^◌, ◌∙◌, inr, ℕ, refl, sym, ap, subst, arith, List, [], length, zero-add, append-nil, Option, Some, None, Ok, Err}
+use Rattle.std.proofs.Common.{◌≡◌, ◌≤◌, ◌<◌, ◌+◌, ◌^◌, ◌∙◌, inl, inr, ℕ, refl, sym, ap, subst, arith, List, [], length, zero-add, append-nil, Option, Some, None, Ok, Err}
 use Rattle.std.specs.Prelude.{IfNone, IfSome, Result, map}
 use Rattle.std.specs.declared.alloc.AllocError.{AllocError}
 use Rattle.lot_sizing.specs.Best.{IsFloor}
@@ -35,9 +35,10 @@ use Rattle.branch_and_bound.specs.Costs.{IsAtMost, IsBelow}
 use Rattle.branch_and_bound.specs.Ranges.{IsPoint, range_at}
 use Rattle.branch_and_cut.specs.declared.guiding.Model.{Model}
 use Rattle.branch_and_cut.specs.declared.knowing.Known.{Known}
+use Rattle.cert_checker.specs.Named.{IsReadyFor}
 use Rattle.branch_and_cut.specs.Begun.{AreKnownCuts, IsBegun}
 use Rattle.branch_and_cut.specs.Branching.{point_at}
-use Rattle.branch_and_cut.specs.Knowing.{IsAfter, IsKnown, cost_kept, shapes}
+use Rattle.branch_and_cut.specs.Knowing.{IsAfter, IsKeptIn, IsKnown, IsLastingIn, cost_kept, shapes}
 use Rattle.branch_and_cut.specs.Nodes.{IsKept, IsNodeOf, cell_place, choice_place, least_make, least_setup, said, span_in}
 use Rattle.branch_and_cut.specs.Numbering.{place_below, place_x, place_y}
 
@@ -156,11 +157,13 @@ point_kept m version least rows rs path found p node point floor made some none 
     }
 
 -- ---- what is known stays known with another plan
-pub known_kept : (g : Model) (old new : Known) → new.cuts ≡ old.cuts → new.rows ≡ old.rows → IfSome new.best (IsMade g.instance.now) → IsKnown g old → IsKnown g new
-known_kept g old new cuts rows best is = record {
+pub known_kept : (g : Model) (old new : Known) → new.cuts ≡ old.cuts → new.rows ≡ old.rows → new.sums ≡ old.sums → IfSome new.best (IsMade g.instance.now) → IsKnown g old → IsKnown g new
+known_kept g old new cuts rows sums best is = record {
   begun = subst (λ r. IsBegun g.instance.now g.version g.least g.first r) (sym (ap (λ v. v.items) rows)) is.begun;
   cuts = subst (λ r. AreKnownCuts g.instance.now g.version (shapes new) r) (sym (ap (λ v. v.items) rows)) (subst (λ s. AreKnownCuts g.instance.now g.version s old.rows.items) (sym (ap (λ v. map cut_shape v.items) cuts)) is.cuts);
   best = best;
+  sums = subst (IsReadyFor g.instance.now) (sym sums) is.sums;
+  explosion = is.explosion;
 }
 
 pub after_kept : (old new : Known) → new.rows ≡ old.rows → IsAfter old new
@@ -170,3 +173,8 @@ pub not_below : (a b : Option ℕ) → IsAtMost a b → IsBelow b a → ⊥
 not_below a None less below = below
 not_below None (Some y) less below = less
 not_below (Some x) (Some y) less below = omega (arith, less, below)
+
+-- a leaf that goes on to hold is kept, also over the same rows in another state
+pub kept_from : (g : Model) (a b : Known) (rs : List Range) (path : List Bound) (p : Proposal) → b.rows ≡ a.rows → IsLastingIn g a path p → IsKeptIn g b rs path p
+kept_from g a b rs path p rows is =
+    subst (λ r. IsKept g.instance.now g.version g.least r rs path p) (sym (ap (λ v. v.items) rows)) (record { good = is.good; kind = inl is.of_rows })

@@ -1,5 +1,5 @@
 -- The sides of a branch, and what goes on to hold there and later.
-use Rattle.std.proofs.Common.{◌≡◌, ◌≢◌, ◌⊎◌, ◌≤◌, ◌<◌, ◌+◌, ◌∙◌, ⊎_elim, ℕ, zero, suc, refl, sym, ap, subst, arith, Bool, true, false, List, [], ◌∷◌, ◌++◌, length, set, append_assoc}
+use Rattle.std.proofs.Common.{◌≡◌, ◌≢◌, ◌≤◌, ◌<◌, ◌+◌, ◌∙◌, ⊎_elim, ℕ, zero, suc, refl, sym, ap, subst, arith, Bool, true, false, List, [], ◌∷◌, ◌++◌, length, set, append_assoc}
 use Rattle.std.specs.Prelude.{if◌then◌else◌, min, max}
 use Rattle.std.proofs.lemmas.Bool.{cases_Bool}
 use Rattle.std.proofs.lemmas.List.{append-nil, get_or-set_other, get_or-set_same, length-set}
@@ -124,7 +124,7 @@ kept_lasts m version least rows most rs path c k at p is split =
     is.kind
 
 -- with more rows a leaf says the same
-good_stays : (m : Problem) (version least : ℕ) (rows more : List LinRow) (path : List Bound) (p : Proposal) → IsGoodLeaf m version least rows path p → IsGoodLeaf m version least (rows ++ more) path p
+pub good_stays : (m : Problem) (version least : ℕ) (rows more : List LinRow) (path : List Bound) (p : Proposal) → IsGoodLeaf m version least rows path p → IsGoodLeaf m version least (rows ++ more) path p
 good_stays m version least rows more path p good = record {
   says = said_stay m rows more path (leaf_shape p.leaf) (said p.says) good.says;
   lines = good.lines;
@@ -136,6 +136,12 @@ pub kept_stays : (m : Problem) (version least : ℕ) (a b : Known) (rs : List Ra
 kept_stays m version least a b rs path p after is = record {
   good = subst (λ (list : List LinRow). IsGoodLeaf m version least list path p) (sym after.rows) (good_stays m version least a.rows.items after.more path p is.good);
   kind = is.kind;
+}
+
+pub lasting_stays : (m : Problem) (version least : ℕ) (a b : Known) (path : List Bound) (p : Proposal) → IsAfter a b → IsLasting m version least a.rows.items path p → IsLasting m version least b.rows.items path p
+lasting_stays m version least a b path p after is = record {
+  good = subst (λ (list : List LinRow). IsGoodLeaf m version least list path p) (sym after.rows) (good_stays m version least a.rows.items after.more path p is.good);
+  of_rows = is.of_rows;
 }
 
 -- ---- states

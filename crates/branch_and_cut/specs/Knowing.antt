@@ -6,6 +6,8 @@ use Rattle.plan_rules.specs.declared.plan.Plan.{Plan}
 use Rattle.plan_rules.specs.declared.plan.Planned.{Planned}
 use Rattle.lin_rows.specs.Rows.{LinRow}
 use Rattle.cert_lines.specs.Shapes.{CutShape, cut_shape}
+use Rattle.echelon.specs.Weights.{IsExplosionOf}
+use Rattle.cert_checker.specs.Named.{IsReadyFor}
 use Rattle.first_plans.specs.Made.{IsMade}
 use Rattle.first_plans.specs.OwnPeriod.{IsOwnPeriod}
 use Rattle.branch_and_bound.specs.Costs.{IsAtMost}
@@ -54,11 +56,13 @@ pub record IsAfter (old new : Known) : Type 0 where
   pub rows : new.rows.items ≡ old.rows.items ++ more
 
 -- ---- what is known
--- cuts, a leaf to begin with, and the best plan
+-- cuts, a leaf to begin with, the best plan, sums by which leaves are judged, and the units of each item in each other
 pub record IsKnown (g : Model) (k : Known) : Type 0 where
   pub begun : IsBegun g.instance.now g.version g.least g.first k.rows.items
   pub cuts : AreKnownCuts g.instance.now g.version (shapes k) k.rows.items
   pub best : IfSome k.best (IsMade g.instance.now)
+  pub sums : IsReadyFor g.instance.now k.sums
+  pub explosion : IsExplosionOf g.instance.now g.explosion
 
 -- ---- leaves and nodes, over what is known
 abbrev pub IsLastingIn : Model → Known → List Bound → Proposal → Type 0

@@ -3,6 +3,7 @@ pub mod Nodes
 pub mod Begun
 pub mod Beginning
 pub mod Knowing
+pub mod Adding
 pub mod Finishing
 pub mod Answer
 pub mod Numbering

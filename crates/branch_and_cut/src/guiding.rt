@@ -10,21 +10,27 @@ ghost use Rattle.branch_and_cut.specs.Nodes.{IsNodeOf, choice_rules};
 use crate::asking::told;
 use crate::knowing::{Known, best_cost};
 use crate::pointing::{at_point, keep_built};
+use crate::pricing::{is_open, priced};
 use crate::splitting::{open_setup, split_of};
 use branch_and_bound::{Guide, Node, Proposal, Split, open_place};
 use branching::RootSays;
 use cert_lines::copy_leaf;
+use echelon::Explosion;
 use lot_model::Instance;
+use priced_leaves::Pricing;
 use std::alloc::{AllocError, Global};
-
-// Of a model with at most so many items times periods the relaxation on the path is solved at every node.
-const SMALL_MODEL: u32 = 32;
 
 /// What is known of a model before any branch.
 #[derive(Drop)]
 pub(crate) struct Model<'a> {
     /// The model.
     pub(crate) instance: &'a Instance,
+    /// The units of each item in each other.
+    pub(crate) explosion: Explosion,
+    /// What prices of the model are made with.
+    pub(crate) pricing: Pricing,
+    /// Whether branches are tried before one is chosen: where the budget of nodes is small.
+    pub(crate) tries: bool,
     /// The version of the certificate's text.
     pub(crate) version: u32,
     /// What was said at the root.
@@ -45,7 +51,7 @@ fn taken_over(alloc: Global, above: &Proposal) -> Result<Proposal, AllocError>
         leaf: copy_leaf(alloc, &above.leaf)?,
         says: above.says,
         asked: false,
-        note: 0,
+        note: above.note,
     })
 }
 
@@ -58,24 +64,22 @@ fn inherited(
     known: &Known,
 ) -> Result<Proposal, AllocError>
     requires above { IsLastingIn model.now known.now node.now.path.items above.now }
-    ensures kept { IfOk result (IsKeptIn model.now known.now node.now.ranges.items node.now.path.items) }
+    ensures lasting { IfOk result (IsLastingIn model.now known.now node.now.path.items) }
     ensures asked { IfOk result (λ p. p.asked ≡ false) }
 {
     taken_over(alloc, above)
 }
 
-// Whether the relaxation on the path is solved at a node: where the model is small, or where all setups are chosen, so
-// that it says what they cost at least but for whole quantities.
-fn is_relaxed(model: &Model, node: &Node) -> bool
+// Whether the relaxation on the path is solved at a node: where all setups are chosen and the leaf leaves the node open,
+// so that it says what they cost at least but for whole quantities.
+fn is_relaxed(model: &Model, node: &Node, proposal: &Proposal, known: &Known) -> bool
     requires { IsNodeOf model.now.instance.now node.now.ranges.items node.now.path.items }
 {
-    let instance = model.instance;
-    instance.items() * instance.periods() <= SMALL_MODEL
-        || open_setup(instance, &node.ranges).is_none()
+    is_open(proposal.says, &known.best) && open_setup(model.instance, &node.ranges).is_none()
 }
 
-// A leaf for a node that isn't one choice: that of the node above, or what the relaxation on the path says, where it is
-// solved. A plan with the setups that are chosen by then is tried beside.
+// A leaf for a node that isn't one choice: that of the node above, that of rounds of prices, or what the relaxation on the
+// path says, where it is solved. A plan with the setups that are chosen by then is tried beside.
 fn leaf_between(
     alloc: Global,
     model: &Model,
@@ -87,13 +91,14 @@ fn leaf_between(
     requires known { IsKnown model.now known.old }
     requires above { IsLastingIn model.now known.old node.now.path.items above.now }
     ensures known { OnOk result (IsKnown model.now known.new) }
-    ensures rows { OnOk result (known.new.rows ≡ known.old.rows) }
+    ensures after { OnOk result (IsAfter known.old known.new) }
     ensures kept { OnOk result (IsNoWorse known.new.best known.old.best) }
-    ensures leaf { IfOk result (IsKeptIn model.now known.old node.now.ranges.items node.now.path.items) }
+    ensures leaf { IfOk result (IsKeptIn model.now known.new node.now.ranges.items node.now.path.items) }
     ensures told { IfOk result (λ p. p.asked ≡ true → IsToldIn model.now node.now.path.items p) }
 {
-    let proposal = inherited(alloc, model, node, above, known)?;
-    if !is_relaxed(model, node) {
+    let same = inherited(alloc, model, node, above, known)?;
+    let proposal = priced(alloc, model, node, same, known)?;
+    if !is_relaxed(model, node, &proposal, known) {
         return Ok(proposal);
     }
     keep_built(alloc, model, node, known)?;
@@ -160,8 +165,8 @@ impl Guide<Known> for Model<'_> {
         leaf_for(alloc, self, node, above, state)
     }
 
-    fn branch(&self, node: &Node, _proposal: &Proposal, _state: &Known) -> Split {
-        split_of(self.instance, &node.ranges)
+    fn branch(&self, node: &Node, proposal: &Proposal, state: &Known) -> Split {
+        split_of(self.instance, &node.ranges, state.memory.get(proposal.note))
     }
 
     fn ask(

@@ -4,6 +4,8 @@ ghost use Rattle.first_plans.specs.Made.{IsMade};
 ghost use Rattle.branch_and_cut.specs.Knowing.{IsNoWorse, KeepsGiven, KeepsOwnMade, cost_kept, plan_kept};
 ghost use Rattle.branch_and_cut.specs.Search.{IsGoodPlan};
 
+use crate::remembering::Memory;
+use cert_checker::NamedSums;
 use certificate::Cut;
 use first_plans::candidates;
 use lin_rows::Row;
@@ -17,6 +19,10 @@ pub(crate) struct Known {
     pub(crate) cuts: Vec<Cut>,
     pub(crate) rows: Vec<Row>,
     pub(crate) best: Option<Planned>,
+    /// Sums of rows, by which leaves are judged.
+    pub(crate) sums: NamedSums,
+    /// What is remembered of nodes and of plans that were tried. Nothing is claimed of it.
+    pub(crate) memory: Memory,
 }
 
 /// The cost of the best plan, in money.
@@ -88,4 +94,16 @@ pub(crate) fn best_to_begin(
         best = better(best, made);
     }
     Ok(best)
+}
+
+/// Keeps a plan that was found, if it is better than the best so far.
+pub(crate) fn keep_better(best: &mut Option<Planned>, found: Option<Planned>)
+    ensures best { (best.new ≡ best.old) ⊎ (best.new ≡ found) }
+    ensures old { IsNoWorse best.new best.old }
+    ensures found { IsNoWorse best.new found }
+{
+    if let Some(made) = found {
+        let old = best.take();
+        *best = better(old, made);
+    }
 }

@@ -5,16 +5,22 @@
 //! `acceptance` for what certificates are. `lotplan` uses it.
 #![tactic(auto)]
 
+mod adding;
 mod asking;
 mod beginning;
+mod choosing;
 mod finishing;
 mod guiding;
 mod impossible;
+mod judging;
 mod knowing;
 mod places;
 mod pointing;
+mod pricing;
+mod remembering;
 mod searching;
 mod splitting;
+mod trying;
 
 pub use branching::{Found, PassedAt, RootSays};
 pub use searching::search;

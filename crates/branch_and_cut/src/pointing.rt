@@ -1,5 +1,5 @@
 // A node that is one choice of quantities and setups.
-ghost use Rattle.std.specs.Prelude.{◌≡◌, ◌⊎◌, false, IfOk, OnOk, length};
+ghost use Rattle.std.specs.Prelude.{◌≡◌, false, IfOk, OnOk, length};
 ghost use Rattle.branch_and_bound.specs.Costs.{IsBelow};
 ghost use Rattle.branch_and_bound.specs.Ranges.{IsPoint};
 ghost use Rattle.plan_rules.specs.Rows.{IfFound, IfNoneFound};
@@ -9,7 +9,7 @@ ghost use Rattle.acceptance.specs.Says.{HasNone, IsLeastCost};
 ghost use Rattle.branch_and_cut.specs.Nodes.{IsNodeOf, choice_count, least_make, least_setup};
 
 use crate::guiding::Model;
-use crate::knowing::{Known, best_cost, better};
+use crate::knowing::{Known, best_cost, keep_better};
 use crate::places::least_grid;
 use branch_and_bound::{Node, Proposal, Range};
 use cert_lines::Leaf;
@@ -35,20 +35,6 @@ fn plan_at(
     complete_at_cost(alloc, instance, make, setup)
 }
 
-// Keeps a plan that was found, if it is better than the best so far.
-fn keep(known: &mut Known, found: Option<Planned>)
-    ensures cuts { known.new.cuts ≡ known.old.cuts }
-    ensures rows { known.new.rows ≡ known.old.rows }
-    ensures best { (known.new.best ≡ known.old.best) ⊎ (known.new.best ≡ found) }
-    ensures old { IsNoWorse known.new.best known.old.best }
-    ensures found { IsNoWorse known.new.best found }
-{
-    if let Some(made) = found {
-        let old = known.best.take();
-        known.best = better(old, made);
-    }
-}
-
 /// The leaf of a node that is one choice: what a cheapest plan costs that has it, or that there is none. The plan is kept
 /// where it is better than the best so far.
 pub(crate) fn at_point(
@@ -69,7 +55,7 @@ pub(crate) fn at_point(
 {
     let found = plan_at(alloc, model.instance, &node.ranges)?;
     let says = best_cost(&found);
-    keep(known, found);
+    keep_better(&mut known.best, found);
     Ok(Proposal {
         leaf: Leaf::Point,
         says,
@@ -95,6 +81,6 @@ pub(crate) fn keep_built(
     let cells = model.instance.items() as usize * model.instance.periods() as usize;
     let setup = least_grid(alloc, model.instance, &node.ranges, cells)?;
     let built = built_plan(alloc, model.instance, &setup)?;
-    keep(known, built);
+    keep_better(&mut known.best, built);
     Ok(())
 }

@@ -14,13 +14,27 @@ use crate::guiding::Model;
 use crate::impossible::none_found;
 use crate::knowing::{Known, best_to_begin};
 use crate::places::whole;
+use crate::remembering::Memory;
 use apart::{Apart, apart, apart_is_one};
 use branch_and_bound as engine;
 use branching::{Found, RootSays, plan_uncoupled};
+use cert_checker::NamedSums;
+use echelon::Explosion;
 use lot_model::{Instance, is_plain};
 use plan_rules::Plan;
+use priced_leaves::Pricing;
 use root_rounds::{Root, root};
 use std::alloc::{AllocError, Global};
+
+// Up to so many nodes it pays to try branches before one is chosen, of a model with at most so many items times periods.
+const TRIED_BUDGET: u64 = 5_000;
+
+const TRIED_SIZE: u32 = 400;
+
+// Whether branches are tried before one is chosen.
+fn tries_branches(instance: &Instance, budget: u64) -> bool {
+    budget <= TRIED_BUDGET && instance.items() * instance.periods() <= TRIED_SIZE
+}
 
 // The version of a certificate's text: the first one where the model is plain.
 fn version_of(instance: &Instance) -> u32
@@ -72,8 +86,15 @@ fn searched(
     let version = version_of(instance);
     let best = best_to_begin(alloc, instance, first)?;
     let begun = begin(alloc, instance, said, apart)?;
+    let explosion = Explosion::of(alloc, instance)?;
+    let pricing = Pricing::new(alloc, instance, &explosion)?;
+    let sums = NamedSums::new(alloc, instance)?;
+    let tries = tries_branches(instance, budget);
     let model = Model {
         instance,
+        explosion,
+        pricing,
+        tries,
         version,
         root: says,
         least: begun.least,
@@ -83,6 +104,8 @@ fn searched(
         cuts: begun.cuts,
         rows: begun.rows,
         best,
+        sums,
+        memory: Memory::new(alloc),
     };
     let ranges = whole(alloc, instance)?;
     let found = engine::search(alloc, &model, ranges, &mut known, budget)?;

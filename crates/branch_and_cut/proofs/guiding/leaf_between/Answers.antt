@@ -1,5 +1,16 @@
-use Rattle.branch_and_cut.proofs.Evidence.{ok_on}
+use Rattle.branch_and_cut.proofs.Evidence.{anyway, at_most_on, ok_on}
+use Rattle.branch_and_cut.proofs.Points.{kept_from}
+use Rattle.branch_and_cut.specs.Knowing.{cost_kept}
 use Rattle.branch_and_cut.proofs.guiding.leaf_between.Goals as goal
 
 pub returns-clause-leaf : goal.returns-clause-leaf
-returns-clause-leaf c = ok_on c.told.result _ _ (λ p kept. kept c.args.model.now.least c.args.known.now.rows.items c.in_ok-proposal.ensures.kept) c.told.ensures.kept
+returns-clause-leaf c =
+    let g = c.args.model.now in
+    let node = c.args.node.now in
+    ok_on c.told.result _ _ (λ p kept. kept g.least c.keep_built.new.known.rows.items (kept_from g c.priced.new.known c.keep_built.new.known node.ranges.items node.path.items c.in_ok-proposal.proposal c.in_ok-keep_built.ensures.rows c.in_ok-proposal.ensures.lasting)) c.told.ensures.kept
+
+pub returns-clause-kept : goal.returns-clause-kept
+returns-clause-kept c =
+    let old = c.args.known.now.best in
+    let new = c.keep_built.new.known.best in
+    anyway c.told.result _ (at_most_on (cost_kept new) (cost_kept c.priced.new.known.best) (cost_kept old) c.in_ok-keep_built.ensures.kept c.in_ok-proposal.ensures.kept)

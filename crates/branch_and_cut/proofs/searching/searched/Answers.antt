@@ -22,7 +22,7 @@ search-requires-clause-node c =
 pub search-requires-clause-state : goal.search-requires-clause-state
 search-requires-clause-state c =
     let begins = c.in_ok-begun.ensures.begins c.version_of-version.result c.version_of-version.ensures.known in
-    record { begun = begins.begun; cuts = begins.cuts; best = c.in_ok-best.ensures.made }
+    record { begun = begins.begun; cuts = begins.cuts; best = c.in_ok-best.ensures.made; sums = c.in_ok-sums.ensures; explosion = c.in_ok-explosion.ensures }
 
 pub finish-requires-clause-searched : goal.finish-requires-clause-searched
 finish-requires-clause-searched c =
@@ -52,6 +52,9 @@ returns c =
     let m = c.args.instance.now in
     let g : Model = record {
       instance = c.args.instance;
+      explosion = c.in_ok-explosion.explosion;
+      pricing = c.in_ok-pricing.pricing;
+      tries = c.tries_branches-tries.result;
       version = c.version_of-version.result;
       root = c.args.said.says;
       least = c.in_ok-begun.begun.least;

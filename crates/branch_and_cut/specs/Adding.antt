@@ -1,0 +1,44 @@
+-- What is added to what a search knows: cuts with their rows, and leaves that the checker has judged.
+use Rattle.std.specs.Prelude.{◌≡◌, ◌<◌, ◌^◌, ℕ, false, List, IfSome, ⊤}
+use Rattle.std.specs.List.{All}
+use Rattle.lot_sizing.specs.Problem.{Problem}
+use Rattle.lin_rows.specs.declared.bound.Bound.{Bound}
+use Rattle.lin_rows.specs.Rows.{LinRow}
+use Rattle.cert_lines.specs.Line.{HasForm, HasLine}
+use Rattle.cert_lines.specs.Shapes.{BlockCut, CutShape, LeafShape, LsCut, PartLine, PriceCut, RoundCut, leaf_first, leaf_parts}
+use Rattle.split_trees.specs.Ranges.{WithTotals}
+use Rattle.acceptance.specs.Accepts.{IsSmallCut}
+use Rattle.cert_checker.specs.Cuts.{HasItsColumns, IsRowOfCut}
+use Rattle.leaf_growth.specs.Growth.{IsOfRows, LeafSaysSmall}
+use Rattle.leaf_growth.specs.Written.{LeafHasLines}
+use Rattle.branch_and_bound.specs.declared.proposal.Proposal.{Proposal}
+use Rattle.branch_and_cut.specs.Nodes.{said}
+use Rattle.cert_lines.specs.Shapes.{leaf_shape}
+
+-- ---- cuts
+abbrev pub IsBlock : CutShape → Type 0
+IsBlock (LsCut item last chosen) = ⊥
+IsBlock (PriceCut item lists) = ⊥
+IsBlock (BlockCut item lists) = ⊤
+IsBlock (RoundCut divisor parts) = ⊥
+
+-- the row of a cut after these rows; its sums are small, and the problem has its columns
+pub record IsNextRow (m : Problem) (rows : List LinRow) (cut : CutShape) (row : LinRow) : Type 0 where
+  pub is_row : IsRowOfCut m rows cut row
+  pub small : WithTotals m (λ total. IsSmallCut m total rows cut)
+  pub columns_exist : HasItsColumns m row
+
+-- ---- leaves
+-- a leaf that takes rows by their names, whose lines are those of texts
+pub record IsTested (leaf : LeafShape) : Type 0 where
+  pub of_rows : IsOfRows leaf
+  pub form : HasForm (leaf_first leaf)
+  pub parts : All (λ part. HasLine 1 (PartLine part)) (leaf_parts leaf)
+
+-- a leaf that takes rows by their names says what is told of it, its sums and the amount are small, and it can be written
+pub record IsJudged (m : Problem) (version : ℕ) (rows : List LinRow) (path : List Bound) (p : Proposal) : Type 0 where
+  pub says : LeafSaysSmall m rows path (leaf_shape p.leaf) (said p.says)
+  pub lines : LeafHasLines version (leaf_shape p.leaf)
+  pub small : IfSome p.says (λ amount. amount < 2 ^ 127)
+  pub of_rows : IsOfRows (leaf_shape p.leaf)
+  pub unasked : p.asked ≡ false

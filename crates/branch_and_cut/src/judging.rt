@@ -1,0 +1,133 @@
+// Leaves that are proposed, judged as the checker of certificates does.
+ghost use Rattle.std.specs.Prelude.{◌≡◌, false, true, IfOk, IfSome, OnOk};
+ghost use Rattle.std.specs.List.{All};
+ghost use Rattle.cert_lines.specs.Line.{HasLine};
+ghost use Rattle.cert_lines.specs.Shapes.{PartLine, leaf_parts, leaf_shape};
+ghost use Rattle.leaf_growth.specs.Growth.{IsOfRows};
+ghost use Rattle.plan_rules.specs.Rows.{IfFound};
+ghost use Rattle.branch_and_bound.specs.Costs.{IsAtMost};
+ghost use Rattle.branch_and_cut.specs.Adding.{IsJudged, IsTested};
+ghost use Rattle.branch_and_cut.specs.Knowing.{IsKnown, IsLastingIn};
+ghost use Rattle.branch_and_cut.specs.Nodes.{IsNodeOf, said};
+
+use crate::guiding::Model;
+use crate::knowing::Known;
+use acceptance::LeafSays;
+use branch_and_bound::{Node, Proposal};
+use cert_checker::{CheckFault, leaf_bound_in};
+use cert_lines::{Leaf, is_leaf_line};
+use std::alloc::{AllocError, Global};
+
+// A leaf with what it says.
+fn proposal_of(leaf: Leaf, says: LeafSays) -> Proposal
+    ensures leaf { result.leaf ≡ leaf }
+    ensures says { said result.says ≡ says }
+    ensures asked { result.asked ≡ false }
+{
+    Proposal {
+        leaf,
+        says: match says {
+            LeafSays::NoPlan => None,
+            LeafSays::AtLeast(amount) => Some(amount),
+        },
+        asked: false,
+        note: 0,
+    }
+}
+
+// What the checker says of a leaf whose lines are those of texts; None where it refuses the leaf.
+fn bound_of(
+    alloc: Global,
+    model: &Model,
+    node: &Node,
+    known: &mut Known,
+    leaf: Leaf,
+) -> Result<Option<Proposal>, AllocError>
+    requires node { IsNodeOf model.now.instance.now node.now.ranges.items node.now.path.items }
+    requires known { IsKnown model.now known.old }
+    requires tested { IsTested (leaf_shape leaf) }
+    ensures known { OnOk result (IsKnown model.now known.new) }
+    ensures rows { OnOk result (known.new.rows ≡ known.old.rows) }
+    ensures best { OnOk result (known.new.best ≡ known.old.best) }
+    ensures judged { IfFound result (IsJudged model.now.instance.now model.now.version known.old.rows.items node.now.path.items) }
+{
+    // It reads that the instance is one.
+    let _periods = model.instance.periods();
+    let sums = &mut known.sums;
+    let said = leaf_bound_in(
+        alloc,
+        model.instance,
+        sums,
+        &known.rows,
+        &node.path,
+        &leaf,
+        0,
+    );
+    match said {
+        Ok(says) => Ok(Some(proposal_of(leaf, says))),
+        Err(CheckFault::Memory) => Err(AllocError),
+        Err(CheckFault::Rejected(_)) => Ok(None),
+    }
+}
+
+/// A leaf with what the checker says of it at a node; None where the leaf is refused or has no lines in texts.
+pub(crate) fn judged(
+    alloc: Global,
+    model: &Model,
+    node: &Node,
+    known: &mut Known,
+    leaf: Leaf,
+) -> Result<Option<Proposal>, AllocError>
+    requires node { IsNodeOf model.now.instance.now node.now.ranges.items node.now.path.items }
+    requires known { IsKnown model.now known.old }
+    requires parts { All (λ part. HasLine 1 (PartLine part)) (leaf_parts (leaf_shape leaf)) }
+    requires kind { IsOfRows (leaf_shape leaf) }
+    ensures known { OnOk result (IsKnown model.now known.new) }
+    ensures rows { OnOk result (known.new.rows ≡ known.old.rows) }
+    ensures best { OnOk result (known.new.best ≡ known.old.best) }
+    ensures judged { IfFound result (IsJudged model.now.instance.now model.now.version known.old.rows.items node.now.path.items) }
+{
+    if is_leaf_line(&leaf) {
+        bound_of(alloc, model, node, known, leaf)
+    } else {
+        Ok(None)
+    }
+}
+
+// Whether a leaf that says the first says more than one that says the second.
+fn says_more(new: Option<u128>, old: Option<u128>) -> bool
+    ensures { result ≡ true → IsAtMost old new }
+{
+    match (new, old) {
+        (None, Some(_)) => true,
+        (Some(amount), Some(before)) => amount > before,
+        (_, None) => false,
+    }
+}
+
+/// The leaf that says more: the one that was there, or the one that was found.
+pub(crate) fn stronger(
+    model: &Model,
+    node: &Node,
+    known: &Known,
+    proposal: Proposal,
+    found: Option<Proposal>,
+) -> Proposal
+    requires lasting { IsLastingIn model.now known.now node.now.path.items proposal }
+    requires judged { IfSome found (IsJudged model.now.instance.now model.now.version known.now.rows.items node.now.path.items) }
+    requires asked { proposal.asked ≡ false }
+    ensures lasting { IsLastingIn model.now known.now node.now.path.items result }
+    ensures more { IsAtMost proposal.says result.says }
+    ensures asked { result.asked ≡ false }
+{
+    match found {
+        Some(other) => {
+            if says_more(other.says, proposal.says) {
+                other
+            } else {
+                proposal
+            }
+        }
+        None => proposal,
+    }
+}

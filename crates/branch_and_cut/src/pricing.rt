@@ -1,0 +1,397 @@
+// Leaves by prices of capacity and of stock, and the plans that their rounds lead to.
+ghost use Rattle.std.specs.Prelude.{◌≡◌, ◌≤◌, ◌<◌, ◌^◌, false, IfOk, IfSome, OnOk, length};
+ghost use Rattle.std.specs.List.{All};
+ghost use Rattle.cert_lines.specs.declared.limits.TheConstants.{MAX_CUTS};
+ghost use Rattle.cert_lines.specs.Line.{HasLine};
+ghost use Rattle.cert_lines.specs.Shapes.{PartLine, leaf_parts, leaf_shape};
+ghost use Rattle.leaf_growth.specs.Growth.{IsOfRows};
+ghost use Rattle.plan_rules.specs.Rows.{IfFound};
+ghost use Rattle.first_plans.specs.Made.{IsMade};
+ghost use Rattle.priced_leaves.specs.Proposals.{IsProposal};
+ghost use Rattle.branch_and_bound.specs.Costs.{IsAtMost};
+ghost use Rattle.branch_and_cut.specs.Adding.{IsJudged};
+ghost use Rattle.branch_and_cut.specs.Knowing.{IsAfter, IsKnown, IsLastingIn, IsNoWorse};
+ghost use Rattle.branch_and_cut.specs.Nodes.{IsNodeOf};
+
+use crate::adding::add_cuts;
+use crate::choosing::{Choice, choice_for};
+use crate::guiding::Model;
+use crate::judging::{judged, stronger};
+use crate::knowing::{Known, best_cost};
+use crate::remembering::{Memory, Note};
+use crate::trying::try_average;
+use branch_and_bound::{Node, Proposal};
+use cert_lines::{Leaf, Part};
+use certificate::{Cut, MAX_CUTS};
+use lot_model::Instance;
+use plan_rules::Planned;
+use priced_leaves::{
+    Fixed, Improved, Priced, Reached, Rounds, dropped_leaf, fixed_setups, priced_leaf, split_prices,
+};
+use std::alloc::{AllocError, Global};
+
+// At the root so many times so many rounds are made, with plans in between; at another node once.
+const ROOT_TIMES: u32 = 20;
+
+const ROOT_ROUNDS: u32 = 15;
+
+const NODE_ROUNDS: u32 = 40;
+
+// A larger model has fewer rounds at a node: so many for a single item and period, and at least some.
+const NODE_WORK: u32 = 20_000;
+
+const LEAST_ROUNDS: u32 = 5;
+
+/// Whether a leaf that says this says less than what the best plan costs.
+pub(crate) fn is_open(says: Option<u128>, best: &Option<Planned>) -> bool {
+    match (says, best) {
+        (Some(amount), Some(made)) => amount < made.cost,
+        (Some(_), None) => true,
+        (None, _) => false,
+    }
+}
+
+// Whether there is room for a cut of each item.
+fn has_room(instance: &Instance, known: &Known) -> bool {
+    let most = MAX_CUTS as usize;
+    known.cuts.len() <= most && most - known.cuts.len() >= instance.items() as usize
+}
+
+// The rounds at a node, from what those of the node above came to or from the first prices.
+fn first_rounds(
+    alloc: Global,
+    model: &Model,
+    node: &Node,
+    above: usize,
+    fixed: &Fixed,
+    memory: &mut Memory,
+) -> Result<Rounds, AllocError> {
+    let instance = model.instance;
+    let pricing = &model.pricing;
+    match memory.hand_down(alloc, above, &node.path)? {
+        Some(
+            Note {
+                prices,
+                average,
+                ..
+            },
+        ) => Rounds::start(alloc, instance, pricing, prices, Some(average), fixed),
+        None => {
+            let prices = split_prices(alloc, instance, pricing)?;
+            Rounds::start(alloc, instance, pricing, prices, None, fixed)
+        }
+    }
+}
+
+// How often rounds are made at a node.
+fn times_at(node: &Node) -> u32 {
+    if node.path.is_empty() { ROOT_TIMES } else { 1 }
+}
+
+// How many rounds are made at a node each time.
+fn count_at(instance: &Instance, node: &Node) -> u32 {
+    if node.path.is_empty() {
+        return ROOT_ROUNDS;
+    }
+    let size = instance.items() * instance.periods();
+    (NODE_WORK / size.max(1)).min(NODE_ROUNDS).max(LEAST_ROUNDS)
+}
+
+// Makes the rounds of a node, until they say as much as the best plan costs or that there is none. Plans are built in between.
+fn improve(
+    alloc: Global,
+    model: &Model,
+    node: &Node,
+    rounds: &mut Rounds,
+    fixed: &Fixed,
+    memory: &mut Memory,
+    best: &mut Option<Planned>,
+) -> Result<Reached, AllocError>
+    requires made { IfSome best.old (IsMade model.now.instance.now) }
+    ensures made { OnOk result (IfSome best.new (IsMade model.now.instance.now)) }
+    ensures kept { OnOk result (IsNoWorse best.new best.old) }
+{
+    let instance = model.instance;
+    let pricing = &model.pricing;
+    let count = count_at(instance, node);
+    for _time in 0..times_at(node) {
+        let cost = best_cost(best);
+        let reached = rounds.go_on(alloc, instance, pricing, fixed, cost, count)?;
+        match reached {
+            Reached::Open => {}
+            _ => return Ok(reached),
+        }
+        try_average(alloc, instance, rounds.average(), memory, best)?;
+    }
+    Ok(Reached::Open)
+}
+
+// Whether the leaf of the rounds is expected to say more than a leaf that says this.
+fn is_promising(rounds: &Rounds, says: Option<u128>) -> bool {
+    let scale = i128::from(rounds.prices().scale);
+    match says {
+        Some(amount) => match i128::try_from(amount) {
+            Ok(amount) => rounds.number() > amount.saturating_mul(scale),
+            Err(_) => false,
+        },
+        None => false,
+    }
+}
+
+// The number of the next cut, counted from 1.
+fn next_number(known: &Known) -> u32
+    requires { length known.now.cuts.items ≤ MAX_CUTS }
+{
+    known.cuts.len() as u32 + 1
+}
+
+// A leaf by linear duality.
+fn linear(den: u128, parts: Vec<Part>) -> Leaf
+    requires { den < 2 ^ 64 }
+    ensures parts { leaf_parts (leaf_shape result) ≡ parts.items }
+    ensures kind { IsOfRows (leaf_shape result) }
+{
+    Leaf::Linear {
+        den: den as i128,
+        parts,
+    }
+}
+
+// Adds the cuts of a leaf, and judges it.
+fn judged_with(
+    alloc: Global,
+    model: &Model,
+    node: &Node,
+    known: &mut Known,
+    cuts: Vec<Cut>,
+    leaf: Leaf,
+) -> Result<Option<Proposal>, AllocError>
+    requires node { IsNodeOf model.now.instance.now node.now.ranges.items node.now.path.items }
+    requires known { IsKnown model.now known.old }
+    requires parts { All (λ part. HasLine 1 (PartLine part)) (leaf_parts (leaf_shape leaf)) }
+    requires kind { IsOfRows (leaf_shape leaf) }
+    ensures known { OnOk result (IsKnown model.now known.new) }
+    ensures after { OnOk result (IsAfter known.old known.new) }
+    ensures best { OnOk result (known.new.best ≡ known.old.best) }
+    ensures judged { IfFound result (IsJudged model.now.instance.now model.now.version known.new.rows.items node.now.path.items) }
+{
+    if !add_cuts(alloc, model, known, cuts)? {
+        return Ok(None);
+    }
+    judged(alloc, model, node, known, leaf)
+}
+
+// The leaf of what was priced, judged: by Farkas' lemma where the rounds refute that there is a plan, else by duality.
+fn judged_priced(
+    alloc: Global,
+    model: &Model,
+    node: &Node,
+    known: &mut Known,
+    priced: Priced,
+    refuted: bool,
+) -> Result<Option<Proposal>, AllocError>
+    requires node { IsNodeOf model.now.instance.now node.now.ranges.items node.now.path.items }
+    requires known { IsKnown model.now known.old }
+    requires priced { IsProposal model.now.instance.now priced }
+    ensures known { OnOk result (IsKnown model.now known.new) }
+    ensures after { OnOk result (IsAfter known.old known.new) }
+    ensures best { OnOk result (known.new.best ≡ known.old.best) }
+    ensures judged { IfFound result (IsJudged model.now.instance.now model.now.version known.new.rows.items node.now.path.items) }
+{
+    let Priced { cuts, parts, den } = priced;
+    if refuted {
+        judged_with(alloc, model, node, known, cuts, Leaf::Farkas { parts })
+    } else {
+        judged_with(alloc, model, node, known, cuts, linear(den, parts))
+    }
+}
+
+// What is proposed by the rounds of a node: cuts from this number on, and parts.
+fn priced_at(
+    alloc: Global,
+    model: &Model,
+    rounds: &Rounds,
+    refuted: bool,
+    fixed: &Fixed,
+    first: u32,
+) -> Result<Option<Priced>, AllocError>
+    ensures { IfFound result (IsProposal model.now.instance.now) }
+{
+    let instance = model.instance;
+    let pricing = &model.pricing;
+    if refuted {
+        dropped_leaf(alloc, instance, pricing, rounds.prices(), fixed, first)
+    } else {
+        priced_leaf(alloc, instance, pricing, rounds.prices(), fixed, first)
+    }
+}
+
+// The leaf of the rounds, judged, where it is expected to say more than a leaf that says this.
+fn leaf_of(
+    alloc: Global,
+    model: &Model,
+    node: &Node,
+    known: &mut Known,
+    rounds: &Rounds,
+    refuted: bool,
+    fixed: &Fixed,
+    says: Option<u128>,
+) -> Result<Option<Proposal>, AllocError>
+    requires node { IsNodeOf model.now.instance.now node.now.ranges.items node.now.path.items }
+    requires known { IsKnown model.now known.old }
+    ensures known { OnOk result (IsKnown model.now known.new) }
+    ensures after { OnOk result (IsAfter known.old known.new) }
+    ensures best { OnOk result (known.new.best ≡ known.old.best) }
+    ensures judged { IfFound result (IsJudged model.now.instance.now model.now.version known.new.rows.items node.now.path.items) }
+{
+    if !refuted && !is_promising(rounds, says) {
+        return Ok(None);
+    }
+    let first = next_number(known);
+    match priced_at(alloc, model, rounds, refuted, fixed, first)? {
+        Some(priced) => judged_priced(alloc, model, node, known, priced, refuted),
+        None => Ok(None),
+    }
+}
+
+// The setup on which a node is to be branched.
+fn branch_at(
+    alloc: Global,
+    model: &Model,
+    node: &Node,
+    rounds: &Rounds,
+    fixed: &mut Fixed,
+    cost: Option<u128>,
+) -> Result<Option<Choice>, AllocError> {
+    if !model.tries {
+        return Ok(None);
+    }
+    let number = u32::try_from(node.path.len()).unwrap_or(u32::MAX);
+    choice_for(alloc, model, rounds, fixed, cost, number.saturating_add(1))
+}
+
+// Remembers what rounds came to and the setup on which a node is to be branched, and gives the place of the note.
+fn note_of(
+    memory: &mut Memory,
+    rounds: Rounds,
+    choice: Option<Choice>,
+) -> Result<usize, AllocError> {
+    let Improved { prices, average } = rounds.into_improved();
+    memory.put(Note {
+        prices,
+        average,
+        choice,
+    })
+}
+
+// The place of a note for those below a node, if it is open.
+fn noted(
+    alloc: Global,
+    model: &Model,
+    node: &Node,
+    rounds: Rounds,
+    fixed: Fixed,
+    says: Option<u128>,
+    best: &Option<Planned>,
+    memory: &mut Memory,
+) -> Result<usize, AllocError> {
+    if !is_open(says, best) {
+        return Ok(0);
+    }
+    let mut held = fixed;
+    let choice = branch_at(alloc, model, node, &rounds, &mut held, best_cost(best))?;
+    note_of(memory, rounds, choice)
+}
+
+// The proposal with another note.
+fn with_note(proposal: Proposal, note: usize) -> Proposal
+    ensures leaf { result.leaf ≡ proposal.leaf }
+    ensures says { result.says ≡ proposal.says }
+    ensures asked { result.asked ≡ proposal.asked }
+{
+    Proposal { note, ..proposal }
+}
+
+// The stronger of a leaf that was there and of that of rounds, with a note of the rounds.
+fn stronger_noted(
+    alloc: Global,
+    model: &Model,
+    node: &Node,
+    known: &mut Known,
+    proposal: Proposal,
+    found: Option<Proposal>,
+    rounds: Rounds,
+    fixed: Fixed,
+) -> Result<Proposal, AllocError>
+    requires known { IsKnown model.now known.old }
+    requires lasting { IsLastingIn model.now known.old node.now.path.items proposal }
+    requires judged { IfSome found (IsJudged model.now.instance.now model.now.version known.old.rows.items node.now.path.items) }
+    requires asked { proposal.asked ≡ false }
+    ensures known { OnOk result (IsKnown model.now known.new) }
+    ensures rows { OnOk result (known.new.rows ≡ known.old.rows) }
+    ensures best { OnOk result (known.new.best ≡ known.old.best) }
+    ensures lasting { IfOk result (IsLastingIn model.now known.old node.now.path.items) }
+    ensures asked { IfOk result (λ p. p.asked ≡ false) }
+{
+    let stronger = stronger(model, node, known, proposal, found);
+    let says = stronger.says;
+    let best = &known.best;
+    let memory = &mut known.memory;
+    let note = noted(alloc, model, node, rounds, fixed, says, best, memory)?;
+    Ok(with_note(stronger, note))
+}
+
+// The leaf that was there or that of rounds at the node, whichever says more.
+fn priced_or(
+    alloc: Global,
+    model: &Model,
+    node: &Node,
+    proposal: Proposal,
+    known: &mut Known,
+) -> Result<Proposal, AllocError>
+    requires node { IsNodeOf model.now.instance.now node.now.ranges.items node.now.path.items }
+    requires known { IsKnown model.now known.old }
+    requires lasting { IsLastingIn model.now known.old node.now.path.items proposal }
+    requires asked { proposal.asked ≡ false }
+    ensures known { OnOk result (IsKnown model.now known.new) }
+    ensures after { OnOk result (IsAfter known.old known.new) }
+    ensures kept { OnOk result (IsNoWorse known.new.best known.old.best) }
+    ensures lasting { IfOk result (IsLastingIn model.now known.new node.now.path.items) }
+    ensures asked { IfOk result (λ p. p.asked ≡ false) }
+{
+    let fixed = fixed_setups(alloc, model.instance, &node.path)?;
+    let memory = &mut known.memory;
+    let mut rounds = first_rounds(alloc, model, node, proposal.note, &fixed, memory)?;
+    let best = &mut known.best;
+    let reached = improve(alloc, model, node, &mut rounds, &fixed, memory, best)?;
+    let refuted = matches!(reached, Reached::Refuted);
+    let says = proposal.says;
+    let found = leaf_of(alloc, model, node, known, &rounds, refuted, &fixed, says)?;
+    stronger_noted(alloc, model, node, known, proposal, found, rounds, fixed)
+}
+
+/// The leaf of a node: the one that was there, or that of rounds of prices where it says more. Rounds are made where the
+/// leaf that was there leaves the node open, and where there is room for cuts. Plans are built beside.
+pub(crate) fn priced(
+    alloc: Global,
+    model: &Model,
+    node: &Node,
+    proposal: Proposal,
+    known: &mut Known,
+) -> Result<Proposal, AllocError>
+    requires node { IsNodeOf model.now.instance.now node.now.ranges.items node.now.path.items }
+    requires known { IsKnown model.now known.old }
+    requires lasting { IsLastingIn model.now known.old node.now.path.items proposal }
+    requires asked { proposal.asked ≡ false }
+    ensures known { OnOk result (IsKnown model.now known.new) }
+    ensures after { OnOk result (IsAfter known.old known.new) }
+    ensures kept { OnOk result (IsNoWorse known.new.best known.old.best) }
+    ensures lasting { IfOk result (IsLastingIn model.now known.new node.now.path.items) }
+    ensures asked { IfOk result (λ p. p.asked ≡ false) }
+{
+    if is_open(proposal.says, &known.best) && has_room(model.instance, known) {
+        priced_or(alloc, model, node, proposal, known)
+    } else {
+        Ok(proposal)
+    }
+}

@@ -1,0 +1,105 @@
+// What is remembered of nodes for those below them, and of plans that were tried. Nothing is claimed of it.
+use crate::choosing::Choice;
+use lin_rows::Bound;
+use priced_leaves::{Average, Prices};
+use std::alloc::{AllocError, Global};
+
+/// What the rounds of prices came to at a node.
+#[derive(Debug, Drop)]
+pub(crate) struct Note {
+    /// The best prices.
+    pub(crate) prices: Prices,
+    /// How often each item is set up in each period, on the average of the rounds.
+    pub(crate) average: Average,
+    /// The setup on which the node is to be branched, where it was chosen.
+    pub(crate) choice: Option<Choice>,
+}
+
+/// Notes by their places, counted from 1, marks of the setups with which plans were built, and what improving plans may
+/// still take.
+#[derive(Debug, Drop)]
+pub(crate) struct Memory {
+    notes: Vec<Option<Note>>,
+    tried: Vec<u64>,
+    work: u64,
+}
+
+// What improving plans may take in all: so many plans of a single item and period.
+const ALL_WORK: u64 = 100_000_000;
+
+impl Memory {
+    /// Nothing is remembered.
+    pub(crate) fn new(alloc: Global) -> Memory {
+        Memory {
+            notes: Vec::new(alloc),
+            tried: Vec::new(alloc),
+            work: ALL_WORK,
+        }
+    }
+
+    /// The note of a place, if there is one.
+    pub(crate) fn get(&self, place: usize) -> Option<&Note> {
+        match self.notes.get(place.wrapping_sub(1)) {
+            Some(found) => found.as_ref(),
+            None => None,
+        }
+    }
+
+    // The note is taken out of its place.
+    fn take(&mut self, place: usize) -> Option<Note> {
+        match self.notes.get_mut(place.wrapping_sub(1)) {
+            Some(found) => found.take(),
+            None => None,
+        }
+    }
+
+    // The note once more.
+    fn copy(&self, alloc: Global, place: usize) -> Result<Option<Note>, AllocError> {
+        match self.get(place) {
+            Some(note) => Ok(Some(Note {
+                prices: note.prices.copy(alloc)?,
+                average: note.average.copy(alloc)?,
+                choice: note.choice,
+            })),
+            None => Ok(None),
+        }
+    }
+
+    /// The note of a node for a side of its branch: a copy for the low side, which comes first, and the note itself for
+    /// the high one.
+    pub(crate) fn hand_down(
+        &mut self,
+        alloc: Global,
+        place: usize,
+        path: &[Bound],
+    ) -> Result<Option<Note>, AllocError> {
+        match path.last() {
+            Some(bound) if !bound.most => Ok(self.take(place)),
+            _ => self.copy(alloc, place),
+        }
+    }
+
+    /// Remembers a note, and gives its place.
+    pub(crate) fn put(&mut self, note: Note) -> Result<usize, AllocError> {
+        self.notes.push(Some(note))?;
+        Ok(self.notes.len())
+    }
+
+    /// Whether a mark is new. It is remembered then.
+    pub(crate) fn is_new(&mut self, mark: u64) -> Result<bool, AllocError> {
+        if self.tried.iter().any(|other| *other == mark) {
+            return Ok(false);
+        }
+        self.tried.push(mark)?;
+        Ok(true)
+    }
+
+    /// Whether there is room for so much work, which is then taken.
+    pub(crate) fn takes_work(&mut self, work: u64) -> bool {
+        if self.work < work {
+            return false;
+        }
+        self.work -= work;
+        true
+    }
+}

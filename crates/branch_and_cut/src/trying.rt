@@ -1,0 +1,180 @@
+// Plans that are built with the setups which the rounds of prices want.
+ghost use Rattle.std.specs.Prelude.{◌≡◌, ◌≤◌, IfOk, IfSome, OnOk};
+ghost use Rattle.lot_sizing.specs.Problem.{item_count};
+ghost use Rattle.plan_rules.specs.Cells.{Fits};
+ghost use Rattle.plan_rules.specs.Rows.{IfFound};
+ghost use Rattle.first_plans.specs.Made.{IsMade};
+ghost use Rattle.branch_and_cut.specs.Knowing.{IsNoWorse};
+
+use crate::knowing::keep_better;
+use crate::remembering::Memory;
+use first_plans::{built_plan, improved};
+use lot_model::Instance;
+use plan_rules::{Grid, Planned};
+use priced_leaves::{Average, ONE};
+use std::alloc::{AllocError, Global};
+
+// What building plans may take to improve one: so many plans of a single item and period.
+const BUILDING_WORK: u32 = 4_000_000;
+
+// How often all changes of a plan are tried: of one that is near the best.
+const SWEEPS: u32 = 2;
+
+// So many plans are built at most to try each change of an item's setup in a period once.
+const CHANGES: u32 = 6;
+
+// Marks of lists of numbers (FNV-1a).
+const FIRST_MARK: u64 = 14_695_981_039_346_656_037;
+
+const MARK_FACTOR: u64 = 1_099_511_628_211;
+
+// Whether an item is set up in a period more often than so much.
+fn is_wanted(average: &Average, item: u32, period: u32, least: i128) -> bool {
+    average.setup(item, period) > least
+}
+
+// A mark, and whether an item is set up more often than so much in each period.
+fn item_mark(instance: &Instance, average: &Average, item: u32, least: i128, before: u64) -> u64 {
+    let mut mark = before;
+    for period in 1..instance.periods() + 1 {
+        let digit = if is_wanted(average, item, period, least) {
+            1
+        } else {
+            2
+        };
+        mark = (mark ^ digit).wrapping_mul(MARK_FACTOR);
+    }
+    mark
+}
+
+// The mark of the setups that are made more often than so much.
+fn mark_of(instance: &Instance, average: &Average, least: i128) -> u64 {
+    let mut mark = FIRST_MARK;
+    for item in 1..instance.items() + 1 {
+        mark = item_mark(instance, average, item, least, mark);
+    }
+    mark
+}
+
+// An item is wanted where it is set up more often than so much.
+fn want_item(instance: &Instance, average: &Average, item: u32, least: i128, wanted: &mut Grid)
+    requires low { 1 ≤ item }
+    requires high { item ≤ item_count instance.now }
+    requires wanted { Fits instance.now wanted.old }
+    ensures { Fits instance.now wanted.new }
+{
+    for period in 1..instance.periods() + 1 {
+        if is_wanted(average, item, period, least) {
+            wanted.set(item, period, 1);
+        }
+    }
+}
+
+// The setups that are made more often than so much.
+fn wanted_of(
+    alloc: Global,
+    instance: &Instance,
+    average: &Average,
+    least: i128,
+) -> Result<Grid, AllocError>
+    ensures { IfOk result (Fits instance.now) }
+{
+    let mut wanted = Grid::filled(alloc, instance.items(), instance.periods(), 0)?;
+    for item in 1..instance.items() + 1 {
+        want_item(instance, average, item, least, &mut wanted);
+    }
+    Ok(wanted)
+}
+
+// Whether a plan costs at most a fiftieth more than the best one, if there is one.
+fn is_near(planned: &Planned, best: &Option<Planned>) -> bool {
+    match best {
+        Some(made) => planned.cost <= made.cost.saturating_add(made.cost / 50),
+        None => true,
+    }
+}
+
+// What a plan takes to be built, in plans of a single item and period.
+fn size_of(instance: &Instance) -> u32 {
+    instance.items() * instance.items() * instance.periods()
+}
+
+// How many plans may be built to improve one: fewer of a large instance, each of which takes longer.
+fn tries_for(instance: &Instance) -> u32 {
+    let changes = instance.items() * instance.periods();
+    let most = BUILDING_WORK / size_of(instance).max(1);
+    changes.saturating_mul(CHANGES * SWEEPS).min(most)
+}
+
+// Whether a plan is worth improving, and there is room for the work.
+fn is_improved(
+    instance: &Instance,
+    planned: &Planned,
+    memory: &mut Memory,
+    best: &Option<Planned>,
+) -> bool {
+    let work = u64::from(tries_for(instance)) * u64::from(size_of(instance));
+    is_near(planned, best) && memory.takes_work(work)
+}
+
+// The plan that is built with these setups; one that is near the best is improved.
+fn built_near(
+    alloc: Global,
+    instance: &Instance,
+    wanted: &Grid,
+    memory: &mut Memory,
+    best: &Option<Planned>,
+) -> Result<Option<Planned>, AllocError>
+    requires { Fits instance.now wanted.now }
+    ensures { IfFound result (IsMade instance.now) }
+{
+    match built_plan(alloc, instance, wanted)? {
+        Some(planned) => {
+            if !is_improved(instance, &planned, memory, best) {
+                return Ok(Some(planned));
+            }
+            let better = improved(alloc, instance, planned, tries_for(instance))?;
+            Ok(Some(better))
+        }
+        None => Ok(None),
+    }
+}
+
+// Builds a plan with the setups that are made more often than so much, where that wasn't tried, and keeps the better one.
+fn try_setups(
+    alloc: Global,
+    instance: &Instance,
+    average: &Average,
+    least: i128,
+    memory: &mut Memory,
+    best: &mut Option<Planned>,
+) -> Result<(), AllocError>
+    requires made { IfSome best.old (IsMade instance.now) }
+    ensures made { OnOk result (IfSome best.new (IsMade instance.now)) }
+    ensures kept { OnOk result (IsNoWorse best.new best.old) }
+{
+    if !memory.is_new(mark_of(instance, average, least))? {
+        return Ok(());
+    }
+    let wanted = wanted_of(alloc, instance, average, least)?;
+    let found = built_near(alloc, instance, &wanted, memory, best)?;
+    keep_better(best, found);
+    Ok(())
+}
+
+/// Builds plans with the setups that are made in more than a half of the rounds, and in more than a fifth, and keeps the
+/// best plan.
+pub(crate) fn try_average(
+    alloc: Global,
+    instance: &Instance,
+    average: &Average,
+    memory: &mut Memory,
+    best: &mut Option<Planned>,
+) -> Result<(), AllocError>
+    requires made { IfSome best.old (IsMade instance.now) }
+    ensures made { OnOk result (IfSome best.new (IsMade instance.now)) }
+    ensures kept { OnOk result (IsNoWorse best.new best.old) }
+{
+    try_setups(alloc, instance, average, ONE / 2, memory, best)?;
+    try_setups(alloc, instance, average, ONE / 5, memory, best)
+}
