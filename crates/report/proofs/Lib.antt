@@ -1,0 +1,16 @@
+pub mod Parts
+pub mod GeneratedDraws
+pub mod GeneratedTables
+pub mod GeneratedDepth
+pub mod GeneratedDrawn
+pub mod GeneratedBill
+pub mod GeneratedNames
+pub mod GeneratedPlaces
+pub mod GeneratedValid
+pub mod GeneratedOwn
+pub mod GeneratedRead
+pub mod GeneratedMeans
+pub mod GeneratedModel
+pub mod Lists
+pub mod Floats
+pub mod Texts

@@ -1,0 +1,4 @@
+pub mod Summary
+pub mod Draws
+pub mod Generated
+pub mod Totals
