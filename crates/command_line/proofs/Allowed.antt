@@ -1,0 +1,160 @@
+-- Commands have names that are apart, and numbers within their limits.
+use Rattle.std.proofs.Common.{◌≡◌, ◌≢◌, ◌≤◌, ◌<◌, ◌^◌, Bool, true, false, not, ◌&&◌, ℕ, List, [], ◌∷◌, Option, Some, None, if◌then◌else◌, codes, decimal, nat_le, refl, subst, arith}
+use Rattle.std.specs.Int.{is_in_range}
+use Rattle.std.specs.Str.{bytes_eq}
+use Rattle.std.specs.Str.Parse.{digits_value}
+use Rattle.std.proofs.lemmas.Bool.{leb-true}
+use Rattle.std.proofs.lemmas.Slice.Eq.{bytes_eq-Decides}
+use Rattle.clap.specs.Words.{Kinds, Row, first_of, fault_of, subcommand_of}
+use Rattle.command_line.specs.Grammar.{planner_app}
+use Rattle.command_line.specs.Laws.{CommandsAreAllowed}
+use Rattle.command_line.specs.Words.{AreApart, Asked, IsAllowed, are_file_names, are_two_names, asked_by_matches, asked_if, asked_in, bounding, bounding_from, budget_from, checking, checking_from, command_of, demonstrating, demonstrating_from, generated, generating, generating_from, helping, is_budget, is_file_name, is_help, is_number, is_seed, judging, judging_from, largest_budget, largest_seed, most_items, most_periods, planned, planning, planning_from, reporting, reporting_from, unless_refused, upgrading, upgrading_from, usual_budget, version}
+
+-- the parts of a test that came out true
+pub first_true : (a b : Bool) → (a && b) ≡ true → a ≡ true
+first_true true b is = refl
+first_true false b is = absurd (cc is)
+
+pub rest_true : (a b : Bool) → (a && b) ≡ true → b ≡ true
+rest_true true b is = is
+rest_true false b is = absurd (cc is)
+
+not_both : (t : Bool) → t ≡ true → not t ≡ true → ⊥
+not_both true is other = absurd (cc other)
+not_both false is other = absurd (cc is)
+
+unlike : (a b : List ℕ) → not (bytes_eq a b) ≡ true → a ≢ b
+unlike a b is same = not_both (bytes_eq a b) ((bytes_eq-Decides a b).1 same) is
+
+are_apart : (m p c : List ℕ) → are_file_names m p c ≡ true → AreApart m p c
+are_apart m p c is =
+    let mp = not (bytes_eq m p) in
+    let mc = not (bytes_eq m c) in
+    let pc = not (bytes_eq p c) in
+    let unlikes : (mp && (mc && pc)) ≡ true = rest_true (is_file_name c) (mp && (mc && pc)) (rest_true (is_file_name p) (is_file_name c && (mp && (mc && pc))) (rest_true (is_file_name m) (is_file_name p && (is_file_name c && (mp && (mc && pc)))) is)) in
+    let others : (mc && pc) ≡ true = rest_true mp (mc && pc) unlikes in
+    record {
+      plan = unlike m p (first_true mp (mc && pc) unlikes);
+      certificate = unlike m c (first_true mc pc others);
+      written = unlike p c (rest_true mc pc others);
+    }
+
+two_apart : (m p : List ℕ) → are_two_names m p ≡ true → m ≢ p
+two_apart m p is = unlike m p (rest_true (is_file_name p) (not (bytes_eq m p)) (rest_true (is_file_name m) (is_file_name p && not (bytes_eq m p)) is))
+
+-- a text that is one number's has it in its range
+in_range : (least most n : ℕ) → is_in_range least most n ≡ true → (least ≤ n) × (n ≤ most)
+in_range least most n is = (leb-true least n (first_true (nat_le least n) (nat_le n most) is), leb-true n most (rest_true (nat_le least n) (nat_le n most) is))
+
+pub number_in_range : (least most : ℕ) (text : List ℕ) → is_number least most text ≡ true → (least ≤ digits_value 10 text) × (digits_value 10 text ≤ most)
+number_in_range least most text is = in_range least most (digits_value 10 text) (rest_true (bytes_eq text (decimal (digits_value 10 text))) (is_in_range least most (digits_value 10 text)) is)
+
+pub seed_has_bits : (n : ℕ) → n ≤ largest_seed → n < 2 ^ 64
+seed_has_bits n is = omega (arith, is)
+
+seed_fits : (text : List ℕ) → is_seed text ≡ true → digits_value 10 text < 2 ^ 64
+seed_fits text is = seed_has_bits (digits_value 10 text) (number_in_range 0 largest_seed text is).1
+
+-- ---- what is asked for is allowed
+
+abbrev Fine : Option Asked → Type 0
+Fine o = (asked : Asked) → o ≡ Some asked → IsAllowed asked
+
+fine_none : Fine None
+fine_none asked is = absurd (cc is)
+
+fine_some : (x : Asked) → IsAllowed x → Fine (Some x)
+fine_some x allowed asked is = let same : x ≡ asked = cc is in subst IsAllowed same allowed
+
+fine_if : (t : Bool) (x : Asked) → (t ≡ true → IsAllowed x) → Fine (asked_if t x)
+fine_if true x allowed = fine_some x (allowed refl)
+fine_if false x allowed = fine_none
+
+fine_either : (t : Bool) (x y : Option Asked) → Fine x → Fine y → Fine (if t then x else y)
+fine_either true x y p q = p
+fine_either false x y p q = q
+
+budget_if : (n k : ℕ) (text : List ℕ) (t : Bool) → (t ≡ true → (1 ≤ n) × (n ≤ largest_budget)) → (if t then Some n else None) ≡ Some k → (1 ≤ k) × (k ≤ largest_budget)
+budget_if n k text true range is = let same : n ≡ k = cc is in subst (λ j. (1 ≤ j) × (j ≤ largest_budget)) same (range refl)
+budget_if n k text false range is = absurd (cc is)
+
+budget_in_range : (nodes : Option (List ℕ)) (k : ℕ) → budget_from nodes ≡ Some k → (1 ≤ k) × (k ≤ largest_budget)
+budget_in_range None k is = let same : usual_budget ≡ k = cc is in subst (λ j. (1 ≤ j) × (j ≤ largest_budget)) same (omega arith, omega arith)
+budget_in_range (Some text) k is = budget_if (digits_value 10 text) k text (is_budget text) (number_in_range 1 largest_budget text) is
+
+fine_planned : (m p c : List ℕ) (budget : Option ℕ) → ((k : ℕ) → budget ≡ Some k → (1 ≤ k) × (k ≤ largest_budget)) → Fine (planned m p c budget)
+fine_planned m p c None range = fine_none
+fine_planned m p c (Some k) range = fine_if (are_file_names m p c) (planning m p c k) (λ is. record { apart = are_apart m p c is; some = (range k refl).0; limit = (range k refl).1 })
+
+fine_planning : (m p c nodes : Option (List ℕ)) → Fine (planning_from m p c nodes)
+fine_planning None p c nodes = fine_none
+fine_planning (Some m) None c nodes = fine_none
+fine_planning (Some m) (Some p) None nodes = fine_none
+fine_planning (Some m) (Some p) (Some c) nodes = fine_planned m p c (budget_from nodes) (budget_in_range nodes)
+
+fine_judging : (m p : Option (List ℕ)) → Fine (judging_from m p)
+fine_judging None p = fine_none
+fine_judging (Some m) None = fine_none
+fine_judging (Some m) (Some p) = fine_if (are_two_names m p) (judging m p) (two_apart m p)
+
+fine_checking : (m p c : Option (List ℕ)) → Fine (checking_from m p c)
+fine_checking None p c = fine_none
+fine_checking (Some m) None c = fine_none
+fine_checking (Some m) (Some p) None = fine_none
+fine_checking (Some m) (Some p) (Some c) = fine_if (are_file_names m p c) (checking m p c) (are_apart m p c)
+
+fine_reporting : (m p : Option (List ℕ)) → Fine (reporting_from m p)
+fine_reporting None p = fine_none
+fine_reporting (Some m) None = fine_none
+fine_reporting (Some m) (Some p) = fine_if (are_two_names m p) (reporting m p) (two_apart m p)
+
+fine_generated : (n items periods m : List ℕ) → Fine (generated n items periods m)
+fine_generated n items periods m = fine_if _ (generating (digits_value 10 n) (digits_value 10 items) (digits_value 10 periods) m) (λ is.
+    let others : (is_number 1 most_items items && (is_number 1 most_periods periods && is_file_name m)) ≡ true = rest_true (is_seed n) _ is in
+    let last : (is_number 1 most_periods periods && is_file_name m) ≡ true = rest_true (is_number 1 most_items items) _ others in
+    let i = number_in_range 1 most_items items (first_true (is_number 1 most_items items) _ others) in
+    let t = number_in_range 1 most_periods periods (first_true (is_number 1 most_periods periods) _ last) in
+    record { bits = seed_fits n (first_true (is_seed n) _ is); some_items = i.0; items_limit = i.1; some_periods = t.0; periods_limit = t.1 })
+
+fine_generating : (n items periods m : Option (List ℕ)) → Fine (generating_from n items periods m)
+fine_generating None items periods m = fine_none
+fine_generating (Some n) None periods m = fine_none
+fine_generating (Some n) (Some items) None m = fine_none
+fine_generating (Some n) (Some items) (Some periods) None = fine_none
+fine_generating (Some n) (Some items) (Some periods) (Some m) = fine_generated n items periods m
+
+fine_demonstrating : (n : Option (List ℕ)) → Fine (demonstrating_from n)
+fine_demonstrating None = fine_none
+fine_demonstrating (Some n) = fine_if (is_seed n) (demonstrating (digits_value 10 n)) (seed_fits n)
+
+fine_upgrading : (m n : Option (List ℕ)) → Fine (upgrading_from m n)
+fine_upgrading None n = fine_none
+fine_upgrading (Some m) None = fine_none
+fine_upgrading (Some m) (Some n) = fine_if (are_two_names m n) (upgrading m n) (two_apart m n)
+
+fine_bounding : (m : Option (List ℕ)) → Fine (bounding_from m)
+fine_bounding None = fine_none
+fine_bounding (Some m) = fine_if (is_file_name m) (bounding m) (λ is. tt)
+
+fine_in : (name : List ℕ) (rows : List Row) → Fine (asked_in name rows)
+fine_in name rows =
+    fine_either (bytes_eq name (codes "plan")) _ _ (fine_planning (first_of (codes "M") rows) (first_of (codes "P") rows) (first_of (codes "C") rows) (first_of (codes "nodes") rows))
+    (fine_either (bytes_eq name (codes "judge")) _ _ (fine_judging (first_of (codes "M") rows) (first_of (codes "P") rows))
+    (fine_either (bytes_eq name (codes "check")) _ _ (fine_checking (first_of (codes "M") rows) (first_of (codes "P") rows) (first_of (codes "C") rows))
+    (fine_either (bytes_eq name (codes "report")) _ _ (fine_reporting (first_of (codes "M") rows) (first_of (codes "P") rows))
+    (fine_either (bytes_eq name (codes "gen")) _ _ (fine_generating (first_of (codes "N") rows) (first_of (codes "ITEMS") rows) (first_of (codes "PERIODS") rows) (first_of (codes "M") rows))
+    (fine_either (bytes_eq name (codes "demo")) _ _ (fine_demonstrating (first_of (codes "N") rows))
+    (fine_either (bytes_eq name (codes "upgrade")) _ _ (fine_upgrading (first_of (codes "M") rows) (first_of (codes "M2") rows))
+    (fine_either (bytes_eq name (codes "bound")) _ _ (fine_bounding (first_of (codes "M") rows)) fine_none)))))))
+
+fine_matches : (s : Option (List ℕ × List Row)) → Fine (asked_by_matches s)
+fine_matches None = fine_some version tt
+fine_matches (Some s) = fine_in s.0 s.1
+
+fine_unless : (ks : Kinds) (o : Option Asked) → Fine o → Fine (unless_refused ks o)
+fine_unless [] o fine = fine
+fine_unless (k ∷ ks) o fine = fine_if (is_help k) helping (λ is. tt)
+
+pub commands_are_allowed : CommandsAreAllowed
+unfolding command_of
+commands_are_allowed words = fine_unless (fault_of planner_app words) (asked_by_matches (subcommand_of planner_app words)) (fine_matches (subcommand_of planner_app words))

@@ -1,0 +1,12 @@
+pub mod Alike
+pub mod Matched
+pub mod Allowed
+pub mod Numbers
+pub mod Placed
+pub mod Leaves
+pub mod OneText
+pub mod TwoTexts
+pub mod ThreeTexts
+pub mod Drawn
+pub mod Budgets
+pub mod Plain

@@ -1,0 +1,5 @@
+pub mod Grammar
+pub mod Words
+pub mod Meant
+pub mod Plain
+pub mod Laws

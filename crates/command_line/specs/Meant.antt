@@ -1,0 +1,30 @@
+-- What the program's own values stand for.
+use Rattle.std.specs.Prelude.{◌≡◌, ⊤, ℕ, List, Option, Some, None, codes}
+use Rattle.command_line.specs.Words.{Asked, AreTaken, version, helping, planning, judging, checking, reporting, generating, demonstrating, upgrading, bounding}
+use Rattle.command_line.specs.declared.commands.Command.{Command}
+use Rattle.command_line.specs.declared.commands.Command.TheVariants as command
+use Rattle.command_line.specs.declared.commands.Reading.{Reading}
+use Rattle.command_line.specs.declared.commands.Reading.TheVariants as reading
+
+-- what a command asks for
+abbrev pub asked_by : Command → Asked
+asked_by command.Name = version
+asked_by (command.Plan names budget) = planning names.model.now names.plan.now names.certificate.now budget
+asked_by (command.Judge names) = judging names.model.now names.plan.now
+asked_by (command.Check names) = checking names.model.now names.plan.now names.certificate.now
+asked_by (command.Upgrade names) = upgrading names.model.now names.upgraded.now
+asked_by (command.Bound model) = bounding model.now
+asked_by (command.Report names) = reporting names.model.now names.plan.now
+asked_by (command.Generate seed items periods model) = generating seed items periods model.now
+asked_by (command.Demo seed) = demonstrating seed
+
+-- what the words were read as
+abbrev pub read_as : Reading → Option Asked
+read_as (reading.Command c) = Some (asked_by c)
+read_as (reading.Help text) = Some helping
+read_as (reading.Refused text) = None
+
+-- words that the parse takes are refused by this line, for their names and numbers
+abbrev pub IsRefusedText : List (List ℕ) → Reading → Type 0
+IsRefusedText words (reading.Refused text) = AreTaken words → text.bytes.items ≡ codes "refused words\n"
+IsRefusedText words _ = ⊤

@@ -1,0 +1,194 @@
+-- What the words of a command line ask for.
+use Rattle.std.specs.Prelude.{⊤, ◌≡◌, ◌≢◌, ◌≤◌, ◌<◌, ◌^◌, ℕ, Bool, true, false, not, ◌&&◌, ◌==◌, List, [], ◌∷◌, Option, Some, None, if◌then◌else◌, codes, decimal}
+use Rattle.std.specs.Int.{is_in_range}
+use Rattle.std.specs.Str.{bytes_eq}
+use Rattle.std.specs.Str.Parse.{digits_value}
+use Rattle.clap.specs.Words.{Kinds, Row, fault_of, first_of, subcommand_of}
+use Rattle.clap.specs.declared.error.kind.ErrorKind.{ErrorKind}
+use Rattle.clap.specs.declared.error.kind.ErrorKind.TheVariants.{DisplayHelp, DisplayVersion}
+use Rattle.command_line.specs.Grammar.{planner_app}
+
+pub data Asked : Type 0 where
+  -- the program's name
+  version : Asked
+  -- help, or the version, of the program or of a command
+  helping : Asked
+  -- to plan a model file, with the names of the model file, the plan file and the certificate file, and the most nodes that the certificate's tree may have
+  planning : List ℕ → List ℕ → List ℕ → ℕ → Asked
+  -- to judge a plan file, with the names of the model file and the plan file
+  judging : List ℕ → List ℕ → Asked
+  -- to check a certificate file, with the names of the model file, the plan file and the certificate file
+  checking : List ℕ → List ℕ → List ℕ → Asked
+  -- to judge a plan file and to sum it up, with the names of the model file and the plan file
+  reporting : List ℕ → List ℕ → Asked
+  -- to write a model with this seed, this many items and this many periods into the file of this name
+  generating : ℕ → ℕ → ℕ → List ℕ → Asked
+  -- to plan two models with this seed
+  demonstrating : ℕ → Asked
+  -- to write a model of the first version as one of the newest, with the names of the model file and the new file
+  upgrading : List ℕ → List ℕ → Asked
+  -- to bound the cost of plans of the model in this file
+  bounding : List ℕ → Asked
+
+-- ---- names and numbers
+
+-- a file's name isn't empty and doesn't begin with `-`
+abbrev pub is_file_name : List ℕ → Bool
+is_file_name [] = false
+is_file_name (b ∷ bs) = not (b == 45)
+
+-- three files' names, no two of them the same
+abbrev pub are_file_names : List ℕ → List ℕ → List ℕ → Bool
+are_file_names m p c = is_file_name m && (is_file_name p && (is_file_name c && (not (bytes_eq m p) && (not (bytes_eq m c) && not (bytes_eq p c)))))
+
+-- two files' names, which aren't the same
+abbrev pub are_two_names : List ℕ → List ℕ → Bool
+are_two_names m p = is_file_name m && (is_file_name p && not (bytes_eq m p))
+
+-- the text of a number from the least to the most: decimal digits, with no sign and no 0 before others
+abbrev pub is_number : ℕ → ℕ → List ℕ → Bool
+is_number least most text = bytes_eq text (decimal (digits_value 10 text)) && is_in_range least most (digits_value 10 text)
+
+-- the nodes where no number is given, and the most that may be
+abbrev pub usual_budget : ℕ
+usual_budget = 1000
+
+abbrev pub largest_budget : ℕ
+largest_budget = 1000000
+
+-- the largest seed, and the most items and periods of a model
+abbrev pub largest_seed : ℕ
+largest_seed = 18446744073709551615
+
+abbrev pub most_items : ℕ
+most_items = 40
+
+abbrev pub most_periods : ℕ
+most_periods = 60
+
+abbrev pub is_budget : List ℕ → Bool
+is_budget = is_number 1 largest_budget
+
+abbrev pub is_seed : List ℕ → Bool
+is_seed = is_number 0 largest_seed
+
+-- ---- what the texts of a command ask for, where each text that it needs is there
+
+abbrev pub asked_if : Bool → Asked → Option Asked
+asked_if true asked = Some asked
+asked_if false asked = None
+
+-- the nodes that a text gives, and where there is none the usual ones
+abbrev pub budget_from : Option (List ℕ) → Option ℕ
+budget_from None = Some usual_budget
+budget_from (Some n) = if is_budget n then Some (digits_value 10 n) else None
+
+abbrev pub planned : List ℕ → List ℕ → List ℕ → Option ℕ → Option Asked
+planned m p c None = None
+planned m p c (Some budget) = asked_if (are_file_names m p c) (planning m p c budget)
+
+abbrev pub generated : List ℕ → List ℕ → List ℕ → List ℕ → Option Asked
+generated n items periods m = asked_if (is_seed n && (is_number 1 most_items items && (is_number 1 most_periods periods && is_file_name m)))
+    (generating (digits_value 10 n) (digits_value 10 items) (digits_value 10 periods) m)
+
+abbrev pub planning_from : Option (List ℕ) → Option (List ℕ) → Option (List ℕ) → Option (List ℕ) → Option Asked
+planning_from (Some m) (Some p) (Some c) nodes = planned m p c (budget_from nodes)
+planning_from _ _ _ _ = None
+
+abbrev pub judging_from : Option (List ℕ) → Option (List ℕ) → Option Asked
+judging_from (Some m) (Some p) = asked_if (are_two_names m p) (judging m p)
+judging_from _ _ = None
+
+abbrev pub checking_from : Option (List ℕ) → Option (List ℕ) → Option (List ℕ) → Option Asked
+checking_from (Some m) (Some p) (Some c) = asked_if (are_file_names m p c) (checking m p c)
+checking_from _ _ _ = None
+
+abbrev pub reporting_from : Option (List ℕ) → Option (List ℕ) → Option Asked
+reporting_from (Some m) (Some p) = asked_if (are_two_names m p) (reporting m p)
+reporting_from _ _ = None
+
+abbrev pub generating_from : Option (List ℕ) → Option (List ℕ) → Option (List ℕ) → Option (List ℕ) → Option Asked
+generating_from (Some n) (Some items) (Some periods) (Some m) = generated n items periods m
+generating_from _ _ _ _ = None
+
+abbrev pub demonstrating_from : Option (List ℕ) → Option Asked
+demonstrating_from (Some n) = asked_if (is_seed n) (demonstrating (digits_value 10 n))
+demonstrating_from _ = None
+
+abbrev pub upgrading_from : Option (List ℕ) → Option (List ℕ) → Option Asked
+upgrading_from (Some m) (Some n) = asked_if (are_two_names m n) (upgrading m n)
+upgrading_from _ _ = None
+
+abbrev pub bounding_from : Option (List ℕ) → Option Asked
+bounding_from (Some m) = asked_if (is_file_name m) (bounding m)
+bounding_from _ = None
+
+-- ---- what the matches ask for
+
+-- what a subcommand of this name asks for, by the texts of its arguments
+abbrev pub asked_in : List ℕ → List Row → Option Asked
+asked_in name rows =
+    if bytes_eq name (codes "plan") then planning_from (first_of (codes "M") rows) (first_of (codes "P") rows) (first_of (codes "C") rows) (first_of (codes "nodes") rows)
+    else if bytes_eq name (codes "judge") then judging_from (first_of (codes "M") rows) (first_of (codes "P") rows)
+    else if bytes_eq name (codes "check") then checking_from (first_of (codes "M") rows) (first_of (codes "P") rows) (first_of (codes "C") rows)
+    else if bytes_eq name (codes "report") then reporting_from (first_of (codes "M") rows) (first_of (codes "P") rows)
+    else if bytes_eq name (codes "gen") then generating_from (first_of (codes "N") rows) (first_of (codes "ITEMS") rows) (first_of (codes "PERIODS") rows) (first_of (codes "M") rows)
+    else if bytes_eq name (codes "demo") then demonstrating_from (first_of (codes "N") rows)
+    else if bytes_eq name (codes "upgrade") then upgrading_from (first_of (codes "M") rows) (first_of (codes "M2") rows)
+    else if bytes_eq name (codes "bound") then bounding_from (first_of (codes "M") rows)
+    else None
+
+-- words with no subcommand are the program's name
+abbrev pub asked_by_matches : Option (List ℕ × List Row) → Option Asked
+asked_by_matches None = Some version
+asked_by_matches (Some s) = asked_in s.0 s.1
+
+abbrev pub is_help : ErrorKind → Bool
+is_help DisplayHelp = true
+is_help DisplayVersion = true
+is_help _ = false
+
+-- a call for help is one; other words that a step of the parse refuses ask for nothing
+abbrev pub unless_refused : Kinds → Option Asked → Option Asked
+unless_refused [] answer = answer
+unless_refused (k ∷ ks) answer = asked_if (is_help k) helping
+
+-- the command that the matches of the words give
+unfoldable pub command_of : List (List ℕ) → Option Asked
+command_of words = unless_refused (fault_of planner_app words) (asked_by_matches (subcommand_of planner_app words))
+
+-- no step of the parse refuses the words
+unfoldable pub AreTaken : List (List ℕ) → Type 0
+AreTaken words = fault_of planner_app words ≡ []
+
+-- ---- the conditions, as facts
+
+-- no two of three names are the same
+pub record AreApart (model_file plan_file certificate_file : List ℕ) : Type 0 where
+  pub plan : model_file ≢ plan_file
+  pub certificate : model_file ≢ certificate_file
+  pub written : plan_file ≢ certificate_file
+
+-- the names of a plan are three, no two of them the same, and its budget has at least one node
+pub record IsPlanned (m p c : List ℕ) (budget : ℕ) : Type 0 where
+  pub apart : AreApart m p c
+  pub some : 1 ≤ budget
+  pub limit : budget ≤ largest_budget
+
+pub record IsGenerated (seed items periods : ℕ) : Type 0 where
+  pub bits : seed < 2 ^ 64
+  pub some_items : 1 ≤ items
+  pub items_limit : items ≤ most_items
+  pub some_periods : 1 ≤ periods
+  pub periods_limit : periods ≤ most_periods
+
+-- what a command meets: names that are apart, numbers within their limits
+abbrev pub IsAllowed : Asked → Type 0
+IsAllowed (planning m p c budget) = IsPlanned m p c budget
+IsAllowed (judging m p) = m ≢ p
+IsAllowed (checking m p c) = AreApart m p c
+IsAllowed (reporting m p) = m ≢ p
+IsAllowed (generating seed items periods m) = IsGenerated seed items periods
+IsAllowed (demonstrating seed) = seed < 2 ^ 64
+IsAllowed (upgrading m n) = m ≢ n
+IsAllowed _ = ⊤

@@ -1,0 +1,78 @@
+// What the words of a command line ask for.
+
+/// What the words ask for.
+#[derive(Clone, Copy, Debug, PartialEq, Eq)]
+pub enum Command<'a> {
+    /// The program's name and version.
+    Name,
+    /// To plan a model file.
+    Plan {
+        /// The names of the files.
+        names: Names<'a>,
+        /// The most nodes that the certificate's tree may have, from 1 to 1,000,000.
+        budget: u64,
+    },
+    /// To judge a plan file.
+    Judge(TwoNames<'a>),
+    /// To check a certificate file.
+    Check(Names<'a>),
+    /// To write a model of the first version as one of the newest.
+    Upgrade(UpgradeNames<'a>),
+    /// To bound the cost of all plans of the model in the file of this name.
+    Bound(&'a str),
+    /// To judge a plan file and to sum it up.
+    Report(TwoNames<'a>),
+    /// To write a model that is made from a number.
+    Generate {
+        /// The number, from which the model's numbers are drawn.
+        seed: u64,
+        /// How many items the model has, from 1 to 40.
+        items: u32,
+        /// How many periods the model has, from 1 to 60.
+        periods: u32,
+        /// The model file, which is written.
+        model: &'a str,
+    },
+    /// To plan two models that are made from this number.
+    Demo(u64),
+}
+
+/// The names of the files of a plan or of a check, no two of them the same.
+#[derive(Clone, Copy, Debug, PartialEq, Eq)]
+pub struct Names<'a> {
+    /// The model file, which is read.
+    pub model: &'a str,
+    /// The plan file, which is written, or read by a check.
+    pub plan: &'a str,
+    /// The certificate file, which is written, or read by a check.
+    pub certificate: &'a str,
+}
+
+/// The names of the files of a judgement or of a report, which aren't the same.
+#[derive(Clone, Copy, Debug, PartialEq, Eq)]
+pub struct TwoNames<'a> {
+    /// The model file, which is read.
+    pub model: &'a str,
+    /// The plan file, which is read.
+    pub plan: &'a str,
+}
+
+/// The names of the files of an upgrade, which aren't the same.
+#[derive(Clone, Copy, Debug, PartialEq, Eq)]
+pub struct UpgradeNames<'a> {
+    /// The model file, which is read.
+    pub model: &'a str,
+    /// The new file, which is written.
+    pub upgraded: &'a str,
+}
+
+/// What words were read as.
+#[derive(Debug, Drop)]
+pub enum Reading<'a> {
+    /// A command.
+    Command(Command<'a>),
+    /// A call for help or for the version, with the text that answers it.
+    Help(String),
+    /// No command, with the text that says why.
+    Refused(String),
+}

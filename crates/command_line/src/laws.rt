@@ -1,0 +1,14 @@
+// Laws of the command line, each the contract of a function that does nothing.
+ghost use Rattle.command_line.specs.Laws.{CommandsAreAllowed, PlainWordsKeepTheirMeaning};
+
+/// Each command has names that are apart, and numbers within their limits: a budget is 1 to 1,000,000, a seed is
+/// below 2^64, items are 1 to 40, and periods 1 to 60.
+pub fn commands_are_allowed()
+    ensures { CommandsAreAllowed }
+{}
+
+/// A plain list of words means what it says by the matches too: none at all, or a command with its names and
+/// numbers in order, and of a plan also with `--nodes` and a number at its end.
+pub fn plain_words_keep_their_meaning()
+    ensures { PlainWordsKeepTheirMeaning }
+{}

@@ -1,0 +1,21 @@
+//! The words of a command line, read by `clap`.
+//!
+//! Family: commands. It stands on `clap`, which matches the words, and on `whole_numbers` for the numbers
+//! among them. `lotplan` uses it.
+//!
+//! `read_words` gives the command that the words are, a text of help, or why they are refused.
+#![tactic(auto)]
+
+mod commands;
+mod conditions;
+mod grammar;
+mod laws;
+mod reader;
+mod requests;
+
+pub use commands::{Command, Names, Reading, TwoNames, UpgradeNames};
+pub use laws::{commands_are_allowed, plain_words_keep_their_meaning};
+pub use reader::read_words;
+
+#[cfg(test)]
+mod tests;

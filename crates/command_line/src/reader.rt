@@ -1,0 +1,98 @@
+// The command that words are.
+ghost use Rattle.std.specs.Prelude.{◌≡◌, ◌≢◌, IfOk, codes, map, option_map, string_bytes};
+ghost use Rattle.clap.specs.Words.{first_of, found_of, kind_of, rows_of, subcommand_rows_of};
+ghost use Rattle.clap.specs.declared.error.kind.ErrorKind.TheVariants.{OutOfMemory};
+ghost use Rattle.command_line.specs.Meant.{IsRefusedText, asked_by, read_as};
+ghost use Rattle.command_line.specs.Words.{asked_by_matches, asked_if, asked_in, command_of, helping, is_help};
+
+use crate::commands::{Command, Reading};
+use crate::grammar::planner;
+use crate::requests;
+use clap::ArgMatches;
+use clap::error::{Error, ErrorKind};
+use std::alloc::{AllocError, Global};
+
+/// What the words after the program's name are: the command that `clap`'s matches of them give, if its names and
+/// numbers are in order, a call for help, or else no command.
+///
+/// Names of files aren't empty, don't begin with `-`, and no two of a command are the same. Numbers are decimal
+/// digits with no sign and no 0 before others: a seed is below 2^64, items are 1 to 40, periods 1 to 60, and the
+/// nodes of `--nodes` 1 to 1,000,000; without that option they are 1,000. The text of help and of words that
+/// `clap` refuses is its own; words that it takes, and whose names or numbers aren't in order, are refused by
+/// `refused words` and a line feed.
+///
+/// `Err` comes where memory runs out. The cost grows with the length of the words.
+pub fn read_words<'a>(alloc: Global, words: &'a [String]) -> Result<Reading<'a>, AllocError>
+    ensures means { IfOk result (λ r. read_as r ≡ command_of (map string_bytes words.entry.now)) }
+    ensures refused { IfOk result (IsRefusedText (map string_bytes words.entry.now)) }
+{
+    let program = planner(alloc)?;
+    match program.try_get_matches_from(words) {
+        Ok(matches) => match command_in(&matches) {
+            Some(command) => Ok(Reading::Command(command)),
+            None => Ok(Reading::Refused("refused words\n".to_string(alloc)?)),
+        },
+        Err(error) => answer_to(alloc, &error),
+    }
+}
+
+// The command that matches give, if its names and numbers are in order.
+fn command_in<'a>(matches: &ArgMatches<'a>) -> Option<Command<'a>>
+    ensures { option_map asked_by result ≡ asked_by_matches (subcommand_rows_of matches.now) }
+{
+    match matches.subcommand() {
+        Some((name, given)) => request_in(name, given),
+        None => Some(Command::Name),
+    }
+}
+
+// The answer to words that a step of the parse stopped at.
+fn answer_to<'a>(alloc: Global, error: &Error) -> Result<Reading<'a>, AllocError>
+    ensures help { IfOk result (λ r. read_as r ≡ asked_if (is_help (kind_of error.now)) helping) }
+    ensures memory { IfOk result (λ _. kind_of error.now ≢ OutOfMemory) }
+{
+    let text = error.to_string(alloc)?;
+    match error.kind() {
+        ErrorKind::OutOfMemory => Err(AllocError),
+        ErrorKind::DisplayHelp | ErrorKind::DisplayVersion => Ok(Reading::Help(text)),
+        _ => Ok(Reading::Refused(text)),
+    }
+}
+
+// The text of an argument, if it was given.
+fn text_of<'a>(given: &ArgMatches<'a>, id: &str) -> Option<&'a str>
+    ensures { option_map (λ s. s.now) result ≡ first_of id.now (rows_of (found_of given.now)) }
+{
+    given.get_str(id)
+}
+
+// What a subcommand asks for.
+fn request_in<'a>(name: &str, given: &ArgMatches<'a>) -> Option<Command<'a>>
+    ensures { option_map asked_by result ≡ asked_in name.now (rows_of (found_of given.now)) }
+{
+    match name {
+        "plan" => requests::plan(
+            text_of(given, "M"),
+            text_of(given, "P"),
+            text_of(given, "C"),
+            text_of(given, "nodes"),
+        ),
+        "judge" => requests::judge(text_of(given, "M"), text_of(given, "P")),
+        "check" => requests::check(
+            text_of(given, "M"),
+            text_of(given, "P"),
+            text_of(given, "C"),
+        ),
+        "report" => requests::report(text_of(given, "M"), text_of(given, "P")),
+        "gen" => requests::generate(
+            text_of(given, "N"),
+            text_of(given, "ITEMS"),
+            text_of(given, "PERIODS"),
+            text_of(given, "M"),
+        ),
+        "demo" => requests::demo(text_of(given, "N")),
+        "upgrade" => requests::upgrade(text_of(given, "M"), text_of(given, "M2")),
+        "bound" => requests::bound(text_of(given, "M")),
+        _ => None,
+    }
+}

@@ -1,0 +1,158 @@
+// The commands that the texts of arguments give, where the names and numbers are in order.
+ghost use Rattle.std.specs.Prelude.{◌≡◌, option_map};
+ghost use Rattle.command_line.specs.Meant.{asked_by};
+ghost use Rattle.command_line.specs.Words.{bounding_from, budget_from, checking_from, demonstrating_from, generated, generating_from, judging_from, planning_from, reporting_from, upgrading_from};
+
+use crate::commands::{Command, Names, TwoNames, UpgradeNames};
+use crate::conditions::{are_file_names, are_two_names, is_file_name, read_number};
+
+// The nodes where no number is given, and the most that may be.
+const USUAL_BUDGET: u64 = 1000;
+
+const LARGEST_BUDGET: u64 = 1_000_000;
+
+// The most items and periods of a model that is drawn.
+const MOST_ITEMS: u64 = 40;
+
+const MOST_PERIODS: u64 = 60;
+
+// The nodes that a plan may use.
+fn budget_of(nodes: Option<&str>) -> Option<u64>
+    ensures { result ≡ budget_from (option_map (λ s. s.now) nodes.entry) }
+{
+    match nodes {
+        Some(number) => read_number(number, 1, LARGEST_BUDGET),
+        None => Some(USUAL_BUDGET),
+    }
+}
+
+pub(crate) fn plan<'a>(
+    model: Option<&'a str>,
+    plan: Option<&'a str>,
+    certificate: Option<&'a str>,
+    nodes: Option<&'a str>,
+) -> Option<Command<'a>>
+    ensures { option_map asked_by result ≡ planning_from (option_map (λ s. s.now) model.entry) (option_map (λ s. s.now) plan.entry) (option_map (λ s. s.now) certificate.entry) (option_map (λ s. s.now) nodes.entry) }
+{
+    let (Some(model), Some(plan), Some(certificate)) = (model, plan, certificate) else {
+        return None;
+    };
+    match budget_of(nodes) {
+        Some(budget) if are_file_names(model, plan, certificate) => Some(Command::Plan {
+            names: Names {
+                model,
+                plan,
+                certificate,
+            },
+            budget,
+        }),
+        _ => None,
+    }
+}
+
+pub(crate) fn judge<'a>(model: Option<&'a str>, plan: Option<&'a str>) -> Option<Command<'a>>
+    ensures { option_map asked_by result ≡ judging_from (option_map (λ s. s.now) model.entry) (option_map (λ s. s.now) plan.entry) }
+{
+    match (model, plan) {
+        (Some(model), Some(plan)) if are_two_names(model, plan) => Some(Command::Judge(TwoNames {
+            model,
+            plan,
+        })),
+        _ => None,
+    }
+}
+
+pub(crate) fn check<'a>(
+    model: Option<&'a str>,
+    plan: Option<&'a str>,
+    certificate: Option<&'a str>,
+) -> Option<Command<'a>>
+    ensures { option_map asked_by result ≡ checking_from (option_map (λ s. s.now) model.entry) (option_map (λ s. s.now) plan.entry) (option_map (λ s. s.now) certificate.entry) }
+{
+    match (model, plan, certificate) {
+        (Some(model), Some(plan), Some(certificate)) if are_file_names(model, plan, certificate) =>
+            {
+                Some(Command::Check(Names {
+                    model,
+                    plan,
+                    certificate,
+                }))
+            }
+        _ => None,
+    }
+}
+
+pub(crate) fn report<'a>(model: Option<&'a str>, plan: Option<&'a str>) -> Option<Command<'a>>
+    ensures { option_map asked_by result ≡ reporting_from (option_map (λ s. s.now) model.entry) (option_map (λ s. s.now) plan.entry) }
+{
+    match (model, plan) {
+        (Some(model), Some(plan)) if are_two_names(model, plan) => Some(Command::Report(TwoNames {
+            model,
+            plan,
+        })),
+        _ => None,
+    }
+}
+
+// A model to be drawn, by the texts of its numbers.
+fn generated<'a>(seed: &str, items: &str, periods: &str, model: &'a str) -> Option<Command<'a>>
+    ensures { option_map asked_by result ≡ generated seed.now items.now periods.now model.entry.now }
+{
+    if !is_file_name(model) {
+        return None;
+    }
+    let seed = read_number(seed, 0, u64::MAX)?;
+    let items = read_number(items, 1, MOST_ITEMS)? as u32;
+    let periods = read_number(periods, 1, MOST_PERIODS)? as u32;
+    Some(Command::Generate {
+        seed,
+        items,
+        periods,
+        model,
+    })
+}
+
+pub(crate) fn generate<'a>(
+    seed: Option<&'a str>,
+    items: Option<&'a str>,
+    periods: Option<&'a str>,
+    model: Option<&'a str>,
+) -> Option<Command<'a>>
+    ensures { option_map asked_by result ≡ generating_from (option_map (λ s. s.now) seed.entry) (option_map (λ s. s.now) items.entry) (option_map (λ s. s.now) periods.entry) (option_map (λ s. s.now) model.entry) }
+{
+    match (seed, items, periods, model) {
+        (Some(seed), Some(items), Some(periods), Some(model)) => {
+            generated(seed, items, periods, model)
+        }
+        _ => None,
+    }
+}
+
+pub(crate) fn demo<'a>(seed: Option<&'a str>) -> Option<Command<'a>>
+    ensures { option_map asked_by result ≡ demonstrating_from (option_map (λ s. s.now) seed.entry) }
+{
+    match read_number(seed?, 0, u64::MAX) {
+        Some(seed) => Some(Command::Demo(seed)),
+        None => None,
+    }
+}
+
+pub(crate) fn upgrade<'a>(model: Option<&'a str>, upgraded: Option<&'a str>) -> Option<Command<'a>>
+    ensures { option_map asked_by result ≡ upgrading_from (option_map (λ s. s.now) model.entry) (option_map (λ s. s.now) upgraded.entry) }
+{
+    match (model, upgraded) {
+        (Some(model), Some(upgraded)) if are_two_names(model, upgraded) => {
+            Some(Command::Upgrade(UpgradeNames { model, upgraded }))
+        }
+        _ => None,
+    }
+}
+
+pub(crate) fn bound<'a>(model: Option<&'a str>) -> Option<Command<'a>>
+    ensures { option_map asked_by result ≡ bounding_from (option_map (λ s. s.now) model.entry) }
+{
+    match model {
+        Some(model) if is_file_name(model) => Some(Command::Bound(model)),
+        _ => None,
+    }
+}
