@@ -5,7 +5,7 @@ use Rattle.std.specs.declared.alloc.AllocError.{AllocError}
 use Rattle.lot_io.specs.Outside.{Printed, Shelved}
 use Rattle.lot_sizing.specs.Problem.{Problem}
 use Rattle.lotplan.specs.declared.said.Said.{Said}
-use Rattle.lotplan.specs.Command.{bounding}
+use Rattle.command_line.specs.Words.{bounding}
 use Rattle.lotplan.specs.Status.{code_of}
 use Rattle.lotplan.specs.Reading.{HoldsProblem, ModelExplains, ReadAnswer, refused, missing, unread, too_long, read_line, read_status}
 use Rattle.lotplan.specs.Bounding.{BoundAnswer, bound, empty, skipped, passed, stopped, bound_line, bound_status, BoundCallsFor, BoundExplains, BoundIsSaid, BoundedCallsFor, FindsBound, FindsNoBound, FindsNoPoint, IsBounded}

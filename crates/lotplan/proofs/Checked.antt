@@ -19,7 +19,7 @@ use Rattle.stream_check.specs.declared.fault.StreamFault.{StreamFault}
 use Rattle.stream_check.specs.declared.fault.StreamFault.TheVariants as stream
 use Rattle.stream_check.specs.Streams.{IsStreamFault, IsTooLong, OfBytes, OfCertificate, never_refused}
 use Rattle.lotplan.specs.declared.said.Said.{Said}
-use Rattle.lotplan.specs.Command.{checking}
+use Rattle.command_line.specs.Words.{checking}
 use Rattle.lotplan.specs.Status.{code_of}
 use Rattle.lotplan.specs.Reading.{FileExplains, HoldsProblem, ModelExplains, OfFile, ReadAnswer, refused, missing, unread, too_long, read_line, read_status}
 use Rattle.lotplan.specs.Judging.{AreNoPlan}

@@ -7,9 +7,9 @@ use Rattle.lot_io.specs.Outside.{GrewBy, OnlyReads, Printed, Rose, Shelved}
 use Rattle.lotplan.specs.declared.said.Said.{Said}
 use Rattle.lotplan.specs.declared.status.Status.{Status}
 use Rattle.lotplan.specs.declared.status.Status.TheVariants.{Done, NoCommand}
-use Rattle.lotplan.specs.Command.{AreApart, Asked, version, planning, judging, checking, upgrading, bounding}
+use Rattle.command_line.specs.Words.{AreApart, AreTaken, Asked, IsAllowed, version, helping, planning, judging, checking, reporting, generating, demonstrating, upgrading, bounding}
 use Rattle.lotplan.specs.Status.{code_of}
-use Rattle.lotplan.specs.Saying.{Ends, Gains, Prints}
+use Rattle.lotplan.specs.Saying.{Ends, Gains, IsSaid, Prints}
 use Rattle.lotplan.specs.Reading.{ReadAnswer, refused, missing, unread, too_long, read_status}
 use Rattle.lotplan.specs.Laws.{StatusesAreOne}
 use Rattle.lotplan.specs.Planning.{PlanAnswer, PlanExplains, PlansBest, StartsAtMost, StartsAtMostBoth, StartsBoth, StartsOnly, plan_line, plan_status}
@@ -22,24 +22,34 @@ use Rattle.lotplan.specs.Upgrading.{UpgradeAnswer, UpgradeExplains, Upgrades, up
 use Rattle.lotplan.specs.Upgrading as upgrade
 use Rattle.lotplan.specs.Bounding.{BoundAnswer, BoundExplains, FindsBound, bound_line, bound_status}
 use Rattle.lotplan.specs.Bounding as bound
-use Rattle.lotplan.specs.Run.{CallFor, CallsForZero, CannotWrite, HadNoFault, IsFaulty, IsInfeasible, IsNoCommand, IsRun, ran_out, runs, Leaves, LeavesUndecided, RunsAs, SaysFor, Stops, refused_line, version_line}
+use Rattle.lotplan.specs.Reporting.{ReportAnswer, ReportExplains, SumsUp, report_line, report_status}
+use Rattle.lotplan.specs.Reporting as report
+use Rattle.lotplan.specs.Generating.{GenerateAnswer, GenerateExplains, Generates, generate_line, generate_status}
+use Rattle.lotplan.specs.Generating as generate
+use Rattle.lotplan.specs.Showing.{Shows}
+use Rattle.lotplan.specs.Run.{CallFor, CallsForZero, CannotWrite, HadNoFault, IsFaulty, IsIdle, IsInfeasible, IsNoCommand, IsRun, ran_out, runs, Leaves, LeavesUndecided, RunsAs, SaysFor, Stops, refused_line, version_line}
 use Rattle.lotplan.proofs.Outputs.{printed, prints_as}
 use Rattle.lotplan.proofs.Readings.{IsReading, reading, same_reads}
 use Rattle.lotplan.proofs.Planned.{EndsSearch}
 use Rattle.lotplan.proofs.Planned as planned
-use Rattle.lotplan.proofs.Words.{IsPlanned}
 use Rattle.lotplan.proofs.Judged as judged
 use Rattle.lotplan.proofs.Checked as checked
 use Rattle.lotplan.proofs.Upgraded as upgraded
 use Rattle.lotplan.proofs.Bounded as bounded
+use Rattle.lotplan.proofs.Reported as reported
+use Rattle.lotplan.proofs.Generated as made
 
 -- ---- from what is said and printed to the run
 runs_as : (asked : Option Asked) (code : ℕ) (old new : Shelved) (out_old out_new : Printed) (said : Said) → SaysFor asked old new said → Ends (Ok said) code out_old out_new → RunsAs asked code old new out_old out_new
-runs_as None code old new out_old out_new said (same, says) done = (same, prints_as refused_line NoCommand said code out_old out_new says done)
+runs_as None code old new out_old out_new said (same, text, says) done = (same, text, prints_as text NoCommand said code out_old out_new says done)
 runs_as (Some version) code old new out_old out_new said (same, says) done = (same, prints_as version_line Done said code out_old out_new says done)
+runs_as (Some helping) code old new out_old out_new said (same, text, says) done = (same, text, prints_as text Done said code out_old out_new says done)
 runs_as (Some (planning m p c budget)) code old new out_old out_new said (answer, x, says) done = (answer, x, prints_as (plan_line answer) (plan_status answer) said code out_old out_new says done)
 runs_as (Some (judging m p)) code old new out_old out_new said ((answer, x, says), reads) done = (answer, x, reads, prints_as (judge_line answer) (judge_status answer) said code out_old out_new says done)
 runs_as (Some (checking m p c)) code old new out_old out_new said ((answer, x, says), reads) done = (answer, x, reads, prints_as (check_line answer) (check_status answer) said code out_old out_new says done)
+runs_as (Some (reporting m p)) code old new out_old out_new said ((answer, x, says), reads) done = (answer, x, reads, prints_as (report_line answer) (report_status answer) said code out_old out_new says done)
+runs_as (Some (generating seed items periods m)) code old new out_old out_new said (answer, x, says) done = (answer, x, prints_as (generate_line answer) (generate_status answer) said code out_old out_new says done)
+runs_as (Some (demonstrating seed)) code old new out_old out_new said (same, x) done = (same, x.0, x.1, prints_as x.0 Done said code out_old out_new x.2 done)
 runs_as (Some (upgrading m n)) code old new out_old out_new said (answer, x, says) done = (answer, x, prints_as (upgrade_line answer) (upgrade_status answer) said code out_old out_new says done)
 runs_as (Some (bounding m)) code old new out_old out_new said ((answer, x, says), reads) done = (answer, x, reads, prints_as (bound_line answer) (bound_status answer) said code out_old out_new says done)
 
@@ -49,24 +59,31 @@ is_run asked code old new out_old out_new (Err e) says left done = ran_out (reco
 
 -- ---- a run whose number is neither that of a failed print nor that of memory
 abbrev EndsAs : Option Asked → ℕ → Shelved → Shelved → Printed → Printed → Type 0
-EndsAs None code old new out_old out_new = (new ≡ old) × (code ≡ 4) × Gains refused_line out_old out_new
+EndsAs None code old new out_old out_new = (new ≡ old) × (code ≡ 4) × (text : List ℕ) × Gains text out_old out_new
 EndsAs (Some version) code old new out_old out_new = (new ≡ old) × (code ≡ 0)
+EndsAs (Some helping) code old new out_old out_new = (new ≡ old) × (code ≡ 0)
 EndsAs (Some (planning m p c budget)) code old new out_old out_new =
     (answer : PlanAnswer) × PlanExplains m p c budget old new answer × (code ≡ code_of (plan_status answer)) × Gains (plan_line answer) out_old out_new
 EndsAs (Some (judging m p)) code old new out_old out_new =
     (answer : JudgeAnswer) × JudgeExplains m p old new answer × OnlyReads old new × (code ≡ code_of (judge_status answer)) × Gains (judge_line answer) out_old out_new
 EndsAs (Some (checking m p c)) code old new out_old out_new =
     (answer : CheckAnswer) × CheckExplains m p c old new answer × OnlyReads old new × (code ≡ code_of (check_status answer)) × Gains (check_line answer) out_old out_new
+EndsAs (Some (reporting m p)) code old new out_old out_new =
+    (answer : ReportAnswer) × ReportExplains m p old new answer × OnlyReads old new × (code ≡ code_of (report_status answer)) × Gains (report_line answer) out_old out_new
+EndsAs (Some (generating seed items periods m)) code old new out_old out_new =
+    (answer : GenerateAnswer) × GenerateExplains seed items periods m old new answer × (code ≡ code_of (generate_status answer)) × Gains (generate_line answer) out_old out_new
+EndsAs (Some (demonstrating seed)) code old new out_old out_new = (new ≡ old) × (code ≡ 0) × Shows seed out_old out_new
 EndsAs (Some (upgrading m n)) code old new out_old out_new =
     (answer : UpgradeAnswer) × UpgradeExplains m n old new answer × (code ≡ code_of (upgrade_status answer)) × Gains (upgrade_line answer) out_old out_new
 EndsAs (Some (bounding m)) code old new out_old out_new =
     (answer : BoundAnswer) × BoundExplains m old new answer × OnlyReads old new × (code ≡ code_of (bound_status answer)) × Gains (bound_line answer) out_old out_new
 
 ends_by : (asked : Option Asked) (code : ℕ) (old new : Shelved) (out_old out_new : Printed) → RunsAs asked code old new out_old out_new → code ≢ 9 → EndsAs asked code old new out_old out_new
-ends_by None code old new out_old out_new x other =
-    let d = printed refused_line NoCommand code out_old out_new x.1 other in
-    (x.0, d.0, d.1)
+ends_by None code old new out_old out_new (same, text, x) other =
+    let d = printed text NoCommand code out_old out_new x other in
+    (same, d.0, text, d.1)
 ends_by (Some version) code old new out_old out_new x other = (x.0, (printed version_line Done code out_old out_new x.1 other).0)
+ends_by (Some helping) code old new out_old out_new (same, text, x) other = (same, (printed text Done code out_old out_new x other).0)
 ends_by (Some (planning m p c budget)) code old new out_old out_new (answer, x, done) other =
     let d = printed (plan_line answer) (plan_status answer) code out_old out_new done other in
     (answer, x, d.0, d.1)
@@ -76,6 +93,15 @@ ends_by (Some (judging m p)) code old new out_old out_new (answer, x, reads, don
 ends_by (Some (checking m p c)) code old new out_old out_new (answer, x, reads, done) other =
     let d = printed (check_line answer) (check_status answer) code out_old out_new done other in
     (answer, x, reads, d.0, d.1)
+ends_by (Some (reporting m p)) code old new out_old out_new (answer, x, reads, done) other =
+    let d = printed (report_line answer) (report_status answer) code out_old out_new done other in
+    (answer, x, reads, d.0, d.1)
+ends_by (Some (generating seed items periods m)) code old new out_old out_new (answer, x, done) other =
+    let d = printed (generate_line answer) (generate_status answer) code out_old out_new done other in
+    (answer, x, d.0, d.1)
+ends_by (Some (demonstrating seed)) code old new out_old out_new (same, text, shows, done) other =
+    let d = printed text Done code out_old out_new done other in
+    (same, d.0, record { text = text; shows = shows; line = d.1 })
 ends_by (Some (upgrading m n)) code old new out_old out_new (answer, x, done) other =
     let d = printed (upgrade_line answer) (upgrade_status answer) code out_old out_new done other in
     (answer, x, d.0, d.1)
@@ -147,13 +173,40 @@ bounds asked code old new out_old out_new run m is none t =
     let (answer, why, reads, number, line) = subst (λ a. EndsAs a code old new out_old out_new) is (ends asked code old new out_old out_new run (λ e. omega (arith, e, none)) (λ e. omega (arith, e, none))) in
     bounded.bounded_at m code old new out_old out_new answer why number line none t
 
+pub sums_up : (asked : Option Asked) (code : ℕ) (old new : Shelved) (out_old out_new : Printed) → IsRun asked code old new out_old out_new → (m p : List ℕ) → asked ≡ Some (reporting m p) → code ≡ 0 → IsTrue old.told → SumsUp old.file m p out_old out_new
+sums_up asked code old new out_old out_new run m p is none t =
+    let (answer, why, reads, number, line) = subst (λ a. EndsAs a code old new out_old out_new) is (ends asked code old new out_old out_new run (λ e. omega (arith, e, none)) (λ e. omega (arith, e, none))) in
+    reported.summed_at m p code old new out_old out_new answer why number line none t
+
+made_by : (asked : Option Asked) (code : ℕ) (old new : Shelved) (out_old out_new : Printed) (seed items periods : ℕ) (m : List ℕ) → asked ≡ Some (generating seed items periods m) → EndsAs asked code old new out_old out_new → code ≡ 0 → (IsTrue old.told → Generates new.file seed items periods m out_old out_new) × GrewBy 1 old.starts new.starts
+made_by asked code old new out_old out_new seed items periods m is x none =
+    let (answer, why, number, line) = subst (λ a. EndsAs a code old new out_old out_new) is x in
+    made.generated_at seed items periods m code old new out_old out_new answer why number line none
+
+pub generates : (asked : Option Asked) (code : ℕ) (old new : Shelved) (out_old out_new : Printed) → IsRun asked code old new out_old out_new → (seed items periods : ℕ) (m : List ℕ) → asked ≡ Some (generating seed items periods m) → code ≡ 0 → IsTrue old.told → Generates new.file seed items periods m out_old out_new
+generates asked code old new out_old out_new run seed items periods m is none t =
+    (made_by asked code old new out_old out_new seed items periods m is (ends asked code old new out_old out_new run (λ e. omega (arith, e, none)) (λ e. omega (arith, e, none))) none).0 t
+
+pub wrote_made : (asked : Option Asked) (code : ℕ) (old new : Shelved) (out_old out_new : Printed) → IsRun asked code old new out_old out_new → (seed items periods : ℕ) (m : List ℕ) → asked ≡ Some (generating seed items periods m) → code ≡ 0 → GrewBy 1 old.starts new.starts
+wrote_made asked code old new out_old out_new run seed items periods m is none =
+    (made_by asked code old new out_old out_new seed items periods m is (ends asked code old new out_old out_new run (λ e. omega (arith, e, none)) (λ e. omega (arith, e, none))) none).1
+
+pub shows : (asked : Option Asked) (code : ℕ) (old new : Shelved) (out_old out_new : Printed) → IsRun asked code old new out_old out_new → (seed : ℕ) → asked ≡ Some (demonstrating seed) → code ≡ 0 → Shows seed out_old out_new
+shows asked code old new out_old out_new run seed is none =
+    let (same, number, shown) = subst (λ a. EndsAs a code old new out_old out_new) is (ends asked code old new out_old out_new run (λ e. omega (arith, e, none)) (λ e. omega (arith, e, none))) in
+    shown
+
 infeasible_by : (asked : Option Asked) (code : ℕ) (old new : Shelved) (out_old out_new : Printed) → EndsAs asked code old new out_old out_new → code ≡ 1 → IsTrue old.told → IsInfeasible asked old.file new.file out_old out_new
 infeasible_by None code old new out_old out_new x one t = absurd (omega (arith, x.1, one))
 infeasible_by (Some version) code old new out_old out_new x one t = absurd (omega (arith, x.1, one))
+infeasible_by (Some helping) code old new out_old out_new x one t = absurd (omega (arith, x.1, one))
 infeasible_by (Some (planning m p c budget)) code old new out_old out_new (answer, why, number, line) one t =
     inl ((planned.impossible_at m p c budget code old new out_old out_new answer why number line one).0 t)
 infeasible_by (Some (judging m p)) code old new out_old out_new (answer, why, reads, number, line) one t = absurd ((judged.numbers answer code number).one one)
 infeasible_by (Some (checking m p c)) code old new out_old out_new (answer, why, reads, number, line) one t = absurd ((checked.numbers answer code number).one one)
+infeasible_by (Some (reporting m p)) code old new out_old out_new (answer, why, reads, number, line) one t = absurd ((reported.numbers answer code number).one one)
+infeasible_by (Some (generating seed items periods m)) code old new out_old out_new (answer, why, number, line) one t = absurd ((made.numbers answer code number).one one)
+infeasible_by (Some (demonstrating seed)) code old new out_old out_new x one t = absurd (omega (arith, x.1, one))
 infeasible_by (Some (upgrading m n)) code old new out_old out_new (answer, why, number, line) one t = absurd ((upgraded.numbers answer code number).one one)
 infeasible_by (Some (bounding m)) code old new out_old out_new (answer, why, reads, number, line) one t = inr (bounded.empty_at m code old new out_old out_new answer why number line one t)
 
@@ -163,9 +216,13 @@ infeasible asked code old new out_old out_new run is t = infeasible_by asked cod
 undecided_by : (asked : Option Asked) (code : ℕ) (old new : Shelved) (out_old out_new : Printed) → EndsAs asked code old new out_old out_new → code ≡ 2 → IsTrue old.told → LeavesUndecided asked old.file new.file out_old out_new
 undecided_by None code old new out_old out_new x two t = absurd (omega (arith, x.1, two))
 undecided_by (Some version) code old new out_old out_new x two t = absurd (omega (arith, x.1, two))
+undecided_by (Some helping) code old new out_old out_new x two t = absurd (omega (arith, x.1, two))
 undecided_by (Some (planning m p c budget)) code old new out_old out_new (answer, why, number, line) two t = inl ((planned.open_at m p c budget code old new out_old out_new answer why number line two).0 t)
 undecided_by (Some (judging m p)) code old new out_old out_new (answer, why, reads, number, line) two t = absurd ((judged.numbers answer code number).two two)
 undecided_by (Some (checking m p c)) code old new out_old out_new (answer, why, reads, number, line) two t = absurd ((checked.numbers answer code number).two two)
+undecided_by (Some (reporting m p)) code old new out_old out_new (answer, why, reads, number, line) two t = absurd ((reported.numbers answer code number).two two)
+undecided_by (Some (generating seed items periods m)) code old new out_old out_new (answer, why, number, line) two t = absurd ((made.numbers answer code number).two two)
+undecided_by (Some (demonstrating seed)) code old new out_old out_new x two t = absurd (omega (arith, x.1, two))
 undecided_by (Some (upgrading m n)) code old new out_old out_new (answer, why, number, line) two t = absurd ((upgraded.numbers answer code number).two two)
 undecided_by (Some (bounding m)) code old new out_old out_new (answer, why, reads, number, line) two t = inr (bounded.undecided_at m code old new out_old out_new answer why number line two t)
 
@@ -175,9 +232,13 @@ undecided asked code old new out_old out_new run is t = undecided_by asked code 
 faulty_by : (asked : Option Asked) (code : ℕ) (old new : Shelved) (out_old out_new : Printed) → EndsAs asked code old new out_old out_new → code ≡ 3 → IsTrue old.told → IsFaulty asked old.file out_old out_new
 faulty_by None code old new out_old out_new x three t = absurd (omega (arith, x.1, three))
 faulty_by (Some version) code old new out_old out_new x three t = absurd (omega (arith, x.1, three))
+faulty_by (Some helping) code old new out_old out_new x three t = absurd (omega (arith, x.1, three))
 faulty_by (Some (planning m p c budget)) code old new out_old out_new (answer, why, number, line) three t = absurd ((planned.numbers answer code number).three three)
-faulty_by (Some (judging m p)) code old new out_old out_new (answer, why, reads, number, line) three t = inl (judged.fault_at m p code old new out_old out_new answer why number line three t)
+faulty_by (Some (judging m p)) code old new out_old out_new (answer, why, reads, number, line) three t = inl (judged.fault_at (Some (judging m p)) m p code old new out_old out_new answer (record { is = inl refl }) why number line three t)
 faulty_by (Some (checking m p c)) code old new out_old out_new (answer, why, reads, number, line) three t = inr (checked.refused_at m p c code old new out_old out_new answer why number line three t)
+faulty_by (Some (reporting m p)) code old new out_old out_new (answer, why, reads, number, line) three t = inl (reported.fault_at m p code old new out_old out_new answer why number line three t)
+faulty_by (Some (generating seed items periods m)) code old new out_old out_new (answer, why, number, line) three t = absurd ((made.numbers answer code number).three three)
+faulty_by (Some (demonstrating seed)) code old new out_old out_new x three t = absurd (omega (arith, x.1, three))
 faulty_by (Some (upgrading m n)) code old new out_old out_new (answer, why, number, line) three t = absurd ((upgraded.numbers answer code number).three three)
 faulty_by (Some (bounding m)) code old new out_old out_new (answer, why, reads, number, line) three t = absurd ((bounded.numbers answer code number).three three)
 
@@ -187,10 +248,14 @@ faulty asked code old new out_old out_new run is t = faulty_by asked code old ne
 unwritten_by : (asked : Option Asked) (code : ℕ) (old new : Shelved) (out_old out_new : Printed) → EndsAs asked code old new out_old out_new → code ≡ 8 → CannotWrite asked old new out_old out_new
 unwritten_by None code old new out_old out_new x eight = absurd (omega (arith, x.1, eight))
 unwritten_by (Some version) code old new out_old out_new x eight = absurd (omega (arith, x.1, eight))
+unwritten_by (Some helping) code old new out_old out_new x eight = absurd (omega (arith, x.1, eight))
 unwritten_by (Some (planning m p c budget)) code old new out_old out_new (answer, why, number, line) eight = inl (planned.unwritten_at m p c budget code old new out_old out_new answer why number line eight)
 unwritten_by (Some (judging m p)) code old new out_old out_new (answer, why, reads, number, line) eight = absurd ((judged.numbers answer code number).eight eight)
 unwritten_by (Some (checking m p c)) code old new out_old out_new (answer, why, reads, number, line) eight = absurd ((checked.numbers answer code number).eight eight)
-unwritten_by (Some (upgrading m n)) code old new out_old out_new (answer, why, number, line) eight = inr (upgraded.unwritten_at m n code old new out_old out_new answer why number line eight)
+unwritten_by (Some (reporting m p)) code old new out_old out_new (answer, why, reads, number, line) eight = absurd ((reported.numbers answer code number).eight eight)
+unwritten_by (Some (generating seed items periods m)) code old new out_old out_new (answer, why, number, line) eight = inr (inr (made.unwritten_at seed items periods m code old new out_old out_new answer why number line eight))
+unwritten_by (Some (demonstrating seed)) code old new out_old out_new x eight = absurd (omega (arith, x.1, eight))
+unwritten_by (Some (upgrading m n)) code old new out_old out_new (answer, why, number, line) eight = inr (inl (upgraded.unwritten_at m n code old new out_old out_new answer why number line eight))
 unwritten_by (Some (bounding m)) code old new out_old out_new (answer, why, reads, number, line) eight = absurd ((bounded.numbers answer code number).eight eight)
 
 pub unwritten : (asked : Option Asked) (code : ℕ) (old new : Shelved) (out_old out_new : Printed) → IsRun asked code old new out_old out_new → code ≡ 8 → CannotWrite asked old new out_old out_new
@@ -202,17 +267,31 @@ judge_not_four (judge.no_plan fault) code is four = absurd (omega (arith, is, fo
 judge_not_four (judge.broken rule) code is four = absurd (omega (arith, is, four))
 judge_not_four (judge.stopped why) code is four = absurd (omega (arith, (reading why code is).low, four))
 
+report_not_four : {A : Type 0} (answer : ReportAnswer) (code : ℕ) → code ≡ code_of (report_status answer) → code ≡ 4 → A
+report_not_four (report.summed text) code is four = absurd (omega (arith, is, four))
+report_not_four (report.judged answer) code is four = judge_not_four answer code is four
+
 no_command_by : (asked : Option Asked) (code : ℕ) (old new : Shelved) (out_old out_new : Printed) → EndsAs asked code old new out_old out_new → code ≡ 4 → IsNoCommand asked out_old out_new
-no_command_by None code old new out_old out_new x four = record { is = refl; line = x.2 }
+no_command_by None code old new out_old out_new (same, number, text, line) four = record { is = refl; text = text; line = line }
 no_command_by (Some version) code old new out_old out_new x four = absurd (omega (arith, x.1, four))
+no_command_by (Some helping) code old new out_old out_new x four = absurd (omega (arith, x.1, four))
 no_command_by (Some (planning m p c budget)) code old new out_old out_new (answer, why, number, line) four = absurd ((planned.numbers answer code number).four four)
 no_command_by (Some (judging m p)) code old new out_old out_new (answer, why, reads, number, line) four = judge_not_four answer code number four
 no_command_by (Some (checking m p c)) code old new out_old out_new (answer, why, reads, number, line) four = absurd ((checked.numbers answer code number).four four)
+no_command_by (Some (reporting m p)) code old new out_old out_new (answer, why, reads, number, line) four = report_not_four answer code number four
+no_command_by (Some (generating seed items periods m)) code old new out_old out_new (answer, why, number, line) four = absurd ((made.numbers answer code number).four four)
+no_command_by (Some (demonstrating seed)) code old new out_old out_new x four = absurd (omega (arith, x.1, four))
 no_command_by (Some (upgrading m n)) code old new out_old out_new (answer, why, number, line) four = absurd ((upgraded.numbers answer code number).four four)
 no_command_by (Some (bounding m)) code old new out_old out_new (answer, why, reads, number, line) four = absurd ((bounded.numbers answer code number).four four)
 
 pub no_command : (asked : Option Asked) (code : ℕ) (old new : Shelved) (out_old out_new : Printed) → IsRun asked code old new out_old out_new → code ≡ 4 → IsNoCommand asked out_old out_new
 no_command asked code old new out_old out_new run is = no_command_by asked code old new out_old out_new (ends asked code old new out_old out_new run (λ e. omega (arith, e, is)) (λ e. omega (arith, e, is))) is
+
+-- words that the parse takes and that are no command are refused by this line
+pub refused_words : (asked : Option Asked) (words : List (List ℕ)) (code : ℕ) (old new : Shelved) (out_old out_new : Printed) (r : Result Said AllocError) → IsRun asked code old new out_old out_new → (asked ≡ None → AreTaken words → IfOk r (IsSaid refused_line NoCommand)) → Ends r code out_old out_new → code ≡ 4 → AreTaken words → Gains refused_line out_old out_new
+refused_words asked words code old new out_old out_new (Ok said) run says done four taken =
+    (printed refused_line NoCommand code out_old out_new (prints_as refused_line NoCommand said code out_old out_new (says (no_command asked code old new out_old out_new run four).is taken) done) (λ e. omega (arith, e, four))).1
+refused_words asked words code old new out_old out_new (Err e) run says done four taken = absurd (omega (arith, done.0, four))
 
 -- ---- files that give nothing to go on with
 abbrev SomeStop : Option Asked → ℕ → Shelved → Shelved → Printed → Printed → Type 0
@@ -239,6 +318,17 @@ check_stop m p c code old new out_old out_new (check.no_plan fault) x is line r 
 check_stop m p c code old new out_old out_new (check.rejected at w) x is line r = absurd (omega (arith, is, r.low))
 check_stop m p c code old new out_old out_new (check.stopped w) x is line r = (w, record { cause = x; line = line }, is)
 
+report_stop : (m p : List ℕ) (code : ℕ) (old new : Shelved) (out_old out_new : Printed) (answer : ReportAnswer) → ReportExplains m p old new answer → code ≡ code_of (report_status answer) → Gains (report_line answer) out_old out_new → IsReading code → SomeStop (Some (reporting m p)) code old new out_old out_new
+report_stop m p code old new out_old out_new (report.summed text) x is line r = absurd (omega (arith, is, r.low))
+report_stop m p code old new out_old out_new (report.judged (judge.feasible amount)) x is line r = absurd x.0
+report_stop m p code old new out_old out_new (report.judged (judge.no_plan fault)) x is line r = absurd (omega (arith, is, r.low))
+report_stop m p code old new out_old out_new (report.judged (judge.broken rule)) x is line r = absurd (omega (arith, is, r.low))
+report_stop m p code old new out_old out_new (report.judged (judge.stopped why)) x is line r = (why, record { cause = x.1; line = line }, is)
+
+generate_stop : {A : Type 0} (answer : GenerateAnswer) (code : ℕ) → code ≡ code_of (generate_status answer) → IsReading code → A
+generate_stop (generate.written file) code is r = absurd (omega (arith, is, r.low))
+generate_stop (generate.unwritten file) code is r = absurd (r.other is)
+
 upgrade_stop : (m n : List ℕ) (code : ℕ) (old new : Shelved) (out_old out_new : Printed) (answer : UpgradeAnswer) → UpgradeExplains m n old new answer → code ≡ code_of (upgrade_status answer) → Gains (upgrade_line answer) out_old out_new → IsReading code → SomeStop (Some (upgrading m n)) code old new out_old out_new
 upgrade_stop m n code old new out_old out_new (upgrade.written file) x is line r = absurd (omega (arith, is, r.low))
 upgrade_stop m n code old new out_old out_new (upgrade.unwritten file) x is line r = absurd (r.other is)
@@ -254,9 +344,13 @@ bound_stop m code old new out_old out_new (bound.stopped why) x is line r = (why
 stop_by : (asked : Option Asked) (code : ℕ) (old new : Shelved) (out_old out_new : Printed) → EndsAs asked code old new out_old out_new → IsReading code → SomeStop asked code old new out_old out_new
 stop_by None code old new out_old out_new x r = absurd (omega (arith, x.1, r.low))
 stop_by (Some version) code old new out_old out_new x r = absurd (omega (arith, x.1, r.low))
+stop_by (Some helping) code old new out_old out_new x r = absurd (omega (arith, x.1, r.low))
 stop_by (Some (planning m p c budget)) code old new out_old out_new (answer, why, number, line) r = plan_stop m p c budget code old new out_old out_new answer why number line r
 stop_by (Some (judging m p)) code old new out_old out_new (answer, why, reads, number, line) r = judge_stop m p code old new out_old out_new answer why number line r
 stop_by (Some (checking m p c)) code old new out_old out_new (answer, why, reads, number, line) r = check_stop m p c code old new out_old out_new answer why number line r
+stop_by (Some (reporting m p)) code old new out_old out_new (answer, why, reads, number, line) r = report_stop m p code old new out_old out_new answer why number line r
+stop_by (Some (generating seed items periods m)) code old new out_old out_new (answer, why, number, line) r = generate_stop answer code number r
+stop_by (Some (demonstrating seed)) code old new out_old out_new x r = absurd (omega (arith, x.1, r.low))
 stop_by (Some (upgrading m n)) code old new out_old out_new (answer, why, number, line) r = upgrade_stop m n code old new out_old out_new answer why number line r
 stop_by (Some (bounding m)) code old new out_old out_new (answer, why, reads, number, line) r = bound_stop m code old new out_old out_new answer why number line r
 
@@ -331,6 +425,14 @@ check_shown (check.no_plan fault) = record { nine = λ e. omega (arith, e); ten 
 check_shown (check.rejected at w) = record { nine = λ e. omega (arith, e); ten = λ e. omega (arith, e) }
 check_shown (check.stopped w) = read_shown w
 
+report_shown : (answer : ReportAnswer) → IsShown (code_of (report_status answer))
+report_shown (report.summed text) = record { nine = λ e. omega (arith, e); ten = λ e. omega (arith, e) }
+report_shown (report.judged answer) = judge_shown answer
+
+generate_shown : (answer : GenerateAnswer) → IsShown (code_of (generate_status answer))
+generate_shown (generate.written file) = record { nine = λ e. omega (arith, e); ten = λ e. omega (arith, e) }
+generate_shown (generate.unwritten file) = record { nine = λ e. omega (arith, e); ten = λ e. omega (arith, e) }
+
 upgrade_shown : (answer : UpgradeAnswer) → IsShown (code_of (upgrade_status answer))
 upgrade_shown (upgrade.written file) = record { nine = λ e. omega (arith, e); ten = λ e. omega (arith, e) }
 upgrade_shown (upgrade.unwritten file) = record { nine = λ e. omega (arith, e); ten = λ e. omega (arith, e) }
@@ -355,11 +457,15 @@ print_of text ending code old new shown done = ⊎_elim
     done
 
 print_by : (asked : Option Asked) (code : ℕ) (old new : Shelved) (out_old out_new : Printed) → RunsAs asked code old new out_old out_new → IsPrint code out_old out_new
-print_by None code old new out_old out_new x = print_of refused_line NoCommand code out_old out_new (record { nine = λ e. omega (arith, e); ten = λ e. omega (arith, e) }) x.1
+print_by None code old new out_old out_new (same, text, done) = print_of text NoCommand code out_old out_new (record { nine = λ e. omega (arith, e); ten = λ e. omega (arith, e) }) done
 print_by (Some version) code old new out_old out_new x = print_of version_line Done code out_old out_new (record { nine = λ e. omega (arith, e); ten = λ e. omega (arith, e) }) x.1
+print_by (Some helping) code old new out_old out_new (same, text, done) = print_of text Done code out_old out_new (record { nine = λ e. omega (arith, e); ten = λ e. omega (arith, e) }) done
 print_by (Some (planning m p c budget)) code old new out_old out_new (answer, x, done) = print_of (plan_line answer) (plan_status answer) code out_old out_new (plan_shown answer) done
 print_by (Some (judging m p)) code old new out_old out_new (answer, x, reads, done) = print_of (judge_line answer) (judge_status answer) code out_old out_new (judge_shown answer) done
 print_by (Some (checking m p c)) code old new out_old out_new (answer, x, reads, done) = print_of (check_line answer) (check_status answer) code out_old out_new (check_shown answer) done
+print_by (Some (reporting m p)) code old new out_old out_new (answer, x, reads, done) = print_of (report_line answer) (report_status answer) code out_old out_new (report_shown answer) done
+print_by (Some (generating seed items periods m)) code old new out_old out_new (answer, x, done) = print_of (generate_line answer) (generate_status answer) code out_old out_new (generate_shown answer) done
+print_by (Some (demonstrating seed)) code old new out_old out_new (same, text, shown, done) = print_of text Done code out_old out_new (record { nine = λ e. omega (arith, e); ten = λ e. omega (arith, e) }) done
 print_by (Some (upgrading m n)) code old new out_old out_new (answer, x, done) = print_of (upgrade_line answer) (upgrade_status answer) code out_old out_new (upgrade_shown answer) done
 print_by (Some (bounding m)) code old new out_old out_new (answer, x, reads, done) = print_of (bound_line answer) (bound_status answer) code out_old out_new (bound_shown answer) done
 
@@ -375,18 +481,40 @@ silent asked code old new out_old out_new (runs x) ten = absurd ((print_by asked
 leaves_reads : (asked : Option Asked) (old new : Shelved) → Leaves asked old new → OnlyReads old new
 leaves_reads None old new x = same_reads old new x
 leaves_reads (Some version) old new x = same_reads old new x
+leaves_reads (Some helping) old new x = same_reads old new x
 leaves_reads (Some (planning m p c budget)) old new x = x
 leaves_reads (Some (judging m p)) old new x = x
 leaves_reads (Some (checking m p c)) old new x = x
+leaves_reads (Some (reporting m p)) old new x = x
+leaves_reads (Some (generating seed items periods m)) old new x = same_reads old new x
+leaves_reads (Some (demonstrating seed)) old new x = same_reads old new x
 leaves_reads (Some (upgrading m n)) old new x = x
 leaves_reads (Some (bounding m)) old new x = x
+
+-- nothing is left changed, whatever is asked
+pub leaves_same : (asked : Option Asked) (old : Shelved) → Leaves asked old old
+leaves_same None old = refl
+leaves_same (Some version) old = refl
+leaves_same (Some helping) old = refl
+leaves_same (Some (planning m p c budget)) old = same_reads old old refl
+leaves_same (Some (judging m p)) old = same_reads old old refl
+leaves_same (Some (checking m p c)) old = same_reads old old refl
+leaves_same (Some (reporting m p)) old = same_reads old old refl
+leaves_same (Some (generating seed items periods m)) old = refl
+leaves_same (Some (demonstrating seed)) old = refl
+leaves_same (Some (upgrading m n)) old = same_reads old old refl
+leaves_same (Some (bounding m)) old = same_reads old old refl
 
 quiet_by : (asked : Option Asked) (code : ℕ) (old new : Shelved) (out_old out_new : Printed) → EndsAs asked code old new out_old out_new → code ≢ 0 → code ≢ 1 → code ≢ 2 → code ≢ 8 → OnlyReads old new
 quiet_by None code old new out_old out_new x some one two eight = same_reads old new x.0
 quiet_by (Some version) code old new out_old out_new x some one two eight = same_reads old new x.0
+quiet_by (Some helping) code old new out_old out_new x some one two eight = same_reads old new x.0
 quiet_by (Some (planning m p c budget)) code old new out_old out_new (answer, why, number, line) some one two eight = planned.quiet_at m p c budget code old new answer why number some one two eight
 quiet_by (Some (judging m p)) code old new out_old out_new (answer, why, reads, number, line) some one two eight = reads
 quiet_by (Some (checking m p c)) code old new out_old out_new (answer, why, reads, number, line) some one two eight = reads
+quiet_by (Some (reporting m p)) code old new out_old out_new (answer, why, reads, number, line) some one two eight = reads
+quiet_by (Some (generating seed items periods m)) code old new out_old out_new (answer, why, number, line) some one two eight = made.quiet_at seed items periods m code old new answer why number some eight
+quiet_by (Some (demonstrating seed)) code old new out_old out_new x some one two eight = same_reads old new x.0
 quiet_by (Some (upgrading m n)) code old new out_old out_new (answer, why, number, line) some one two eight = upgraded.quiet_at m n code old new answer why number some eight
 quiet_by (Some (bounding m)) code old new out_old out_new (answer, why, reads, number, line) some one two eight = reads
 
@@ -408,6 +536,13 @@ new_by code old new out_old out_new m n (runs (answer, x, done)) = (upgraded.oth
 pub upgrade_others : (asked : Option Asked) (code : ℕ) (old new : Shelved) (out_old out_new : Printed) → IsRun asked code old new out_old out_new → (m n : List ℕ) → asked ≡ Some (upgrading m n) → StartsAtMost n old new
 upgrade_others asked code old new out_old out_new run m n is = new_by code old new out_old out_new m n (subst (λ a. IsRun a code old new out_old out_new) is run)
 
+made_others_by : (code : ℕ) (old new : Shelved) (out_old out_new : Printed) (seed items periods : ℕ) (m : List ℕ) → IsRun (Some (generating seed items periods m)) code old new out_old out_new → StartsAtMost m old new
+made_others_by code old new out_old out_new seed items periods m (ran_out x) = planned.reads_at_most m old new (same_reads old new x.left)
+made_others_by code old new out_old out_new seed items periods m (runs (answer, x, done)) = (made.others_at seed items periods m code old new answer x).0
+
+pub generate_others : (asked : Option Asked) (code : ℕ) (old new : Shelved) (out_old out_new : Printed) → IsRun asked code old new out_old out_new → (seed items periods : ℕ) (m : List ℕ) → asked ≡ Some (generating seed items periods m) → StartsAtMost m old new
+generate_others asked code old new out_old out_new run seed items periods m is = made_others_by code old new out_old out_new seed items periods m (subst (λ a. IsRun a code old new out_old out_new) is run)
+
 judging_by : (code : ℕ) (old new : Shelved) (out_old out_new : Printed) (m p : List ℕ) → IsRun (Some (judging m p)) code old new out_old out_new → OnlyReads old new
 judging_by code old new out_old out_new m p (ran_out x) = x.left
 judging_by code old new out_old out_new m p (runs (answer, x, reads, done)) = reads
@@ -422,6 +557,13 @@ checking_by code old new out_old out_new m p c (runs (answer, x, reads, done)) =
 pub check_reads : (asked : Option Asked) (code : ℕ) (old new : Shelved) (out_old out_new : Printed) → IsRun asked code old new out_old out_new → (m p c : List ℕ) → asked ≡ Some (checking m p c) → OnlyReads old new
 check_reads asked code old new out_old out_new run m p c is = checking_by code old new out_old out_new m p c (subst (λ a. IsRun a code old new out_old out_new) is run)
 
+reporting_by : (code : ℕ) (old new : Shelved) (out_old out_new : Printed) (m p : List ℕ) → IsRun (Some (reporting m p)) code old new out_old out_new → OnlyReads old new
+reporting_by code old new out_old out_new m p (ran_out x) = x.left
+reporting_by code old new out_old out_new m p (runs (answer, x, reads, done)) = reads
+
+pub report_reads : (asked : Option Asked) (code : ℕ) (old new : Shelved) (out_old out_new : Printed) → IsRun asked code old new out_old out_new → (m p : List ℕ) → asked ≡ Some (reporting m p) → OnlyReads old new
+report_reads asked code old new out_old out_new run m p is = reporting_by code old new out_old out_new m p (subst (λ a. IsRun a code old new out_old out_new) is run)
+
 bounding_by : (code : ℕ) (old new : Shelved) (out_old out_new : Printed) (m : List ℕ) → IsRun (Some (bounding m)) code old new out_old out_new → OnlyReads old new
 bounding_by code old new out_old out_new m (ran_out x) = x.left
 bounding_by code old new out_old out_new m (runs (answer, x, reads, done)) = reads
@@ -429,19 +571,46 @@ bounding_by code old new out_old out_new m (runs (answer, x, reads, done)) = rea
 pub bound_reads : (asked : Option Asked) (code : ℕ) (old new : Shelved) (out_old out_new : Printed) → IsRun asked code old new out_old out_new → (m : List ℕ) → asked ≡ Some (bounding m) → OnlyReads old new
 bound_reads asked code old new out_old out_new run m is = bounding_by code old new out_old out_new m (subst (λ a. IsRun a code old new out_old out_new) is run)
 
-idle_by : (code : ℕ) (old new : Shelved) (out_old out_new : Printed) → IsRun None code old new out_old out_new → new ≡ old
-idle_by code old new out_old out_new (ran_out x) = x.left
-idle_by code old new out_old out_new (runs x) = x.0
+idle_by : (asked : Option Asked) (code : ℕ) (old new : Shelved) (out_old out_new : Printed) → RunsAs asked code old new out_old out_new → IsIdle asked → new ≡ old
+idle_by None code old new out_old out_new x is = x.0
+idle_by (Some version) code old new out_old out_new x is = x.0
+idle_by (Some helping) code old new out_old out_new x is = x.0
+idle_by (Some (planning m p c budget)) code old new out_old out_new x is = absurd is
+idle_by (Some (judging m p)) code old new out_old out_new x is = absurd is
+idle_by (Some (checking m p c)) code old new out_old out_new x is = absurd is
+idle_by (Some (reporting m p)) code old new out_old out_new x is = absurd is
+idle_by (Some (generating seed items periods m)) code old new out_old out_new x is = absurd is
+idle_by (Some (demonstrating seed)) code old new out_old out_new x is = x.0
+idle_by (Some (upgrading m n)) code old new out_old out_new x is = absurd is
+idle_by (Some (bounding m)) code old new out_old out_new x is = absurd is
 
-pub idle : (asked : Option Asked) (code : ℕ) (old new : Shelved) (out_old out_new : Printed) → IsRun asked code old new out_old out_new → asked ≡ None → new ≡ old
-idle asked code old new out_old out_new run is = idle_by code old new out_old out_new (subst (λ a. IsRun a code old new out_old out_new) is run)
+idle_left : (asked : Option Asked) (old new : Shelved) → Leaves asked old new → IsIdle asked → new ≡ old
+idle_left None old new x is = x
+idle_left (Some version) old new x is = x
+idle_left (Some helping) old new x is = x
+idle_left (Some (planning m p c budget)) old new x is = absurd is
+idle_left (Some (judging m p)) old new x is = absurd is
+idle_left (Some (checking m p c)) old new x is = absurd is
+idle_left (Some (reporting m p)) old new x is = absurd is
+idle_left (Some (generating seed items periods m)) old new x is = absurd is
+idle_left (Some (demonstrating seed)) old new x is = x
+idle_left (Some (upgrading m n)) old new x is = absurd is
+idle_left (Some (bounding m)) old new x is = absurd is
+
+pub idle : (asked : Option Asked) (code : ℕ) (old new : Shelved) (out_old out_new : Printed) → IsRun asked code old new out_old out_new → IsIdle asked → new ≡ old
+idle asked code old new out_old out_new (ran_out x) is = idle_left asked old new x.left is
+idle asked code old new out_old out_new (runs x) is = idle_by asked code old new out_old out_new x is
 
 told_by : (asked : Option Asked) (code : ℕ) (old new : Shelved) (out_old out_new : Printed) → RunsAs asked code old new out_old out_new → new.told ≡ old.told
 told_by None code old new out_old out_new x = (same_reads old new x.0).told
 told_by (Some version) code old new out_old out_new x = (same_reads old new x.0).told
+told_by (Some helping) code old new out_old out_new x = (same_reads old new x.0).told
 told_by (Some (planning m p c budget)) code old new out_old out_new (answer, x, done) = (planned.others_at p c old new m budget answer x).1
 told_by (Some (judging m p)) code old new out_old out_new (answer, x, reads, done) = reads.told
 told_by (Some (checking m p c)) code old new out_old out_new (answer, x, reads, done) = reads.told
+told_by (Some (reporting m p)) code old new out_old out_new (answer, x, reads, done) = reads.told
+told_by (Some (generating seed items periods m)) code old new out_old out_new (answer, x, done) = (made.others_at seed items periods m code old new answer x).1
+told_by (Some (demonstrating seed)) code old new out_old out_new x = (same_reads old new x.0).told
 told_by (Some (upgrading m n)) code old new out_old out_new (answer, x, done) = (upgraded.others_at m n old new answer x).1
 told_by (Some (bounding m)) code old new out_old out_new (answer, x, reads, done) = reads.told
 
@@ -453,9 +622,13 @@ tells asked code old new out_old out_new (runs x) = told_by asked code old new o
 called_by : (asked : Option Asked) (code : ℕ) (old new : Shelved) (out_old out_new : Printed) → HadNoFault old new out_old out_new → IsTrue old.told → EndsAs asked code old new out_old out_new → CallFor asked old.file code
 called_by None code old new out_old out_new fine t x = x.1
 called_by (Some version) code old new out_old out_new fine t x = x.1
+called_by (Some helping) code old new out_old out_new fine t x = x.1
 called_by (Some (planning m p c budget)) code old new out_old out_new fine t (answer, x, number, line) = planned.called_at m budget code old p c new out_old out_new fine t answer x number
 called_by (Some (judging m p)) code old new out_old out_new fine t (answer, x, reads, number, line) = judged.called_at m p code old new out_old out_new fine t answer x number
 called_by (Some (checking m p c)) code old new out_old out_new fine t (answer, x, reads, number, line) = checked.called_at m p c code old new out_old out_new fine t answer x number
+called_by (Some (reporting m p)) code old new out_old out_new fine t (answer, x, reads, number, line) = reported.called_at m p code old new out_old out_new fine t answer x number
+called_by (Some (generating seed items periods m)) code old new out_old out_new fine t (answer, x, number, line) = made.called_at seed items periods m code old new out_old out_new fine answer x number
+called_by (Some (demonstrating seed)) code old new out_old out_new fine t x = x.1
 called_by (Some (upgrading m n)) code old new out_old out_new fine t (answer, x, number, line) = upgraded.called_at m n code old new out_old out_new fine t answer x number
 called_by (Some (bounding m)) code old new out_old out_new fine t (answer, x, reads, number, line) = bounded.called_at m code old new out_old out_new fine t answer x number
 
@@ -475,6 +648,6 @@ checks_by one asked code old new out_old out_new m p c budget apart is x done t 
     let zero : CallFor (Some (checking m p c)) new.file 0 = checked.accepted_called m p c 0 new claim all refl in
     record { zero = zero; alone = λ status calls. ⊎_elim (λ same. same) (λ may. absurd may) (one (Some (checking m p c)) new.file status 0 calls zero) }
 
-pub checks : StatusesAreOne → (asked : Option Asked) (code : ℕ) (old new : Shelved) (out_old out_new : Printed) → ((m p c : List ℕ) (budget : ℕ) → asked ≡ Some (planning m p c budget) → IsPlanned m p c budget) → IsRun asked code old new out_old out_new → (m p c : List ℕ) (budget : ℕ) → asked ≡ Some (planning m p c budget) → EndsSearch code → IsTrue old.told → CallsForZero new.file m p c
-checks one asked code old new out_old out_new planned_as run m p c budget is done t =
-    checks_by one asked code old new out_old out_new m p c budget (planned_as m p c budget is).apart is (ends asked code old new out_old out_new run (neither code 10 (omega arith) done) (neither code 9 (omega arith) done)) done t
+pub checks : StatusesAreOne → (asked : Option Asked) (code : ℕ) (old new : Shelved) (out_old out_new : Printed) → ((a : Asked) → asked ≡ Some a → IsAllowed a) → IsRun asked code old new out_old out_new → (m p c : List ℕ) (budget : ℕ) → asked ≡ Some (planning m p c budget) → EndsSearch code → IsTrue old.told → CallsForZero new.file m p c
+checks one asked code old new out_old out_new allowed run m p c budget is done t =
+    checks_by one asked code old new out_old out_new m p c budget (allowed (planning m p c budget) is).apart is (ends asked code old new out_old out_new run (neither code 10 (omega arith) done) (neither code 9 (omega arith) done)) done t

@@ -1,15 +1,15 @@
 -- What `judge` leaves, by its answer.
-use Rattle.std.proofs.Common.{◌≡◌, ⊎_elim, ℕ, List, Option, Some, IsTrue, inl, inr, refl, sym, subst}
+use Rattle.std.proofs.Common.{◌≡◌, ⊎_elim, ℕ, List, Option, Some, IsTrue, inl, inr, sym, subst}
 use Rattle.std.proofs.Common.{arith}
 use Rattle.std.specs.Prelude.{Result, Ok, Err, IfOk}
 use Rattle.std.specs.declared.alloc.AllocError.{AllocError}
 use Rattle.lot_io.specs.Outside.{Files, OnlyReads, Printed, Shelved}
 use Rattle.lot_sizing.specs.Problem.{Problem}
 use Rattle.lotplan.specs.declared.said.Said.{Said}
-use Rattle.lotplan.specs.Command.{judging}
+use Rattle.command_line.specs.Words.{Asked}
 use Rattle.lotplan.specs.Status.{code_of}
 use Rattle.lotplan.specs.Reading.{FileExplains, HoldsProblem, ModelExplains, OfFile, ReadAnswer, refused, missing, unread, too_long, read_line, read_status}
-use Rattle.lotplan.specs.Judging.{JudgeAnswer, feasible, no_plan, broken, stopped, judge_line, judge_status, BytesAre, BytesSay, FindsFault, FindsFeasible, JudgeCallsFor, JudgeExplains, JudgeSays, PlanCallsFor, PlanFileExplains, PlanFileSays}
+use Rattle.lotplan.specs.Judging.{JudgeAnswer, feasible, no_plan, broken, stopped, judge_line, judge_status, BytesAre, BytesSay, FindsFault, FindsFeasible, JudgeCallsFor, JudgeExplains, JudgeSays, PlanCallsFor, IsJudged, PlanFileExplains, PlanFileSays}
 use Rattle.lotplan.specs.Saying.{Gains, IsSaid}
 use Rattle.lotplan.specs.Run.{HadNoFault}
 use Rattle.lotplan.proofs.Readings.{reading, stops_after}
@@ -20,7 +20,7 @@ says_one problem bytes answer (Ok said) x says = (answer, x, says)
 says_one problem bytes answer (Err e) x says = tt
 
 -- ---- from the bytes to the plan file
-bytes_in_file : (problem : Problem) (p : List ℕ) (old new : Shelved) (bytes : List ℕ) (answer : JudgeAnswer) → (IsTrue old.told → OfFile old.file p (λ found. found ≡ bytes)) → BytesAre problem answer bytes → PlanFileExplains problem p old new answer
+pub bytes_in_file : (problem : Problem) (p : List ℕ) (old new : Shelved) (bytes : List ℕ) (answer : JudgeAnswer) → (IsTrue old.told → OfFile old.file p (λ found. found ≡ bytes)) → BytesAre problem answer bytes → PlanFileExplains problem p old new answer
 bytes_in_file problem p old new bytes (feasible amount) read x = λ t. let h = read t in (h.0, h.1, h.2, subst (λ b. BytesAre problem (feasible amount) b) (sym h.3) x)
 bytes_in_file problem p old new bytes (no_plan fault) read x = λ t. let h = read t in (h.0, h.1, h.2, subst (λ b. BytesAre problem (no_plan fault) b) (sym h.3) x)
 bytes_in_file problem p old new bytes (broken rule) read x = λ t. let h = read t in (h.0, h.1, h.2, subst (λ b. BytesAre problem (broken rule) b) (sym h.3) x)
@@ -35,7 +35,7 @@ says_no_bytes problem p old new why (Ok said) x says = (stopped why, x, says)
 says_no_bytes problem p old new why (Err e) x says = tt
 
 -- ---- and to both files
-judge_after : (m p : List ℕ) (problem : Problem) (old mid new : Shelved) (answer : JudgeAnswer) → (IsTrue old.told → HoldsProblem old.file m problem) → OnlyReads old mid → PlanFileExplains problem p mid new answer → JudgeExplains m p old new answer
+pub judge_after : (m p : List ℕ) (problem : Problem) (old mid new : Shelved) (answer : JudgeAnswer) → (IsTrue old.told → HoldsProblem old.file m problem) → OnlyReads old mid → PlanFileExplains problem p mid new answer → JudgeExplains m p old new answer
 judge_after m p problem old mid new (feasible amount) holds reads x = λ t. (problem, holds t, subst (λ (f : Files). OfFile f p (BytesAre problem (feasible amount))) reads.files (x (subst IsTrue (sym reads.told) t)))
 judge_after m p problem old mid new (no_plan fault) holds reads x = λ t. (problem, holds t, subst (λ (f : Files). OfFile f p (BytesAre problem (no_plan fault))) reads.files (x (subst IsTrue (sym reads.told) t)))
 judge_after m p problem old mid new (broken rule) holds reads x = λ t. (problem, holds t, subst (λ (f : Files). OfFile f p (BytesAre problem (broken rule))) reads.files (x (subst IsTrue (sym reads.told) t)))
@@ -56,11 +56,11 @@ feasible_at m p code old new out_old out_new (no_plan fault) x is line none t = 
 feasible_at m p code old new out_old out_new (broken rule) x is line none t = absurd (omega (arith, is, none))
 feasible_at m p code old new out_old out_new (stopped why) x is line none t = absurd (omega (arith, (reading why code is).low, none))
 
-pub fault_at : (m p : List ℕ) (code : ℕ) (old new : Shelved) (out_old out_new : Printed) (answer : JudgeAnswer) → JudgeExplains m p old new answer → code ≡ code_of (judge_status answer) → Gains (judge_line answer) out_old out_new → code ≡ 3 → IsTrue old.told → FindsFault (Some (judging m p)) old.file out_old out_new
-fault_at m p code old new out_old out_new (feasible amount) x is line three t = absurd (omega (arith, is, three))
-fault_at m p code old new out_old out_new (no_plan fault) x is line three t = record { model_file = m; plan_file = p; words = record { is = refl }; answer = no_plan fault; fault = tt; holds = x t; line = line }
-fault_at m p code old new out_old out_new (broken rule) x is line three t = record { model_file = m; plan_file = p; words = record { is = refl }; answer = broken rule; fault = tt; holds = x t; line = line }
-fault_at m p code old new out_old out_new (stopped why) x is line three t = absurd (omega (arith, (reading why code is).low, three))
+pub fault_at : (asked : Option Asked) (m p : List ℕ) (code : ℕ) (old new : Shelved) (out_old out_new : Printed) (answer : JudgeAnswer) → IsJudged asked m p → JudgeExplains m p old new answer → code ≡ code_of (judge_status answer) → Gains (judge_line answer) out_old out_new → code ≡ 3 → IsTrue old.told → FindsFault asked old.file out_old out_new
+fault_at asked m p code old new out_old out_new (feasible amount) words x is line three t = absurd (omega (arith, is, three))
+fault_at asked m p code old new out_old out_new (no_plan fault) words x is line three t = record { model_file = m; plan_file = p; words = words; answer = no_plan fault; fault = tt; holds = x t; line = line }
+fault_at asked m p code old new out_old out_new (broken rule) words x is line three t = record { model_file = m; plan_file = p; words = words; answer = broken rule; fault = tt; holds = x t; line = line }
+fault_at asked m p code old new out_old out_new (stopped why) words x is line three t = absurd (omega (arith, (reading why code is).low, three))
 
 -- `judge` has no other number
 pub record IsJudging (code : ℕ) : Type 0 where
@@ -80,11 +80,11 @@ numbers (stopped why) code is =
 judge_call : (found plan : Option (List ℕ)) (bytes : List ℕ) (code : ℕ) → found ≡ Some bytes → JudgeCallsFor (Some bytes) plan code → JudgeCallsFor found plan code
 judge_call found plan bytes code same calls = subst (λ f. JudgeCallsFor f plan code) (sym same) calls
 
-plan_call : (problem : Problem) (found : Option (List ℕ)) (bytes : List ℕ) (code : ℕ) → found ≡ Some bytes → PlanCallsFor problem (Some bytes) code → PlanCallsFor problem found code
+pub plan_call : (problem : Problem) (found : Option (List ℕ)) (bytes : List ℕ) (code : ℕ) → found ≡ Some bytes → PlanCallsFor problem (Some bytes) code → PlanCallsFor problem found code
 plan_call problem found bytes code same calls = subst (λ f. PlanCallsFor problem f code) (sym same) calls
 
 -- by the plan file, once the model means a problem
-by_plan : (m p : List ℕ) (code : ℕ) (old : Shelved) (problem : Problem) → HoldsProblem old.file m problem → PlanCallsFor problem (old.file p) code → JudgeCallsFor (old.file m) (old.file p) code
+pub by_plan : (m p : List ℕ) (code : ℕ) (old : Shelved) (problem : Problem) → HoldsProblem old.file m problem → PlanCallsFor problem (old.file p) code → JudgeCallsFor (old.file m) (old.file p) code
 by_plan m p code old problem holds calls = judge_call (old.file m) (old.file p) holds.bytes code holds.read (inr (holds.short, inr (problem, holds.means, calls)))
 
 model_called : (m p : List ℕ) (code : ℕ) (old new : Shelved) (out_old out_new : Printed) → HadNoFault old new out_old out_new → IsTrue old.told → (why : ReadAnswer) → ModelExplains m old new why → code ≡ code_of (read_status why) → JudgeCallsFor (old.file m) (old.file p) code

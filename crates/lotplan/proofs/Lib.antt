@@ -1,4 +1,3 @@
-pub mod Words
 pub mod Texts
 pub mod Outputs
 pub mod Readings
@@ -8,6 +7,10 @@ pub mod Judged
 pub mod Checked
 pub mod Upgraded
 pub mod Bounded
+pub mod Reported
+pub mod Generated
+pub mod Shown
+pub mod Drawn
 pub mod Explained
 pub mod Certified
 pub mod Statuses

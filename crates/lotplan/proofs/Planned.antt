@@ -15,7 +15,7 @@ use Rattle.lotplan.specs.Finding.{IsFound}
 use Rattle.lotplan.specs.Planning.{PlanAnswer, optimal, infeasible, between, above, unwritten, stopped, plan_line, plan_status, FailsAt, FailsToWrite, FileCallsFor, FindsNoPlan, LeavesOpen, MayBeLeft, PlanExplains, ProblemCallsFor, PlanSays, PlansBest, StartsAtMost, StartsAtMostBoth, StartsBoth, StartsOnly, WriteExplains, WriteSays}
 use Rattle.lotplan.specs.Checking.{AllAre, accepted}
 use Rattle.lotplan.specs.Saying.{Gains, IsSaid}
-use Rattle.lotplan.specs.Command.{AreApart, planning}
+use Rattle.command_line.specs.Words.{AreApart, planning}
 use Rattle.lotplan.specs.Run.{HadNoFault}
 use Rattle.lotplan.proofs.Readings.{reading}
 use Rattle.lotplan.proofs.Proved.{left_alone}

@@ -27,7 +27,7 @@ use Rattle.instance_reader.specs.declared.versions.TheConstants.{FIRST_VERSION, 
 use Rattle.instance_reader.proofs.Meanings.{bytes_one}
 use Rattle.plan_file.specs.Records.{IsPlanOf, records_of}
 use Rattle.plan_file.proofs.Meanings.{means_one}
-use Rattle.lotplan.specs.Command.{Asked, version, planning, judging, checking, upgrading, bounding}
+use Rattle.command_line.specs.Words.{Asked, version, helping, planning, judging, checking, reporting, generating, demonstrating, upgrading, bounding}
 use Rattle.lotplan.specs.Planning.{FileCallsFor, MayBeLeft, MayLeave, ProblemCallsFor}
 use Rattle.lotplan.specs.Judging.{AreBroken, AreFeasible, AreNoPlan, JudgeCallsFor, PlanCallsFor}
 use Rattle.lotplan.specs.Checking.{CheckCallsFor, ClaimCallsFor, GivenCallsFor, PlannedCallsFor, ProofCallsFor}
@@ -298,8 +298,12 @@ bound_call laws (Some bytes) s t (inr (short, inl (m, reads, calls))) (inr (also
 pub call_one : AreLaws → (asked : Option Asked) (file : Files) (s t : ℕ) → CallFor asked file s → CallFor asked file t → (s ≡ t) ⊎ MayBeUndecided asked file
 call_one laws None file s t a b = inl (a ∙ sym b)
 call_one laws (Some version) file s t a b = inl (a ∙ sym b)
+call_one laws (Some helping) file s t a b = inl (a ∙ sym b)
 call_one laws (Some (planning m p c budget)) file s t a b = file_call (file m) budget s t a b
 call_one laws (Some (judging m p)) file s t a b = inl (judge_call (file m) (file p) s t a b)
 call_one laws (Some (checking m p c)) file s t a b = inl (check_call laws (file m) (file p) (file c) s t a b)
+call_one laws (Some (reporting m p)) file s t a b = inl (judge_call (file m) (file p) s t a b)
+call_one laws (Some (generating seed items periods m)) file s t a b = inl (a ∙ sym b)
+call_one laws (Some (demonstrating seed)) file s t a b = inl (a ∙ sym b)
 call_one laws (Some (upgrading m n)) file s t a b = inl (upgrade_call (file m) s t a b)
 call_one laws (Some (bounding m)) file s t a b = bound_call laws (file m) s t a b

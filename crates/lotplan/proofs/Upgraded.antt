@@ -21,7 +21,7 @@ use Rattle.lotplan.specs.Reading.{FirstExplains, HoldsFirst, HoldsProblem, ReadA
 use Rattle.lotplan.specs.Planning.{StartsAtMost, unwritten_line}
 use Rattle.lotplan.specs.Upgrading.{UpgradeAnswer, written, unwritten, stopped, upgrade_line, upgrade_status, written_line, FailsToUpgrade, RewriteExplains, RewriteSays, UpgradeCallsFor, UpgradeExplains, UpgradeSays, Upgrades}
 use Rattle.lotplan.specs.Saying.{Gains, IsSaid}
-use Rattle.lotplan.specs.Command.{upgrading}
+use Rattle.command_line.specs.Words.{upgrading}
 use Rattle.lotplan.specs.Run.{HadNoFault}
 use Rattle.lotplan.proofs.Readings.{reading}
 use Rattle.lotplan.proofs.Planned.{reads_at_most, starts_after, starts_at_most}

@@ -9,7 +9,7 @@ use Rattle.tableau.specs.declared.outcome.Outcome.TheVariants as outcome
 use Rattle.tableau.specs.Program.{Program}
 use Rattle.tableau.specs.Stepwise.{IsEndOf}
 use Rattle.base_bound.specs.Bounds.{HasFewCells, HasNoBasePoint, IsBaseBound, IsBaseProgram, cell_count}
-use Rattle.lotplan.specs.Command.{Asked, bounding}
+use Rattle.command_line.specs.Words.{Asked, bounding}
 use Rattle.lotplan.specs.Reading.{ModelExplains, OfModel, ReadAnswer, file_limit, read_line, read_status}
 use Rattle.lotplan.specs.Saying.{Gains, IsSaid}
 use Rattle.lotplan.specs.declared.said.Said.{Said}

@@ -26,7 +26,7 @@ use Rattle.cert_checker.specs.Checks.{IsCertified, IsCheckFault, plan_given}
 use Rattle.stream_check.specs.declared.fault.StreamFault.{StreamFault}
 use Rattle.stream_check.specs.declared.fault.StreamFault.TheVariants as stream
 use Rattle.stream_check.specs.Streams.{IsTooLong, OfBytes, OfCertificate, too_many}
-use Rattle.lotplan.specs.Command.{Asked, checking}
+use Rattle.command_line.specs.Words.{Asked, checking}
 use Rattle.lotplan.specs.Judging.{AreNoPlan}
 use Rattle.lotplan.specs.Reading.{FileExplains, HoldsProblem, ModelExplains, OfFile, OfModel, ReadAnswer, refused, missing, unread, too_long, file_limit, read_line, read_status}
 use Rattle.lotplan.specs.Saying.{Gains, IsSaid}

@@ -1,14 +1,12 @@
 -- What the program's own values stand for.
 use Rattle.std.specs.Prelude.{⊤}
-use Rattle.lotplan.specs.Command as command
 use Rattle.lotplan.specs.Reading as reading
 use Rattle.lotplan.specs.Planning as planning
 use Rattle.lotplan.specs.Judging as judging
 use Rattle.lotplan.specs.Checking as checking
 use Rattle.lotplan.specs.Upgrading as upgrading
 use Rattle.lotplan.specs.Bounding as bounding
-use Rattle.lotplan.specs.declared.command.Command.{Command}
-use Rattle.lotplan.specs.declared.command.Command.TheVariants.{Name, Plan, Judge, Check, Upgrade, Bound}
+use Rattle.lotplan.specs.Generating as generating
 use Rattle.lotplan.specs.declared.model_file.ReadAnswer.{ReadAnswer}
 use Rattle.lotplan.specs.declared.model_file.ReadAnswer.TheVariants.{Refused, Missing, Unread, TooLong}
 use Rattle.lotplan.specs.declared.model_file.Stop.{Stop}
@@ -25,15 +23,8 @@ use Rattle.lotplan.specs.declared.commands.upgrade.UpgradeAnswer.{UpgradeAnswer}
 use Rattle.lotplan.specs.declared.commands.upgrade.UpgradeAnswer.TheVariants as upgrade
 use Rattle.lotplan.specs.declared.commands.bound.BoundAnswer.{BoundAnswer}
 use Rattle.lotplan.specs.declared.commands.bound.BoundAnswer.TheVariants as bound
-
--- what a command asks for
-abbrev pub asked_by : Command → command.Asked
-asked_by Name = command.version
-asked_by (Judge names) = command.judging names.model.now names.plan.now
-asked_by (Check names) = command.checking names.model.now names.plan.now names.certificate.now
-asked_by (Upgrade names) = command.upgrading names.model.now names.upgraded.now
-asked_by (Bound model) = command.bounding model.now
-asked_by (Plan names budget) = command.planning names.model.now names.plan.now names.certificate.now budget
+use Rattle.lotplan.specs.declared.commands.generate.GenerateAnswer.{GenerateAnswer}
+use Rattle.lotplan.specs.declared.commands.generate.GenerateAnswer.TheVariants as generate
 
 -- answers
 abbrev pub read_meant : ReadAnswer → reading.ReadAnswer
@@ -74,6 +65,10 @@ bound_meant bound.Empty = bounding.empty
 bound_meant bound.Skipped = bounding.skipped
 bound_meant bound.Passed = bounding.passed
 bound_meant (bound.Stopped why) = bounding.stopped (read_meant why)
+
+abbrev pub generate_meant : GenerateAnswer → generating.GenerateAnswer
+generate_meant (generate.Written file) = generating.written file.now
+generate_meant (generate.Unwritten file) = generating.unwritten file.now
 
 -- the answer has its cause; want of memory needs none
 abbrev pub IsStop : (reading.ReadAnswer → Type 0) → Stop → Type 0

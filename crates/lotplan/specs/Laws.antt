@@ -2,7 +2,7 @@
 use Rattle.std.specs.Prelude.{◌≡◌, ◌⊎◌, ℕ, Option, Some, None}
 use Rattle.lot_io.specs.Outside.{Files}
 use Rattle.lotplan.specs.Bounding.{MayPass}
-use Rattle.lotplan.specs.Command.{Asked, version, planning, judging, checking, upgrading, bounding}
+use Rattle.command_line.specs.Words.{Asked, version, helping, planning, judging, checking, reporting, generating, demonstrating, upgrading, bounding}
 use Rattle.lotplan.specs.Planning.{MayLeave}
 use Rattle.lotplan.specs.Run.{CallFor}
 
@@ -10,9 +10,13 @@ use Rattle.lotplan.specs.Run.{CallFor}
 abbrev pub MayBeUndecided : Option Asked → Files → Type 0
 MayBeUndecided None file = ⊥
 MayBeUndecided (Some version) file = ⊥
+MayBeUndecided (Some helping) file = ⊥
 MayBeUndecided (Some (planning m p c budget)) file = MayLeave (file m) budget
 MayBeUndecided (Some (judging m p)) file = ⊥
 MayBeUndecided (Some (checking m p c)) file = ⊥
+MayBeUndecided (Some (reporting m p)) file = ⊥
+MayBeUndecided (Some (generating seed items periods m)) file = ⊥
+MayBeUndecided (Some (demonstrating seed)) file = ⊥
 MayBeUndecided (Some (upgrading m n)) file = ⊥
 MayBeUndecided (Some (bounding m)) file = MayPass (file m)
 

@@ -1,4 +1,3 @@
-pub mod Command
 pub mod Status
 pub mod Saying
 pub mod Reading
@@ -8,6 +7,9 @@ pub mod Judging
 pub mod Checking
 pub mod Upgrading
 pub mod Bounding
+pub mod Reporting
+pub mod Generating
+pub mod Showing
 pub mod Run
 pub mod Held
 pub mod Laws

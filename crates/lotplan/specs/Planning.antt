@@ -21,7 +21,7 @@ use Rattle.branching.specs.declared.found.Found.{Found}
 use Rattle.branching.specs.declared.found.RootSays.{RootSays}
 use Rattle.branching.specs.declared.found.RootSays.TheVariants as at_root
 use Rattle.branch_and_cut.specs.Search.{HasBudgetForAll, cost_of}
-use Rattle.lotplan.specs.Command.{Asked, planning}
+use Rattle.command_line.specs.Words.{Asked, planning}
 use Rattle.lotplan.specs.Reading.{ModelExplains, OfModel, ReadAnswer, file_limit, read_line, read_status}
 use Rattle.lotplan.specs.Checking.{HoldsProof}
 use Rattle.lotplan.specs.Finding.{IsFound, PlanCosts}

@@ -1,8 +1,8 @@
 -- What a run does to files and to the output, and why it answers what it does.
-use Rattle.std.specs.Prelude.{◌≡◌, ◌⊎◌, ◌+◌, ◌*◌, ℕ, List, codes, Option, Some, None}
+use Rattle.std.specs.Prelude.{◌≡◌, ◌⊎◌, ◌+◌, ◌*◌, ℕ, List, codes, Option, Some, None, ⊤}
 use Rattle.lot_io.specs.Outside.{Files, OnlyReads, Printed, Rose, Shelved, piece_size}
 use Rattle.stream_check.specs.Streams.{pass_size}
-use Rattle.lotplan.specs.Command.{Asked, version, planning, judging, checking, upgrading, bounding}
+use Rattle.command_line.specs.Words.{Asked, version, helping, planning, judging, checking, reporting, generating, demonstrating, upgrading, bounding}
 use Rattle.lotplan.specs.Status.{code_of}
 use Rattle.lotplan.specs.Saying.{Gains, IsSaid, Prints}
 use Rattle.lotplan.specs.Reading.{FirstExplains, ModelExplains, ReadAnswer, file_limit, read_line}
@@ -11,6 +11,9 @@ use Rattle.lotplan.specs.Judging.{FilesStop, FindsFault, JudgeAnswer, JudgeCalls
 use Rattle.lotplan.specs.Checking.{CheckAnswer, CheckCallsFor, CheckExplains, CheckSays, CheckStops, FindsRefused, check_line, check_status}
 use Rattle.lotplan.specs.Upgrading.{FailsToUpgrade, UpgradeAnswer, UpgradeCallsFor, UpgradeExplains, UpgradeSays, upgrade_line, upgrade_status}
 use Rattle.lotplan.specs.Bounding.{BoundAnswer, BoundCallsFor, BoundExplains, BoundIsSaid, FindsNoBound, FindsNoPoint, bound_line, bound_status}
+use Rattle.lotplan.specs.Reporting.{ReportAnswer, ReportExplains, ReportSays, report_line, report_status}
+use Rattle.lotplan.specs.Generating.{FailsToGenerate, GenerateAnswer, GenerateExplains, GenerateSays, generate_line, generate_status}
+use Rattle.lotplan.specs.Showing.{DemoSays, ShowsBoth}
 use Rattle.lotplan.specs.declared.said.Said.{Said}
 use Rattle.lotplan.specs.declared.status.Status.TheVariants.{Done, NoCommand, NoMemory}
 
@@ -21,13 +24,17 @@ version_line = codes "lotplan 1\n"
 abbrev pub refused_line : List ℕ
 refused_line = codes "refused words\n"
 
--- what is said of what the words ask for, and what it leaves
+-- what is said of what the words ask for, and what it leaves; the texts of help and of words that are no command are left open
 abbrev pub SaysFor : Option Asked → Shelved → Shelved → Said → Type 0
-SaysFor None old new said = (new ≡ old) × IsSaid refused_line NoCommand said
+SaysFor None old new said = (new ≡ old) × (text : List ℕ) × IsSaid text NoCommand said
 SaysFor (Some version) old new said = (new ≡ old) × IsSaid version_line Done said
+SaysFor (Some helping) old new said = (new ≡ old) × (text : List ℕ) × IsSaid text Done said
 SaysFor (Some (planning m p c budget)) old new said = PlanSays m p c budget old new said
 SaysFor (Some (judging m p)) old new said = JudgeSays m p old new said × OnlyReads old new
 SaysFor (Some (checking m p c)) old new said = CheckSays m p c old new said × OnlyReads old new
+SaysFor (Some (reporting m p)) old new said = ReportSays m p old new said × OnlyReads old new
+SaysFor (Some (generating seed items periods m)) old new said = GenerateSays seed items periods m old new said
+SaysFor (Some (demonstrating seed)) old new said = (new ≡ old) × DemoSays seed said
 SaysFor (Some (upgrading m n)) old new said = UpgradeSays m n old new said
 SaysFor (Some (bounding m)) old new said = BoundIsSaid m old new said × OnlyReads old new
 
@@ -35,22 +42,33 @@ SaysFor (Some (bounding m)) old new said = BoundIsSaid m old new said × OnlyRea
 abbrev pub Leaves : Option Asked → Shelved → Shelved → Type 0
 Leaves None old new = new ≡ old
 Leaves (Some version) old new = new ≡ old
+Leaves (Some helping) old new = new ≡ old
 Leaves (Some (planning m p c budget)) old new = OnlyReads old new
 Leaves (Some (judging m p)) old new = OnlyReads old new
 Leaves (Some (checking m p c)) old new = OnlyReads old new
+Leaves (Some (reporting m p)) old new = OnlyReads old new
+Leaves (Some (generating seed items periods m)) old new = new ≡ old
+Leaves (Some (demonstrating seed)) old new = new ≡ old
 Leaves (Some (upgrading m n)) old new = OnlyReads old new
 Leaves (Some (bounding m)) old new = OnlyReads old new
 
 -- what a run did, printed and gave, where memory didn't run out
 abbrev pub RunsAs : Option Asked → ℕ → Shelved → Shelved → Printed → Printed → Type 0
-RunsAs None code old new out_old out_new = (new ≡ old) × Prints refused_line NoCommand code out_old out_new
+RunsAs None code old new out_old out_new = (new ≡ old) × (text : List ℕ) × Prints text NoCommand code out_old out_new
 RunsAs (Some version) code old new out_old out_new = (new ≡ old) × Prints version_line Done code out_old out_new
+RunsAs (Some helping) code old new out_old out_new = (new ≡ old) × (text : List ℕ) × Prints text Done code out_old out_new
 RunsAs (Some (planning m p c budget)) code old new out_old out_new =
     (answer : PlanAnswer) × PlanExplains m p c budget old new answer × Prints (plan_line answer) (plan_status answer) code out_old out_new
 RunsAs (Some (judging m p)) code old new out_old out_new =
     (answer : JudgeAnswer) × JudgeExplains m p old new answer × OnlyReads old new × Prints (judge_line answer) (judge_status answer) code out_old out_new
 RunsAs (Some (checking m p c)) code old new out_old out_new =
     (answer : CheckAnswer) × CheckExplains m p c old new answer × OnlyReads old new × Prints (check_line answer) (check_status answer) code out_old out_new
+RunsAs (Some (reporting m p)) code old new out_old out_new =
+    (answer : ReportAnswer) × ReportExplains m p old new answer × OnlyReads old new × Prints (report_line answer) (report_status answer) code out_old out_new
+RunsAs (Some (generating seed items periods m)) code old new out_old out_new =
+    (answer : GenerateAnswer) × GenerateExplains seed items periods m old new answer × Prints (generate_line answer) (generate_status answer) code out_old out_new
+RunsAs (Some (demonstrating seed)) code old new out_old out_new =
+    (new ≡ old) × (text : List ℕ) × ShowsBoth seed text × Prints text Done code out_old out_new
 RunsAs (Some (upgrading m n)) code old new out_old out_new =
     (answer : UpgradeAnswer) × UpgradeExplains m n old new answer × Prints (upgrade_line answer) (upgrade_status answer) code out_old out_new
 RunsAs (Some (bounding m)) code old new out_old out_new =
@@ -71,9 +89,13 @@ pub data IsRun (asked : Option Asked) (code : ℕ) (old new : Shelved) (out_old 
 abbrev pub CallFor : Option Asked → Files → ℕ → Type 0
 CallFor None file status = status ≡ 4
 CallFor (Some version) file status = status ≡ 0
+CallFor (Some helping) file status = status ≡ 0
 CallFor (Some (planning m p c budget)) file status = FileCallsFor (file m) budget status
 CallFor (Some (judging m p)) file status = JudgeCallsFor (file m) (file p) status
 CallFor (Some (checking m p c)) file status = CheckCallsFor (file m) (file p) (file c) status
+CallFor (Some (reporting m p)) file status = JudgeCallsFor (file m) (file p) status
+CallFor (Some (generating seed items periods m)) file status = status ≡ 0
+CallFor (Some (demonstrating seed)) file status = status ≡ 0
 CallFor (Some (upgrading m n)) file status = UpgradeCallsFor (file m) status
 CallFor (Some (bounding m)) file status = BoundCallsFor (file m) status
 
@@ -83,15 +105,33 @@ pub record CallsForZero (after : Files) (model_file plan_file certificate_file :
   pub alone : (status : ℕ) → CallFor (Some (checking model_file plan_file certificate_file)) after status → status ≡ 0
 
 -- ---- how many bytes are read
--- two files within the limit, one where a model is bounded, and where a certificate is checked three passes over its file besides
+-- none for words that are no command, for the version and help, and where models are generated; two files within the limit, one where a model is bounded, and where a certificate is checked three passes over its file besides
 abbrev pub most_given : Option Asked → ℕ
-most_given None = 2 * (file_limit + piece_size)
-most_given (Some version) = 2 * (file_limit + piece_size)
+most_given None = 0
+most_given (Some version) = 0
+most_given (Some helping) = 0
 most_given (Some (planning m p c budget)) = 2 * (file_limit + piece_size)
 most_given (Some (judging m p)) = 2 * (file_limit + piece_size)
 most_given (Some (checking m p c)) = 2 * (file_limit + piece_size) + 3 * pass_size
+most_given (Some (reporting m p)) = 2 * (file_limit + piece_size)
+most_given (Some (generating seed items periods m)) = 0
+most_given (Some (demonstrating seed)) = 0
 most_given (Some (upgrading m n)) = 2 * (file_limit + piece_size)
 most_given (Some (bounding m)) = file_limit + piece_size
+
+-- no file is read or written: for words that are no command, the version, help, and where models are planned in memory
+abbrev pub IsIdle : Option Asked → Type 0
+IsIdle None = ⊤
+IsIdle (Some version) = ⊤
+IsIdle (Some helping) = ⊤
+IsIdle (Some (planning m p c budget)) = ⊥
+IsIdle (Some (judging m p)) = ⊥
+IsIdle (Some (checking m p c)) = ⊥
+IsIdle (Some (reporting m p)) = ⊥
+IsIdle (Some (generating seed items periods m)) = ⊥
+IsIdle (Some (demonstrating seed)) = ⊤
+IsIdle (Some (upgrading m n)) = ⊥
+IsIdle (Some (bounding m)) = ⊥
 
 -- no call on files or output failed
 pub record HadNoFault (old new : Shelved) (out_old out_new : Printed) : Type 0 where
@@ -100,10 +140,11 @@ pub record HadNoFault (old new : Shelved) (out_old out_new : Printed) : Type 0 w
   pub put : Rose out_old.faults out_new.faults → ⊥
 
 -- ---- what each status says
--- the words are no command, and the line says so
+-- the words are no command, and some text says so
 pub record IsNoCommand (asked : Option Asked) (out_old out_new : Printed) : Type 0 where
   pub is : asked ≡ None
-  pub line : Gains refused_line out_old out_new
+  pub text : List ℕ
+  pub line : Gains text out_old out_new
 
 -- no plan is feasible: `plan` finds it, or `bound` does since no point meets the base rows
 abbrev pub IsInfeasible : Option Asked → Files → Files → Printed → Printed → Type 0
@@ -117,17 +158,23 @@ LeavesUndecided asked before after out_old out_new = LeavesOpen asked before aft
 abbrev pub IsFaulty : Option Asked → Files → Printed → Printed → Type 0
 IsFaulty asked before out_old out_new = FindsFault asked before out_old out_new ⊎ FindsRefused asked before out_old out_new
 
--- the plan file, the certificate file or the new model file could not be written, and the line names it
+-- the plan file, the certificate file, the new model file or the generated one could not be written, and the line names it
 abbrev pub CannotWrite : Option Asked → Shelved → Shelved → Printed → Printed → Type 0
-CannotWrite asked old new out_old out_new = FailsToWrite asked old new out_old out_new ⊎ FailsToUpgrade asked old new out_old out_new
+CannotWrite asked old new out_old out_new =
+    FailsToWrite asked old new out_old out_new
+    ⊎ (FailsToUpgrade asked old new out_old out_new ⊎ FailsToGenerate asked old new out_old out_new)
 
 -- why the files that the words name gave nothing to go on with
 abbrev pub StopsFor : Option Asked → Shelved → Shelved → ReadAnswer → Type 0
 StopsFor None old new why = ⊥
 StopsFor (Some version) old new why = ⊥
+StopsFor (Some helping) old new why = ⊥
 StopsFor (Some (planning m p c budget)) old new why = ModelExplains m old new why
 StopsFor (Some (judging m p)) old new why = FilesStop m p old new why
 StopsFor (Some (checking m p c)) old new why = CheckStops m p c old new why
+StopsFor (Some (reporting m p)) old new why = FilesStop m p old new why
+StopsFor (Some (generating seed items periods m)) old new why = ⊥
+StopsFor (Some (demonstrating seed)) old new why = ⊥
 StopsFor (Some (upgrading m n)) old new why = FirstExplains m old new why
 StopsFor (Some (bounding m)) old new why = ModelExplains m old new why
 

@@ -1,5 +1,5 @@
 -- What a run says at its end, and how that is printed.
-use Rattle.std.specs.Prelude.{◌≡◌, ◌⊎◌, ℕ, List, ◌++◌, IsTrue, Result, Ok, Err, string_bytes}
+use Rattle.std.specs.Prelude.{◌≡◌, ◌⊎◌, ℕ, List, ◌++◌, IsTrue, Result, Ok, Err}
 use Rattle.std.specs.declared.alloc.AllocError.{AllocError}
 use Rattle.lot_io.specs.Outside.{AppendsSome, Printed, Rose}
 use Rattle.lotplan.specs.Status.{code_of}
@@ -9,7 +9,7 @@ use Rattle.lotplan.specs.declared.status.Status.TheVariants.{Unprinted, NoMemory
 
 -- what is said has this line, or these lines, and this status
 pub record IsSaid (text : List ℕ) (ending : Status) (said : Said) : Type 0 where
-  pub line : string_bytes said.line ≡ text
+  pub line : said.line.items ≡ text
   pub status : said.status ≡ ending
 
 -- where it tells, the output gained this text and nothing else
@@ -24,5 +24,5 @@ Prints text ending code old new =
 
 -- what is said is printed; where memory ran out nothing is
 abbrev pub Ends : Result Said AllocError → ℕ → Printed → Printed → Type 0
-Ends (Ok said) code old new = Prints (string_bytes said.line) said.status code old new
+Ends (Ok said) code old new = Prints said.line.items said.status code old new
 Ends (Err e) code old new = (code ≡ code_of NoMemory) × (new ≡ old)

@@ -5,7 +5,7 @@ use Rattle.lot_io.specs.Outside.{Files, OnlyReads, Printed, Rose, Shelved}
 use Rattle.lot_draft.specs.declared.fault.ModelFault.{ModelFault}
 use Rattle.instance_reader.specs.Model.{BytesMean, FirstVersionMeans}
 use Rattle.instance_reader.specs.Written.{IsModelText}
-use Rattle.lotplan.specs.Command.{Asked, upgrading}
+use Rattle.command_line.specs.Words.{Asked, upgrading}
 use Rattle.lotplan.specs.Reading.{FirstExplains, HoldsFirst, HoldsProblem, ReadAnswer, file_limit, read_line, read_status}
 use Rattle.lotplan.specs.Planning.{StartsOnly, unwritten_line}
 use Rattle.lotplan.specs.Saying.{Gains, IsSaid}

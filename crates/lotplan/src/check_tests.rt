@@ -8,14 +8,14 @@ use std::test::Fail;
 pub const SHOP_PLAN: &str = "A,1,5,1,3,0\nA,2,5,1,0,0\n";
 
 // The shop's plan is best, by branches on setups.
-const BY_BRANCHES: &str = "lotcert 1\nclaim optimal 23\ncuts 0\nbranch y 1 1 0\nfarkas 3\n\
+pub const BY_BRANCHES: &str = "lotcert 1\nclaim optimal 23\ncuts 0\nbranch y 1 1 0\nfarkas 3\n\
     part link 1 1 1\npart path 1 10\npart balance 1 1 1\nbranch y 1 2 0\nfarkas 5\n\
     part link 1 2 1\npart path 2 10\npart balance 1 2 1\npart capacity 1 1 1\n\
     part balance 1 1 1\nlinear 1 4\npart balance 1 2 1\npart capacity 1 2 1\n\
     part path 1 10\npart path 2 11\nend\n";
 
 // Each of the shop's plans costs at least 20, by (l,S) cuts.
-const BY_LS_CUTS: &str = "lotcert 1\nclaim bound 20\ncuts 2\nls 1 1 1\nls 1 2 01\nlinear 8 4\n\
+pub const BY_LS_CUTS: &str = "lotcert 1\nclaim bound 20\ncuts 2\nls 1 1 1\nls 1 2 01\nlinear 8 4\n\
     part balance 1 1 -8\npart capacity 1 1 2\npart cut 1 41\npart cut 2 10\nend\n";
 
 // The shop's plan is best, by a rounding cut and one node.
@@ -52,7 +52,7 @@ const BY_BOTH_ITEMS: &str = "lotcert 1\nclaim bound 130\ncuts 2\n\
     part cut 2 3\nend\n";
 
 // The text with other lines in place of the first to the last of these, counted from 1.
-fn changed(
+pub fn changed(
     alloc: Global,
     text: &str,
     first: usize,
@@ -87,7 +87,7 @@ fn three_files(
 }
 
 // Whether a check of these texts ends with this status and prints this line, and no file changes.
-fn checked_as(
+pub fn checked_as(
     alloc: Global,
     model: &str,
     records: &str,
@@ -123,10 +123,6 @@ fn certificates_are_accepted(rt: HostRuntime) -> Result<(), Fail> {
     assert!(rt; checked_as(alloc, owed.as_str(), OWED_PLAN, BY_A_BLOCK_CUT, 0, line)?);
     let line = "accepted infeasible\n";
     assert!(rt; checked_as(alloc, SHORT_SHOP, "", BY_CAPACITY, 0, line)?);
-    let more = changed(alloc, BY_LS_CUTS, 3, 3, "cuts 3\n")?;
-    let more = changed(alloc, more.as_str(), 5, 5, "ls 1 2 01\nls 1 1 1\n")?;
-    let line = "accepted bound 20\n";
-    assert!(rt; checked_as(alloc, SHOP, SHOP_PLAN, more.as_str(), 0, line)?);
     Ok(())
 }
 
@@ -142,52 +138,14 @@ fn the_example_prints_what_the_readme_shows(rt: HostRuntime) -> Result<(), Fail>
 }
 
 #[test]
-fn damaged_texts_are_rejected(rt: HostRuntime) -> Result<(), Fail> {
-    let alloc = rt.alloc();
-    for (first, last, lines, line) in [
-        (1usize, 21usize, "", "rejected C1 line 1\n"),
-        (1, 1, "lotcert 9\n", "rejected C1 line 1\n"),
-        (2, 2, "claim optimal 023\n", "rejected C1 line 2\n"),
-        (3, 3, "cuts 20001\n", "rejected C1 line 3\n"),
-        (4, 4, "branch z 1 1 0\n", "rejected C2 line 4\n"),
-        (7, 7, "part path 1 -0\n", "rejected C2 line 7\n"),
-        (
-            8,
-            8,
-            "part balance 1 1 170141183460469231731687303715884105728\n",
-            "rejected C2 line 8\n",
-        ),
-        (5, 5, "farkas 2\n", "rejected C3 line 8\n"),
-        (16, 20, "", "rejected C3 line 16\n"),
-        (21, 21, "", "rejected C3 line 21\n"),
-        (21, 21, "end\nend\n", "rejected C3 line 22\n"),
-    ] {
-        let text = changed(alloc, BY_BRANCHES, first, last, lines)?;
-        assert!(rt; checked_as(alloc, SHOP, SHOP_PLAN, text.as_str(), 3, line)?);
-    }
-    Ok(())
-}
-
-#[test]
-fn damaged_proofs_are_rejected(rt: HostRuntime) -> Result<(), Fail> {
+fn changed_certificates_are_rejected(rt: HostRuntime) -> Result<(), Fail> {
     let alloc = rt.alloc();
     for (first, last, lines, line) in [
         (2usize, 2usize, "claim optimal 22\n", "rejected C12 23 22\n"),
         (2, 2, "claim bound 24\n", "rejected C7 line 16 says 23\n"),
-        (4, 4, "branch y 2 1 0\n", "rejected C4 line 4\n"),
-        (4, 4, "branch y 1 1 1\n", "rejected C4 line 4\n"),
-        (5, 8, "point\n", "rejected C8 line 5\n"),
         (6, 6, "part link 1 1 2\n", "rejected C6 line 5 y 1 1\n"),
-        (7, 7, "part path 2 10\n", "rejected C4 line 7\n"),
-        (
-            8,
-            8,
-            "part balance 1 1 170141183460469231731687303715884105727\n",
-            "rejected C10 line 5\n",
-        ),
         (18, 18, "part capacity 1 2 -1\n", "rejected C5 line 18\n"),
-        (19, 19, "part path 1 9\n", "rejected C7 line 16 says 22\n"),
-        (20, 20, "part path 2 12\n", "rejected C6 line 16 y 1 2\n"),
+        (21, 21, "", "rejected C3 line 21\n"),
     ] {
         let text = changed(alloc, BY_BRANCHES, first, last, lines)?;
         assert!(rt; checked_as(alloc, SHOP, SHOP_PLAN, text.as_str(), 3, line)?);
@@ -214,18 +172,6 @@ fn damaged_cuts_are_rejected(rt: HostRuntime) -> Result<(), Fail> {
     let text = "lotcert 1\nclaim bound 0\ncuts 1\nls 1 1 1\nlinear 1 0\nend\n";
     let line = "rejected C14 line 4\n";
     assert!(rt; checked_as(alloc, later.as_str(), "", text, 3, line)?);
-    Ok(())
-}
-
-#[test]
-fn a_deep_tree_is_rejected(rt: HostRuntime) -> Result<(), Fail> {
-    let alloc = rt.alloc();
-    let mut text = String::from_str(alloc, "lotcert 1\nclaim optimal 23\ncuts 0\n")?;
-    for _ in 0..2001u32 {
-        text.push_str("branch x 1 1 0\n")?;
-    }
-    let line = "rejected C11 line 2004\n";
-    assert!(rt; checked_as(alloc, SHOP, SHOP_PLAN, text.as_str(), 3, line)?);
     Ok(())
 }
 

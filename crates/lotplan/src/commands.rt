@@ -1,6 +1,9 @@
 // The commands, a file each.
 pub mod bound;
 pub mod check;
+pub mod demo;
+pub mod generate;
 pub mod judge;
 pub mod plan;
+pub mod reporting;
 pub mod upgrade;

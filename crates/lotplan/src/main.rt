@@ -1,15 +1,14 @@
 //! `lotplan`: plans lots in whole numbers, with proof that no plan costs less.
 //!
 //! `main` gives the command line, the machine's files and standard output to `run`, and ends with
-//! its status. `run` reads the words, plans, judges, checks, upgrades or bounds, writes and prints; what each
-//! status means is its contract.
+//! its status. `run` reads the words, plans, judges, checks, reports, generates, upgrades or bounds, writes and prints;
+//! what each status means is its contract.
 #![tactic(auto)]
 
 ghost use Rattle.lotplan.specs.Run.{refused_line};
 ghost use Rattle.lotplan.specs.Saying.{Prints};
 ghost use Rattle.lotplan.specs.declared.status.Status.TheVariants.{NoCommand};
 
-mod command;
 mod commands;
 mod laws;
 mod model_file;
@@ -59,6 +58,16 @@ mod bound_tests;
 #[cfg(test)]
 mod check_tests;
 #[cfg(test)]
+mod damaged_tests;
+#[cfg(test)]
+mod demo_tests;
+#[cfg(test)]
+mod fault_tests;
+#[cfg(test)]
+mod report_tests;
+#[cfg(test)]
 mod search_tests;
 #[cfg(test)]
 mod tests;
+#[cfg(test)]
+mod word_tests;

@@ -2,33 +2,42 @@
 ghost use Rattle.std.specs.Prelude.{◌≡◌, ◌≢◌, ◌⊎◌, ◌≤◌, ◌+◌, ℕ, List, IsTrue, Some, None, map, string_bytes, IfOk, OnErr};
 ghost use Rattle.lot_draft.specs.declared.fault.ModelFault.{ModelFault};
 ghost use Rattle.lot_io.specs.Outside.{GrewBy, OnlyReads, Rose};
-ghost use Rattle.lotplan.specs.Command.{bounding, checking, command_of, judging, planning, upgrading};
-ghost use Rattle.lotplan.specs.Saying.{Ends};
+ghost use Rattle.command_line.specs.Meant.{asked_by};
+ghost use Rattle.command_line.specs.Words.{AreTaken, IsAllowed, bounding, checking, command_of, demonstrating, generating, judging, planning, reporting, upgrading};
+ghost use Rattle.lotplan.specs.Saying.{Ends, Gains, IsSaid};
+ghost use Rattle.lotplan.specs.declared.status.Status.TheVariants.{NoCommand};
 ghost use Rattle.lotplan.specs.Reading.{missing, refused, too_long, unread};
 ghost use Rattle.lotplan.specs.Planning.{PlansBest, StartsAtMost, StartsAtMostBoth, StartsBoth, StartsOnly};
 ghost use Rattle.lotplan.specs.Judging.{FindsFeasible};
 ghost use Rattle.lotplan.specs.Checking.{Accepts};
 ghost use Rattle.lotplan.specs.Upgrading.{Upgrades};
 ghost use Rattle.lotplan.specs.Bounding.{FindsBound};
-ghost use Rattle.lotplan.specs.Run.{CallFor, CallsForZero, CannotWrite, HadNoFault, IsFaulty, IsInfeasible, IsNoCommand, IsRun, Leaves, LeavesUndecided, SaysFor, Stops, most_given};
+ghost use Rattle.lotplan.specs.Reporting.{SumsUp};
+ghost use Rattle.lotplan.specs.Generating.{Generates};
+ghost use Rattle.lotplan.specs.Showing.{Shows};
+ghost use Rattle.lotplan.specs.Run.{CallFor, CallsForZero, CannotWrite, HadNoFault, IsFaulty, IsIdle, IsInfeasible, IsNoCommand, IsRun, Leaves, LeavesUndecided, SaysFor, Stops, most_given, refused_line};
 
-use crate::command::{Command, read_words};
 use crate::commands::bound::bound_files;
 use crate::commands::check::check_files;
+use crate::commands::demo::show_plans;
+use crate::commands::generate::generate_file;
 use crate::commands::judge::judge_files;
 use crate::commands::plan::plan_files;
+use crate::commands::reporting::report_files;
 use crate::commands::upgrade::upgrade_files;
 use crate::laws::statuses_are_one;
 use crate::said::Said;
 use crate::status::Status;
+use command_line::{Command, Reading, commands_are_allowed, read_words};
 use lot_io::{Shelf, Sink};
 use std::alloc::{AllocError, Global};
 
 /// Does what the words ask for, prints a line, or three of a plan, and gives the number of the status.
 ///
 /// `words` are those after the program's name: none for the program's name and version,
-/// `plan MODEL PLAN CERTIFICATE`, which `--nodes N` may follow, `judge MODEL PLAN`, `check MODEL PLAN CERTIFICATE`,
-/// `upgrade MODEL NEW` or `bound MODEL`. N is the most nodes that the certificate's tree may have, from 1 to 1,000,000, and
+/// `plan MODEL PLAN CERTIFICATE` with or without `--nodes N`, `judge MODEL PLAN`, `check MODEL PLAN CERTIFICATE`,
+/// `report MODEL PLAN`, `gen SEED ITEMS PERIODS MODEL`, `demo SEED`, `upgrade MODEL NEW`, `bound MODEL`, or a call for
+/// help. N is the most nodes that the certificate's tree may have, from 1 to 1,000,000, and
 /// else 1,000. The numbers are 0 done, 1 no plan is feasible, 2 the best cost was left open, or the bound was not
 /// found, 3 the plan file holds no plan or one that breaks a rule, or the certificate is refused, 4 no command, 5 the
 /// model is refused, 6 a file is absent, 7 it could not be read, 8 it could not be written, 9 the lines could not be printed, 10 out of memory, 11 a file is
@@ -66,6 +75,23 @@ pub fn run<S: Shelf, K: Sink>(alloc: Global, words: &[String], shelf: &mut S, ou
         → IsTrue (S.shown shelf.old).told
         → Upgrades (S.shown shelf.old).file (S.shown shelf.new).file m n (K.shown out.old) (K.shown out.new) }
 
+    // After `report` with status 0 the plan file holds a feasible plan, and the line is its summary.
+    ensures summed { (m p : List ℕ) → command_of (map string_bytes words.now) ≡ Some (reporting m p) → result ≡ 0
+        → IsTrue (S.shown shelf.old).told
+        → SumsUp (S.shown shelf.old).file m p (K.shown out.old) (K.shown out.new) }
+
+    // After `gen` with status 0 the model file holds the coupled model of the seed, which means a problem with a
+    // feasible plan.
+    ensures generated { (seed items periods : ℕ) (m : List ℕ)
+        → command_of (map string_bytes words.now) ≡ Some (generating seed items periods m) → result ≡ 0
+        → IsTrue (S.shown shelf.old).told
+        → Generates (S.shown shelf.new).file seed items periods m (K.shown out.old) (K.shown out.new) }
+
+    // After `demo` with status 0 the lines are those that `plan` prints of what was found of two models of the seed,
+    // and what they say is so.
+    ensures showed { (seed : ℕ) → command_of (map string_bytes words.now) ≡ Some (demonstrating seed) → result ≡ 0
+        → Shows seed (K.shown out.old) (K.shown out.new) }
+
     // After `bound` with status 0 the number on the line is the base bound of the problem, and no plan costs less.
     ensures bounded { (m : List ℕ) → command_of (map string_bytes words.now) ≡ Some (bounding m) → result ≡ 0
         → IsTrue (S.shown shelf.old).told
@@ -86,6 +112,7 @@ pub fn run<S: Shelf, K: Sink>(alloc: Global, words: &[String], shelf: &mut S, ou
     ensures faulty { result ≡ 3 → IsTrue (S.shown shelf.old).told
         → IsFaulty (command_of (map string_bytes words.now)) (S.shown shelf.old).file (K.shown out.old) (K.shown out.new) }
     ensures no_command { result ≡ 4 → IsNoCommand (command_of (map string_bytes words.now)) (K.shown out.old) (K.shown out.new) }
+    ensures refused_words { result ≡ 4 → AreTaken (map string_bytes words.now) → Gains refused_line (K.shown out.old) (K.shown out.new) }
     ensures refused { result ≡ 5 → (fault : ModelFault) × Stops (command_of (map string_bytes words.now))
         (S.shown shelf.old) (S.shown shelf.new) (K.shown out.old) (K.shown out.new) (refused fault) }
     ensures missing { result ≡ 6 → (file : List ℕ) × Stops (command_of (map string_bytes words.now))
@@ -98,7 +125,8 @@ pub fn run<S: Shelf, K: Sink>(alloc: Global, words: &[String], shelf: &mut S, ou
     ensures too_long { result ≡ 11 → (file : List ℕ) × Stops (command_of (map string_bytes words.now))
         (S.shown shelf.old) (S.shown shelf.new) (K.shown out.old) (K.shown out.new) (too_long file) }
 
-    // What is written: nothing on a status but 0, 1, 2, 8 and 9, and by `plan` and `upgrade` alone; never another file.
+    // What is written: nothing on a status but 0, 1, 2, 8 and 9, and by `plan`, `upgrade` and `gen` alone; never
+    // another file.
     ensures quiet { result ≢ 0 → result ≢ 1 → result ≢ 2 → result ≢ 8 → result ≢ 9 → OnlyReads (S.shown shelf.old) (S.shown shelf.new) }
     ensures wrote { (m p c : List ℕ) (n : ℕ) → command_of (map string_bytes words.now) ≡ Some (planning m p c n) → result ≡ 0
         → GrewBy 2 (S.shown shelf.old).starts (S.shown shelf.new).starts }
@@ -112,16 +140,24 @@ pub fn run<S: Shelf, K: Sink>(alloc: Global, words: &[String], shelf: &mut S, ou
         → GrewBy 1 (S.shown shelf.old).starts (S.shown shelf.new).starts }
     ensures upgrade_others { (m n : List ℕ) → command_of (map string_bytes words.now) ≡ Some (upgrading m n)
         → StartsAtMost n (S.shown shelf.old) (S.shown shelf.new) }
+    ensures wrote_generated { (seed items periods : ℕ) (m : List ℕ)
+        → command_of (map string_bytes words.now) ≡ Some (generating seed items periods m) → result ≡ 0
+        → GrewBy 1 (S.shown shelf.old).starts (S.shown shelf.new).starts }
+    ensures generate_others { (seed items periods : ℕ) (m : List ℕ)
+        → command_of (map string_bytes words.now) ≡ Some (generating seed items periods m)
+        → StartsAtMost m (S.shown shelf.old) (S.shown shelf.new) }
     ensures judge_only_reads { (m p : List ℕ) → command_of (map string_bytes words.now) ≡ Some (judging m p)
         → OnlyReads (S.shown shelf.old) (S.shown shelf.new) }
     ensures check_only_reads { (m p c : List ℕ) → command_of (map string_bytes words.now) ≡ Some (checking m p c)
         → OnlyReads (S.shown shelf.old) (S.shown shelf.new) }
+    ensures report_only_reads { (m p : List ℕ) → command_of (map string_bytes words.now) ≡ Some (reporting m p)
+        → OnlyReads (S.shown shelf.old) (S.shown shelf.new) }
     ensures bound_only_reads { (m : List ℕ) → command_of (map string_bytes words.now) ≡ Some (bounding m)
         → OnlyReads (S.shown shelf.old) (S.shown shelf.new) }
 
-    // What is read: nothing for words that are no command, at most two files within the limit, by `bound` one, and by
-    // `check` three times a certificate file.
-    ensures idle { command_of (map string_bytes words.now) ≡ None → S.shown shelf.new ≡ S.shown shelf.old }
+    // What is read: nothing for words that are no command, by `demo` and for help, at most two files within the limit,
+    // by `bound` one, by `gen` none, and by `check` three times a certificate file.
+    ensures idle { IsIdle (command_of (map string_bytes words.now)) → S.shown shelf.new ≡ S.shown shelf.old }
     ensures given { (S.shown shelf.new).given ≤ (S.shown shelf.old).given + most_given (command_of (map string_bytes words.now)) }
     ensures told { (S.shown shelf.new).told ≡ (S.shown shelf.old).told }
 
@@ -134,6 +170,7 @@ pub fn run<S: Shelf, K: Sink>(alloc: Global, words: &[String], shelf: &mut S, ou
     ensures run { IsRun (command_of (map string_bytes words.now)) result (S.shown shelf.old) (S.shown shelf.new)
         (K.shown out.old) (K.shown out.new) }
 {
+    commands_are_allowed();
     statuses_are_one();
     let said = said(alloc, words, shelf);
     end_with(&said, out)
@@ -146,7 +183,7 @@ fn end_with<K: Sink>(said: &Result<Said, AllocError>, out: &mut K) -> u8
     ensures told { (K.shown out.new).told ≡ (K.shown out.old).told }
 {
     match said {
-        Ok(said) => match out.put(said.line.as_bytes()) {
+        Ok(said) => match out.put(said.line.as_slice()) {
             Ok(()) => said.status.code(),
             Err(_) => Status::Unprinted.code(),
         },
@@ -157,13 +194,29 @@ fn end_with<K: Sink>(said: &Result<Said, AllocError>, out: &mut K) -> u8
 // What is said of the words.
 fn said<S: Shelf>(alloc: Global, words: &[String], shelf: &mut S) -> Result<Said, AllocError>
     ensures said { IfOk result (SaysFor (command_of (map string_bytes words.now)) (S.shown shelf.old) (S.shown shelf.new)) }
+    ensures refused { command_of (map string_bytes words.now) ≡ None → AreTaken (map string_bytes words.now) → IfOk result (IsSaid refused_line NoCommand) }
     ensures memory { OnErr result (Leaves (command_of (map string_bytes words.now)) (S.shown shelf.old) (S.shown shelf.new)) }
     ensures given { (S.shown shelf.new).given ≤ (S.shown shelf.old).given + most_given (command_of (map string_bytes words.now)) }
 {
-    match read_words(words) {
-        None => Said::new(alloc, "refused words\n", Status::NoCommand),
-        Some(Command::Name) => Said::new(alloc, "lotplan 1\n", Status::Done),
-        Some(Command::Plan { names, budget }) => plan_files(
+    commands_are_allowed();
+    match read_words(alloc, words) {
+        Ok(Reading::Command(command)) => said_of(alloc, command, shelf),
+        Ok(Reading::Help(text)) => Ok(Said::of(text, Status::Done)),
+        Ok(Reading::Refused(text)) => Ok(Said::of(text, Status::NoCommand)),
+        Err(_) => Err(AllocError),
+    }
+}
+
+// What is said of a command.
+fn said_of<S: Shelf>(alloc: Global, command: Command<'_>, shelf: &mut S) -> Result<Said, AllocError>
+    requires { IsAllowed (asked_by command) }
+    ensures said { IfOk result (SaysFor (Some (asked_by command.entry)) (S.shown shelf.old) (S.shown shelf.new)) }
+    ensures memory { OnErr result (Leaves (Some (asked_by command.entry)) (S.shown shelf.old) (S.shown shelf.new)) }
+    ensures given { (S.shown shelf.new).given ≤ (S.shown shelf.old).given + most_given (Some (asked_by command.entry)) }
+{
+    match command {
+        Command::Name => Said::new(alloc, "lotplan 1\n", Status::Done),
+        Command::Plan { names, budget } => plan_files(
             alloc,
             names.model,
             names.plan,
@@ -171,11 +224,19 @@ fn said<S: Shelf>(alloc: Global, words: &[String], shelf: &mut S) -> Result<Said
             budget,
             shelf,
         ),
-        Some(Command::Judge(names)) => judge_files(alloc, names.model, names.plan, shelf),
-        Some(Command::Check(names)) => {
+        Command::Judge(names) => judge_files(alloc, names.model, names.plan, shelf),
+        Command::Check(names) => {
             check_files(alloc, names.model, names.plan, names.certificate, shelf)
         }
-        Some(Command::Upgrade(names)) => upgrade_files(alloc, names.model, names.upgraded, shelf),
-        Some(Command::Bound(model)) => bound_files(alloc, model, shelf),
+        Command::Report(names) => report_files(alloc, names.model, names.plan, shelf),
+        Command::Generate {
+            seed,
+            items,
+            periods,
+            model,
+        } => generate_file(alloc, seed, items, periods, model, shelf),
+        Command::Demo(seed) => show_plans(alloc, seed),
+        Command::Upgrade(names) => upgrade_files(alloc, names.model, names.upgraded, shelf),
+        Command::Bound(model) => bound_files(alloc, model, shelf),
     }
 }

@@ -34,10 +34,7 @@ impl BoundAnswer<'_> {
     pub fn said(&self, alloc: Global) -> Result<Said, AllocError>
         ensures { IfOk result (IsSaid (bound_line (bound_meant self.now)) (bound_status (bound_meant self.now))) }
     {
-        Ok(Said {
-            line: self.line(alloc)?,
-            status: self.status(),
-        })
+        Ok(Said::of(self.line(alloc)?, self.status()))
     }
 
     /// The status.

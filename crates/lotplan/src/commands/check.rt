@@ -48,10 +48,7 @@ impl CheckAnswer<'_> {
     pub fn said(&self, alloc: Global) -> Result<Said, AllocError>
         ensures { IfOk result (IsSaid (check_line (check_meant self.now)) (check_status (check_meant self.now))) }
     {
-        Ok(Said {
-            line: self.line(alloc)?,
-            status: self.status(),
-        })
+        Ok(Said::of(self.line(alloc)?, self.status()))
     }
 
     /// The status.

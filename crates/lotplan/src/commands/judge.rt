@@ -33,10 +33,7 @@ impl JudgeAnswer<'_> {
     pub fn said(&self, alloc: Global) -> Result<Said, AllocError>
         ensures { IfOk result (IsSaid (judge_line (judge_meant self.now)) (judge_status (judge_meant self.now))) }
     {
-        Ok(Said {
-            line: self.line(alloc)?,
-            status: self.status(),
-        })
+        Ok(Said::of(self.line(alloc)?, self.status()))
     }
 
     /// The status.

@@ -71,10 +71,7 @@ impl PlanAnswer<'_> {
     pub fn said(&self, alloc: Global) -> Result<Said, AllocError>
         ensures { IfOk result (IsSaid (plan_line (plan_meant self.now)) (plan_status (plan_meant self.now))) }
     {
-        Ok(Said {
-            line: self.line(alloc)?,
-            status: self.status(),
-        })
+        Ok(Said::of(self.line(alloc)?, self.status()))
     }
 
     /// The status.
@@ -147,8 +144,8 @@ fn cost_of(instance: &Instance, plan: &Plan) -> u128
     }
 }
 
-// What is answered once what was found is written.
-fn answer_of(instance: &Instance, found: &Found) -> PlanAnswer<'static>
+/// What is answered once what was found is written.
+pub fn answer_of(instance: &Instance, found: &Found) -> PlanAnswer<'static>
     requires { IfSome found.now.plan (IsGoodPlan instance.now) }
     ensures { IsAnswerTo instance.now found.now.certificate.claim found.now.plan found.now.root found.now.nodes (plan_meant result) }
 {
@@ -219,8 +216,8 @@ fn write_found<S: Shelf>(
     }
 }
 
-// What the search finds of an instance with a budget of nodes.
-fn found_of(alloc: Global, instance: &Instance, budget: u64) -> Result<Found, AllocError>
+/// What the search finds of an instance with a budget of nodes.
+pub fn found_of(alloc: Global, instance: &Instance, budget: u64) -> Result<Found, AllocError>
     requires { 1 ≤ budget }
     ensures { IfOk result (IsFound instance.now budget) }
 {

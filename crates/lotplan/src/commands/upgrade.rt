@@ -32,10 +32,7 @@ impl UpgradeAnswer<'_> {
     pub fn said(&self, alloc: Global) -> Result<Said, AllocError>
         ensures { IfOk result (IsSaid (upgrade_line (upgrade_meant self.now)) (upgrade_status (upgrade_meant self.now))) }
     {
-        Ok(Said {
-            line: self.line(alloc)?,
-            status: self.status(),
-        })
+        Ok(Said::of(self.line(alloc)?, self.status()))
     }
 
     /// The status.

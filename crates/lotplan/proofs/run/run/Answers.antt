@@ -1,7 +1,6 @@
 use Rattle.std.proofs.Common.{map, string_bytes}
-use Rattle.lotplan.specs.Command.{command_of}
-use Rattle.lotplan.proofs.Words.{planned_apart}
-use Rattle.lotplan.proofs.Explained.{accepts, bound_reads, bounds, called, check_reads, checks, fails_to_read, faulty, feasible, idle, infeasible, is_long, is_run, judge_reads, misses, no_command, optimal, others, quiet, refuses, silent, tells, undecided, unprinted, unwritten, upgrade_others, upgrades, rewrote, wrote, wrote_one, wrote_some}
+use Rattle.command_line.specs.Words.{command_of}
+use Rattle.lotplan.proofs.Explained.{accepts, bound_reads, bounds, called, check_reads, checks, fails_to_read, faulty, feasible, generate_others, generates, idle, infeasible, is_long, is_run, judge_reads, misses, no_command, optimal, others, quiet, refused_words, refuses, report_reads, rewrote, shows, silent, sums_up, tells, undecided, unprinted, unwritten, upgrade_others, upgrades, wrote, wrote_made, wrote_one, wrote_some}
 use Rattle.lotplan.proofs.run.run.Goals as goal
 
 pub returns-clause-run : goal.returns-clause-run
@@ -17,7 +16,7 @@ pub returns-clause-wrote_certificate : goal.returns-clause-wrote_certificate
 returns-clause-wrote_certificate g c = wrote_one (command_of (map string_bytes c.args.words.now)) c.end_with.result (g.S.Shelf.shown c.args.shelf.now) (g.S.Shelf.shown c.said-said.new.shelf) (g.K.Sink.shown c.args.out.now) (g.K.Sink.shown c.end_with.new.out) (is_run (command_of (map string_bytes c.args.words.now)) c.end_with.result (g.S.Shelf.shown c.args.shelf.now) (g.S.Shelf.shown c.said-said.new.shelf) (g.K.Sink.shown c.args.out.now) (g.K.Sink.shown c.end_with.new.out) c.said-said.result c.said-said.ensures.said c.said-said.ensures.memory c.end_with.ensures.ends)
 
 pub returns-clause-checks : goal.returns-clause-checks
-returns-clause-checks g c = checks c.statuses_are_one.ensures (command_of (map string_bytes c.args.words.now)) c.end_with.result (g.S.Shelf.shown c.args.shelf.now) (g.S.Shelf.shown c.said-said.new.shelf) (g.K.Sink.shown c.args.out.now) (g.K.Sink.shown c.end_with.new.out) (planned_apart (map string_bytes c.args.words.now)) (is_run (command_of (map string_bytes c.args.words.now)) c.end_with.result (g.S.Shelf.shown c.args.shelf.now) (g.S.Shelf.shown c.said-said.new.shelf) (g.K.Sink.shown c.args.out.now) (g.K.Sink.shown c.end_with.new.out) c.said-said.result c.said-said.ensures.said c.said-said.ensures.memory c.end_with.ensures.ends)
+returns-clause-checks g c = checks c.statuses_are_one.ensures (command_of (map string_bytes c.args.words.now)) c.end_with.result (g.S.Shelf.shown c.args.shelf.now) (g.S.Shelf.shown c.said-said.new.shelf) (g.K.Sink.shown c.args.out.now) (g.K.Sink.shown c.end_with.new.out) (c.commands_are_allowed.ensures (map string_bytes c.args.words.now)) (is_run (command_of (map string_bytes c.args.words.now)) c.end_with.result (g.S.Shelf.shown c.args.shelf.now) (g.S.Shelf.shown c.said-said.new.shelf) (g.K.Sink.shown c.args.out.now) (g.K.Sink.shown c.end_with.new.out) c.said-said.result c.said-said.ensures.said c.said-said.ensures.memory c.end_with.ensures.ends)
 
 pub returns-clause-judged : goal.returns-clause-judged
 returns-clause-judged g c = feasible (command_of (map string_bytes c.args.words.now)) c.end_with.result (g.S.Shelf.shown c.args.shelf.now) (g.S.Shelf.shown c.said-said.new.shelf) (g.K.Sink.shown c.args.out.now) (g.K.Sink.shown c.end_with.new.out) (is_run (command_of (map string_bytes c.args.words.now)) c.end_with.result (g.S.Shelf.shown c.args.shelf.now) (g.S.Shelf.shown c.said-said.new.shelf) (g.K.Sink.shown c.args.out.now) (g.K.Sink.shown c.end_with.new.out) c.said-said.result c.said-said.ensures.said c.said-said.ensures.memory c.end_with.ensures.ends)
@@ -96,3 +95,24 @@ returns-clause-bound_only_reads g c = bound_reads (command_of (map string_bytes 
 
 pub returns-clause-wrote_some : goal.returns-clause-wrote_some
 returns-clause-wrote_some g c = wrote_some (command_of (map string_bytes c.args.words.now)) c.end_with.result (g.S.Shelf.shown c.args.shelf.now) (g.S.Shelf.shown c.said-said.new.shelf) (g.K.Sink.shown c.args.out.now) (g.K.Sink.shown c.end_with.new.out) (is_run (command_of (map string_bytes c.args.words.now)) c.end_with.result (g.S.Shelf.shown c.args.shelf.now) (g.S.Shelf.shown c.said-said.new.shelf) (g.K.Sink.shown c.args.out.now) (g.K.Sink.shown c.end_with.new.out) c.said-said.result c.said-said.ensures.said c.said-said.ensures.memory c.end_with.ensures.ends)
+
+pub returns-clause-summed : goal.returns-clause-summed
+returns-clause-summed g c = sums_up (command_of (map string_bytes c.args.words.now)) c.end_with.result (g.S.Shelf.shown c.args.shelf.now) (g.S.Shelf.shown c.said-said.new.shelf) (g.K.Sink.shown c.args.out.now) (g.K.Sink.shown c.end_with.new.out) (is_run (command_of (map string_bytes c.args.words.now)) c.end_with.result (g.S.Shelf.shown c.args.shelf.now) (g.S.Shelf.shown c.said-said.new.shelf) (g.K.Sink.shown c.args.out.now) (g.K.Sink.shown c.end_with.new.out) c.said-said.result c.said-said.ensures.said c.said-said.ensures.memory c.end_with.ensures.ends)
+
+pub returns-clause-generated : goal.returns-clause-generated
+returns-clause-generated g c = generates (command_of (map string_bytes c.args.words.now)) c.end_with.result (g.S.Shelf.shown c.args.shelf.now) (g.S.Shelf.shown c.said-said.new.shelf) (g.K.Sink.shown c.args.out.now) (g.K.Sink.shown c.end_with.new.out) (is_run (command_of (map string_bytes c.args.words.now)) c.end_with.result (g.S.Shelf.shown c.args.shelf.now) (g.S.Shelf.shown c.said-said.new.shelf) (g.K.Sink.shown c.args.out.now) (g.K.Sink.shown c.end_with.new.out) c.said-said.result c.said-said.ensures.said c.said-said.ensures.memory c.end_with.ensures.ends)
+
+pub returns-clause-showed : goal.returns-clause-showed
+returns-clause-showed g c = shows (command_of (map string_bytes c.args.words.now)) c.end_with.result (g.S.Shelf.shown c.args.shelf.now) (g.S.Shelf.shown c.said-said.new.shelf) (g.K.Sink.shown c.args.out.now) (g.K.Sink.shown c.end_with.new.out) (is_run (command_of (map string_bytes c.args.words.now)) c.end_with.result (g.S.Shelf.shown c.args.shelf.now) (g.S.Shelf.shown c.said-said.new.shelf) (g.K.Sink.shown c.args.out.now) (g.K.Sink.shown c.end_with.new.out) c.said-said.result c.said-said.ensures.said c.said-said.ensures.memory c.end_with.ensures.ends)
+
+pub returns-clause-wrote_generated : goal.returns-clause-wrote_generated
+returns-clause-wrote_generated g c = wrote_made (command_of (map string_bytes c.args.words.now)) c.end_with.result (g.S.Shelf.shown c.args.shelf.now) (g.S.Shelf.shown c.said-said.new.shelf) (g.K.Sink.shown c.args.out.now) (g.K.Sink.shown c.end_with.new.out) (is_run (command_of (map string_bytes c.args.words.now)) c.end_with.result (g.S.Shelf.shown c.args.shelf.now) (g.S.Shelf.shown c.said-said.new.shelf) (g.K.Sink.shown c.args.out.now) (g.K.Sink.shown c.end_with.new.out) c.said-said.result c.said-said.ensures.said c.said-said.ensures.memory c.end_with.ensures.ends)
+
+pub returns-clause-generate_others : goal.returns-clause-generate_others
+returns-clause-generate_others g c = generate_others (command_of (map string_bytes c.args.words.now)) c.end_with.result (g.S.Shelf.shown c.args.shelf.now) (g.S.Shelf.shown c.said-said.new.shelf) (g.K.Sink.shown c.args.out.now) (g.K.Sink.shown c.end_with.new.out) (is_run (command_of (map string_bytes c.args.words.now)) c.end_with.result (g.S.Shelf.shown c.args.shelf.now) (g.S.Shelf.shown c.said-said.new.shelf) (g.K.Sink.shown c.args.out.now) (g.K.Sink.shown c.end_with.new.out) c.said-said.result c.said-said.ensures.said c.said-said.ensures.memory c.end_with.ensures.ends)
+
+pub returns-clause-report_only_reads : goal.returns-clause-report_only_reads
+returns-clause-report_only_reads g c = report_reads (command_of (map string_bytes c.args.words.now)) c.end_with.result (g.S.Shelf.shown c.args.shelf.now) (g.S.Shelf.shown c.said-said.new.shelf) (g.K.Sink.shown c.args.out.now) (g.K.Sink.shown c.end_with.new.out) (is_run (command_of (map string_bytes c.args.words.now)) c.end_with.result (g.S.Shelf.shown c.args.shelf.now) (g.S.Shelf.shown c.said-said.new.shelf) (g.K.Sink.shown c.args.out.now) (g.K.Sink.shown c.end_with.new.out) c.said-said.result c.said-said.ensures.said c.said-said.ensures.memory c.end_with.ensures.ends)
+
+pub returns-clause-refused_words : goal.returns-clause-refused_words
+returns-clause-refused_words g c = refused_words (command_of (map string_bytes c.args.words.now)) (map string_bytes c.args.words.now) c.end_with.result (g.S.Shelf.shown c.args.shelf.now) (g.S.Shelf.shown c.said-said.new.shelf) (g.K.Sink.shown c.args.out.now) (g.K.Sink.shown c.end_with.new.out) c.said-said.result (is_run (command_of (map string_bytes c.args.words.now)) c.end_with.result (g.S.Shelf.shown c.args.shelf.now) (g.S.Shelf.shown c.said-said.new.shelf) (g.K.Sink.shown c.args.out.now) (g.K.Sink.shown c.end_with.new.out) c.said-said.result c.said-said.ensures.said c.said-said.ensures.memory c.end_with.ensures.ends) c.said-said.ensures.refused c.end_with.ensures.ends

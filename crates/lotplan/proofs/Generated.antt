@@ -1,0 +1,57 @@
+-- What `gen` leaves, by its answer.
+use Rattle.std.proofs.Common.{◌≡◌, ◌≢◌, ℕ, List, Some, IsTrue, refl, subst, arith}
+use Rattle.lot_io.specs.Outside.{GrewBy, OnlyReads, Printed, Shelved}
+use Rattle.command_line.specs.Words.{generating}
+use Rattle.lotplan.specs.Status.{code_of}
+use Rattle.lotplan.specs.Planning.{StartsAtMost, unwritten_line}
+use Rattle.lotplan.specs.Upgrading.{written_line}
+use Rattle.lotplan.specs.Generating.{FailsToGenerate, GenerateAnswer, GenerateExplains, Generates, written, unwritten, generate_line, generate_status}
+use Rattle.lotplan.specs.Saying.{Gains}
+use Rattle.lotplan.specs.Run.{HadNoFault}
+use Rattle.lotplan.proofs.Planned.{starts_at_most}
+
+module _ (seed items periods : ℕ) (m : List ℕ) (code : ℕ) (old new : Shelved) where
+  -- ---- what each number says
+  module _ (out_old out_new : Printed) where
+    pub generated_at : (answer : GenerateAnswer) → GenerateExplains seed items periods m old new answer → code ≡ code_of (generate_status answer) → Gains (generate_line answer) out_old out_new → code ≡ 0 → (IsTrue old.told → Generates new.file seed items periods m out_old out_new) × GrewBy 1 old.starts new.starts
+    generated_at (written file) x is line none =
+        (λ t. record { holds = x.1 t; line = subst (λ f. Gains (written_line f) out_old out_new) x.0 line }, x.2.starts)
+    generated_at (unwritten file) x is line none = absurd (omega (arith, is, none))
+
+    pub unwritten_at : (answer : GenerateAnswer) → GenerateExplains seed items periods m old new answer → code ≡ code_of (generate_status answer) → Gains (generate_line answer) out_old out_new → code ≡ 8 → FailsToGenerate (Some (generating seed items periods m)) old new out_old out_new
+    unwritten_at (written file) x is line eight = absurd (omega (arith, is, eight))
+    unwritten_at (unwritten file) x is line eight = record {
+      seed = seed;
+      items = items;
+      periods = periods;
+      model_file = m;
+      words = refl;
+      failed = x.1;
+      line = subst (λ f. Gains (unwritten_line f) out_old out_new) x.0 line;
+    }
+
+    -- ---- what is called for
+    pub called_at : HadNoFault old new out_old out_new → (answer : GenerateAnswer) → GenerateExplains seed items periods m old new answer → code ≡ code_of (generate_status answer) → code ≡ 0
+    called_at fine (written file) x is = is
+    called_at fine (unwritten file) x is = absurd (fine.written x.1)
+
+  -- ---- what is written
+  pub quiet_at : (answer : GenerateAnswer) → GenerateExplains seed items periods m old new answer → code ≡ code_of (generate_status answer) → code ≢ 0 → code ≢ 8 → OnlyReads old new
+  quiet_at (written file) x is some other = absurd (some is)
+  quiet_at (unwritten file) x is some other = absurd (other is)
+
+  pub others_at : (answer : GenerateAnswer) → GenerateExplains seed items periods m old new answer → StartsAtMost m old new × (new.told ≡ old.told)
+  others_at (written file) x = (starts_at_most m old new x.2, x.2.told)
+  others_at (unwritten file) x = (starts_at_most m old new x.2, x.2.told)
+
+-- `gen` has the numbers 0 and 8 alone
+pub record IsGenerating (code : ℕ) : Type 0 where
+  pub is : (code ≢ 0) → code ≡ 8
+  pub one : code ≡ 1 → ⊥
+  pub two : code ≡ 2 → ⊥
+  pub three : code ≡ 3 → ⊥
+  pub four : code ≡ 4 → ⊥
+
+pub numbers : (answer : GenerateAnswer) (code : ℕ) → code ≡ code_of (generate_status answer) → IsGenerating code
+numbers (written file) code is = record { is = λ some. absurd (some is); one = λ e. omega (arith, is, e); two = λ e. omega (arith, is, e); three = λ e. omega (arith, is, e); four = λ e. omega (arith, is, e) }
+numbers (unwritten file) code is = record { is = λ some. is; one = λ e. omega (arith, is, e); two = λ e. omega (arith, is, e); three = λ e. omega (arith, is, e); four = λ e. omega (arith, is, e) }

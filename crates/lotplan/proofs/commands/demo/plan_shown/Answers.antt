@@ -1,0 +1,6 @@
+use Rattle.lotplan.specs.Held.{plan_meant}
+use Rattle.lotplan.proofs.Shown.{shown}
+use Rattle.lotplan.proofs.commands.demo.plan_shown.Goals as goal
+
+pub returns : goal.returns
+returns c = shown c.args.instance.now c.args.budget c.in_ok-found.found c.in_ok-found.ensures c.requires.own c.periods.ensures.instance (plan_meant c.answer_of.result) c.answer_of.ensures

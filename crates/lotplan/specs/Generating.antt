@@ -1,0 +1,69 @@
+-- What `gen` answers, why, and what it leaves.
+use Rattle.std.specs.Prelude.{◌≡◌, ℕ, true, List, IsTrue, Option, Some, Ok}
+use Rattle.lot_io.specs.Outside.{Files, Printed, Rose, Shelved}
+use Rattle.instance_reader.specs.Document.{document_of}
+use Rattle.instance_reader.specs.Model.{BytesMean}
+use Rattle.first_plans.specs.OwnPeriod.{HasOwnPeriod}
+use Rattle.report.specs.Generated.{generated, generated_table}
+use Rattle.command_line.specs.Words.{Asked, generating}
+use Rattle.lotplan.specs.Planning.{StartsOnly, unwritten_line}
+use Rattle.lotplan.specs.Saying.{Gains, IsSaid}
+use Rattle.lotplan.specs.Upgrading.{written_line}
+use Rattle.lotplan.specs.declared.said.Said.{Said}
+use Rattle.lotplan.specs.declared.status.Status.{Status}
+use Rattle.lotplan.specs.declared.status.Status.TheVariants as status
+
+-- ---- answers
+pub data GenerateAnswer : Type 0 where
+  -- the model was written to the file of this name
+  written : List ℕ → GenerateAnswer
+  -- the file of this name could not be written
+  unwritten : List ℕ → GenerateAnswer
+
+abbrev pub generate_status : GenerateAnswer → Status
+generate_status (written file) = status.Done
+generate_status (unwritten file) = status.Unwritten
+
+abbrev pub generate_line : GenerateAnswer → List ℕ
+generate_line (written file) = written_line file
+generate_line (unwritten file) = unwritten_line file
+
+-- ---- causes
+-- the text's table is that of the coupled model of this seed and size; it means this problem, whose own-period plan is feasible
+pub record IsGenerated (seed items periods : ℕ) (text : List ℕ) : Type 0 where
+  pub table : document_of text ≡ Some (generated_table seed items periods true)
+  pub means : BytesMean text (Ok (generated seed items periods true))
+  pub feasible : HasOwnPeriod (generated seed items periods true)
+
+-- the file holds such a text
+pub record WritesGenerated (after : Files) (seed items periods : ℕ) (model_file : List ℕ) : Type 0 where
+  pub bytes : List ℕ
+  pub written : after model_file ≡ Some bytes
+  pub is : IsGenerated seed items periods bytes
+
+-- why the generating of a model ends in this answer, and what it leaves
+abbrev pub GenerateExplains : (seed items periods : ℕ) → List ℕ → Shelved → Shelved → GenerateAnswer → Type 0
+GenerateExplains seed items periods m old new (written file) =
+    (file ≡ m) × (IsTrue old.told → WritesGenerated new.file seed items periods m) × StartsOnly m old new
+GenerateExplains seed items periods m old new (unwritten file) = (file ≡ m) × Rose old.write_faults new.write_faults × StartsOnly m old new
+
+-- what is said is an answer that has its cause
+abbrev pub GenerateSays : (seed items periods : ℕ) → List ℕ → Shelved → Shelved → Said → Type 0
+GenerateSays seed items periods m old new said =
+    (answer : GenerateAnswer) × GenerateExplains seed items periods m old new answer × IsSaid (generate_line answer) (generate_status answer) said
+
+-- ---- what each status says
+-- the model file holds the generated model, and the line names it
+pub record Generates (after : Files) (seed items periods : ℕ) (model_file : List ℕ) (out_old out_new : Printed) : Type 0 where
+  pub holds : WritesGenerated after seed items periods model_file
+  pub line : Gains (written_line model_file) out_old out_new
+
+-- they ask to generate a model, its file could not be written, and the line names it
+pub record FailsToGenerate (asked : Option Asked) (old new : Shelved) (out_old out_new : Printed) : Type 0 where
+  pub seed : ℕ
+  pub items : ℕ
+  pub periods : ℕ
+  pub model_file : List ℕ
+  pub words : asked ≡ Some (generating seed items periods model_file)
+  pub failed : Rose old.write_faults new.write_faults
+  pub line : Gains (unwritten_line model_file) out_old out_new
