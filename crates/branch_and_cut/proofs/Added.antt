@@ -13,13 +13,13 @@ use Rattle.acceptance.specs.Laws.{CutRowsGoOn, SmallCutsGoOn}
 use Rattle.cert_checker.specs.Checks.{AreGoodCuts}
 use Rattle.cert_checker.specs.Cuts.{HasDivisor}
 use Rattle.cert_checker.specs.Named.{IsReadyFor}
-use Rattle.first_plans.specs.Made.{IsMade}
 use Rattle.branch_and_cut.specs.declared.knowing.Known.{Known}
 use Rattle.branch_and_cut.specs.declared.guiding.Model.{Model}
 use Rattle.branch_and_cut.specs.Adding.{IsBlock, IsNextRow}
 use Rattle.branch_and_cut.specs.Begun.{AreKnownCuts, IsBegun}
 use Rattle.branch_and_cut.specs.Branching.{good_stays}
-use Rattle.branch_and_cut.specs.Knowing.{IsKnown, shapes}
+use Rattle.branch_and_cut.specs.Knowing.{IsKnown, ranges_in, shapes}
+use Rattle.branch_and_cut.specs.Within.{IsMadeWithin}
 use Rattle.branch_and_cut.proofs.Openings.{columns_more}
 
 -- ---- block cuts
@@ -89,9 +89,10 @@ known_more g old new cut row go_on small_go_on few block form next cuts rows bes
     let here = cuts_more g.instance.now g.version (shapes old) old.rows.items shape row go_on small_go_on fewer (block_lines g.version shape block form) next is.cuts in
     let same : shapes new ≡ shapes old ++ (shape ∷ []) = ap (λ cs. map cut_shape cs) cuts ∙ map-append cut_shape old.cuts.items (cut ∷ []) in
     record {
+      given = is.given;
       begun = subst (λ r. IsBegun g.instance.now g.version g.least g.first r) (sym rows) (begun_more g old.rows.items (row ∷ []) is.begun);
       cuts = subst (λ r. AreKnownCuts g.instance.now g.version (shapes new) r) (sym rows) (subst (λ s. AreKnownCuts g.instance.now g.version s (old.rows.items ++ (row ∷ []))) (sym same) here);
-      best = subst (λ b. IfSome b (IsMade g.instance.now)) (sym best) is.best;
+      best = subst (λ b. IfSome b (IsMadeWithin g.instance.now (ranges_in g))) (sym best) is.best;
       sums = subst (IsReadyFor g.instance.now) (sym sums) is.sums;
       explosion = is.explosion;
     }

@@ -1,15 +1,18 @@
 -- All that holds of what is found, with and without a search.
 use Rattle.std.proofs.Common.{◌≡◌, ◌≤◌, ◌∙◌, ℕ, refl, sym, subst, arith, List, Option, Some, None, Ok, Err}
-use Rattle.std.specs.Prelude.{IfOk, IfSome, IsNone, Result}
+use Rattle.std.specs.Prelude.{◌↔◌, IfOk, IfSome, IsNone, Result}
 use Rattle.std.specs.declared.alloc.AllocError.{AllocError}
 use Rattle.lot_sizing.specs.Best.{IsFloor, IsImpossible}
 use Rattle.lot_sizing.specs.Problem.{IsUncoupled, Problem}
+use Rattle.lot_sizing.specs.Bill.{AreWeights, bill_of}
 use Rattle.lot_sizing.specs.Plan as terms
+use Rattle.lot_sizing.specs.Totals.{AreLargestTotals}
 use Rattle.plan_rules.specs.declared.plan.Plan.{Plan}
 use Rattle.plan_rules.specs.declared.plan.Planned.{Planned}
-use Rattle.plan_rules.specs.Held.{plan_of}
+use Rattle.plan_rules.specs.Held.{AllFit, plan_of}
 use Rattle.cert_lines.specs.declared.parts.Claim.{Claim}
 use Rattle.cert_lines.specs.declared.parts.Claim.TheVariants.{Optimal, Infeasible, Bound as BoundOf}
+use Rattle.split_trees.specs.Ranges.{IsWithin, Ranges}
 use Rattle.acceptance.specs.Accepts.{IsTrueOf}
 use Rattle.cert_checker.specs.Checks.{ComesWith, plan_given}
 use Rattle.apart.specs.declared.found.Apart.{Apart}
@@ -25,13 +28,17 @@ use Rattle.branch_and_bound.specs.declared.node.Range.{Range}
 use Rattle.branch_and_bound.specs.declared.sought.Searched.{Searched}
 use Rattle.branch_and_cut.specs.declared.guiding.Model.{Model}
 use Rattle.branch_and_cut.specs.declared.knowing.Known.{Known}
-use Rattle.branch_and_cut.specs.Answer.{IsAnswer, IsRootOf}
+use Rattle.branch_and_cut.specs.Answer.{IsAnswer, IsAnswerWithin, IsRootOf}
 use Rattle.branch_and_cut.specs.Beginning.{AreApart}
 use Rattle.branch_and_cut.specs.Finishing.{IsFinished, IsSearched}
-use Rattle.branch_and_cut.specs.Knowing.{KeepsGiven, KeepsOwnMade, IsNoWorse, cost_kept, plan_kept}
-use Rattle.branch_and_cut.specs.Search.{CostsAtMost, GoesTogether, IsClaimedAtLeast, IsDecided, IsGoodPlan, IsImpossibleByOne, IsVersionOf, KeepsFirst, KeepsOwn, UsesRoot}
+use Rattle.branch_and_cut.specs.Knowing.{KeepsGiven, KeepsOwnMade, IsNoWorse, cost_kept, plan_kept, ranges_in}
+use Rattle.branch_and_cut.specs.Search.{CostsAtMost, GoesTogether, IsClaimedAtLeast, IsDecided, IsGoodPlan, IsImpossibleByOne, IsNoLessThanApart, IsSaidAtRoot, IsVersionOf, KeepsFirst, KeepsOwn, UsesRoot}
+use Rattle.branch_and_cut.specs.SearchWithin.{HasEvidenceWithin, IsGoodWithin, IsProvedWithin, IsUndecidedWithin, LieInWhole, WholeIsProved}
+use Rattle.branch_and_cut.specs.Within.{AllLieWithin, IsMadeWithin, IsWhole}
 use Rattle.branch_and_cut.specs.Search as shown
-use Rattle.branch_and_cut.proofs.Best.{first_kept, given_on, good_kept, own_kept}
+use Rattle.branch_and_cut.proofs.Best.{first_kept, given_on, good_first, good_kept, own_kept}
+use Rattle.branch_and_cut.proofs.Finished.{made_of}
+use Rattle.branch_and_cut.proofs.Overall.{cause_whole, one_within, shows_whole}
 use Rattle.branch_and_cut.proofs.Evidence.{at_most_on}
 
 -- ---- what follows from the claim and the plan without a bound
@@ -99,6 +106,42 @@ alone_answer m budget first found r a some good is says apart one proved alone =
       version = record { plain = λ plain. alone.version; other = λ not. absurd (not apart_of.plain) };
     }
 
+both_of : (m : Problem) (ranges : Ranges) (plan : Option Plan) → IfSome plan (IsGoodPlan m) → IfSome plan (λ p. IsWithin m ranges (plan_of p)) → IfSome plan (IsGoodWithin m ranges)
+both_of m ranges None good within = tt
+both_of m ranges (Some p) good within = record { good = good; within = within }
+
+pub alone_within : (m : Problem) (ranges : Ranges) (budget : ℕ) (first : Option Plan) (found : Found) (r : Root) (a : Apart) → 1 ≤ budget → IfSome first (IsGoodWithin m ranges) → IsRootOf m r → r.says ≡ root.Uncoupled → AreApart m a → ApartIsOne → IsProved m found → IsDecidedAlone found → IfSome found.plan (λ p. IsWithin m ranges (plan_of p)) → IsAnswerWithin m ranges budget first found
+alone_within m ranges budget first found r a some good is says apart one proved alone within =
+    let answer = alone_answer m budget first found r a some (good_first m ranges first good) is says apart one proved alone in
+    let claim = found.certificate.claim in
+    let decided = alone_decided claim found.plan alone.decided in
+    record {
+      proved = one_within m ranges found proved alone.alone within;
+      plan = both_of m ranges found.plan answer.plan within;
+      within = answer.within;
+      kept = answer.kept;
+      goes = answer.goes;
+      cause = no_bound claim (λ amount. shown.WithRows m found (IsUndecidedWithin m ranges budget found)) decided;
+      evidence = no_bound claim (λ amount. shown.WithRows m found (HasEvidenceWithin m ranges found amount)) decided;
+      root = answer.root;
+      uncoupled = answer.uncoupled;
+      apart = answer.apart;
+      version = answer.version;
+      whole = λ all. answer;
+    }
+
+-- the plan that is found alone
+pub plan_alone : (m : Problem) (total : ℕ → ℕ) (weight : ℕ → ℕ → ℕ) (found : Found) → AreLargestTotals m total → AreWeights (bill_of m) weight → IsProved m found → IsDecidedAlone found → IfSome found.plan (IsGoodPlan m)
+plan_alone m total weight found totals weights proved alone = alone_plan m found.certificate.claim found.plan alone.decided (proved.certified total weight totals weights).plan
+
+pub fits_alone : (m : Problem) (plan : Option Plan) → IfSome plan (IsGoodPlan m) → IfSome plan (AllFit m)
+fits_alone m None good = tt
+fits_alone m (Some p) good = good.fits
+
+pub all_alone : (m : Problem) (ranges : Ranges) (plan : Option Plan) → AllLieWithin m ranges → IfSome plan (IsGoodPlan m) → IfSome plan (λ p. IsWithin m ranges (plan_of p))
+all_alone m ranges None all good = tt
+all_alone m ranges (Some p) all good = all (plan_of p) good.feasible
+
 -- ---- without a point
 none_least : (m : Problem) (given : Option Plan) → IsImpossible m → (q : terms.Plan) → terms.IsFeasible m q → CostsAtMost m given (terms.cost m q)
 none_least m given none q feasible = absurd (none q feasible)
@@ -127,6 +170,26 @@ none_answer m budget first found r some good is says version proved without root
       version = version;
     }
 
+pub none_within : (m : Problem) (ranges : Ranges) (budget : ℕ) (first : Option Plan) (found : Found) (r : Root) → 1 ≤ budget → IfSome first (IsGoodWithin m ranges) → IsRootOf m r → r.says ≡ root.Empty → IsVersionOf m found.certificate.version → WholeIsProved m → IsProvedWithin m ranges found → found.plan ≡ None → found.root ≡ r.says → IsImpossibleByOne found → IsAnswerWithin m ranges budget first found
+none_within m ranges budget first found r some good is says version whole proved without root_is by =
+    let impossible : IsImpossible m = subst (BoundsPlans m) says is.bounds in
+    let claim_is = by.none in
+    let decided : IsDecided found.certificate.claim = subst IsDecided (sym claim_is) tt in
+    record {
+      proved = proved;
+      plan = subst (λ p. IfSome p (IsGoodWithin m ranges)) (sym without) tt;
+      within = omega (arith, by.alone, some);
+      kept = first_least m first found.plan (good_first m ranges first good) (none_least m found.plan impossible);
+      goes = subst (λ c. GoesTogether m c found.plan) (sym claim_is) (subst (λ p. IsNone p) (sym without) refl);
+      cause = no_bound found.certificate.claim (λ amount. shown.WithRows m found (IsUndecidedWithin m ranges budget found)) decided;
+      evidence = no_bound found.certificate.claim (λ amount. shown.WithRows m found (HasEvidenceWithin m ranges found amount)) decided;
+      root = (r, is.means, sym root_is);
+      uncoupled = (λ e. is.uncoupled.0 (sym root_is ∙ e), λ free. root_is ∙ is.uncoupled.1 free);
+      apart = λ amount at. subst (IsClaimedAtLeast amount) (sym claim_is) tt;
+      version = version;
+      whole = λ all. none_answer m budget first found r some (good_first m ranges first good) is says version (whole ranges all found proved) without root_is by;
+    }
+
 -- ---- by a search
 claimed_on : (claim : Claim) (a b : ℕ) → a ≤ b → IsClaimedAtLeast b claim → IsClaimedAtLeast a claim
 claimed_on (Optimal c) a b less is = omega (arith, less, is)
@@ -141,33 +204,52 @@ uses_of found root.Empty coupled some closed = absurd (some refl)
 uses_of found (root.Stopped round) coupled some closed = tt
 uses_of found (root.Passed round at) coupled some closed = tt
 
-pub searched_answer : (m : Problem) (budget : ℕ) (first : Option Plan) (found : Found) (r : Root) (a : Apart) (g : Model) (k : Known) (best : Option Planned) → g.instance.now ≡ m → IsRootOf m r → (r.says ≡ root.Uncoupled → ⊥) → (r.says ≡ root.Empty → ⊥) → AreApart m a → ApartIsOne → IsProved m found → IsFinished g k budget found → found.plan ≡ plan_kept k.best → found.root ≡ r.says → IsVersionOf m found.certificate.version → a.amount ≤ g.least → ((c : ℕ) → r.says ≡ root.Closed c → c ≤ g.least) → IfSome k.best (IsMade m) → IsNoWorse k.best best → KeepsGiven m first best → KeepsOwnMade m best → IsAnswer m budget first found
-searched_answer m budget first found r a g k best same is coupled some apart one proved ends plan_is root_is version apart_least closed_least made less kept own = record {
-  proved = proved;
-  plan = subst (λ p. IfSome p (IsGoodPlan m)) (sym plan_is) (good_kept m k.best made);
-  within = ends.within;
-  kept = subst (KeepsFirst m first) (sym plan_is) (first_kept m first k.best made (given_on m first best k.best less kept));
-  own = subst (KeepsOwn m) (sym plan_is) (own_kept m k.best made (λ q is_own feasible. at_most_on (cost_kept k.best) (cost_kept best) (Some (terms.cost m q)) less (own q is_own feasible)));
-  goes = subst (λ n. GoesTogether n found.certificate.claim found.plan) same ends.goes;
-  cause = subst (λ n. shown.IfBound found.certificate.claim (λ amount. shown.WithRows n found (shown.IsUndecided n budget found))) same ends.cause;
-  evidence = subst (λ n. shown.IfBound found.certificate.claim (λ amount. shown.WithRows n found (shown.HasEvidence n found amount))) same ends.evidence;
-  root = (r, is.means, sym root_is);
-  uncoupled = (λ e. is.uncoupled.0 (sym root_is ∙ e), λ free. root_is ∙ is.uncoupled.1 free);
-  uses = uses_of found found.root (λ e. coupled (sym root_is ∙ e)) (λ e. some (sym root_is ∙ e)) (λ c e. claimed_on found.certificate.claim c g.least (closed_least c (sym root_is ∙ e)) ends.least);
-  apart = λ amount at. claimed_on found.certificate.claim amount g.least (omega (arith, one m amount a.amount at apart.amount, apart_least)) ends.least;
-  complete = subst (λ n. shown.DecidesSmall n budget found.certificate.claim) same ends.complete;
-  version = version;
-}
+pub searched_within : (g : Model) (k : Known) (budget : ℕ) (first : Option Plan) (found : Found) (r : Root) (a : Apart) (best : Option Planned) → IsRootOf g.instance.now r → (IsWhole g.instance.now (ranges_in g) → r.says ≡ root.Uncoupled → ⊥) → (r.says ≡ root.Empty → ⊥) → AreApart g.instance.now a → ApartIsOne → LieInWhole g.instance.now → WholeIsProved g.instance.now → IsProvedWithin g.instance.now (ranges_in g) found → IsFinished g k budget found → found.plan ≡ plan_kept k.best → found.root ≡ r.says → IsVersionOf g.instance.now found.certificate.version → a.amount ≤ g.least → ((c : ℕ) → r.says ≡ root.Closed c → c ≤ g.least) → IfSome k.best (IsMadeWithin g.instance.now (ranges_in g)) → IsNoWorse k.best best → KeepsGiven g.instance.now first best → (AllLieWithin g.instance.now (ranges_in g) → KeepsOwnMade g.instance.now best) → IsAnswerWithin g.instance.now (ranges_in g) budget first found
+searched_within g k budget first found r a best is coupled some apart one lie whole proved ends plan_is root_is version apart_least closed_least made less kept own =
+    let m = g.instance.now in
+    let ranges = ranges_in g in
+    let claim = found.certificate.claim in
+    let made_is = made_of m ranges k.best made in
+    let good : IfSome found.plan (IsGoodWithin m ranges) = subst (λ p. IfSome p (IsGoodWithin m ranges)) (sym plan_is) (good_kept m ranges k.best made) in
+    let keeps : KeepsFirst m first found.plan = subst (KeepsFirst m first) (sym plan_is) (first_kept m first k.best made_is (given_on m first best k.best less kept)) in
+    let said : IsSaidAtRoot m found.root = (r, is.means, sym root_is) in
+    let free : found.root ≡ root.Uncoupled ↔ IsUncoupled m = (λ e. is.uncoupled.0 (sym root_is ∙ e), λ f. root_is ∙ is.uncoupled.1 f) in
+    let least : IsNoLessThanApart m claim = λ amount at. claimed_on claim amount g.least (omega (arith, one m amount a.amount at apart.amount, apart_least)) ends.least in
+    record {
+      proved = proved;
+      plan = good;
+      within = ends.within;
+      kept = keeps;
+      goes = ends.goes;
+      cause = ends.cause;
+      evidence = ends.evidence;
+      root = said;
+      uncoupled = free;
+      apart = least;
+      version = version;
+      whole = λ all. record {
+        proved = whole ranges all found proved;
+        plan = good_first m ranges found.plan good;
+        within = ends.within;
+        kept = keeps;
+        own = subst (KeepsOwn m) (sym plan_is) (own_kept m k.best made_is (λ q is_own feasible. at_most_on (cost_kept k.best) (cost_kept best) (Some (terms.cost m q)) less (own (lie ranges all) q is_own feasible)));
+        goes = ends.goes;
+        cause = cause_whole m ranges budget found all ends.cause;
+        evidence = shows_whole m ranges found all ends.evidence;
+        root = said;
+        uncoupled = free;
+        uses = uses_of found found.root (λ e. coupled all (sym root_is ∙ e)) (λ e. some (sym root_is ∙ e)) (λ c e. claimed_on claim c g.least (closed_least c (sym root_is ∙ e)) ends.least);
+        apart = least;
+        complete = ends.complete all;
+        version = version;
+      };
+    }
 
 -- ---- if memory was there
-pub alone_ok : (m : Problem) (budget : ℕ) (first : Option Plan) (result : Result Found AllocError) (r : Root) (a : Apart) → 1 ≤ budget → IfSome first (IsGoodPlan m) → IsRootOf m r → r.says ≡ root.Uncoupled → AreApart m a → ApartIsOne → IfOk result (IsProved m) → IfOk result IsDecidedAlone → IfOk result (IsAnswer m budget first)
-alone_ok m budget first (Ok found) r a some good is says apart one proved alone = alone_answer m budget first found r a some good is says apart one proved alone
-alone_ok m budget first (Err e) r a some good is says apart one proved alone = tt
-
-pub searched_ok : (m : Problem) (budget version : ℕ) (first : Option Plan) (result : Result Found AllocError) (r : Root) (a : Apart) (g : Model) (k : Known) (best : Option Planned) → g.instance.now ≡ m → g.root ≡ r.says → g.version ≡ version → IsRootOf m r → (r.says ≡ root.Uncoupled → ⊥) → (r.says ≡ root.Empty → ⊥) → AreApart m a → ApartIsOne → IfOk result (IsProved m) → IfOk result (IsFinished g k budget) → IfOk result (λ found. found.plan ≡ plan_kept k.best) → IfOk result (λ found. found.root ≡ g.root) → IfOk result (λ found. found.certificate.version ≡ g.version) → IsVersionOf m version → a.amount ≤ g.least → ((c : ℕ) → r.says ≡ root.Closed c → c ≤ g.least) → IfSome k.best (IsMade m) → IsNoWorse k.best best → KeepsGiven m first best → KeepsOwnMade m best → IfOk result (IsAnswer m budget first)
-searched_ok m budget version first (Ok found) r a g k best same root_same version_same is coupled some apart one proved ends plan_is root_is version_is known apart_least closed_least made less kept own =
-    searched_answer m budget first found r a g k best same is coupled some apart one proved ends plan_is (root_is ∙ root_same) (subst (IsVersionOf m) (sym (version_is ∙ version_same)) known) apart_least closed_least made less kept own
-searched_ok m budget version first (Err e) r a g k best same root_same version_same is coupled some apart one proved ends plan_is root_is version_is known apart_least closed_least made less kept own = tt
+pub searched_ok : (g : Model) (k : Known) (budget version : ℕ) (first : Option Plan) (result : Result Found AllocError) (r : Root) (a : Apart) (best : Option Planned) → g.root ≡ r.says → g.version ≡ version → IsRootOf g.instance.now r → (IsWhole g.instance.now (ranges_in g) → r.says ≡ root.Uncoupled → ⊥) → (r.says ≡ root.Empty → ⊥) → AreApart g.instance.now a → ApartIsOne → LieInWhole g.instance.now → WholeIsProved g.instance.now → IfOk result (IsProvedWithin g.instance.now (ranges_in g)) → IfOk result (IsFinished g k budget) → IfOk result (λ found. found.plan ≡ plan_kept k.best) → IfOk result (λ found. found.root ≡ g.root) → IfOk result (λ found. found.certificate.version ≡ g.version) → IsVersionOf g.instance.now version → a.amount ≤ g.least → ((c : ℕ) → r.says ≡ root.Closed c → c ≤ g.least) → IfSome k.best (IsMadeWithin g.instance.now (ranges_in g)) → IsNoWorse k.best best → KeepsGiven g.instance.now first best → (AllLieWithin g.instance.now (ranges_in g) → KeepsOwnMade g.instance.now best) → IfOk result (IsAnswerWithin g.instance.now (ranges_in g) budget first)
+searched_ok g k budget version first (Ok found) r a best root_same version_same is coupled some apart one lie whole proved ends plan_is root_is version_is known apart_least closed_least made less kept own =
+    searched_within g k budget first found r a best is coupled some apart one lie whole proved ends plan_is (root_is ∙ root_same) (subst (IsVersionOf g.instance.now) (sym (version_is ∙ version_same)) known) apart_least closed_least made less kept own
+searched_ok g k budget version first (Err e) r a best root_same version_same is coupled some apart one lie whole proved ends plan_is root_is version_is known apart_least closed_least made less kept own = tt
 
 pub ended_on : (g : Model) (k : Known) (budget : ℕ) (rs : List Range) (s : Searched) (result : Result Found AllocError) → IsSearched g k budget rs s → IfOk result (λ found. (n : ℕ) (list : List Range) → IsSearched g k n list s → IsFinished g k n found) → IfOk result (IsFinished g k budget)
 ended_on g k budget rs s (Ok found) is all = all budget rs is

@@ -7,17 +7,14 @@ use Rattle.lot_sizing.specs.Problem.{Problem}
 use Rattle.lot_sizing.specs.Plan as terms
 use Rattle.plan_rules.specs.declared.plan.Plan.{Plan}
 use Rattle.plan_rules.specs.declared.plan.Planned.{Planned}
+use Rattle.plan_rules.specs.Held.{plan_of}
+use Rattle.split_trees.specs.Ranges.{Ranges}
 use Rattle.first_plans.specs.Made.{IsMade, IsOwnMade}
 use Rattle.branch_and_cut.specs.Knowing.{CostsNoMore, IsNoWorse, KeepsGiven, KeepsOwnMade, cost_kept, plan_kept}
+use Rattle.branch_and_cut.specs.SearchWithin.{IsGoodWithin}
+use Rattle.branch_and_cut.specs.Within.{AllLieWithin, IsMadeWithin}
 use Rattle.branch_and_cut.specs.Search.{CostsAtMost, IsGoodPlan, KeepsFirst, KeepsOwn, cost_of}
 use Rattle.branch_and_cut.proofs.Evidence.{at_most_on}
-
-pub made_either : (m : Problem) (best new : Option Planned) (made : Option Planned) → (new ≡ best) ⊎ (new ≡ made) → IfSome best (IsMade m) → IfSome made (IsMade m) → IfSome new (IsMade m)
-made_either m best new made either old is =
-    ⊎_elim
-    (λ e. subst (λ (b : Option Planned). IfSome b (IsMade m)) (sym e) old)
-    (λ e. subst (λ (b : Option Planned). IfSome b (IsMade m)) (sym e) is)
-    either
 
 pub given_on : (m : Problem) (first : Option Plan) (best new : Option Planned) → IsNoWorse new best → KeepsGiven m first best → KeepsGiven m first new
 given_on m None best new less kept = tt
@@ -64,9 +61,17 @@ pub costs_kept : (m : Problem) (best : Option Planned) (amount : ℕ) → IfSome
 costs_kept m None amount made less = less
 costs_kept m (Some p) amount made less = omega (arith, less, made.cost)
 
-pub good_kept : (m : Problem) (best : Option Planned) → IfSome best (IsMade m) → IfSome (plan_kept best) (IsGoodPlan m)
-good_kept m None made = tt
-good_kept m (Some p) made = record { fits = made.fits; feasible = made.feasible }
+pub good_kept : (m : Problem) (ranges : Ranges) (best : Option Planned) → IfSome best (IsMadeWithin m ranges) → IfSome (plan_kept best) (IsGoodWithin m ranges)
+good_kept m ranges None made = tt
+good_kept m ranges (Some p) made = record { good = record { fits = made.made.fits; feasible = made.made.feasible }; within = made.within }
+
+pub good_first : (m : Problem) (ranges : Ranges) (plan : Option Plan) → IfSome plan (IsGoodWithin m ranges) → IfSome plan (IsGoodPlan m)
+good_first m ranges None good = tt
+good_first m ranges (Some p) good = good.good
+
+pub first_within : (m : Problem) (ranges : Ranges) (plan : Option Plan) → AllLieWithin m ranges → IfSome plan (IsGoodPlan m) → IfSome plan (IsGoodWithin m ranges)
+first_within m ranges None all good = tt
+first_within m ranges (Some p) all good = record { good = good; within = all (plan_of p) good.feasible }
 
 pub first_kept : (m : Problem) (first : Option Plan) (best : Option Planned) → IfSome best (IsMade m) → KeepsGiven m first best → KeepsFirst m first (plan_kept best)
 first_kept m None best made kept = tt

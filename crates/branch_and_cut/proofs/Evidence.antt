@@ -8,7 +8,7 @@ use Rattle.lin_rows.specs.declared.bound.Bound.{Bound}
 use Rattle.lin_rows.specs.Rows.{LinRow}
 use Rattle.cert_lines.specs.declared.parts.Leaf.{Leaf}
 use Rattle.cert_lines.specs.Shapes.{FarkasLeaf, LeafShape, LinearLeaf, PointLeaf, leaf_shape}
-use Rattle.split_trees.specs.Ranges.{whole_ranges}
+use Rattle.split_trees.specs.Ranges.{Ranges, whole_ranges}
 use Rattle.acceptance.specs.declared.says.LeafSays.{LeafSays}
 use Rattle.acceptance.specs.declared.says.LeafSays.TheVariants.{NoPlan, AtLeast}
 use Rattle.acceptance.specs.Named.{names}
@@ -21,7 +21,8 @@ use Rattle.branching.specs.declared.found.RootSays.{RootSays}
 use Rattle.branch_and_bound.specs.declared.node.Range.{Range}
 use Rattle.branch_and_bound.specs.declared.proposal.Proposal.{Proposal}
 use Rattle.branch_and_bound.specs.Costs.{IsAtMost}
-use Rattle.branch_and_cut.specs.Nodes.{IsKept, IsRaised, IsToldAt, asked_of, said}
+use Rattle.branch_and_cut.specs.Branching.{within_any}
+use Rattle.branch_and_cut.specs.Nodes.{IsKept, IsRaised, IsToldAt, LeafSaysWithin, asked_of, said}
 use Rattle.branch_and_cut.specs.Search.{IsEvidence}
 
 -- a leaf of the path without cuts is one over any rows
@@ -54,10 +55,10 @@ at_most_on None (Some b) (Some c) x y = absurd x
 at_most_on (Some a) (Some b) (Some c) x y = omega (arith, x, y)
 
 -- a proposal of this leaf that says this is kept
-pub kept_of : (m : Problem) (version least : ℕ) (rows : List LinRow) (rs : List Range) (path : List Bound) (p : Proposal) (leaf : LeafShape) (says : Option ℕ) → leaf_shape p.leaf ≡ leaf → p.says ≡ says → LeafSaysSmall m rows path leaf (said says) → LeafHasLines version leaf → IsAtMost (Some least) says → IfSome says (λ amount. amount < 2 ^ 127) → IsOfRows leaf → IsKept m version least rows rs path p
-kept_of m version least rows rs path p leaf says same amount is lines no_less small of = record {
+pub kept_of : (m : Problem) (ranges : Ranges) (version least : ℕ) (rows : List LinRow) (rs : List Range) (path : List Bound) (p : Proposal) (leaf : LeafShape) (says : Option ℕ) → leaf_shape p.leaf ≡ leaf → p.says ≡ says → LeafSaysSmall m rows path leaf (said says) → LeafHasLines version leaf → IsAtMost (Some least) says → IfSome says (λ amount. amount < 2 ^ 127) → IsOfRows leaf → IsKept m ranges version least rows rs path p
+kept_of m ranges version least rows rs path p leaf says same amount is lines no_less small of = record {
   good = record {
-    says = subst (λ s. LeafSaysSmall m rows path (leaf_shape p.leaf) (said s)) (sym amount) (subst (λ l. LeafSaysSmall m rows path l (said says)) (sym same) is);
+    says = subst (λ s. LeafSaysWithin m ranges rows path (leaf_shape p.leaf) (said s)) (sym amount) (subst (λ l. LeafSaysWithin m ranges rows path l (said says)) (sym same) (within_any m ranges rows path leaf (said says) of is));
     lines = subst (LeafHasLines version) (sym same) lines;
     no_less = subst (IsAtMost (Some least)) (sym amount) no_less;
     small = subst (λ s. IfSome s (λ n. n < 2 ^ 127)) (sym amount) small;
@@ -65,21 +66,21 @@ kept_of m version least rows rs path p leaf says same amount is lines no_less sm
   kind = inl (subst IsOfRows (sym same) of);
 }
 
-pub asked_kept : (m : Problem) (version least : ℕ) (rows : List LinRow) (rs : List Range) (path : List Bound) (p new : Proposal) → new ≡ asked_of p → IsKept m version least rows rs path p → IsKept m version least rows rs path new
-asked_kept m version least rows rs path p new same is =
-    let here : IsKept m version least rows rs path (asked_of p) = record {
+pub asked_kept : (m : Problem) (ranges : Ranges) (version least : ℕ) (rows : List LinRow) (rs : List Range) (path : List Bound) (p new : Proposal) → new ≡ asked_of p → IsKept m ranges version least rows rs path p → IsKept m ranges version least rows rs path new
+asked_kept m ranges version least rows rs path p new same is =
+    let here : IsKept m ranges version least rows rs path (asked_of p) = record {
       good = record { says = is.good.says; lines = is.good.lines; no_less = is.good.no_less; small = is.good.small };
       kind = is.kind;
     } in
-    subst (IsKept m version least rows rs path) (sym same) here
+    subst (IsKept m ranges version least rows rs path) (sym same) here
 
-pub raised_kept : (m : Problem) (version least : ℕ) (total : ℕ → ℕ) (rows : List LinRow) (rs : List Range) (path : List Bound) (old new : Proposal) (leaf : Leaf) (bound : ℕ) → AreLargestTotals m total → HasVersion m version → SaysAtLeast m path (leaf_shape leaf) bound → IsRaised old leaf bound new → IsKept m version least rows rs path old → IsKept m version least rows rs path new
-raised_kept m version least total rows rs path old new leaf bound totals known says raised is =
+pub raised_kept : (m : Problem) (ranges : Ranges) (version least : ℕ) (total : ℕ → ℕ) (rows : List LinRow) (rs : List Range) (path : List Bound) (old new : Proposal) (leaf : Leaf) (bound : ℕ) → AreLargestTotals m total → HasVersion m version → SaysAtLeast m path (leaf_shape leaf) bound → IsRaised old leaf bound new → IsKept m ranges version least rows rs path old → IsKept m ranges version least rows rs path new
+raised_kept m ranges version least total rows rs path old new leaf bound totals known says raised is =
     ⊎_elim
-    (λ same. asked_kept m version least rows rs path old new same.0 is)
+    (λ same. asked_kept m ranges version least rows rs path old new same.0 is)
     (λ more.
     let n = number m version rows path (leaf_shape leaf) bound known says in
-    kept_of m version least rows rs path new (leaf_shape leaf) (Some bound) (ap leaf_shape more.0) more.1 n.says n.lines (at_most_on (Some least) old.says (Some bound) is.good.no_less more.3)
+    kept_of m ranges version least rows rs path new (leaf_shape leaf) (Some bound) (ap leaf_shape more.0) more.1 n.says n.lines (at_most_on (Some least) old.says (Some bound) is.good.no_less more.3)
     (amount_small (names m total rows path) (whole_ranges total) (leaf_shape leaf) bound n.of_rows (record { said = n.says.said total totals; small = n.says.small total totals }))
     n.of_rows)
     raised
@@ -99,10 +100,10 @@ none m version rows path (FarkasLeaf parts) known is = record {
 }
 none m version rows path PointLeaf known is = absurd is
 
-pub none_kept : (m : Problem) (version least : ℕ) (rows : List LinRow) (rs : List Range) (path : List Bound) (new : Proposal) (leaf : Leaf) → HasVersion m version → SaysNone m path (leaf_shape leaf) → new.leaf ≡ leaf → new.says ≡ None → IsKept m version least rows rs path new
-none_kept m version least rows rs path new leaf known says same amount =
+pub none_kept : (m : Problem) (ranges : Ranges) (version least : ℕ) (rows : List LinRow) (rs : List Range) (path : List Bound) (new : Proposal) (leaf : Leaf) → HasVersion m version → SaysNone m path (leaf_shape leaf) → new.leaf ≡ leaf → new.says ≡ None → IsKept m ranges version least rows rs path new
+none_kept m ranges version least rows rs path new leaf known says same amount =
     let n = none m version rows path (leaf_shape leaf) known says in
-    kept_of m version least rows rs path new (leaf_shape leaf) None (ap leaf_shape same) amount n.says n.lines tt tt n.of_rows
+    kept_of m ranges version least rows rs path new (leaf_shape leaf) None (ap leaf_shape same) amount n.says n.lines tt tt n.of_rows
 
 -- ---- evidence
 met_more : (m : Problem) (path : List Bound) (a b : ℕ) → a ≤ b → IsMetAt m path a → IsMetAt m path b

@@ -17,16 +17,16 @@ use Rattle.certificate.specs.declared.tree.Tree.{Tree}
 use Rattle.certificate.specs.Counts.{longest_path, node_count}
 use Rattle.certificate.specs.Limits.{IsWritable}
 use Rattle.certificate.specs.Shapes.{Shape, shape_of, tree_shape}
-use Rattle.split_trees.specs.Ranges.{whole_ranges}
+use Rattle.split_trees.specs.Ranges.{IsWithin, Ranges}
 use Rattle.split_trees.specs.Trees as split
 use Rattle.acceptance.specs.declared.says.LeafSays.TheVariants.{AtLeast}
-use Rattle.acceptance.specs.Accepts.{IsEnough, IsTrueOf}
+use Rattle.acceptance.specs.Accepts.{IsEnough, IsTrueWithin}
 use Rattle.acceptance.specs.Laws.{SaysAreOne}
 use Rattle.acceptance.specs.Named.{names}
 use Rattle.acceptance.specs.Says.{Says}
-use Rattle.cert_checker.specs.Checks.{ComesWith, HaveGoodRows, IsGoodCertificate, line_count, plan_given}
+use Rattle.cert_checker.specs.Checks.{ComesWith, HaveGoodRows, line_count, plan_given}
+use Rattle.cert_checker.specs.Cuts.{OfProblem}
 use Rattle.first_plans.specs.Made.{IsMade}
-use Rattle.branching.specs.Found.{IsProved}
 use Rattle.branching.specs.declared.found.Found.{Found}
 use Rattle.branching.specs.declared.found.RootSays.{RootSays}
 use Rattle.branch_and_bound.specs.declared.node.Range.{Range}
@@ -44,9 +44,11 @@ use Rattle.branch_and_bound.specs.Trees.{AtLeaf, EachLeaf, IsSplitTree, SomeLeaf
 use Rattle.branch_and_cut.specs.declared.guiding.Model.{Model}
 use Rattle.branch_and_cut.specs.declared.knowing.Known.{Known}
 use Rattle.branch_and_cut.specs.Finishing.{IsFinished, IsSearched}
-use Rattle.branch_and_cut.specs.Knowing.{cost_kept, plan_kept, shapes}
-use Rattle.branch_and_cut.specs.Nodes.{IsGoodLeaf, IsKept, IsNodeOf, IsToldAt, choice_place, choice_rules, said}
-use Rattle.branch_and_cut.specs.Search.{GoesTogether, IsBelowPlan, IsClaimedAtLeast, IsDecided, IsDeepIfOpen, IsEvidence, SaysAmount}
+use Rattle.branch_and_cut.specs.Knowing.{cost_kept, plan_kept, ranges_in, shapes}
+use Rattle.branch_and_cut.specs.Nodes.{IsGoodLeafWithin, IsKept, IsNodeOf, IsToldAt, choice_place, choice_rules, said}
+use Rattle.branch_and_cut.specs.Search.{GoesTogether, IsBelowPlan, IsClaimedAtLeast, IsDecided, IsEvidence}
+use Rattle.branch_and_cut.specs.SearchWithin.{HasEvidenceWithin, IsCertifiedWithin, IsDeepIfOpenWithin, IsProvedWithin, IsUndecidedWithin, SaysAmountWithin}
+use Rattle.branch_and_cut.specs.Within.{IsMadeWithin}
 use Rattle.branch_and_cut.specs.Search as shown
 use Rattle.branch_and_cut.proofs.Proved.{Grounds, IsEnoughAt, IsShownBy, proved_shape}
 use Rattle.branch_and_cut.proofs.Translating.{each_on, each_two, some_on, split_tree}
@@ -101,70 +103,70 @@ at_some place P R C f rs path (Branch' c spot at p low q high) each some =
 at_some place P R C f rs path (Leaf p) each some = f rs path p each some
 
 -- ---- the leaves
-module _ (m : Problem) (version least : ℕ) (rows : List LinRow) (rs : List Range) (sought : Sought) where
+module _ (m : Problem) (ranges : Ranges) (version least : ℕ) (rows : List LinRow) (rs : List Range) (sought : Sought) where
   -- the amount of a bound is small, and no less than what is known of all plans
-  small_bound : (bound : ℕ) → EachLeaf (choice_place m) (λ rs path p. IsKept m version least rows rs path p) rs [] sought → SomeSays (choice_rules m) bound rs sought → bound < 2 ^ 127
+  small_bound : (bound : ℕ) → EachLeaf (choice_place m) (λ rs path p. IsKept m ranges version least rows rs path p) rs [] sought → SomeSays (choice_rules m) bound rs sought → bound < 2 ^ 127
   small_bound bound each some =
-      at_some (choice_place m) (λ rs path p. IsKept m version least rows rs path p) (λ rs path p. p.says ≡ Some bound) (bound < 2 ^ 127)
+      at_some (choice_place m) (λ rs path p. IsKept m ranges version least rows rs path p) (λ rs path p. p.says ≡ Some bound) (bound < 2 ^ 127)
       (λ rs path p is e. let P : Option ℕ → Type 0 = λ s. IfSome s (λ n. n < 2 ^ 127) in subst P e is.good.small)
       rs [] sought each some
 
-  least_bound : (bound : ℕ) → EachLeaf (choice_place m) (λ rs path p. IsKept m version least rows rs path p) rs [] sought → SomeSays (choice_rules m) bound rs sought → least ≤ bound
+  least_bound : (bound : ℕ) → EachLeaf (choice_place m) (λ rs path p. IsKept m ranges version least rows rs path p) rs [] sought → SomeSays (choice_rules m) bound rs sought → least ≤ bound
   least_bound bound each some =
-      at_some (choice_place m) (λ rs path p. IsKept m version least rows rs path p) (λ rs path p. p.says ≡ Some bound) (least ≤ bound)
+      at_some (choice_place m) (λ rs path p. IsKept m ranges version least rows rs path p) (λ rs path p. p.says ≡ Some bound) (least ≤ bound)
       (λ rs path p is e. subst (IsAtMost (Some least)) e is.good.no_less)
       rs [] sought each some
 
-  pub small_claim : (best : Option Planned) (claim : Claim) → IfSome best (IsMade m) → EachLeaf (choice_place m) (λ rs path p. IsKept m version least rows rs path p) rs [] sought → IsShown (choice_rules m) (cost_kept best) rs sought claim → IsSmallClaim claim
+  pub small_claim : (best : Option Planned) (claim : Claim) → IfSome best (IsMade m) → EachLeaf (choice_place m) (λ rs path p. IsKept m ranges version least rows rs path p) rs [] sought → IsShown (choice_rules m) (cost_kept best) rs sought claim → IsSmallClaim claim
   small_claim None (Optimal amount) made each is = cc (is.0)
   small_claim (Some p) (Optimal amount) made each is = omega (arith, made.small, some_eq p.cost amount is.0)
   small_claim best Infeasible made each is = tt
   small_claim best (BoundOf amount) made each is = small_bound amount each is.2
 
-  pub claimed_least : (best : Option Planned) (claim : Claim) → IfSome best (IsMade m) → IsFloor m least → EachLeaf (choice_place m) (λ rs path p. IsKept m version least rows rs path p) rs [] sought → IsShown (choice_rules m) (cost_kept best) rs sought claim → IsClaimedAtLeast least claim
+  pub claimed_least : (best : Option Planned) (claim : Claim) → IfSome best (IsMade m) → IsFloor m least → EachLeaf (choice_place m) (λ rs path p. IsKept m ranges version least rows rs path p) rs [] sought → IsShown (choice_rules m) (cost_kept best) rs sought claim → IsClaimedAtLeast least claim
   claimed_least None (Optimal amount) made floor each is = cc (is.0)
   claimed_least (Some p) (Optimal amount) made floor each is = omega (arith, floor (plan_of p.plan) made.feasible, made.cost, some_eq p.cost amount is.0)
   claimed_least best Infeasible made floor each is = tt
   claimed_least best (BoundOf amount) made floor each is = least_bound amount each is.2
 
   -- each leaf of the certificate's tree says enough
-  pub all_enough : (best : Option ℕ) (claim : Claim) (t : Tree) → IsNodeOf m rs [] → longest sought ≤ 2000 → IsSplitTree (choice_place m) rs sought → IsStripped sought t → EachLeaf (choice_place m) (λ rs path p. IsKept m version least rows rs path p) rs [] sought → IsShown (choice_rules m) best rs sought claim → split.EachLeaf (IsEnoughAt m version rows claim) [] (tree_shape t)
+  pub all_enough : (best : Option ℕ) (claim : Claim) (t : Tree) → IsNodeOf m ranges rs [] → longest sought ≤ 2000 → IsSplitTree (choice_place m) rs sought → IsStripped sought t → EachLeaf (choice_place m) (λ rs path p. IsKept m ranges version least rows rs path p) rs [] sought → IsShown (choice_rules m) best rs sought claim → split.EachLeaf (IsEnoughAt m ranges version rows claim) [] (tree_shape t)
   all_enough best claim t node short is same each shows =
-      each_on m
-      (λ rs path p. IsKept m version least rows rs path p × IsAtMost (limit_of claim) p.says)
-      (IsEnoughAt m version rows claim)
+      each_on m ranges
+      (λ rs path p. IsKept m ranges version least rows rs path p × IsAtMost (limit_of claim) p.says)
+      (IsEnoughAt m ranges version rows claim)
       (λ rs path p here deep both. record { amount = said p.says; says = both.0.good.says; enough = enough_of claim p.says both.1; lines = both.0.good.lines })
       rs [] sought t node (omega (arith, short)) is same
-      (each_two (choice_place m) (λ rs path p. IsKept m version least rows rs path p) (λ rs path p. IsAtMost (limit_of claim) p.says) rs [] sought each (all_least m best rs sought claim shows))
+      (each_two (choice_place m) (λ rs path p. IsKept m ranges version least rows rs path p) (λ rs path p. IsAtMost (limit_of claim) p.says) rs [] sought each (all_least m best rs sought claim shows))
 
   -- ---- bounds
   -- what a leaf is told to say is what the certificate's leaf says
-  says_is : SaysAreOne → (total : ℕ → ℕ) → AreLargestTotals m total → (path : List Bound) (p : Proposal) (amount : ℕ) → IsGoodLeaf m version least rows path p → SaysAmount m rows amount path (leaf_shape p.leaf) → p.says ≡ Some amount
-  says_is one total totals path p amount good says = from_said p.says amount (one (names m total rows path) (whole_ranges total) (leaf_shape p.leaf) (said p.says) (AtLeast amount) (good.says.said total totals) (says total totals))
+  says_is : SaysAreOne → (total : ℕ → ℕ) → AreLargestTotals m total → (path : List Bound) (p : Proposal) (amount : ℕ) → IsGoodLeafWithin m ranges version least rows path p → SaysAmountWithin m ranges rows amount path (leaf_shape p.leaf) → p.says ≡ Some amount
+  says_is one total totals path p amount good says = from_said p.says amount (one (names m total rows path) ranges (leaf_shape p.leaf) (said p.says) (AtLeast amount) (good.says.said total totals) (says total totals))
     where
       from_said : (s : Option ℕ) (n : ℕ) → said s ≡ AtLeast n → s ≡ Some n
       from_said None n e = cc e
       from_said (Some k) n e = let same : k ≡ n = cc e in ap Some same
 
-  pub all_evidence : SaysAreOne → (total : ℕ → ℕ) → AreLargestTotals m total → (root : RootSays) (bound : ℕ) (t : Tree) → IsNodeOf m rs [] → longest sought ≤ 2000 → IsSplitTree (choice_place m) rs sought → IsStripped sought t → EachLeaf (choice_place m) (λ rs path p. IsKept m version least rows rs path p) rs [] sought → EachLeaf (choice_place m) (λ rs path p. p.says ≡ Some bound → IsToldAt m root path p) rs [] sought → split.EachLeaf (λ path leaf. SaysAmount m rows bound path leaf → IsEvidence m root path bound) [] (tree_shape t)
+  pub all_evidence : SaysAreOne → (total : ℕ → ℕ) → AreLargestTotals m total → (root : RootSays) (bound : ℕ) (t : Tree) → IsNodeOf m ranges rs [] → longest sought ≤ 2000 → IsSplitTree (choice_place m) rs sought → IsStripped sought t → EachLeaf (choice_place m) (λ rs path p. IsKept m ranges version least rows rs path p) rs [] sought → EachLeaf (choice_place m) (λ rs path p. p.says ≡ Some bound → IsToldAt m root path p) rs [] sought → split.EachLeaf (λ path leaf. SaysAmountWithin m ranges rows bound path leaf → IsEvidence m root path bound) [] (tree_shape t)
   all_evidence one total totals root bound t node short is same each told =
-      each_on m
-      (λ rs path p. IsKept m version least rows rs path p × (p.says ≡ Some bound → IsToldAt m root path p))
-      (λ path leaf. SaysAmount m rows bound path leaf → IsEvidence m root path bound)
+      each_on m ranges
+      (λ rs path p. IsKept m ranges version least rows rs path p × (p.says ≡ Some bound → IsToldAt m root path p))
+      (λ path leaf. SaysAmountWithin m ranges rows bound path leaf → IsEvidence m root path bound)
       (λ rs path p here deep both says.
       let e = says_is one total totals path p bound both.0.good says in
       let P : Option ℕ → Type 0 = λ s. IfSome s (IsEvidence m root path) in
       subst P e (both.1 e deep))
       rs [] sought t node (omega (arith, short)) is same
-      (each_two (choice_place m) (λ rs path p. IsKept m version least rows rs path p) (λ rs path p. p.says ≡ Some bound → IsToldAt m root path p) rs [] sought each told)
+      (each_two (choice_place m) (λ rs path p. IsKept m ranges version least rows rs path p) (λ rs path p. p.says ≡ Some bound → IsToldAt m root path p) rs [] sought each told)
 
-  pub some_amount : (bound : ℕ) (t : Tree) → IsStripped sought t → EachLeaf (choice_place m) (λ rs path p. IsKept m version least rows rs path p) rs [] sought → SomeSays (choice_rules m) bound rs sought → shown.SomeLeaf (SaysAmount m rows bound) [] (tree_shape t)
+  pub some_amount : (bound : ℕ) (t : Tree) → IsStripped sought t → EachLeaf (choice_place m) (λ rs path p. IsKept m ranges version least rows rs path p) rs [] sought → SomeSays (choice_rules m) bound rs sought → shown.SomeLeaf (SaysAmountWithin m ranges rows bound) [] (tree_shape t)
   some_amount bound t same each some =
-      some_on m
-      (λ rs path p. IsKept m version least rows rs path p)
+      some_on m ranges
+      (λ rs path p. IsKept m ranges version least rows rs path p)
       (λ rs path p. p.says ≡ Some bound)
-      (SaysAmount m rows bound)
-      (λ rs path p is e. λ total totals. let P : Option ℕ → Type 0 = λ s. Says (names m total rows path) (whole_ranges total) (leaf_shape p.leaf) (said s) in subst P e (is.good.says.said total totals))
+      (SaysAmountWithin m ranges rows bound)
+      (λ rs path p is e. λ total totals. let P : Option ℕ → Type 0 = λ s. Says (names m total rows path) ranges (leaf_shape p.leaf) (said s) in subst P e (is.good.says.said total totals))
       rs [] sought t same each some
 
   -- a leaf that is open is deep
@@ -172,16 +174,16 @@ module _ (m : Problem) (version least : ℕ) (rows : List LinRow) (rs : List Ran
   below_kept None amount made below = tt
   below_kept (Some p) amount made below = omega (arith, below, made.cost)
 
-  pub all_deep : SaysAreOne → (total : ℕ → ℕ) → AreLargestTotals m total → (best : Option Planned) (t : Tree) → IfSome best (IsMade m) → IsNodeOf m rs [] → longest sought ≤ 2000 → IsSplitTree (choice_place m) rs sought → IsStripped sought t → EachLeaf (choice_place m) (λ rs path p. IsKept m version least rows rs path p) rs [] sought → EachLeaf (choice_place m) (IsOpenDeep (choice_rules m) (cost_kept best)) rs [] sought → split.EachLeaf (IsDeepIfOpen m (plan_kept best) rows) [] (tree_shape t)
+  pub all_deep : SaysAreOne → (total : ℕ → ℕ) → AreLargestTotals m total → (best : Option Planned) (t : Tree) → IfSome best (IsMade m) → IsNodeOf m ranges rs [] → longest sought ≤ 2000 → IsSplitTree (choice_place m) rs sought → IsStripped sought t → EachLeaf (choice_place m) (λ rs path p. IsKept m ranges version least rows rs path p) rs [] sought → EachLeaf (choice_place m) (IsOpenDeep (choice_rules m) (cost_kept best)) rs [] sought → split.EachLeaf (IsDeepIfOpenWithin m ranges (plan_kept best) rows) [] (tree_shape t)
   all_deep one total totals best t made node short is same each deep =
-      each_on m
-      (λ rs path p. IsKept m version least rows rs path p × IsOpenDeep (choice_rules m) (cost_kept best) rs path p)
-      (IsDeepIfOpen m (plan_kept best) rows)
+      each_on m ranges
+      (λ rs path p. IsKept m ranges version least rows rs path p × IsOpenDeep (choice_rules m) (cost_kept best) rs path p)
+      (IsDeepIfOpenWithin m ranges (plan_kept best) rows)
       (λ rs path p here few both amount says below.
       let e = says_is one total totals path p amount both.0.good says in
       both.1 (subst (λ s. IsBelow s (cost_kept best)) (sym e) (below_kept best amount made below)))
       rs [] sought t node (omega (arith, short)) is same
-      (each_two (choice_place m) (λ rs path p. IsKept m version least rows rs path p) (IsOpenDeep (choice_rules m) (cost_kept best)) rs [] sought each deep)
+      (each_two (choice_place m) (λ rs path p. IsKept m ranges version least rows rs path p) (IsOpenDeep (choice_rules m) (cost_kept best)) rs [] sought each deep)
 
 -- ---- the whole search
 -- what a certificate is made of
@@ -194,34 +196,50 @@ pub record IsTreeOf (s : Searched) (t : Tree) : Type 0 where
   pub nodes : node_count (tree_shape t) ≡ nodes s.tree
   pub longest : longest_path (tree_shape t) ≡ longest s.tree
 
+-- the best plan, and that it is within the ranges
+pub made_of : (m : Problem) (ranges : Ranges) (best : Option Planned) → IfSome best (IsMadeWithin m ranges) → IfSome best (IsMade m)
+made_of m ranges None is = tt
+made_of m ranges (Some p) is = is.made
+
+pub within_of : (m : Problem) (ranges : Ranges) (best : Option Planned) → IfSome best (IsMadeWithin m ranges) → IfSome (plan_kept best) (λ p. IsWithin m ranges (plan_of p))
+within_of m ranges None is = tt
+within_of m ranges (Some p) is = is.within
+
 module _ (g : Model) (k : Known) (budget : ℕ) (rs : List Range) (s : Searched) (t : Tree) (is : IsSearched g k budget rs s) (of : IsTreeOf s t) where
-  pub shown_by : s.nodes ≤ 2 ^ 45 → IsShownBy g.instance.now (made_shape g k s t) k.rows.items (plan_kept k.best)
+  pub shown_by : s.nodes ≤ 2 ^ 45 → IsShownBy g.instance.now (ranges_in g) (made_shape g k s t) k.rows.items (plan_kept k.best)
   shown_by few =
+      let m = g.instance.now in
+      let ranges = ranges_in g in
       let rows = k.rows.items in
-      let begun = is.known.begun in record {
+      let begun = is.known.begun in
+      let made = made_of m ranges k.best is.known.best in record {
         version = begun.known;
-        amount = small_claim g.instance.now g.version g.least rows rs s.tree k.best s.claim is.known.best is.holds is.shown;
+        amount = small_claim m ranges g.version g.least rows rs s.tree k.best s.claim made is.holds is.shown;
         good = is.known.cuts.good;
         few = is.known.cuts.few;
         lines = is.known.cuts.lines;
-        split = λ total totals. split_tree g.instance.now total totals rs [] s.tree t is.node is.split of.stripped;
+        inside = is.known.given.inside;
+        split = split_tree m ranges rs [] s.tree t is.node is.split of.stripped;
         paths = omega (arith, of.longest, is.short);
-        leaves = all_enough g.instance.now g.version g.least rows rs s.tree (cost_kept k.best) s.claim t is.node is.short is.split of.stripped is.holds is.shown;
-        comes = comes g.instance.now k.best rs s.tree s.claim is.known.best is.shown;
+        leaves = all_enough m ranges g.version g.least rows rs s.tree (cost_kept k.best) s.claim t is.node is.short is.split of.stripped is.holds is.shown;
+        comes = comes m k.best rs s.tree s.claim made is.shown;
+        within = within_of m ranges k.best is.known.best;
         nodes = omega (arith, of.nodes, is.nodes, few);
       }
 
   -- the causes of a bound
-  left_open : WholeIsMeasured → SaysAreOne → (total : ℕ → ℕ) → AreLargestTotals g.instance.now total → IsBound s.claim → (found : Found) → found.nodes ≡ s.nodes → found.plan ≡ plan_kept k.best → shown.tree_in found ≡ tree_shape t → shown.IsUndecided g.instance.now budget found k.rows.items
-  left_open measured one total totals bound found nodes_are plan_is tree_is =
+  left_open : SaysAreOne → (total : ℕ → ℕ) → AreLargestTotals g.instance.now total → IsBound s.claim → (found : Found) → found.nodes ≡ s.nodes → found.plan ≡ plan_kept k.best → shown.tree_in found ≡ tree_shape t → IsUndecidedWithin g.instance.now (ranges_in g) budget found k.rows.items
+  left_open one total totals bound found nodes_are plan_is tree_is =
+      let m = g.instance.now in
+      let ranges = ranges_in g in
       ⊎_elim
       (λ less. inl (omega (arith, less, nodes_are, is.nodes)))
       (λ deep. inr (record {
         longest = ap longest_path tree_is ∙ of.longest ∙ deep.0;
-        height = λ other others. omega (arith, deep.1, ap height (is.whole other others), (measured (item_count g.instance.now) g.instance.now.periods other).1);
-        leaves = subst (λ p. split.EachLeaf (IsDeepIfOpen g.instance.now p k.rows.items) [] (shown.tree_in found)) (sym plan_is)
-            (subst (λ x. split.EachLeaf (IsDeepIfOpen g.instance.now (plan_kept k.best) k.rows.items) [] x) (sym tree_is)
-            (all_deep g.instance.now g.version g.least k.rows.items rs s.tree one total totals k.best t is.known.best is.node is.short is.split of.stripped is.holds deep.2));
+        height = λ other others. omega (arith, deep.1, is.listed.height other others);
+        leaves = subst (λ p. split.EachLeaf (IsDeepIfOpenWithin m ranges p k.rows.items) [] (shown.tree_in found)) (sym plan_is)
+            (subst (λ x. split.EachLeaf (IsDeepIfOpenWithin m ranges (plan_kept k.best) k.rows.items) [] x) (sym tree_is)
+            (all_deep m ranges g.version g.least k.rows.items rs s.tree one total totals k.best t (made_of m ranges k.best is.known.best) is.node is.short is.split of.stripped is.holds deep.2));
       }))
       (is.cause bound)
 
@@ -238,45 +256,48 @@ is_decided (BoundOf amount) none = none tt
 pub finished : (g : Model) (k : Known) (budget : ℕ) (rs : List Range) (s : Searched) (t : Tree) (found : Found) → WholeIsMeasured → SaysAreOne → (total : ℕ → ℕ) → AreLargestTotals g.instance.now total → IsSearched g k budget rs s → IsTreeOf s t → found.certificate.claim ≡ s.claim → found.certificate.cuts ≡ k.cuts → found.certificate.tree ≡ t → found.plan ≡ plan_kept k.best → found.root ≡ g.root → found.nodes ≡ s.nodes → IsFinished g k budget found
 finished g k budget rs s t found measured one total totals is of claim_is cuts_are tree_is plan_is root_is nodes_are =
     let m = g.instance.now in
+    let ranges = ranges_in g in
     let rows = k.rows.items in
+    let made = made_of m ranges k.best is.known.best in
     let tree_same : shown.tree_in found ≡ tree_shape t = ap tree_shape tree_is in
     let good : HaveGoodRows m (shown.cuts_in found) rows = subst (λ c. HaveGoodRows m c rows) (sym (ap (λ v. map cut_shape v.items) cuts_are)) is.known.cuts.good in
     let bound_of : (amount : ℕ) → found.certificate.claim ≡ BoundOf amount → s.claim ≡ BoundOf amount = λ amount e. sym claim_is ∙ e in
     record {
       within = omega (arith, nodes_are, is.within);
-      goes = subst (λ c. GoesTogether m c found.plan) (sym claim_is) (subst (λ p. GoesTogether m s.claim p) (sym plan_is) (goes m k.best rs s.tree s.claim is.known.best is.shown));
-      cause = if_bound found.certificate.claim (λ amount. shown.WithRows m found (shown.IsUndecided m budget found)) (λ amount e.
+      goes = subst (λ c. GoesTogether m c found.plan) (sym claim_is) (subst (λ p. GoesTogether m s.claim p) (sym plan_is) (goes m k.best rs s.tree s.claim made is.shown));
+      cause = if_bound found.certificate.claim (λ amount. shown.WithRows m found (IsUndecidedWithin m ranges budget found)) (λ amount e.
           let bound : IsBound s.claim = subst IsBound (sym (bound_of amount e)) tt in
-          (rows, good, left_open g k budget rs s t is of measured one total totals bound found nodes_are plan_is tree_same));
-      evidence = if_bound found.certificate.claim (λ amount. shown.WithRows m found (shown.HasEvidence m found amount)) (λ amount e.
+          (rows, good, left_open g k budget rs s t is of one total totals bound found nodes_are plan_is tree_same));
+      evidence = if_bound found.certificate.claim (λ amount. shown.WithRows m found (HasEvidenceWithin m ranges found amount)) (λ amount e.
           let b = bound_of amount e in
           let shows : IsShown (choice_rules m) (cost_kept k.best) rs s.tree (BoundOf amount) = subst (IsShown (choice_rules m) (cost_kept k.best) rs s.tree) b is.shown in
           let told : IsTold (choice_rules m) (λ list path p. IsToldAt m g.root path p) rs s.tree (BoundOf amount) = subst (IsTold (choice_rules m) (λ list path p. IsToldAt m g.root path p) rs s.tree) b is.told in (
             rows,
             good,
             record {
-              some = subst (λ x. shown.SomeLeaf (SaysAmount m rows amount) [] x) (sym tree_same) (some_amount m g.version g.least rows rs s.tree amount t of.stripped is.holds shows.2);
-              each = subst (λ x. split.EachLeaf (λ path leaf. SaysAmount m rows amount path leaf → IsEvidence m found.root path amount) [] x) (sym tree_same)
-                  (subst (λ r. split.EachLeaf (λ path leaf. SaysAmount m rows amount path leaf → IsEvidence m r path amount) [] (tree_shape t)) (sym root_is)
-                  (all_evidence m g.version g.least rows rs s.tree one total totals g.root amount t is.node is.short is.split of.stripped is.holds told));
+              some = subst (λ x. shown.SomeLeaf (SaysAmountWithin m ranges rows amount) [] x) (sym tree_same) (some_amount m ranges g.version g.least rows rs s.tree amount t of.stripped is.holds shows.2);
+              each = subst (λ x. split.EachLeaf (λ path leaf. SaysAmountWithin m ranges rows amount path leaf → IsEvidence m found.root path amount) [] x) (sym tree_same)
+                  (subst (λ r. split.EachLeaf (λ path leaf. SaysAmountWithin m ranges rows amount path leaf → IsEvidence m r path amount) [] (tree_shape t)) (sym root_is)
+                  (all_evidence m ranges g.version g.least rows rs s.tree one total totals g.root amount t is.node is.short is.split of.stripped is.holds told));
             },
           ));
-      complete = λ other others enough. subst IsDecided (sym claim_is) (is_decided s.claim (is.decided
-          (omega (arith, enough.volume, ap volume (is.whole other others), (measured (item_count m) m.periods other).0))
-          (omega (arith, enough.height, ap height (is.whole other others), (measured (item_count m) m.periods other).1))));
-      least = subst (IsClaimedAtLeast g.least) (sym claim_is) (claimed_least m g.version g.least rows rs s.tree k.best s.claim is.known.best is.known.begun.floor is.holds is.shown);
+      complete = λ all other others enough. subst IsDecided (sym claim_is) (is_decided s.claim (is.decided
+          (omega (arith, enough.volume, ap volume (is.listed.whole all other others), (measured (item_count m) m.periods other).0))
+          (omega (arith, enough.height, ap height (is.listed.whole all other others), (measured (item_count m) m.periods other).1))));
+      least = subst (IsClaimedAtLeast g.least) (sym claim_is) (claimed_least m ranges g.version g.least rows rs s.tree k.best s.claim made is.known.begun.floor is.holds is.shown);
     }
 
 -- what is found is proved
-pub found_proved : (g : Model) (k : Known) (budget : ℕ) (rs : List Range) (s : Searched) (t : Tree) (found : Found) → Grounds g.instance.now → IsSearched g k budget rs s → IsTreeOf s t → s.nodes ≤ 2 ^ 45 → shape_of found.certificate ≡ made_shape g k s t → found.plan ≡ plan_kept k.best → found.nodes ≡ s.nodes → IsProved g.instance.now found
+pub found_proved : (g : Model) (k : Known) (budget : ℕ) (rs : List Range) (s : Searched) (t : Tree) (found : Found) → Grounds g.instance.now → IsSearched g k budget rs s → IsTreeOf s t → s.nodes ≤ 2 ^ 45 → shape_of found.certificate ≡ made_shape g k s t → found.plan ≡ plan_kept k.best → found.nodes ≡ s.nodes → IsProvedWithin g.instance.now (ranges_in g) found
 found_proved g k budget rs s t found by is of few shape plan_is nodes_are =
     let m = g.instance.now in
+    let ranges = ranges_in g in
     let made = made_shape g k s t in
-    let p = proved_shape m by made k.rows.items (plan_kept k.best) (shown_by g k budget rs s t is of few) in
+    let p = proved_shape m by ranges made k.rows.items (plan_kept k.best) (shown_by g k budget rs s t is of few) in
     record {
       writable = subst IsWritable (sym shape) p.writable;
       lines = subst (λ (c : Shape). line_count c < 2 ^ 63) (sym shape) p.lines;
-      certified = subst (λ (c : Shape). IsGoodCertificate m c found.plan) (sym shape) (subst (λ q. IsGoodCertificate m made q) (sym plan_is) p.certified);
-      claim = subst (λ (c : Shape). IsTrueOf m c.claim (plan_given found.plan)) (sym shape) (subst (λ q. IsTrueOf m made.claim (plan_given q)) (sym plan_is) p.claim);
+      certified = subst (λ (c : Shape). OfProblem m (λ total weight. IsCertifiedWithin m total weight ranges c found.plan)) (sym shape) (subst (λ q. OfProblem m (λ total weight. IsCertifiedWithin m total weight ranges made q)) (sym plan_is) p.certified);
+      claim = subst (λ (c : Shape). IsTrueWithin m ranges c.claim (plan_given found.plan)) (sym shape) (subst (λ q. IsTrueWithin m ranges made.claim (plan_given q)) (sym plan_is) p.claim);
       nodes = nodes_are ∙ sym is.nodes ∙ sym of.nodes ∙ sym (ap (λ (c : Shape). node_count c.tree) shape);
     }

@@ -7,6 +7,8 @@ mod Best
 mod Filled
 mod Translating
 mod Proved
+mod Overall
+mod Cells
 mod Finished
 mod Added
 mod Judged

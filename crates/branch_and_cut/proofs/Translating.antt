@@ -2,7 +2,6 @@
 use Rattle.std.proofs.Common.{◌≡◌, ◌≤◌, ◌<◌, ◌+◌, ◌⊎◌, inl, inr, ⊎_elim, ℕ, subst, arith, true, false, List, [], ◌∷◌, length}
 use Rattle.std.proofs.lemmas.List.{length-append}
 use Rattle.lot_sizing.specs.Problem.{Problem}
-use Rattle.lot_sizing.specs.Totals.{AreLargestTotals}
 use Rattle.lin_rows.specs.declared.bound.Bound.{Bound}
 use Rattle.lin_rows.specs.declared.column.Column.{Column}
 use Rattle.cert_lines.specs.declared.parts.Leaf.{Leaf as LeafValue}
@@ -10,7 +9,7 @@ use Rattle.cert_lines.specs.Shapes.{LeafShape, leaf_shape}
 use Rattle.certificate.specs.declared.tree.Tree.{Tree}
 use Rattle.certificate.specs.declared.tree.Tree.TheVariants as tree
 use Rattle.certificate.specs.Shapes.{tree_shape}
-use Rattle.split_trees.specs.Ranges.{whole_ranges}
+use Rattle.split_trees.specs.Ranges.{Ranges}
 use Rattle.split_trees.specs.Spans.{Span}
 use Rattle.split_trees.specs.Trees as split
 use Rattle.branch_and_bound.specs.declared.node.Range.{Range}
@@ -45,39 +44,39 @@ each_two place P Q rs path (Branch' c spot at p low q high) a b = (
 )
 each_two place P Q rs path (Leaf p) a b = (a, b)
 
-module _ (m : Problem) where
+module _ (m : Problem) (ranges : Ranges) where
   -- a branch of the list splits what the path leaves to a choice
-  splits : (total : ℕ → ℕ) → AreLargestTotals m total → (rs : List Range) (path : List Bound) (c : Column) (at : ℕ) → IsNodeOf m rs path → IsSplitAt rs (choice_place m c) at → split.IsSplit m (whole_ranges total) path c at
-  splits total totals rs path c at node is =
+  splits : (rs : List Range) (path : List Bound) (c : Column) (at : ℕ) → IsNodeOf m ranges rs path → IsSplitAt rs (choice_place m c) at → split.IsSplit m ranges path c at
+  splits rs path c at node is =
       let choice = choice_from m c (omega (arith, is.0, node.size)) in
       record {
         column = choice;
-        low = subst (λ (s : Span). s.low ≤ at) (node.left total totals c choice) is.1;
-        high = subst (λ (s : Span). at < s.high) (node.left total totals c choice) is.2;
+        low = subst (λ (s : Span). s.low ≤ at) (node.left c choice) is.1;
+        high = subst (λ (s : Span). at < s.high) (node.left c choice) is.2;
       }
 
-  low_node : (rs : List Range) (path : List Bound) (c : Column) (at : ℕ) → IsNodeOf m rs path → IsSplitAt rs (choice_place m c) at → IsNodeOf m (low_side rs (choice_place m c) at) (low_path path c at)
-  low_node rs path c at node is = node_side m true rs path c at node is
+  low_node : (rs : List Range) (path : List Bound) (c : Column) (at : ℕ) → IsNodeOf m ranges rs path → IsSplitAt rs (choice_place m c) at → IsNodeOf m ranges (low_side rs (choice_place m c) at) (low_path path c at)
+  low_node rs path c at node is = node_side m ranges true rs path c at node is
 
-  high_node : (rs : List Range) (path : List Bound) (c : Column) (at : ℕ) → IsNodeOf m rs path → IsSplitAt rs (choice_place m c) at → IsNodeOf m (high_side rs (choice_place m c) at) (high_path path c at)
-  high_node rs path c at node is = node_side m false rs path c at node is
+  high_node : (rs : List Range) (path : List Bound) (c : Column) (at : ℕ) → IsNodeOf m ranges rs path → IsSplitAt rs (choice_place m c) at → IsNodeOf m ranges (high_side rs (choice_place m c) at) (high_path path c at)
+  high_node rs path c at node is = node_side m ranges false rs path c at node is
 
   -- the branches of the certificate's tree split
-  pub split_tree : (total : ℕ → ℕ) → AreLargestTotals m total → (rs : List Range) (path : List Bound) (sought : Sought) (t : Tree) → IsNodeOf m rs path → IsSplitTree (choice_place m) rs sought → IsStripped sought t → split.IsSplitTree m (whole_ranges total) path (tree_shape t)
-  split_tree total totals rs path (Branch' c spot at p low q high) (tree.Branch' column number s left u right) node is same =
-      let F : Column → ℕ → Type 0 = λ d n. split.IsSplit m (whole_ranges total) path d n × split.IsSplitTree m (whole_ranges total) (split.low_path path d n) (tree_shape left) × split.IsSplitTree m (whole_ranges total) (split.high_path path d n) (tree_shape right) in
+  pub split_tree : (rs : List Range) (path : List Bound) (sought : Sought) (t : Tree) → IsNodeOf m ranges rs path → IsSplitTree (choice_place m) rs sought → IsStripped sought t → split.IsSplitTree m ranges path (tree_shape t)
+  split_tree rs path (Branch' c spot at p low q high) (tree.Branch' column number s left u right) node is same =
+      let F : Column → ℕ → Type 0 = λ d n. split.IsSplit m ranges path d n × split.IsSplitTree m ranges (split.low_path path d n) (tree_shape left) × split.IsSplitTree m ranges (split.high_path path d n) (tree_shape right) in
       let here : F c at = (
-        splits total totals rs path c at node is.0,
-        split_tree total totals (low_side rs (choice_place m c) at) (low_path path c at) low left (low_node rs path c at node is.0) is.1 same.2,
-        split_tree total totals (high_side rs (choice_place m c) at) (high_path path c at) high right (high_node rs path c at node is.0) is.2 same.3,
+        splits rs path c at node is.0,
+        split_tree (low_side rs (choice_place m c) at) (low_path path c at) low left (low_node rs path c at node is.0) is.1 same.2,
+        split_tree (high_side rs (choice_place m c) at) (high_path path c at) high right (high_node rs path c at node is.0) is.2 same.3,
       ) in
       subst (λ n. F column n) same.1 (subst (λ d. F d at) same.0 here)
-  split_tree total totals rs path (Branch' c spot at p low q high) (tree.Leaf leaf) node is same = absurd same
-  split_tree total totals rs path (Leaf p) (tree.Branch' column number s left u right) node is same = absurd same
-  split_tree total totals rs path (Leaf p) (tree.Leaf leaf) node is same = tt
+  split_tree rs path (Branch' c spot at p low q high) (tree.Leaf leaf) node is same = absurd same
+  split_tree rs path (Leaf p) (tree.Branch' column number s left u right) node is same = absurd same
+  split_tree rs path (Leaf p) (tree.Leaf leaf) node is same = tt
 
   -- what follows at each leaf, whose path has no more branches than it may
-  pub each_on : (P : AtLeaf) (Q : OnPath) → ((rs : List Range) (path : List Bound) (p : Proposal) → IsNodeOf m rs path → length path ≤ 2000 → P rs path p → Q path (leaf_shape p.leaf)) → (rs : List Range) (path : List Bound) (sought : Sought) (t : Tree) → IsNodeOf m rs path → length path + longest sought ≤ 2000 → IsSplitTree (choice_place m) rs sought → IsStripped sought t → EachLeaf (choice_place m) P rs path sought → split.EachLeaf Q path (tree_shape t)
+  pub each_on : (P : AtLeaf) (Q : OnPath) → ((rs : List Range) (path : List Bound) (p : Proposal) → IsNodeOf m ranges rs path → length path ≤ 2000 → P rs path p → Q path (leaf_shape p.leaf)) → (rs : List Range) (path : List Bound) (sought : Sought) (t : Tree) → IsNodeOf m ranges rs path → length path + longest sought ≤ 2000 → IsSplitTree (choice_place m) rs sought → IsStripped sought t → EachLeaf (choice_place m) P rs path sought → split.EachLeaf Q path (tree_shape t)
   each_on P Q f rs path (Branch' c spot at p low q high) (tree.Branch' column number s left u right) node short is same each =
       let F : Column → ℕ → Type 0 = λ d n. split.EachLeaf Q (split.low_path path d n) (tree_shape left) × split.EachLeaf Q (split.high_path path d n) (tree_shape right) in
       let here : F c at = (

@@ -5,9 +5,12 @@ use Rattle.plan_rules.specs.declared.plan.Plan.{Plan}
 use Rattle.branching.specs.declared.found.Found.{Found}
 use Rattle.branching.specs.declared.found.RootSays.TheVariants.{Uncoupled}
 use Rattle.branching.specs.Found.{IsProved}
+use Rattle.split_trees.specs.Ranges.{Ranges}
 use Rattle.root_rounds.specs.declared.round_leaf.Root.{Root}
 use Rattle.root_rounds.specs.Root.{AreWritable, BoundsPlans, HasFigures, RootMeans, root_cuts}
 use Rattle.branch_and_cut.specs.Search.{DecidesSmall, GoesTogether, HasEvidence, IfBound, IsGoodPlan, IsNoLessThanApart, IsSaidAtRoot, IsUndecided, IsVersionOf, KeepsFirst, KeepsOwn, UsesRoot, WithRows}
+use Rattle.branch_and_cut.specs.SearchWithin.{HasEvidenceWithin, IsGoodWithin, IsProvedWithin, IsUndecidedWithin}
+use Rattle.branch_and_cut.specs.Within.{IsWhole}
 
 -- what the root promises
 pub record IsRootOf (m : Problem) (r : Root) : Type 0 where
@@ -17,6 +20,7 @@ pub record IsRootOf (m : Problem) (r : Root) : Type 0 where
   pub bounds : BoundsPlans m r.says
   pub figures : HasFigures m
 
+-- over all ranges
 pub record IsAnswer (m : Problem) (budget : ℕ) (first : Option Plan) (found : Found) : Type 0 where
   pub proved : IsProved m found
   pub plan : IfSome found.plan (IsGoodPlan m)
@@ -32,3 +36,18 @@ pub record IsAnswer (m : Problem) (budget : ℕ) (first : Option Plan) (found : 
   pub apart : IsNoLessThanApart m found.certificate.claim
   pub complete : DecidesSmall m budget found.certificate.claim
   pub version : IsVersionOf m found.certificate.version
+
+-- over ranges that were given; and all of the above where they are the whole ones
+pub record IsAnswerWithin (m : Problem) (ranges : Ranges) (budget : ℕ) (first : Option Plan) (found : Found) : Type 0 where
+  pub proved : IsProvedWithin m ranges found
+  pub plan : IfSome found.plan (IsGoodWithin m ranges)
+  pub within : found.nodes ≤ budget
+  pub kept : KeepsFirst m first found.plan
+  pub goes : GoesTogether m found.certificate.claim found.plan
+  pub cause : IfBound found.certificate.claim (λ amount. WithRows m found (IsUndecidedWithin m ranges budget found))
+  pub evidence : IfBound found.certificate.claim (λ amount. WithRows m found (HasEvidenceWithin m ranges found amount))
+  pub root : IsSaidAtRoot m found.root
+  pub uncoupled : found.root ≡ Uncoupled ↔ IsUncoupled m
+  pub apart : IsNoLessThanApart m found.certificate.claim
+  pub version : IsVersionOf m found.certificate.version
+  pub whole : IsWhole m ranges → IsAnswer m budget first found

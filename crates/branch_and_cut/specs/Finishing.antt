@@ -1,7 +1,7 @@
 -- What a search has shown when it ends.
 use Rattle.std.specs.Prelude.{◌≡◌, ℕ, ◌+◌, ◌*◌, ◌≤◌, List, []}
-use Rattle.lot_sizing.specs.Problem.{item_count}
-use Rattle.split_trees.specs.Ranges.{WithTotals}
+use Rattle.lot_sizing.specs.Problem.{Problem, item_count}
+use Rattle.split_trees.specs.Ranges.{Ranges, WithTotals}
 use Rattle.branching.specs.declared.found.Found.{Found}
 use Rattle.branch_and_bound.specs.declared.node.Range.{Range}
 use Rattle.branch_and_bound.specs.declared.sought.Searched.{Searched}
@@ -9,18 +9,25 @@ use Rattle.branch_and_bound.specs.Claims.{IsBound, IsShown, IsTold, IsUndecided 
 use Rattle.branch_and_bound.specs.Counts.{longest, nodes}
 use Rattle.branch_and_bound.specs.Ranges.{height, volume}
 use Rattle.branch_and_bound.specs.Trees.{EachLeaf, IsSplitTree}
-use Rattle.branch_and_bound.specs.Whole.{whole_ranges}
+use Rattle.branch_and_bound.specs.Whole.{whole_height, whole_ranges}
 use Rattle.branch_and_cut.specs.declared.guiding.Model.{Model}
 use Rattle.branch_and_cut.specs.declared.knowing.Known.{Known}
-use Rattle.branch_and_cut.specs.Knowing.{IsKeptIn, IsKnown, IsToldIn, cost_kept}
-use Rattle.branch_and_cut.specs.Nodes.{IsNodeOf, choice_place, choice_rules}
-use Rattle.branch_and_cut.specs.Search.{DecidesSmall, GoesTogether, HasEvidence, IfBound, IsClaimedAtLeast, IsUndecided, WithRows}
+use Rattle.branch_and_cut.specs.Knowing.{IsKeptIn, IsKnown, IsNodeIn, IsToldIn, cost_kept, ranges_in}
+use Rattle.branch_and_cut.specs.Nodes.{choice_place, choice_rules}
+use Rattle.branch_and_cut.specs.Search.{DecidesSmall, GoesTogether, IfBound, IsClaimedAtLeast, WithRows}
+use Rattle.branch_and_cut.specs.SearchWithin.{HasEvidenceWithin, IsUndecidedWithin}
+use Rattle.branch_and_cut.specs.Within.{IsWhole}
 
--- a tree over the whole ranges, whose leaves say what is claimed
+-- the list of these ranges has no more height than the whole ranges, and is their list where they are whole
+pub record AreListed (m : Problem) (ranges : Ranges) (rs : List Range) : Type 0 where
+  pub height : WithTotals m (λ total. height rs ≤ whole_height (item_count m) m.periods total)
+  pub whole : IsWhole m ranges → WithTotals m (λ total. rs ≡ whole_ranges (item_count m) m.periods total)
+
+-- a tree over the ranges that were given, whose leaves say what is claimed
 pub record IsSearched (g : Model) (k : Known) (budget : ℕ) (rs : List Range) (s : Searched) : Type 0 where
   pub known : IsKnown g k
-  pub whole : WithTotals g.instance.now (λ total. rs ≡ whole_ranges (item_count g.instance.now) g.instance.now.periods total)
-  pub node : IsNodeOf g.instance.now rs []
+  pub listed : AreListed g.instance.now (ranges_in g) rs
+  pub node : IsNodeIn g rs []
   pub nodes : nodes s.tree ≡ s.nodes
   pub within : s.nodes ≤ budget
   pub short : longest s.tree ≤ 2000
@@ -35,7 +42,7 @@ pub record IsSearched (g : Model) (k : Known) (budget : ℕ) (rs : List Range) (
 pub record IsFinished (g : Model) (k : Known) (budget : ℕ) (found : Found) : Type 0 where
   pub within : found.nodes ≤ budget
   pub goes : GoesTogether g.instance.now found.certificate.claim found.plan
-  pub cause : IfBound found.certificate.claim (λ amount. WithRows g.instance.now found (IsUndecided g.instance.now budget found))
-  pub evidence : IfBound found.certificate.claim (λ amount. WithRows g.instance.now found (HasEvidence g.instance.now found amount))
-  pub complete : DecidesSmall g.instance.now budget found.certificate.claim
+  pub cause : IfBound found.certificate.claim (λ amount. WithRows g.instance.now found (IsUndecidedWithin g.instance.now (ranges_in g) budget found))
+  pub evidence : IfBound found.certificate.claim (λ amount. WithRows g.instance.now found (HasEvidenceWithin g.instance.now (ranges_in g) found amount))
+  pub complete : IsWhole g.instance.now (ranges_in g) → DecidesSmall g.instance.now budget found.certificate.claim
   pub least : IsClaimedAtLeast g.least found.certificate.claim

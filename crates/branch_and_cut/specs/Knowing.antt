@@ -8,7 +8,7 @@ use Rattle.lin_rows.specs.Rows.{LinRow}
 use Rattle.cert_lines.specs.Shapes.{CutShape, cut_shape}
 use Rattle.echelon.specs.Weights.{IsExplosionOf}
 use Rattle.cert_checker.specs.Named.{IsReadyFor}
-use Rattle.first_plans.specs.Made.{IsMade}
+use Rattle.split_trees.specs.Ranges.{Ranges}
 use Rattle.first_plans.specs.OwnPeriod.{IsOwnPeriod}
 use Rattle.branch_and_bound.specs.Costs.{IsAtMost}
 use Rattle.branch_and_cut.specs.declared.knowing.Known.{Known}
@@ -17,8 +17,9 @@ use Rattle.lin_rows.specs.declared.bound.Bound.{Bound}
 use Rattle.branch_and_bound.specs.declared.node.Range.{Range}
 use Rattle.branch_and_bound.specs.declared.proposal.Proposal.{Proposal}
 use Rattle.branch_and_cut.specs.Begun.{AreKnownCuts, IsBegun}
-use Rattle.branch_and_cut.specs.Nodes.{IsKept, IsLasting, IsToldAt}
+use Rattle.branch_and_cut.specs.Nodes.{IsKept, IsLasting, IsNodeOf, IsToldAt}
 use Rattle.branch_and_cut.specs.Search.{cost_of}
+use Rattle.branch_and_cut.specs.Within.{AreGiven, IsMadeWithin, given_ranges}
 
 -- ---- the best plan so far
 -- its cost, and none where there is no plan
@@ -56,11 +57,16 @@ pub record IsAfter (old new : Known) : Type 0 where
   pub rows : new.rows.items ≡ old.rows.items ++ more
 
 -- ---- what is known
--- cuts, a leaf to begin with, the best plan, sums by which leaves are judged, and the units of each item in each other
+-- the ranges within which plans are sought
+abbrev pub ranges_in : Model → Ranges
+ranges_in g = given_ranges g.ranges.now
+
+-- ranges, cuts, a leaf to begin with, the best plan within the ranges, sums by which leaves are judged, and the units of each item in each other
 pub record IsKnown (g : Model) (k : Known) : Type 0 where
+  pub given : AreGiven g.instance.now g.ranges.now
   pub begun : IsBegun g.instance.now g.version g.least g.first k.rows.items
   pub cuts : AreKnownCuts g.instance.now g.version (shapes k) k.rows.items
-  pub best : IfSome k.best (IsMade g.instance.now)
+  pub best : IfSome k.best (IsMadeWithin g.instance.now (ranges_in g))
   pub sums : IsReadyFor g.instance.now k.sums
   pub explosion : IsExplosionOf g.instance.now g.explosion
 
@@ -68,8 +74,11 @@ pub record IsKnown (g : Model) (k : Known) : Type 0 where
 abbrev pub IsLastingIn : Model → Known → List Bound → Proposal → Type 0
 IsLastingIn g k path p = IsLasting g.instance.now g.version g.least k.rows.items path p
 
+abbrev pub IsNodeIn : Model → List Range → List Bound → Type 0
+IsNodeIn g rs path = IsNodeOf g.instance.now (ranges_in g) rs path
+
 abbrev pub IsKeptIn : Model → Known → List Range → List Bound → Proposal → Type 0
-IsKeptIn g k rs path p = IsKept g.instance.now g.version g.least k.rows.items rs path p
+IsKeptIn g k rs path p = IsKept g.instance.now (ranges_in g) g.version g.least k.rows.items rs path p
 
 abbrev pub IsToldIn : Model → List Bound → Proposal → Type 0
 IsToldIn g path p = IsToldAt g.instance.now g.root path p

@@ -1,4 +1,7 @@
 pub mod Search
+pub mod Within
+pub mod SearchWithin
+pub mod Listed
 pub mod Nodes
 pub mod Begun
 pub mod Beginning

@@ -1,5 +1,5 @@
 -- The ranges of a node in one list, and what holds of a leaf there.
-use Rattle.std.specs.Prelude.{◌≡◌, ◌⊎◌, ℕ, ◌+◌, ◌-◌, ◌*◌, ◌≤◌, ◌<◌, ◌^◌, ◌&&◌, nat_le, Bool, true, false, List, length, Option, Some, None, IfSome, if◌then◌else◌}
+use Rattle.std.specs.Prelude.{◌≡◌, ◌⊎◌, ℕ, ◌+◌, ◌-◌, ◌*◌, ◌≤◌, ◌<◌, ◌^◌, ◌&&◌, nat_le, Bool, true, List, length, Option, Some, None, IfSome, if◌then◌else◌}
 use Rattle.lot_sizing.specs.Problem.{Problem, item_count}
 use Rattle.lot_sizing.specs.Plan.{Table}
 use Rattle.lin_rows.specs.declared.bound.Bound.{Bound}
@@ -9,12 +9,15 @@ use Rattle.lin_rows.specs.Columns.{cell_count}
 use Rattle.lin_rows.specs.Rows.{LinRow}
 use Rattle.cert_lines.specs.declared.limits.TheConstants.{MAX_BRANCHES}
 use Rattle.cert_lines.specs.declared.parts.Leaf.{Leaf}
-use Rattle.cert_lines.specs.Shapes.{leaf_shape}
+use Rattle.cert_lines.specs.Shapes.{LeafShape, leaf_shape}
 use Rattle.split_trees.specs.Paths.{AreChoices, left_by}
-use Rattle.split_trees.specs.Ranges.{IsChoice, WithTotals, whole_ranges}
+use Rattle.split_trees.specs.Ranges.{IsChoice, Ranges, WithTotals}
 use Rattle.split_trees.specs.Spans.{Span}
 use Rattle.acceptance.specs.declared.says.LeafSays.{LeafSays}
 use Rattle.acceptance.specs.declared.says.LeafSays.TheVariants.{NoPlan, AtLeast}
+use Rattle.acceptance.specs.Named.{names}
+use Rattle.acceptance.specs.Says.{Says}
+use Rattle.cert_checker.specs.Leaves.{LeafIsSmall}
 use Rattle.leaf_growth.specs.Growth.{IsOfRows, LeafSaysSmall}
 use Rattle.leaf_growth.specs.Written.{LeafHasLines}
 use Rattle.branching.specs.declared.found.RootSays.{RootSays}
@@ -52,15 +55,15 @@ choice_rules m = record { place = choice_place m }
 abbrev pub span_in : Range → Span
 span_in r = record { low = r.low; high = r.high }
 
--- what the path leaves to a column stands at the column's place
-abbrev pub IsLeftAt : Problem → (ℕ → ℕ) → List Range → List Bound → Column → Type 0
-IsLeftAt m total rs path c = span_in (range_at rs (choice_place m c)) ≡ left_by (whole_ranges total) path c
+-- what the path leaves of the ranges to a column stands at the column's place
+abbrev pub IsLeftAt : Problem → Ranges → List Range → List Bound → Column → Type 0
+IsLeftAt m ranges rs path c = span_in (range_at rs (choice_place m c)) ≡ left_by ranges path c
 
--- the list has what the path leaves to each quantity and each setup
-pub record IsNodeOf (m : Problem) (rs : List Range) (path : List Bound) : Type 0 where
+-- the list has what the path leaves of the ranges to each quantity and each setup
+pub record IsNodeOf (m : Problem) (ranges : Ranges) (rs : List Range) (path : List Bound) : Type 0 where
   pub choices : AreChoices m path
   pub size : length rs ≡ choice_count m
-  pub left : WithTotals m (λ total. (c : Column) → IsChoice m c → IsLeftAt m total rs path c)
+  pub left : (c : Column) → IsChoice m c → IsLeftAt m ranges rs path c
 
 -- the least number in the list of each quantity, and of each setup
 abbrev pub least_make : Problem → List Range → Table
@@ -72,11 +75,6 @@ least_setup m rs i t = (range_at rs (cell_count m + cell_place m i t)).low
 -- the range at the place leaves more than one number
 abbrev pub IsOpenAt : List Range → ℕ → Type 0
 IsOpenAt rs k = (k < length rs) × ((range_at rs k).low < (range_at rs k).high)
-
--- the most of a setup, or of a quantity, of an item
-abbrev pub most_in : Bool → (ℕ → ℕ) → ℕ → ℕ
-most_in true total i = 1
-most_in false total i = total i
 
 -- ---- leaves
 -- what a proposal says, as a leaf does: no number stands for no plan
@@ -96,9 +94,21 @@ pub record IsLasting (m : Problem) (version least : ℕ) (rows : List LinRow) (p
   pub good : IsGoodLeaf m version least rows path p
   pub of_rows : IsOfRows (leaf_shape p.leaf)
 
--- or the node is one choice
-pub record IsKept (m : Problem) (version least : ℕ) (rows : List LinRow) (rs : List Range) (path : List Bound) (p : Proposal) : Type 0 where
-  pub good : IsGoodLeaf m version least rows path p
+-- over these ranges the leaf says this, whatever the largest totals are, and its sums are small
+pub record LeafSaysWithin (m : Problem) (ranges : Ranges) (rows : List LinRow) (path : List Bound) (leaf : LeafShape) (says : LeafSays) : Type 0 where
+  pub said : WithTotals m (λ total. Says (names m total rows path) ranges leaf says)
+  pub small : LeafIsSmall m rows path leaf
+
+-- the same of a leaf that counts what its path leaves from these ranges
+pub record IsGoodLeafWithin (m : Problem) (ranges : Ranges) (version least : ℕ) (rows : List LinRow) (path : List Bound) (p : Proposal) : Type 0 where
+  pub says : LeafSaysWithin m ranges rows path (leaf_shape p.leaf) (said p.says)
+  pub lines : LeafHasLines version (leaf_shape p.leaf)
+  pub no_less : IsAtMost (Some least) p.says
+  pub small : IfSome p.says (λ amount. amount < 2 ^ 127)
+
+-- it takes rows by their names, or the node is one choice
+pub record IsKept (m : Problem) (ranges : Ranges) (version least : ℕ) (rows : List LinRow) (rs : List Range) (path : List Bound) (p : Proposal) : Type 0 where
+  pub good : IsGoodLeafWithin m ranges version least rows path p
   pub kind : IsOfRows (leaf_shape p.leaf) ⊎ IsPoint rs
 
 -- there is evidence at the leaf, where its path isn't too long for a certificate

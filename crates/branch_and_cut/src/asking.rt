@@ -3,7 +3,8 @@ ghost use Rattle.std.specs.Prelude.{◌≡◌, ℕ, List, true, IfOk, Some};
 ghost use Rattle.lin_rows.specs.Rows.{LinRow};
 ghost use Rattle.leaf_growth.specs.Written.{HasVersion};
 ghost use Rattle.branch_and_bound.specs.Costs.{IsAtMost};
-ghost use Rattle.branch_and_cut.specs.Nodes.{IsKept, IsNodeOf, IsRaised, IsToldAt, asked_of};
+ghost use Rattle.branch_and_cut.specs.Knowing.{IsNodeIn, ranges_in};
+ghost use Rattle.branch_and_cut.specs.Nodes.{IsKept, IsRaised, IsToldAt, asked_of};
 
 use crate::guiding::Model;
 use branch_and_bound::{Node, Proposal};
@@ -49,8 +50,8 @@ pub(crate) fn told(
     proposal: Proposal,
 ) -> Result<Proposal, AllocError>
     requires version { HasVersion model.now.instance.now model.now.version }
-    requires node { IsNodeOf model.now.instance.now node.now.ranges.items node.now.path.items }
-    ensures kept { IfOk result (λ p. (least : ℕ) (rows : List LinRow) → IsKept model.now.instance.now model.now.version least rows node.now.ranges.items node.now.path.items proposal → IsKept model.now.instance.now model.now.version least rows node.now.ranges.items node.now.path.items p) }
+    requires node { IsNodeIn model.now node.now.ranges.items node.now.path.items }
+    ensures kept { IfOk result (λ p. (least : ℕ) (rows : List LinRow) → IsKept model.now.instance.now (ranges_in model.now) model.now.version least rows node.now.ranges.items node.now.path.items proposal → IsKept model.now.instance.now (ranges_in model.now) model.now.version least rows node.now.ranges.items node.now.path.items p) }
     ensures told { IfOk result (IsToldAt model.now.instance.now model.now.root node.now.path.items) }
     ensures asked { IfOk result (λ p. p.asked ≡ true) }
     ensures more { IfOk result (λ p. IsAtMost proposal.says p.says) }

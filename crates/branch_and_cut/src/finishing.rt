@@ -1,20 +1,19 @@
 // What is found, with its certificate.
 ghost use Rattle.std.specs.Prelude.{◌≡◌, ℕ, List, IfOk};
-ghost use Rattle.branching.specs.Found.{IsProved};
 ghost use Rattle.root_rounds.specs.Root.{HasFigures};
 ghost use Rattle.branch_and_bound.specs.declared.node.Range.{Range};
 ghost use Rattle.branch_and_cut.specs.Finishing.{IsFinished, IsSearched};
-ghost use Rattle.branch_and_cut.specs.Knowing.{plan_kept};
+ghost use Rattle.branch_and_cut.specs.Knowing.{plan_kept, ranges_in};
+ghost use Rattle.branch_and_cut.specs.SearchWithin.{IsProvedWithin};
 
 use crate::guiding::Model;
 use crate::knowing::{Known, best_plan};
-use acceptance::{accepted_is_true, says_are_one};
+use acceptance::{accepted_over_ranges, says_are_one};
 use branch_and_bound::{Searched, strip, whole_is_measured};
 use branching::Found;
 use certificate::{Certificate, shapes_are_counted};
 use leaf_growth::{few_lines, made_is_writable};
 use lot_sizing::totals_are_one;
-use split_trees::plans_are_within;
 use std::alloc::{AllocError, Global};
 
 // The most nodes of a certificate. Each takes some bytes, and no machine has memory for more.
@@ -29,16 +28,15 @@ pub(crate) fn finish(
 ) -> Result<Found, AllocError>
     requires figures { HasFigures model.now.instance.now }
     requires searched { (budget : ℕ) × (rs : List Range) × IsSearched model.now known budget rs searched }
-    ensures proved { IfOk result (IsProved model.now.instance.now) }
+    ensures proved { IfOk result (IsProvedWithin model.now.instance.now (ranges_in model.now)) }
     ensures plan { IfOk result (λ found. found.plan ≡ plan_kept known.best) }
     ensures root { IfOk result (λ found. found.root ≡ model.now.root) }
     ensures version { IfOk result (λ found. found.certificate.version ≡ model.now.version) }
     ensures shown { IfOk result (λ found. (budget : ℕ) (rs : List Range) → IsSearched model.now known budget rs searched → IsFinished model.now known budget found) }
 {
-    accepted_is_true();
+    accepted_over_ranges();
     few_lines();
     made_is_writable();
-    plans_are_within();
     says_are_one();
     shapes_are_counted();
     totals_are_one();

@@ -4,14 +4,15 @@ ghost use Rattle.cert_lines.specs.Shapes.{leaf_shape};
 ghost use Rattle.branch_and_bound.specs.Costs.{IsBelow};
 ghost use Rattle.branch_and_bound.specs.Ranges.{AreOrdered, IsPoint};
 ghost use Rattle.branch_and_cut.specs.Branching.{after_on, after_same, kept_lasts, kept_stays, node_side};
-ghost use Rattle.branch_and_cut.specs.Knowing.{IsAfter, IsKeptIn, IsKnown, IsLastingIn, IsNoWorse, IsToldIn, cost_kept};
-ghost use Rattle.branch_and_cut.specs.Nodes.{IsNodeOf, choice_rules};
+ghost use Rattle.branch_and_cut.specs.Knowing.{IsAfter, IsKeptIn, IsKnown, IsLastingIn, IsNoWorse, IsNodeIn, IsToldIn, cost_kept, ranges_in};
+ghost use Rattle.branch_and_cut.specs.Nodes.{choice_rules};
 
 use crate::asking::told;
 use crate::knowing::{Known, best_cost};
 use crate::pointing::{at_point, keep_built};
 use crate::pricing::{is_open, priced};
 use crate::splitting::{open_setup, split_of};
+use crate::within::Ranges;
 use branch_and_bound::{Guide, Node, Proposal, Split, open_place};
 use branching::RootSays;
 use cert_lines::copy_leaf;
@@ -25,6 +26,8 @@ use std::alloc::{AllocError, Global};
 pub(crate) struct Model<'a> {
     /// The model.
     pub(crate) instance: &'a Instance,
+    /// The ranges within which plans are sought.
+    pub(crate) ranges: &'a Ranges,
     /// The units of each item in each other.
     pub(crate) explosion: Explosion,
     /// What prices of the model are made with.
@@ -73,7 +76,7 @@ fn inherited(
 // Whether the relaxation on the path is solved at a node: where all setups are chosen and the leaf leaves the node open,
 // so that it says what they cost at least but for whole quantities.
 fn is_relaxed(model: &Model, node: &Node, proposal: &Proposal, known: &Known) -> bool
-    requires { IsNodeOf model.now.instance.now node.now.ranges.items node.now.path.items }
+    requires { IsNodeIn model.now node.now.ranges.items node.now.path.items }
 {
     is_open(proposal.says, &known.best) && open_setup(model.instance, &node.ranges).is_none()
 }
@@ -87,7 +90,7 @@ fn leaf_between(
     above: &Proposal,
     known: &mut Known,
 ) -> Result<Proposal, AllocError>
-    requires node { IsNodeOf model.now.instance.now node.now.ranges.items node.now.path.items }
+    requires node { IsNodeIn model.now node.now.ranges.items node.now.path.items }
     requires known { IsKnown model.now known.old }
     requires above { IsLastingIn model.now known.old node.now.path.items above.now }
     ensures known { OnOk result (IsKnown model.now known.new) }
@@ -114,7 +117,7 @@ fn leaf_for(
     known: &mut Known,
 ) -> Result<Proposal, AllocError>
     requires ordered { AreOrdered node.now.ranges.items }
-    requires node { IsNodeOf model.now.instance.now node.now.ranges.items node.now.path.items }
+    requires node { IsNodeIn model.now node.now.ranges.items node.now.path.items }
     requires known { IsKnown model.now known.old }
     requires above { IsLastingIn model.now known.old node.now.path.items above.now }
     ensures known { OnOk result (IsKnown model.now known.new) }
@@ -133,7 +136,7 @@ fn leaf_for(
 impl Guide<Known> for Model<'_> {
     ghost rules = { λ g. choice_rules g.instance.now };
 
-    ghost IsNode = { λ g rs path. IsNodeOf g.instance.now rs path };
+    ghost IsNode = { λ g rs path. IsNodeIn g rs path };
 
     ghost Grows = { IsAfter };
 
@@ -179,13 +182,13 @@ impl Guide<Known> for Model<'_> {
         told(alloc, self, node, proposal)
     }
 
-    ghost sides = { λ g most rs path c at node split. node_side g.instance.now most rs path c at node split };
+    ghost sides = { λ g most rs path c at node split. node_side g.instance.now (ranges_in g) most rs path c at node split };
 
     ghost same = { after_same };
 
     ghost grows_on = { after_on };
 
-    ghost stays = { λ g a b rs path p after is. kept_stays g.instance.now g.version g.least a b rs path p after is };
+    ghost stays = { λ g a b rs path p after is. kept_stays g.instance.now (ranges_in g) g.version g.least a b rs path p after is };
 
-    ghost heirs = { λ g k most rs path c at p is split. kept_lasts g.instance.now g.version g.least k.rows.items most rs path c ((choice_rules g.instance.now).place c) at p is split };
+    ghost heirs = { λ g k most rs path c at p is split. kept_lasts g.instance.now (ranges_in g) g.version g.least k.rows.items most rs path c ((choice_rules g.instance.now).place c) at p is split };
 }

@@ -1,20 +1,21 @@
 // The certificate that the relaxation has no point.
 ghost use Rattle.std.specs.Prelude.{◌≡◌, IfSome, None};
 ghost use Rattle.certificate.specs.declared.tree.Tree.TheVariants.{Leaf as OneLeaf};
-ghost use Rattle.branching.specs.Found.{IsProved};
 ghost use Rattle.branching.specs.declared.found.RootSays.TheVariants.{Empty};
 ghost use Rattle.leaf_growth.specs.Written.{HasVersion};
 ghost use Rattle.branch_and_cut.specs.Answer.{IsRootOf};
 ghost use Rattle.branch_and_cut.specs.Search.{IsImpossibleByOne};
+ghost use Rattle.branch_and_cut.specs.SearchWithin.{IsProvedWithin};
+ghost use Rattle.branch_and_cut.specs.Within.{AreInside, given_ranges};
 
-use acceptance::accepted_is_true;
+use crate::within::Ranges;
+use acceptance::accepted_over_ranges;
 use branching::Found;
 use certificate::{Certificate, Claim, Leaf, Tree};
 use leaf_growth::{few_lines, made_is_writable};
 use lot_model::Instance;
 use lot_sizing::totals_are_one;
 use root_rounds::Root;
-use split_trees::plans_are_within;
 
 // The tree of a leaf alone. The root has one.
 fn tree_of(leaf: Option<Leaf>) -> Tree
@@ -26,21 +27,22 @@ fn tree_of(leaf: Option<Leaf>) -> Tree
     }
 }
 
-/// The certificate that no plan is feasible, since the root's relaxation has no point: the root's cuts, and its leaf.
-pub(crate) fn none_found(instance: &Instance, version: u32, root: Root) -> Found
+/// The certificate that no plan is feasible, since the root's relaxation has no point: the root's cuts, and its leaf. It is
+/// accepted over any ranges.
+pub(crate) fn none_found(instance: &Instance, ranges: &Ranges, version: u32, root: Root) -> Found
+    requires inside { AreInside instance.now (given_ranges ranges.now) }
     requires version { HasVersion instance.now version }
     requires root { IsRootOf instance.now root }
     requires none { root.says ≡ Empty }
-    ensures proved { IsProved instance.now result }
+    ensures proved { IsProvedWithin instance.now (given_ranges ranges.now) result }
     ensures plan { result.plan ≡ None }
     ensures root { result.root ≡ root.says }
     ensures alone { IsImpossibleByOne result }
     ensures version { result.certificate.version ≡ version }
 {
-    accepted_is_true();
+    accepted_over_ranges();
     few_lines();
     made_is_writable();
-    plans_are_within();
     totals_are_one();
     // It reads that the instance is one.
     let _periods = instance.periods();

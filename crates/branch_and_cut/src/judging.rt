@@ -7,8 +7,8 @@ ghost use Rattle.leaf_growth.specs.Growth.{IsOfRows};
 ghost use Rattle.plan_rules.specs.Rows.{IfFound};
 ghost use Rattle.branch_and_bound.specs.Costs.{IsAtMost};
 ghost use Rattle.branch_and_cut.specs.Adding.{IsJudged, IsTested};
-ghost use Rattle.branch_and_cut.specs.Knowing.{IsKnown, IsLastingIn};
-ghost use Rattle.branch_and_cut.specs.Nodes.{IsNodeOf, said};
+ghost use Rattle.branch_and_cut.specs.Knowing.{IsKnown, IsLastingIn, IsNodeIn};
+ghost use Rattle.branch_and_cut.specs.Nodes.{said};
 
 use crate::guiding::Model;
 use crate::knowing::Known;
@@ -43,7 +43,7 @@ fn bound_of(
     known: &mut Known,
     leaf: Leaf,
 ) -> Result<Option<Proposal>, AllocError>
-    requires node { IsNodeOf model.now.instance.now node.now.ranges.items node.now.path.items }
+    requires node { IsNodeIn model.now node.now.ranges.items node.now.path.items }
     requires known { IsKnown model.now known.old }
     requires tested { IsTested (leaf_shape leaf) }
     ensures known { OnOk result (IsKnown model.now known.new) }
@@ -78,7 +78,7 @@ pub(crate) fn judged(
     known: &mut Known,
     leaf: Leaf,
 ) -> Result<Option<Proposal>, AllocError>
-    requires node { IsNodeOf model.now.instance.now node.now.ranges.items node.now.path.items }
+    requires node { IsNodeIn model.now node.now.ranges.items node.now.path.items }
     requires known { IsKnown model.now known.old }
     requires parts { All (λ part. HasLine 1 (PartLine part)) (leaf_parts (leaf_shape leaf)) }
     requires kind { IsOfRows (leaf_shape leaf) }

@@ -1,10 +1,14 @@
 // What a search knows while it goes on.
 ghost use Rattle.std.specs.Prelude.{◌≡◌, ◌⊎◌, IfOk, IfSome, Some};
+ghost use Rattle.plan_rules.specs.Held.{plan_of};
+ghost use Rattle.split_trees.specs.Ranges.{IsWithin};
 ghost use Rattle.first_plans.specs.Made.{IsMade};
 ghost use Rattle.branch_and_cut.specs.Knowing.{IsNoWorse, KeepsGiven, KeepsOwnMade, cost_kept, plan_kept};
-ghost use Rattle.branch_and_cut.specs.Search.{IsGoodPlan};
+ghost use Rattle.branch_and_cut.specs.SearchWithin.{IsGoodWithin};
+ghost use Rattle.branch_and_cut.specs.Within.{AllLieWithin, HaveShape, IsMadeWithin, given_ranges};
 
 use crate::remembering::Memory;
+use crate::within::{Ranges, is_within};
 use cert_checker::NamedSums;
 use certificate::Cut;
 use first_plans::candidates;
@@ -45,8 +49,8 @@ pub(crate) fn best_plan(best: Option<Planned>) -> Option<Plan>
     }
 }
 
-/// The better of a plan and of the best so far.
-pub(crate) fn better(best: Option<Planned>, made: Planned) -> Option<Planned>
+// The better of a plan and of the best so far.
+fn better(best: Option<Planned>, made: Planned) -> Option<Planned>
     ensures either { (result ≡ best) ⊎ (result ≡ Some made) }
     ensures best { IsNoWorse result best }
     ensures made { IsNoWorse result (Some made) }
@@ -64,9 +68,9 @@ pub(crate) fn better(best: Option<Planned>, made: Planned) -> Option<Planned>
 }
 
 // The plan that was given, with its cost.
-fn given(instance: &Instance, first: Option<Plan>) -> Option<Planned>
-    requires { IfSome first (IsGoodPlan instance.now) }
-    ensures made { IfSome result (IsMade instance.now) }
+fn given(instance: &Instance, ranges: &Ranges, first: Option<Plan>) -> Option<Planned>
+    requires { IfSome first (IsGoodWithin instance.now (given_ranges ranges.now)) }
+    ensures made { IfSome result (IsMadeWithin instance.now (given_ranges ranges.now)) }
     ensures kept { KeepsGiven instance.now first result }
 {
     let plan = first?;
@@ -77,33 +81,46 @@ fn given(instance: &Instance, first: Option<Plan>) -> Option<Planned>
     }
 }
 
-/// The best plan to begin with: of the one that was given and of those that are made without a search.
+/// Keeps a plan that was found, if it lies within the ranges and is better than the best so far.
+pub(crate) fn keep_within(
+    instance: &Instance,
+    ranges: &Ranges,
+    best: &mut Option<Planned>,
+    found: Option<Planned>,
+)
+    requires shape { HaveShape instance.now ranges.now }
+    requires best { IfSome best.old (IsMadeWithin instance.now (given_ranges ranges.now)) }
+    requires found { IfSome found (IsMade instance.now) }
+    ensures best { IfSome best.new (IsMadeWithin instance.now (given_ranges ranges.now)) }
+    ensures old { IsNoWorse best.new best.old }
+    ensures found { IfSome found (λ made. IsWithin instance.now (given_ranges ranges.now) (plan_of made.plan) → IsNoWorse best.new (Some made)) }
+{
+    if let Some(made) = found {
+        if is_within(instance, ranges, &made.plan) {
+            let old = best.take();
+            *best = better(old, made);
+        }
+    }
+}
+
+/// The best plan to begin with: of the one that was given, and of those that are made without a search and lie within the
+/// ranges.
 pub(crate) fn best_to_begin(
     alloc: Global,
     instance: &Instance,
+    ranges: &Ranges,
     first: Option<Plan>,
 ) -> Result<Option<Planned>, AllocError>
-    requires { IfSome first (IsGoodPlan instance.now) }
-    ensures made { IfOk result (λ best. IfSome best (IsMade instance.now)) }
+    requires shape { HaveShape instance.now ranges.now }
+    requires first { IfSome first (IsGoodWithin instance.now (given_ranges ranges.now)) }
+    ensures made { IfOk result (λ best. IfSome best (IsMadeWithin instance.now (given_ranges ranges.now))) }
     ensures kept { IfOk result (KeepsGiven instance.now first) }
-    ensures own { IfOk result (KeepsOwnMade instance.now) }
+    ensures own { IfOk result (λ best. AllLieWithin instance.now (given_ranges ranges.now) → KeepsOwnMade instance.now best) }
 {
-    let mut best = given(instance, first);
+    let mut best = given(instance, ranges, first);
     let mut list = candidates(alloc, instance)?;
     while let Some(made) = list.pop() {
-        best = better(best, made);
+        keep_within(instance, ranges, &mut best, Some(made));
     }
     Ok(best)
-}
-
-/// Keeps a plan that was found, if it is better than the best so far.
-pub(crate) fn keep_better(best: &mut Option<Planned>, found: Option<Planned>)
-    ensures best { (best.new ≡ best.old) ⊎ (best.new ≡ found) }
-    ensures old { IsNoWorse best.new best.old }
-    ensures found { IsNoWorse best.new found }
-{
-    if let Some(made) = found {
-        let old = best.take();
-        *best = better(old, made);
-    }
 }

@@ -21,9 +21,12 @@ mod remembering;
 mod searching;
 mod splitting;
 mod trying;
+mod whole;
+mod within;
 
 pub use branching::{Found, PassedAt, RootSays};
-pub use searching::search;
+pub use searching::{search, search_all};
+pub use within::Ranges;
 
 #[cfg(test)]
 mod tests;

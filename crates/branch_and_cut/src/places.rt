@@ -1,64 +1,82 @@
 // The ranges of all quantities and setups in one list.
-ghost use Rattle.std.specs.Prelude.{◌≡◌, ◌≤◌, ◌+◌, ◌-◌, ◌++◌, ℕ, IfOk, OnOk, length, replicate};
+ghost use Rattle.std.specs.Prelude.{◌≡◌, ◌≤◌, ◌+◌, ◌-◌, ◌++◌, ℕ, List, [], IfOk, OnOk, length};
 ghost use Rattle.lot_sizing.specs.Problem.{item_count};
 ghost use Rattle.lot_sizing.specs.Plan.{EachCell};
 ghost use Rattle.lin_rows.specs.Columns.{cell_count};
 ghost use Rattle.plan_rules.specs.Cells.{Fits, table_of};
 ghost use Rattle.plan_rules.specs.Rows.{OtherRowsSame};
-ghost use Rattle.split_trees.specs.Ranges.{WithTotals};
-ghost use Rattle.branch_and_bound.specs.Ranges.{range_at};
-ghost use Rattle.branch_and_bound.specs.Whole.{item_ranges, up_to, whole_ranges};
-ghost use Rattle.branch_and_cut.specs.Nodes.{cell_place, most_in};
+ghost use Rattle.branch_and_bound.specs.Ranges.{AreOrdered, range_at};
+ghost use Rattle.branch_and_cut.specs.Finishing.{AreListed};
+ghost use Rattle.branch_and_cut.specs.Listed.{grid_list, row_list};
+ghost use Rattle.branch_and_cut.specs.Nodes.{IsNodeOf, cell_place};
+ghost use Rattle.branch_and_cut.specs.Within.{AreGiven, given_ranges};
 
-use branch_and_bound::Range;
+use crate::within::Ranges;
+use branch_and_bound::{Range, whole_is_measured};
 use lot_model::Instance;
 use plan_rules::Grid;
 use std::alloc::{AllocError, Global};
 
-// The greatest number of a quantity, or of a setup, of an item.
-fn most_of(instance: &Instance, setups: bool, item: u32) -> u64
-    requires low { 1 ≤ item }
-    requires high { item ≤ item_count instance.now }
-    ensures { WithTotals instance.now (λ total. result ≡ most_in setups total item) }
+// Adds the range of each period of an item.
+fn push_row(
+    ranges: &mut Vec<Range>,
+    low: &Grid,
+    high: &Grid,
+    item: u32,
+    periods: u32,
+) -> Result<(), AllocError>
+    requires item_low { 1 ≤ item }
+    requires low_items { item ≤ low.now.items }
+    requires high_items { item ≤ high.now.items }
+    requires low_periods { low.now.periods ≡ periods }
+    requires high_periods { high.now.periods ≡ periods }
+    ensures { OnOk result (ranges.new.items ≡ ranges.old.items ++ row_list (table_of low.now) (table_of high.now) item periods) }
 {
-    if setups {
-        1
-    } else {
-        instance.largest_total(item)
-    }
-}
-
-// Adds so many ranges from 0 to a number.
-fn push_same(ranges: &mut Vec<Range>, count: u32, most: u64) -> Result<(), AllocError>
-    ensures { OnOk result (ranges.new.items ≡ ranges.old.items ++ replicate count (up_to most)) }
-{
-    for period in 0..count {
-        ranges.push(Range { low: 0, high: most })?;
+    for period in 0..periods {
+        let least = low.get(item, period + 1);
+        let most = high.get(item, period + 1);
+        ranges.push(Range {
+            low: least,
+            high: most,
+        })?;
     }
     Ok(())
 }
 
-// Adds a range from 0 for each period of each item.
-fn push_ranges(instance: &Instance, setups: bool, ranges: &mut Vec<Range>) -> Result<(), AllocError>
-    ensures { OnOk result (WithTotals instance.now (λ total. ranges.new.items ≡ ranges.old.items ++ item_ranges (item_count instance.now) instance.now.periods (most_in setups total))) }
+// Adds the range of each period of each item.
+fn push_grids(
+    instance: &Instance,
+    ranges: &mut Vec<Range>,
+    low: &Grid,
+    high: &Grid,
+) -> Result<(), AllocError>
+    requires low { Fits instance.now low.now }
+    requires high { Fits instance.now high.now }
+    ensures { OnOk result (ranges.new.items ≡ ranges.old.items ++ grid_list (table_of low.now) (table_of high.now) (item_count instance.now) instance.now.periods) }
 {
     let periods = instance.periods();
     for item in 1..instance.items() + 1 {
-        let most = most_of(instance, setups, item);
-        push_same(ranges, periods, most)?;
+        push_row(ranges, low, high, item, periods)?;
     }
     Ok(())
 }
 
-/// The whole ranges: of each quantity from 0 to its item's largest total, and then of each setup from 0 to 1, item by
-/// item.
-pub(crate) fn whole(alloc: Global, instance: &Instance) -> Result<Vec<Range>, AllocError>
-    ensures { IfOk result (λ ranges. WithTotals instance.now (λ total. ranges.items ≡ whole_ranges (item_count instance.now) instance.now.periods total)) }
+/// The ranges in one list: those of all quantities and then those of all setups, item by item.
+pub(crate) fn listed(
+    alloc: Global,
+    instance: &Instance,
+    ranges: &Ranges,
+) -> Result<Vec<Range>, AllocError>
+    requires given { AreGiven instance.now ranges.now }
+    ensures node { IfOk result (λ list. IsNodeOf instance.now (given_ranges ranges.now) list.items []) }
+    ensures ordered { IfOk result (λ list. AreOrdered list.items) }
+    ensures listed { IfOk result (λ list. AreListed instance.now (given_ranges ranges.now) list.items) }
 {
-    let mut ranges = Vec::new(alloc);
-    push_ranges(instance, false, &mut ranges)?;
-    push_ranges(instance, true, &mut ranges)?;
-    Ok(ranges)
+    whole_is_measured();
+    let mut list = Vec::new(alloc);
+    push_grids(instance, &mut list, &ranges.low, &ranges.high)?;
+    push_grids(instance, &mut list, &ranges.setup_low, &ranges.setup_high)?;
+    Ok(list)
 }
 
 // Puts the least numbers of the ranges of an item, from this place on, in its row.

@@ -2,20 +2,23 @@
 ghost use Rattle.std.specs.Prelude.{◌≡◌, false, IfOk, OnOk, length};
 ghost use Rattle.branch_and_bound.specs.Costs.{IsBelow};
 ghost use Rattle.branch_and_bound.specs.Ranges.{IsPoint};
+ghost use Rattle.lot_sizing.specs.Least.{HasChoice};
+ghost use Rattle.plan_rules.specs.Held.{plan_of};
 ghost use Rattle.plan_rules.specs.Rows.{IfFound, IfNoneFound};
 ghost use Rattle.first_plans.specs.Made.{IsMade};
-ghost use Rattle.branch_and_cut.specs.Knowing.{IsAfter, IsKeptIn, IsKnown, IsNoWorse, cost_kept};
+ghost use Rattle.branch_and_cut.specs.Knowing.{IsAfter, IsKeptIn, IsKnown, IsNoWorse, IsNodeIn, cost_kept};
 ghost use Rattle.acceptance.specs.Says.{HasNone, IsLeastCost};
-ghost use Rattle.branch_and_cut.specs.Nodes.{IsNodeOf, choice_count, least_make, least_setup};
+ghost use Rattle.branch_and_cut.specs.Nodes.{choice_count, least_make, least_setup};
 
 use crate::guiding::Model;
-use crate::knowing::{Known, best_cost, keep_better};
+use crate::knowing::{Known, best_cost, keep_within};
 use crate::places::least_grid;
 use branch_and_bound::{Node, Proposal, Range};
 use cert_lines::Leaf;
 use first_plans::built_plan;
 use lot_model::Instance;
 use plan_rules::{Planned, complete_at_cost};
+use split_trees::ranges_are_left;
 use std::alloc::{AllocError, Global};
 
 // A cheapest plan that has the least numbers of the ranges, if there is one.
@@ -26,6 +29,7 @@ fn plan_at(
 ) -> Result<Option<Planned>, AllocError>
     requires { length ranges.now ≡ choice_count instance.now }
     ensures made { IfFound result (IsMade instance.now) }
+    ensures choice { IfFound result (λ made. HasChoice instance.now (least_make instance.now ranges.now) (least_setup instance.now ranges.now) (plan_of made.plan)) }
     ensures least { IfFound result (λ made. IsLeastCost instance.now (least_make instance.now ranges.now) (least_setup instance.now ranges.now) made.cost) }
     ensures none { IfNoneFound result (HasNone instance.now (least_make instance.now ranges.now) (least_setup instance.now ranges.now)) }
 {
@@ -43,7 +47,7 @@ pub(crate) fn at_point(
     node: &Node,
     known: &mut Known,
 ) -> Result<Proposal, AllocError>
-    requires node { IsNodeOf model.now.instance.now node.now.ranges.items node.now.path.items }
+    requires node { IsNodeIn model.now node.now.ranges.items node.now.path.items }
     requires point { IsPoint node.now.ranges.items }
     requires known { IsKnown model.now known.old }
     ensures known { OnOk result (IsKnown model.now known.new) }
@@ -53,9 +57,11 @@ pub(crate) fn at_point(
     ensures asked { IfOk result (λ p. p.asked ≡ false) }
     ensures closed { IfOk result (λ p. IsBelow p.says (cost_kept known.new.best) → ⊥) }
 {
+    // A plan that has the numbers of a node lies within the ranges of its path.
+    ranges_are_left();
     let found = plan_at(alloc, model.instance, &node.ranges)?;
     let says = best_cost(&found);
-    keep_better(&mut known.best, found);
+    keep_within(model.instance, model.ranges, &mut known.best, found);
     Ok(Proposal {
         leaf: Leaf::Point,
         says,
@@ -64,15 +70,15 @@ pub(crate) fn at_point(
     })
 }
 
-/// Keeps the plan that is built backward with the setups of a node whose setups are all chosen, where it is better than
-/// the best so far.
+/// Keeps the plan that is built backward with the setups of a node whose setups are all chosen, where it lies within the
+/// ranges and is better than the best so far.
 pub(crate) fn keep_built(
     alloc: Global,
     model: &Model,
     node: &Node,
     known: &mut Known,
 ) -> Result<(), AllocError>
-    requires node { IsNodeOf model.now.instance.now node.now.ranges.items node.now.path.items }
+    requires node { IsNodeIn model.now node.now.ranges.items node.now.path.items }
     requires known { IsKnown model.now known.old }
     ensures known { OnOk result (IsKnown model.now known.new) }
     ensures rows { OnOk result (known.new.rows ≡ known.old.rows) }
@@ -81,6 +87,6 @@ pub(crate) fn keep_built(
     let cells = model.instance.items() as usize * model.instance.periods() as usize;
     let setup = least_grid(alloc, model.instance, &node.ranges, cells)?;
     let built = built_plan(alloc, model.instance, &setup)?;
-    keep_better(&mut known.best, built);
+    keep_within(model.instance, model.ranges, &mut known.best, built);
     Ok(())
 }

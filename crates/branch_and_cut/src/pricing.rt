@@ -6,12 +6,11 @@ ghost use Rattle.cert_lines.specs.Line.{HasLine};
 ghost use Rattle.cert_lines.specs.Shapes.{PartLine, leaf_parts, leaf_shape};
 ghost use Rattle.leaf_growth.specs.Growth.{IsOfRows};
 ghost use Rattle.plan_rules.specs.Rows.{IfFound};
-ghost use Rattle.first_plans.specs.Made.{IsMade};
 ghost use Rattle.priced_leaves.specs.Proposals.{IsProposal};
 ghost use Rattle.branch_and_bound.specs.Costs.{IsAtMost};
 ghost use Rattle.branch_and_cut.specs.Adding.{IsJudged};
-ghost use Rattle.branch_and_cut.specs.Knowing.{IsAfter, IsKnown, IsLastingIn, IsNoWorse};
-ghost use Rattle.branch_and_cut.specs.Nodes.{IsNodeOf};
+ghost use Rattle.branch_and_cut.specs.Knowing.{IsAfter, IsKnown, IsLastingIn, IsNoWorse, IsNodeIn, ranges_in};
+ghost use Rattle.branch_and_cut.specs.Within.{HaveShape, IsMadeWithin};
 
 use crate::adding::add_cuts;
 use crate::choosing::{Choice, choice_for};
@@ -107,8 +106,9 @@ fn improve(
     memory: &mut Memory,
     best: &mut Option<Planned>,
 ) -> Result<Reached, AllocError>
-    requires made { IfSome best.old (IsMade model.now.instance.now) }
-    ensures made { OnOk result (IfSome best.new (IsMade model.now.instance.now)) }
+    requires shape { HaveShape model.now.instance.now model.now.ranges.now }
+    requires made { IfSome best.old (IsMadeWithin model.now.instance.now (ranges_in model.now)) }
+    ensures made { OnOk result (IfSome best.new (IsMadeWithin model.now.instance.now (ranges_in model.now))) }
     ensures kept { OnOk result (IsNoWorse best.new best.old) }
 {
     let instance = model.instance;
@@ -121,7 +121,7 @@ fn improve(
             Reached::Open => {}
             _ => return Ok(reached),
         }
-        try_average(alloc, instance, rounds.average(), memory, best)?;
+        try_average(alloc, model, rounds.average(), memory, best)?;
     }
     Ok(Reached::Open)
 }
@@ -166,7 +166,7 @@ fn judged_with(
     cuts: Vec<Cut>,
     leaf: Leaf,
 ) -> Result<Option<Proposal>, AllocError>
-    requires node { IsNodeOf model.now.instance.now node.now.ranges.items node.now.path.items }
+    requires node { IsNodeIn model.now node.now.ranges.items node.now.path.items }
     requires known { IsKnown model.now known.old }
     requires parts { All (λ part. HasLine 1 (PartLine part)) (leaf_parts (leaf_shape leaf)) }
     requires kind { IsOfRows (leaf_shape leaf) }
@@ -190,7 +190,7 @@ fn judged_priced(
     priced: Priced,
     refuted: bool,
 ) -> Result<Option<Proposal>, AllocError>
-    requires node { IsNodeOf model.now.instance.now node.now.ranges.items node.now.path.items }
+    requires node { IsNodeIn model.now node.now.ranges.items node.now.path.items }
     requires known { IsKnown model.now known.old }
     requires priced { IsProposal model.now.instance.now priced }
     ensures known { OnOk result (IsKnown model.now known.new) }
@@ -237,7 +237,7 @@ fn leaf_of(
     fixed: &Fixed,
     says: Option<u128>,
 ) -> Result<Option<Proposal>, AllocError>
-    requires node { IsNodeOf model.now.instance.now node.now.ranges.items node.now.path.items }
+    requires node { IsNodeIn model.now node.now.ranges.items node.now.path.items }
     requires known { IsKnown model.now known.old }
     ensures known { OnOk result (IsKnown model.now known.new) }
     ensures after { OnOk result (IsAfter known.old known.new) }
@@ -349,7 +349,7 @@ fn priced_or(
     proposal: Proposal,
     known: &mut Known,
 ) -> Result<Proposal, AllocError>
-    requires node { IsNodeOf model.now.instance.now node.now.ranges.items node.now.path.items }
+    requires node { IsNodeIn model.now node.now.ranges.items node.now.path.items }
     requires known { IsKnown model.now known.old }
     requires lasting { IsLastingIn model.now known.old node.now.path.items proposal }
     requires asked { proposal.asked ≡ false }
@@ -379,7 +379,7 @@ pub(crate) fn priced(
     proposal: Proposal,
     known: &mut Known,
 ) -> Result<Proposal, AllocError>
-    requires node { IsNodeOf model.now.instance.now node.now.ranges.items node.now.path.items }
+    requires node { IsNodeIn model.now node.now.ranges.items node.now.path.items }
     requires known { IsKnown model.now known.old }
     requires lasting { IsLastingIn model.now known.old node.now.path.items proposal }
     requires asked { proposal.asked ≡ false }

@@ -4,17 +4,21 @@ ghost use Rattle.lot_sizing.specs.Problem.{IsUncoupled};
 ghost use Rattle.branching.specs.Found.{IsProved};
 ghost use Rattle.branching.specs.declared.found.RootSays.TheVariants.{Empty, Uncoupled};
 ghost use Rattle.leaf_growth.specs.Written.{HasVersion};
-ghost use Rattle.branch_and_cut.specs.Answer.{IsAnswer, IsRootOf};
+ghost use Rattle.branch_and_cut.specs.Answer.{IsAnswer, IsAnswerWithin, IsRootOf};
 ghost use Rattle.branch_and_cut.specs.Beginning.{AreApart};
 ghost use Rattle.branch_and_cut.specs.Search.{DecidesSmall, GoesTogether, HasEvidence, IfBound, IsGoodPlan, IsNoLessThanApart, IsSaidAtRoot, IsUndecided, IsVersionOf, KeepsFirst, KeepsOwn, UsesRoot, WithRows};
+ghost use Rattle.branch_and_cut.specs.SearchWithin.{HasEvidenceWithin, IsGoodWithin, IsProvedWithin, IsUndecidedWithin};
+ghost use Rattle.branch_and_cut.specs.Within.{AreGiven, IsWhole, given_ranges};
 
 use crate::beginning::begin;
 use crate::finishing::finish;
 use crate::guiding::Model;
 use crate::impossible::none_found;
 use crate::knowing::{Known, best_to_begin};
-use crate::places::whole;
+use crate::places::listed;
 use crate::remembering::Memory;
+use crate::whole::{lie_in_whole, whole_is_proved};
+use crate::within::{Ranges, lies_within};
 use apart::{Apart, apart, apart_is_one};
 use branch_and_bound as engine;
 use branching::{Found, RootSays, plan_uncoupled};
@@ -44,47 +48,31 @@ fn version_of(instance: &Instance) -> u32
     if is_plain(instance) { 1 } else { 2 }
 }
 
-// What is found of a model without coupling.
-fn alone(
-    alloc: Global,
-    instance: &Instance,
-    budget: u64,
-    first: Option<Plan>,
-    said: Root,
-    apart: Apart,
-) -> Result<Found, AllocError>
-    requires budget { 1 ≤ budget }
-    requires first { IfSome first (IsGoodPlan instance.now) }
-    requires said { IsRootOf instance.now said }
-    requires uncoupled { said.says ≡ Uncoupled }
-    requires apart { AreApart instance.now apart }
-    ensures { IfOk result (IsAnswer instance.now budget first) }
-{
-    apart_is_one();
-    plan_uncoupled(alloc, instance)
-}
-
-// What a search over the whole ranges finds.
+// What a search within the ranges finds.
 fn searched(
     alloc: Global,
     instance: &Instance,
+    ranges: &Ranges,
     budget: u64,
     first: Option<Plan>,
     said: Root,
     apart: Apart,
 ) -> Result<Found, AllocError>
     requires budget { 1 ≤ budget }
-    requires first { IfSome first (IsGoodPlan instance.now) }
+    requires given { AreGiven instance.now ranges.now }
+    requires first { IfSome first (IsGoodWithin instance.now (given_ranges ranges.now)) }
     requires said { IsRootOf instance.now said }
-    requires coupled { said.says ≡ Uncoupled → ⊥ }
+    requires coupled { IsWhole instance.now (given_ranges ranges.now) → said.says ≡ Uncoupled → ⊥ }
     requires some { said.says ≡ Empty → ⊥ }
     requires apart { AreApart instance.now apart }
-    ensures { IfOk result (IsAnswer instance.now budget first) }
+    ensures { IfOk result (IsAnswerWithin instance.now (given_ranges ranges.now) budget first) }
 {
     apart_is_one();
+    lie_in_whole(instance);
+    whole_is_proved(instance);
     let says = said.says;
     let version = version_of(instance);
-    let best = best_to_begin(alloc, instance, first)?;
+    let best = best_to_begin(alloc, instance, ranges, first)?;
     let begun = begin(alloc, instance, said, apart)?;
     let explosion = Explosion::of(alloc, instance)?;
     let pricing = Pricing::new(alloc, instance, &explosion)?;
@@ -92,6 +80,7 @@ fn searched(
     let tries = tries_branches(instance, budget);
     let model = Model {
         instance,
+        ranges,
         explosion,
         pricing,
         tries,
@@ -107,46 +96,134 @@ fn searched(
         sums,
         memory: Memory::new(alloc),
     };
-    let ranges = whole(alloc, instance)?;
-    let found = engine::search(alloc, &model, ranges, &mut known, budget)?;
+    let list = listed(alloc, instance, ranges)?;
+    let found = engine::search(alloc, &model, list, &mut known, budget)?;
     finish(alloc, &model, known, found)
 }
 
-// What is found of a model whose relaxation has no point.
-fn impossible(instance: &Instance, budget: u64, first: Option<Plan>, said: Root) -> Found
-    requires budget { 1 ≤ budget }
-    requires first { IfSome first (IsGoodPlan instance.now) }
-    requires said { IsRootOf instance.now said }
-    requires none { said.says ≡ Empty }
-    ensures { IsAnswer instance.now budget first result }
-{
-    let version = version_of(instance);
-    none_found(instance, version, said)
-}
-
-// What is found, by what is said at the root.
-fn answer(
+// What is found of a model without coupling: its best plan, where that lies within the ranges; that there is none; and
+// otherwise what a search finds.
+fn alone(
     alloc: Global,
     instance: &Instance,
+    ranges: &Ranges,
     budget: u64,
     first: Option<Plan>,
     said: Root,
     apart: Apart,
 ) -> Result<Found, AllocError>
     requires budget { 1 ≤ budget }
-    requires first { IfSome first (IsGoodPlan instance.now) }
+    requires given { AreGiven instance.now ranges.now }
+    requires first { IfSome first (IsGoodWithin instance.now (given_ranges ranges.now)) }
+    requires said { IsRootOf instance.now said }
+    requires uncoupled { said.says ≡ Uncoupled }
+    requires apart { AreApart instance.now apart }
+    ensures { IfOk result (IsAnswerWithin instance.now (given_ranges ranges.now) budget first) }
+{
+    apart_is_one();
+    lie_in_whole(instance);
+    let found = plan_uncoupled(alloc, instance)?;
+    if lies_within(instance, ranges, &found.plan) {
+        return Ok(found);
+    }
+    searched(alloc, instance, ranges, budget, first, said, apart)
+}
+
+// What is found of a model whose relaxation has no point.
+fn impossible(
+    instance: &Instance,
+    ranges: &Ranges,
+    budget: u64,
+    first: Option<Plan>,
+    said: Root,
+) -> Found
+    requires budget { 1 ≤ budget }
+    requires given { AreGiven instance.now ranges.now }
+    requires first { IfSome first (IsGoodWithin instance.now (given_ranges ranges.now)) }
+    requires said { IsRootOf instance.now said }
+    requires none { said.says ≡ Empty }
+    ensures { IsAnswerWithin instance.now (given_ranges ranges.now) budget first result }
+{
+    whole_is_proved(instance);
+    let version = version_of(instance);
+    none_found(instance, ranges, version, said)
+}
+
+// What is found, by what is said at the root.
+fn answer(
+    alloc: Global,
+    instance: &Instance,
+    ranges: &Ranges,
+    budget: u64,
+    first: Option<Plan>,
+    said: Root,
+    apart: Apart,
+) -> Result<Found, AllocError>
+    requires budget { 1 ≤ budget }
+    requires given { AreGiven instance.now ranges.now }
+    requires first { IfSome first (IsGoodWithin instance.now (given_ranges ranges.now)) }
     requires said { IsRootOf instance.now said }
     requires apart { AreApart instance.now apart }
-    ensures { IfOk result (IsAnswer instance.now budget first) }
+    ensures { IfOk result (IsAnswerWithin instance.now (given_ranges ranges.now) budget first) }
 {
     match said.says {
-        RootSays::Uncoupled => alone(alloc, instance, budget, first, said, apart),
-        RootSays::Empty => Ok(impossible(instance, budget, first, said)),
-        _ => searched(alloc, instance, budget, first, said, apart),
+        RootSays::Uncoupled => alone(alloc, instance, ranges, budget, first, said, apart),
+        RootSays::Empty => Ok(impossible(instance, ranges, budget, first, said)),
+        _ => searched(alloc, instance, ranges, budget, first, said, apart),
     }
 }
 
-/// Searches a best plan of a model, and proves what is found: the certificate is accepted with the plan.
+/// Searches a best plan of a model within ranges of its quantities and setups, and proves what is found of the plans that
+/// lie in them: the certificate is accepted over the ranges, with the plan.
+///
+/// `ranges` have the instance's shape, lie within `Ranges::all` and have no low number above its high number. `budget` is
+/// the most nodes that the certificate's tree may have, branches and leaves. `first` is a plan within the ranges to begin
+/// with: there is one in the answer then, which costs no more. A plan in the answer lies within the ranges.
+///
+/// | Claim | Where |
+/// |---|---|
+/// | `Optimal` | no plan within the ranges costs less than the plan, which costs this amount of money |
+/// | `Infeasible` | no plan within the ranges is feasible |
+/// | `Bound` | every plan within the ranges costs at least this amount, which is below the cost of the plan, if there is one. The cause is the budget, which two more nodes would pass, or the 2,000 branches that a path may have |
+///
+/// No amount is below what the items cost apart. A bound is said by some leaf; at each leaf that says it, some point of the
+/// relaxation without cuts on the path to it costs no more, or that relaxation wasn't found, for the exact cause that
+/// `path_relaxation` names, or the root's program was too large to be tried. The ranges are no bounds of the path: they
+/// tell in what a choice of quantities and setups may be looked for.
+///
+/// Over the whole ranges all holds that `search_all` promises (`whole`).
+///
+/// The error is that memory ran out. It takes memory for a tableau and for the tree with its leaves.
+pub fn search(
+    alloc: Global,
+    instance: &Instance,
+    ranges: Ranges,
+    budget: u64,
+    first: Option<Plan>,
+) -> Result<Found, AllocError>
+    requires budget { 1 ≤ budget }
+    requires ranges { AreGiven instance.now ranges }
+    requires first { IfSome first (IsGoodWithin instance.now (given_ranges ranges)) }
+    ensures proved { IfOk result (IsProvedWithin instance.now (given_ranges ranges)) }
+    ensures plan { IfOk result (λ found. IfSome found.plan (IsGoodWithin instance.now (given_ranges ranges))) }
+    ensures within { IfOk result (λ found. found.nodes ≤ budget) }
+    ensures kept { IfOk result (λ found. KeepsFirst instance.now first found.plan) }
+    ensures goes { IfOk result (λ found. GoesTogether instance.now found.certificate.claim found.plan) }
+    ensures cause { IfOk result (λ found. IfBound found.certificate.claim (λ amount. WithRows instance.now found (IsUndecidedWithin instance.now (given_ranges ranges) budget found))) }
+    ensures evidence { IfOk result (λ found. IfBound found.certificate.claim (λ amount. WithRows instance.now found (HasEvidenceWithin instance.now (given_ranges ranges) found amount))) }
+    ensures root { IfOk result (λ found. IsSaidAtRoot instance.now found.root) }
+    ensures uncoupled { IfOk result (λ found. found.root ≡ Uncoupled ↔ IsUncoupled instance.now) }
+    ensures apart { IfOk result (λ found. IsNoLessThanApart instance.now found.certificate.claim) }
+    ensures version { IfOk result (λ found. IsVersionOf instance.now found.certificate.version) }
+    ensures whole { IfOk result (λ found. IsWhole instance.now (given_ranges ranges) → IsAnswer instance.now budget first found) }
+{
+    let said = root(alloc, instance)?;
+    let apart = apart(alloc, instance)?;
+    let found = answer(alloc, instance, &ranges, budget, first, said, apart)?;
+    Ok(found)
+}
+
+/// Searches a best plan of a model, over all ranges, and proves what is found: the certificate is accepted with the plan.
 ///
 /// `budget` is the most nodes that the certificate's tree may have, branches and leaves. `first` is a plan to begin
 /// with: the plan in the answer, if there is one, costs no more than it, and no more than the own-period plan where that
@@ -166,7 +243,7 @@ fn answer(
 /// number of all choices of quantities and setups decides every model whose paths are short enough.
 ///
 /// The error is that memory ran out. It takes memory for a tableau and for the tree with its leaves.
-pub fn search(
+pub fn search_all(
     alloc: Global,
     instance: &Instance,
     budget: u64,
@@ -189,8 +266,7 @@ pub fn search(
     ensures complete { IfOk result (λ found. DecidesSmall instance.now budget found.certificate.claim) }
     ensures version { IfOk result (λ found. IsVersionOf instance.now found.certificate.version) }
 {
-    let said = root(alloc, instance)?;
-    let apart = apart(alloc, instance)?;
-    let found = answer(alloc, instance, budget, first, said, apart)?;
-    Ok(found)
+    lie_in_whole(instance);
+    let ranges = Ranges::all(alloc, instance)?;
+    search(alloc, instance, ranges, budget, first)
 }

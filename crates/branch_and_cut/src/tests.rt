@@ -1,6 +1,6 @@
 ghost use Rattle.std.specs.Prelude.{◌≤◌};
 
-use crate::{Found, RootSays, search};
+use crate::{Found, Ranges, RootSays, search, search_all};
 use cert_checker::check;
 use certificate::{Claim, is_writable};
 use lot_model::{Draft, DraftItem, DraftResource, DraftUse, Instance};
@@ -40,10 +40,8 @@ fn item(
     })
 }
 
-// What is found of one item on a resource of this capacity, once the checker accepts it.
-fn found(alloc: Global, demand: &[i64], capacity: i64, budget: u64) -> Result<Found, Fail>
-    requires { 1 ≤ budget }
-{
+// One item on a resource of this capacity.
+fn model(alloc: Global, demand: &[i64], capacity: i64) -> Result<Instance, Fail> {
     let mut times = Vec::new(alloc);
     times.resize(demand.len(), capacity)?;
     let resource = DraftResource {
@@ -62,8 +60,25 @@ fn found(alloc: Global, demand: &[i64], capacity: i64, budget: u64) -> Result<Fo
         resources: vec![in alloc; resource]?,
         items: vec![in alloc; item(alloc, demand, 10, 1, uses)?]?,
     };
-    let instance = Instance::from_draft(alloc, draft).ok().ok_or("refused")?;
-    let found = search(alloc, &instance, budget, None)?;
+    Ok(Instance::from_draft(alloc, draft).ok().ok_or("refused")?)
+}
+
+// One item without a resource.
+fn alone(alloc: Global, demand: &[i64]) -> Result<Instance, Fail> {
+    let draft = Draft {
+        periods: demand.len() as i64,
+        resources: Vec::new(alloc),
+        items: vec![in alloc; item(alloc, demand, 10, 1, Vec::new(alloc))?]?,
+    };
+    Ok(Instance::from_draft(alloc, draft).ok().ok_or("refused")?)
+}
+
+// What is found of one item on a resource of this capacity, once the checker accepts it.
+fn found(alloc: Global, demand: &[i64], capacity: i64, budget: u64) -> Result<Found, Fail>
+    requires { 1 ≤ budget }
+{
+    let instance = model(alloc, demand, capacity)?;
+    let found = search_all(alloc, &instance, budget, None)?;
     if check(alloc, &instance, &found.certificate, found.plan.as_ref()).is_err() {
         return Err("not accepted".into());
     }
@@ -98,14 +113,67 @@ fn that_there_is_no_plan_is_found(rt: HostRuntime) -> Result<(), Fail> {
 #[test]
 fn an_uncoupled_model_takes_one_node(rt: HostRuntime) -> Result<(), Fail> {
     let alloc = rt.alloc();
-    let draft = Draft {
-        periods: 2,
-        resources: Vec::new(alloc),
-        items: vec![in alloc; item(alloc, &[2, 8], 10, 1, Vec::new(alloc))?]?,
-    };
-    let instance = Instance::from_draft(alloc, draft).ok().ok_or("refused")?;
-    let found = search(alloc, &instance, 1, None)?;
+    let instance = alone(alloc, &[2, 8])?;
+    let found = search_all(alloc, &instance, 1, None)?;
     assert_eq!(rt; found.certificate.claim, Claim::Optimal(18));
     assert_eq!(rt; (found.root, found.nodes), (RootSays::Uncoupled, 1));
+    Ok(())
+}
+
+// What is found of an item in two periods, of which between so much and so much is made in the first one.
+fn between(alloc: Global, instance: &Instance, low: u64, high: u64) -> Result<Found, Fail> {
+    let mut ranges = Ranges::all(alloc, instance)?;
+    if (ranges.low.items(), ranges.low.periods()) != (1, 2)
+        || (ranges.high.items(), ranges.high.periods()) != (1, 2)
+    {
+        return Err("another instance".into());
+    }
+    ranges.low.set(1, 1, low);
+    ranges.high.set(1, 1, high);
+    if !ranges.are_of(instance) {
+        return Err("no ranges of the instance".into());
+    }
+    Ok(search(alloc, instance, ranges, 1_000, None)?)
+}
+
+// How much a plan makes in the first and the second of two periods.
+fn made(found: Found) -> Result<(u64, u64), Fail> {
+    let plan = found.plan.ok_or("no plan")?;
+    if (plan.make.items(), plan.make.periods()) != (1, 2) {
+        return Err("another instance".into());
+    }
+    Ok((plan.make.get(1, 1), plan.make.get(1, 2)))
+}
+
+// Both lots in one period cost 18. With at most 5 units in the first period two setups are needed, and to hold nothing is
+// best; with no more than 1 unit there nothing is feasible.
+#[test]
+fn a_best_plan_within_ranges_is_found(rt: HostRuntime) -> Result<(), Fail> {
+    let alloc = rt.alloc();
+    for instance in [model(alloc, &[2, 8], 11)?, alone(alloc, &[2, 8])?] {
+        let all = search_all(alloc, &instance, 1_000, None)?;
+        assert_eq!(rt; all.certificate.claim, Claim::Optimal(18));
+        assert_eq!(rt; made(all)?, (10, 0));
+        let whole = between(alloc, &instance, 0, 10)?;
+        assert_eq!(rt; whole.certificate.claim, Claim::Optimal(18));
+        let less = between(alloc, &instance, 0, 5)?;
+        assert_eq!(rt; less.certificate.claim, Claim::Optimal(20));
+        assert_eq!(rt; made(less)?, (2, 8));
+        let one = between(alloc, &instance, 5, 5)?;
+        assert_eq!(rt; one.certificate.claim, Claim::Optimal(23));
+        let none = between(alloc, &instance, 0, 1)?;
+        assert_eq!(rt; none.certificate.claim, Claim::Infeasible);
+        assert!(rt; none.plan.is_none());
+    }
+    Ok(())
+}
+
+#[test]
+fn ranges_of_another_shape_are_told(rt: HostRuntime) -> Result<(), Fail> {
+    let alloc = rt.alloc();
+    let longer = alone(alloc, &[2, 8, 1])?;
+    let ranges = Ranges::all(alloc, &alone(alloc, &[2, 8])?)?;
+    assert!(rt; !ranges.are_of(&longer));
+    assert!(rt; Ranges::all(alloc, &longer)?.are_of(&longer));
     Ok(())
 }

@@ -4,9 +4,11 @@ ghost use Rattle.lot_sizing.specs.Problem.{item_count};
 ghost use Rattle.plan_rules.specs.Cells.{Fits};
 ghost use Rattle.plan_rules.specs.Rows.{IfFound};
 ghost use Rattle.first_plans.specs.Made.{IsMade};
-ghost use Rattle.branch_and_cut.specs.Knowing.{IsNoWorse};
+ghost use Rattle.branch_and_cut.specs.Knowing.{IsNoWorse, ranges_in};
+ghost use Rattle.branch_and_cut.specs.Within.{HaveShape, IsMadeWithin};
 
-use crate::knowing::keep_better;
+use crate::guiding::Model;
+use crate::knowing::keep_within;
 use crate::remembering::Memory;
 use first_plans::{built_plan, improved};
 use lot_model::Instance;
@@ -140,25 +142,28 @@ fn built_near(
     }
 }
 
-// Builds a plan with the setups that are made more often than so much, where that wasn't tried, and keeps the better one.
+// Builds a plan with the setups that are made more often than so much, where that wasn't tried, and keeps the better one, if
+// it lies within the ranges.
 fn try_setups(
     alloc: Global,
-    instance: &Instance,
+    model: &Model,
     average: &Average,
     least: i128,
     memory: &mut Memory,
     best: &mut Option<Planned>,
 ) -> Result<(), AllocError>
-    requires made { IfSome best.old (IsMade instance.now) }
-    ensures made { OnOk result (IfSome best.new (IsMade instance.now)) }
+    requires shape { HaveShape model.now.instance.now model.now.ranges.now }
+    requires made { IfSome best.old (IsMadeWithin model.now.instance.now (ranges_in model.now)) }
+    ensures made { OnOk result (IfSome best.new (IsMadeWithin model.now.instance.now (ranges_in model.now))) }
     ensures kept { OnOk result (IsNoWorse best.new best.old) }
 {
+    let instance = model.instance;
     if !memory.is_new(mark_of(instance, average, least))? {
         return Ok(());
     }
     let wanted = wanted_of(alloc, instance, average, least)?;
     let found = built_near(alloc, instance, &wanted, memory, best)?;
-    keep_better(best, found);
+    keep_within(instance, model.ranges, best, found);
     Ok(())
 }
 
@@ -166,15 +171,16 @@ fn try_setups(
 /// best plan.
 pub(crate) fn try_average(
     alloc: Global,
-    instance: &Instance,
+    model: &Model,
     average: &Average,
     memory: &mut Memory,
     best: &mut Option<Planned>,
 ) -> Result<(), AllocError>
-    requires made { IfSome best.old (IsMade instance.now) }
-    ensures made { OnOk result (IfSome best.new (IsMade instance.now)) }
+    requires shape { HaveShape model.now.instance.now model.now.ranges.now }
+    requires made { IfSome best.old (IsMadeWithin model.now.instance.now (ranges_in model.now)) }
+    ensures made { OnOk result (IfSome best.new (IsMadeWithin model.now.instance.now (ranges_in model.now))) }
     ensures kept { OnOk result (IsNoWorse best.new best.old) }
 {
-    try_setups(alloc, instance, average, ONE / 2, memory, best)?;
-    try_setups(alloc, instance, average, ONE / 5, memory, best)
+    try_setups(alloc, model, average, ONE / 2, memory, best)?;
+    try_setups(alloc, model, average, ONE / 5, memory, best)
 }

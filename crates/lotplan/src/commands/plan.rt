@@ -12,7 +12,7 @@ ghost use Rattle.lotplan.specs.Saying.{IsSaid};
 use crate::model_file::{ReadAnswer, Stop, read_model};
 use crate::said::Said;
 use crate::status::Status;
-use branch_and_cut::search;
+use branch_and_cut::search_all;
 use branching::{Found, RootSays};
 use certificate::{Claim, write_certificate};
 use lot_io::{Shelf, write_file};
@@ -221,7 +221,7 @@ pub fn found_of(alloc: Global, instance: &Instance, budget: u64) -> Result<Found
     requires { 1 ≤ budget }
     ensures { IfOk result (IsFound instance.now budget) }
 {
-    search(alloc, instance, budget, None)
+    search_all(alloc, instance, budget, None)
 }
 
 // Plans an instance, and writes the plan that was found, where there is one, and the certificate of what is claimed.

@@ -2,6 +2,7 @@ use Rattle.std.proofs.Common.{inl, inr, refl, subst}
 use Rattle.cert_lines.specs.Shapes.{leaf_shape}
 use Rattle.path_relaxation.specs.Path.{IfAtLeast, IfExempt, IfNoPoint, IsExempt, IsMetAt, SaysAtLeast, SaysNone}
 use Rattle.branch_and_cut.proofs.Evidence.{asked_asked, asked_kept, asked_more, asked_told, none_kept, raised_asked, raised_kept, raised_more, raised_told}
+use Rattle.branch_and_cut.specs.Knowing.{ranges_in}
 use Rattle.branch_and_cut.proofs.asking.told.Goals as goal
 
 pub returns-in-AtLeast : goal.returns-in-AtLeast
@@ -15,7 +16,7 @@ returns-in-AtLeast c =
     let met : IsMetAt m path c.in-AtLeast.bound = subst (λ p. IsMetAt m p c.in-AtLeast.bound) c.deref.ensures.value (subst (IfAtLeast (λ _ bound. IsMetAt m way bound)) c.in-AtLeast.is c.in_ok-leaf.ensures.point) in
     let totals = c.periods-periods.ensures.instance.totals in
     record {
-      kept = λ least rows is. raised_kept m c.args.model.now.version least totals.0 rows c.args.node.now.ranges.items path c.args.proposal new c.in-AtLeast.leaf c.in-AtLeast.bound totals.1 c.requires.version says c.raised.ensures is;
+      kept = λ least rows is. raised_kept m (ranges_in c.args.model.now) c.args.model.now.version least totals.0 rows c.args.node.now.ranges.items path c.args.proposal new c.in-AtLeast.leaf c.in-AtLeast.bound totals.1 c.requires.version says c.raised.ensures is;
       told = raised_told m c.args.model.now.root path c.args.proposal new c.in-AtLeast.leaf c.in-AtLeast.bound met c.raised.ensures;
       asked = raised_asked c.args.proposal new c.in-AtLeast.leaf c.in-AtLeast.bound c.raised.ensures;
       more = raised_more c.args.proposal new c.in-AtLeast.leaf c.in-AtLeast.bound c.raised.ensures;
@@ -28,7 +29,7 @@ returns-in-NoPoint c =
     let shape = leaf_shape c.in-NoPoint.leaf in
     let says : SaysNone m path shape = subst (λ p. SaysNone m p shape) c.deref.ensures.value (subst (IfNoPoint (SaysNone m c.deref.result.now)) c.in-NoPoint.is c.in_ok-leaf.ensures.none) in
     record {
-      kept = λ least rows is. none_kept m c.args.model.now.version least rows c.args.node.now.ranges.items path _ c.in-NoPoint.leaf c.requires.version says refl refl;
+      kept = λ least rows is. none_kept m (ranges_in c.args.model.now) c.args.model.now.version least rows c.args.node.now.ranges.items path _ c.in-NoPoint.leaf c.requires.version says refl refl;
       told = λ short. tt;
       asked = refl;
       more = tt;
@@ -41,7 +42,7 @@ returns-in-Exempt c =
     let new = c.asked-in-Exempt.result in
     let cause : IsExempt m path c.in-Exempt.field-0 = subst (λ p. IsExempt m p c.in-Exempt.field-0) c.deref.ensures.value (subst (IfExempt (IsExempt m c.deref.result.now)) c.in-Exempt.is c.in_ok-leaf.ensures.exempt) in
     record {
-      kept = λ least rows is. asked_kept m c.args.model.now.version least rows c.args.node.now.ranges.items path c.args.proposal new c.asked-in-Exempt.ensures is;
+      kept = λ least rows is. asked_kept m (ranges_in c.args.model.now) c.args.model.now.version least rows c.args.node.now.ranges.items path c.args.proposal new c.asked-in-Exempt.ensures is;
       told = asked_told m c.args.model.now.root path c.args.proposal new c.asked-in-Exempt.ensures (λ amount. inr (inl (c.in-Exempt.field-0, cause)));
       asked = asked_asked c.args.proposal new c.asked-in-Exempt.ensures;
       more = asked_more c.args.proposal new c.asked-in-Exempt.ensures;

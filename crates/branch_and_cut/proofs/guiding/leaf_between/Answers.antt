@@ -1,3 +1,4 @@
+use Rattle.std.proofs.Common.{refl}
 use Rattle.branch_and_cut.proofs.Evidence.{anyway, at_most_on, ok_on}
 use Rattle.branch_and_cut.proofs.Points.{kept_from}
 use Rattle.branch_and_cut.specs.Knowing.{cost_kept}
@@ -14,3 +15,8 @@ returns-clause-kept c =
     let old = c.args.known.now.best in
     let new = c.keep_built.new.known.best in
     anyway c.told.result _ (at_most_on (cost_kept new) (cost_kept c.priced.new.known.best) (cost_kept old) c.in_ok-keep_built.ensures.kept c.in_ok-proposal.ensures.kept)
+
+pub returns-then-not-is_relaxed-clause-leaf : goal.returns-then-not-is_relaxed-clause-leaf
+returns-then-not-is_relaxed-clause-leaf c =
+    let node = c.args.node.now in
+    kept_from c.args.model.now c.priced.new.known c.priced.new.known node.ranges.items node.path.items c.in_ok-proposal.proposal refl c.in_ok-proposal.ensures.lasting

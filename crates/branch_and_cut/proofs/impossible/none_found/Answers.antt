@@ -1,6 +1,7 @@
 use Rattle.std.proofs.Common.{refl}
 use Rattle.branch_and_cut.proofs.Emptied.{none_proved}
 use Rattle.branch_and_cut.proofs.Proved.{Grounds}
+use Rattle.branch_and_cut.specs.Within.{given_ranges}
 use Rattle.branch_and_cut.proofs.impossible.none_found.Goals as goal
 
 pub returns-clause-proved : goal.returns-clause-proved
@@ -9,10 +10,9 @@ returns-clause-proved c =
     let by : Grounds m = record {
       instance = c.periods-periods.ensures.instance;
       totals_are_one = c.totals_are_one.ensures;
-      plans_are_within = c.plans_are_within.ensures;
-      accepted_is_true = c.accepted_is_true.ensures;
+      accepted_over_ranges = c.accepted_over_ranges.ensures;
       made_is_writable = c.made_is_writable.ensures.shapes;
       few_lines = c.few_lines.ensures;
       figures = c.requires.root.figures;
     } in
-    none_proved m c.args.version c.args.root c.tree_of-tree.result _ by c.requires.root c.requires.none c.requires.version c.tree_of-tree.ensures refl refl refl
+    none_proved m (given_ranges c.args.ranges.now) c.args.version c.args.root c.tree_of-tree.result _ by c.requires.inside c.requires.root c.requires.none c.requires.version c.tree_of-tree.ensures refl refl refl

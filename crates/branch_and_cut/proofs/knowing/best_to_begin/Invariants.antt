@@ -5,14 +5,15 @@ use Rattle.lot_sizing.specs.Plan as terms
 use Rattle.first_plans.specs.Made.{IsMade, IsOwnMade}
 use Rattle.first_plans.specs.OwnPeriod.{IsOwnPeriod}
 use Rattle.branch_and_cut.specs.Knowing.{CostsNoMore, KeepsGiven}
+use Rattle.branch_and_cut.specs.Within.{AllLieWithin, IsMadeWithin, given_ranges}
 use Rattle.branch_and_cut.proofs.knowing.best_to_begin.Given as goal
 
 abbrev pub invariant-loop-made : goal.invariant-loop-made
 invariant-loop-made l = record {
-  made : IfSome l.best (IsMade l.instance);
+  made : IfSome l.best (IsMadeWithin l.instance (given_ranges l.ranges));
   kept : KeepsGiven l.instance l.fn.first l.best;
   each : All (IsMade l.instance) l.list.items;
-  own : (q : terms.Plan) → IsOwnPeriod l.instance q → terms.IsFeasible l.instance q → CostsNoMore l.best (terms.cost l.instance q) ⊎ Any (IsOwnMade l.instance q) l.list.items;
+  own : AllLieWithin l.instance (given_ranges l.ranges) → (q : terms.Plan) → IsOwnPeriod l.instance q → terms.IsFeasible l.instance q → CostsNoMore l.best (terms.cost l.instance q) ⊎ Any (IsOwnMade l.instance q) l.list.items;
 }
 
 abbrev pub decreases-loop-made : goal.decreases-loop-made

@@ -1,40 +1,23 @@
-use Rattle.std.proofs.Common.{refl, subst, sym}
-use Rattle.lot_sizing.specs.Problem.{item_count}
-use Rattle.branch_and_bound.specs.Ranges.{AreOrdered}
+use Rattle.std.proofs.Common.{refl}
 use Rattle.branch_and_cut.specs.declared.guiding.Model.{Model}
 use Rattle.branch_and_cut.specs.Finishing.{IsSearched}
 use Rattle.branch_and_cut.proofs.Answering.{ended_on, searched_ok}
-use Rattle.branch_and_cut.proofs.Filled.{ordered_whole, whole_node}
 use Rattle.branch_and_cut.proofs.searching.searched.Goals as goal
-
-pub search-requires-clause-ordered : goal.search-requires-clause-ordered
-search-requires-clause-ordered c =
-    let m = c.args.instance.now in
-    let (total, weight, totals, weights) = c.requires.said.figures in
-    subst AreOrdered (sym (c.in_ok-ranges.ensures total totals)) (ordered_whole (item_count m) m.periods total)
-
-pub search-requires-clause-node : goal.search-requires-clause-node
-search-requires-clause-node c =
-    let m = c.args.instance.now in
-    let (total, weight, totals, weights) = c.requires.said.figures in
-    whole_node m c.in_ok-ranges.ranges.items c.in_ok-ranges.ensures total totals
 
 pub search-requires-clause-state : goal.search-requires-clause-state
 search-requires-clause-state c =
     let begins = c.in_ok-begun.ensures.begins c.version_of-version.result c.version_of-version.ensures.known in
-    record { begun = begins.begun; cuts = begins.cuts; best = c.in_ok-best.ensures.made; sums = c.in_ok-sums.ensures; explosion = c.in_ok-explosion.ensures }
+    record { given = c.requires.given; begun = begins.begun; cuts = begins.cuts; best = c.in_ok-best.ensures.made; sums = c.in_ok-sums.ensures; explosion = c.in_ok-explosion.ensures }
 
 pub finish-requires-clause-searched : goal.finish-requires-clause-searched
 finish-requires-clause-searched c =
-    let m = c.args.instance.now in
-    let (total, weight, totals, weights) = c.requires.said.figures in
     let found = c.in_ok-found.ensures in (
       c.args.budget,
-      c.in_ok-ranges.ranges.items,
+      c.in_ok-list.list.items,
       record {
         known = found.state;
-        whole = c.in_ok-ranges.ensures;
-        node = whole_node m c.in_ok-ranges.ranges.items c.in_ok-ranges.ensures total totals;
+        listed = c.in_ok-list.ensures.listed;
+        node = c.in_ok-list.ensures.node;
         nodes = found.nodes;
         within = found.within;
         short = found.short;
@@ -49,9 +32,9 @@ finish-requires-clause-searched c =
 
 pub returns : goal.returns
 returns c =
-    let m = c.args.instance.now in
     let g : Model = record {
       instance = c.args.instance;
+      ranges = c.args.ranges;
       explosion = c.in_ok-explosion.explosion;
       pricing = c.in_ok-pricing.pricing;
       tries = c.tries_branches-tries.result;
@@ -61,13 +44,12 @@ returns c =
       first = c.in_ok-begun.begun.first;
     } in
     let k = c.search.new.state in
-    let rs = c.in_ok-ranges.ranges.items in
+    let rs = c.in_ok-list.list.items in
     let found = c.in_ok-found.ensures in
-    let (total, weight, totals, weights) = c.requires.said.figures in
     let is : IsSearched g k c.args.budget rs c.in_ok-found.found = record {
       known = found.state;
-      whole = c.in_ok-ranges.ensures;
-      node = whole_node m rs c.in_ok-ranges.ensures total totals;
+      listed = c.in_ok-list.ensures.listed;
+      node = c.in_ok-list.ensures.node;
       nodes = found.nodes;
       within = found.within;
       short = found.short;
@@ -78,7 +60,7 @@ returns c =
       cause = found.cause;
       decided = found.decided;
     } in
-    searched_ok m c.args.budget c.version_of-version.result c.args.first c.finish.result c.args.said c.args.apart g k c.in_ok-best.best refl refl refl c.requires.said c.requires.coupled c.requires.some c.requires.apart c.apart_is_one.ensures
+    searched_ok g k c.args.budget c.version_of-version.result c.args.first c.finish.result c.args.said c.args.apart c.in_ok-best.best refl refl c.requires.said c.requires.coupled c.requires.some c.requires.apart c.apart_is_one.ensures c.lie_in_whole.ensures c.whole_is_proved.ensures
     c.finish.ensures.proved
     (ended_on g k c.args.budget rs c.in_ok-found.found c.finish.result is c.finish.ensures.shown)
     c.finish.ensures.plan c.finish.ensures.root c.finish.ensures.version c.version_of-version.ensures.version c.in_ok-begun.ensures.apart c.in_ok-begun.ensures.closed found.state.best found.kept c.in_ok-best.ensures.kept c.in_ok-best.ensures.own
