@@ -13,6 +13,9 @@ use lot_model::Instance;
 use plan_rules::{Grid, Planned, complete_at_cost};
 use std::alloc::{AllocError, Global};
 
+// How many periods late demand is met, where it may be and none is met in time.
+const LATENESS: [u32; 6] = [1, 2, 4, 8, 16, 32];
+
 // The time that the units take on a resource which are left to the periods before this one.
 fn work_before(instance: &Instance, built: &Construction, resource: u32, period: u32) -> u128
     requires shape { HasShape instance.now built.now }
@@ -151,11 +154,12 @@ fn build(
     instance: &Instance,
     wanted: &Grid,
     careful: bool,
+    late: u32,
 ) -> Result<Construction, AllocError>
     requires wanted { Fits instance.now wanted.now }
     ensures { IfOk result (HasShape instance.now) }
 {
-    let mut built = begin(alloc, instance)?;
+    let mut built = begin(alloc, instance, late)?;
     for back in 0..instance.periods() {
         let period = instance.periods() - back;
         build_period(instance, wanted, &mut built, period, careful);
@@ -169,18 +173,65 @@ fn built_so(
     instance: &Instance,
     wanted: &Grid,
     careful: bool,
+    late: u32,
 ) -> Result<Option<Planned>, AllocError>
     requires wanted { Fits instance.now wanted.now }
     ensures plan { IfFound result (IsMade instance.now) }
 {
-    let Construction { make, setup, .. } = build(alloc, instance, wanted, careful)?;
+    let Construction { make, setup, .. } = build(alloc, instance, wanted, careful, late)?;
     complete_at_cost(alloc, instance, make, setup)
+}
+
+// The plan that is built with demand so many periods late, where that may be, or as if all setups were wanted before.
+fn built_after(
+    alloc: Global,
+    instance: &Instance,
+    wanted: &Grid,
+    late: u32,
+) -> Result<Option<Planned>, AllocError>
+    requires wanted { Fits instance.now wanted.now }
+    ensures plan { IfFound result (IsMade instance.now) }
+{
+    match built_so(alloc, instance, wanted, false, late)? {
+        Some(planned) => Ok(Some(planned)),
+        None => built_so(alloc, instance, wanted, true, late),
+    }
+}
+
+// Whether some demand may be late.
+fn may_be_late(instance: &Instance) -> bool {
+    for item in 1..instance.items() + 1 {
+        if instance.has_backlog_cost(item) {
+            return true;
+        }
+    }
+    false
+}
+
+// The plan that is built with demand late by one period, two, four or more, whichever comes to one first.
+fn built_late(
+    alloc: Global,
+    instance: &Instance,
+    wanted: &Grid,
+) -> Result<Option<Planned>, AllocError>
+    requires wanted { Fits instance.now wanted.now }
+    ensures plan { IfFound result (IsMade instance.now) }
+{
+    for late in LATENESS {
+        if late < instance.periods() {
+            if let Some(planned) = built_after(alloc, instance, wanted, late)? {
+                return Ok(Some(planned));
+            }
+        }
+    }
+    Ok(None)
 }
 
 /// A feasible plan with its cost, made backward by periods, parents before their components: an item is made
 /// where a setup is wanted (1 in the grid), and earlier where a resource has no time left. Where the time before a
 /// period isn't enough for what is left and the setups that are wanted there, all items are made in it. If that comes to no
-/// feasible plan, it is done once more as if all setups were wanted before. None where that comes to none either.
+/// feasible plan, it is done once more as if all setups were wanted before. Where that comes to none either and demand may
+/// be late, all that may be is met late, by one period, two, four and so on. None where nothing comes to a plan.
 ///
 /// It takes memory for five grids, and time in the number of resources times that of items and the square of that of
 /// periods. The error is that memory ran out.
@@ -192,8 +243,9 @@ pub fn built_plan(
     requires wanted { Fits instance.now wanted.now }
     ensures plan { IfFound result (IsMade instance.now) }
 {
-    match built_so(alloc, instance, wanted, false)? {
+    match built_after(alloc, instance, wanted, 0)? {
         Some(planned) => Ok(Some(planned)),
-        None => built_so(alloc, instance, wanted, true),
+        None if may_be_late(instance) => built_late(alloc, instance, wanted),
+        None => Ok(None),
     }
 }

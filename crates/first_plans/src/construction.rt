@@ -24,6 +24,8 @@ pub struct Construction {
     pub carried: Vec<u64>,
     /// The most that may be made in the period at hand.
     pub limit: Vec<u64>,
+    /// So many periods late is the demand that may be late.
+    pub late: u32,
 }
 
 // All units of an item that a grid has, or the most that the type holds.
@@ -51,8 +53,9 @@ fn row_totals(alloc: Global, instance: &Instance, grid: &Grid) -> Result<Vec<u64
     Ok(totals)
 }
 
-/// Nothing is built yet. Of each item as much is to be made as in the own-period plan.
-pub fn begin(alloc: Global, instance: &Instance) -> Result<Construction, AllocError>
+/// Nothing is built yet. Of each item as much is to be made as in the own-period plan, and demand that may be late is met so
+/// many periods late.
+pub fn begin(alloc: Global, instance: &Instance, late: u32) -> Result<Construction, AllocError>
     ensures { IfOk result (HasShape instance.now) }
 {
     let mut make = Grid::filled(alloc, instance.items(), instance.periods(), 0)?;
@@ -69,6 +72,7 @@ pub fn begin(alloc: Global, instance: &Instance) -> Result<Construction, AllocEr
         left,
         carried,
         limit,
+        late,
     })
 }
 

@@ -146,6 +146,28 @@ fn sweeps(alloc: Global, instance: &Instance, state: &mut Improving) -> Result<(
     Ok(())
 }
 
+/// The best plan that is found from this one by changes of its setups, and how many plans may still be built.
+pub fn improved_so(
+    alloc: Global,
+    instance: &Instance,
+    planned: Planned,
+    tries: u32,
+) -> Result<Improving, AllocError>
+    requires made { IsMade instance.now planned }
+    ensures state { IfOk result (IsImproving instance.now) }
+    ensures cheap { IfOk result (λ found. found.best.cost ≤ planned.cost) }
+{
+    let mut wanted = Grid::filled(alloc, instance.items(), instance.periods(), 0)?;
+    copy(instance, &planned.plan.setup, &mut wanted);
+    let mut state = Improving {
+        wanted,
+        best: planned,
+        tries,
+    };
+    sweeps(alloc, instance, &mut state)?;
+    Ok(state)
+}
+
 /// A feasible plan that costs no more than this one: setups are put in, left out and moved to the periods
 /// beside theirs, one after the other, alone or with those of all components, the plan is built anew, and what
 /// is cheaper is kept. It ends when no such change is cheaper, or so many plans have been built.
@@ -162,14 +184,6 @@ pub fn improved(
     ensures made { IfOk result (IsMade instance.now) }
     ensures cheap { IfOk result (λ found. found.cost ≤ planned.cost) }
 {
-    let mut wanted = Grid::filled(alloc, instance.items(), instance.periods(), 0)?;
-    copy(instance, &planned.plan.setup, &mut wanted);
-    let mut state = Improving {
-        wanted,
-        best: planned,
-        tries,
-    };
-    sweeps(alloc, instance, &mut state)?;
-    let Improving { best, .. } = state;
+    let Improving { best, .. } = improved_so(alloc, instance, planned, tries)?;
     Ok(best)
 }

@@ -13,7 +13,9 @@
 #![tactic(auto)]
 
 mod building;
+mod by_families;
 mod construction;
+mod families;
 mod improving;
 mod laws;
 mod listing;

@@ -5,15 +5,21 @@ ghost use Rattle.plan_rules.specs.Rows.{IfFound};
 ghost use Rattle.first_plans.specs.Made.{HasOwn, IsEmptyUnlessPlain, IsMade, IsLonger, those};
 
 use crate::building::built_plan;
+use crate::by_families::improved_by_families;
 use crate::improving::improved;
 use crate::own_period::own_period_plan;
-use crate::patterns::wanted_apart;
+use crate::patterns::{wanted_apart, wanted_spread};
 use lot_model::{Instance, is_plain};
 use plan_rules::{Grid, Planned};
 use std::alloc::{AllocError, Global};
 
 // What building plans may take to improve one: so many plans of a single item and period.
 const BUILDING_WORK: u32 = 4_000_000;
+
+// So many patterns of setups are those of items by themselves, and so many are there in all.
+const QUARTERS: u64 = 5;
+
+const PATTERNS: u64 = 8;
 
 // Puts a plan to a list, if there is one.
 fn keep(list: &mut Vec<Planned>, found: Option<Planned>) -> Result<(), AllocError>
@@ -42,19 +48,30 @@ fn keep_built(
     Ok(())
 }
 
-// The same with the setups that items want by themselves, with so many quarters of what their components cost in
-// stock taken off of what they cost there.
-fn keep_apart(
+// The setups of a pattern: those that items want by themselves, with so many quarters of what their components cost in stock
+// taken off of what they cost there; and then those of each second period, each third and each fourth.
+fn pattern_of(alloc: Global, instance: &Instance, pattern: u64) -> Result<Grid, AllocError>
+    ensures { IfOk result (Fits instance.now) }
+{
+    if pattern < QUARTERS {
+        wanted_apart(alloc, instance, pattern)
+    } else {
+        wanted_spread(alloc, instance, pattern - QUARTERS + 2)
+    }
+}
+
+// The same with the setups of a pattern.
+fn keep_pattern(
     alloc: Global,
     instance: &Instance,
-    quarters: u64,
+    pattern: u64,
     list: &mut Vec<Planned>,
 ) -> Result<(), AllocError>
     requires each { All (IsMade instance.now) list.old.items }
     ensures each { OnOk result (All (IsMade instance.now) list.new.items) }
     ensures longer { OnOk result (IsLonger list.old.items list.new.items) }
 {
-    let wanted = wanted_apart(alloc, instance, quarters)?;
+    let wanted = pattern_of(alloc, instance, pattern)?;
     keep_built(alloc, instance, &wanted, list)
 }
 
@@ -89,7 +106,8 @@ fn improved_from(
 {
     match built_plan(alloc, instance, wanted)? {
         Some(planned) => {
-            let better = improved(alloc, instance, planned, tries_for(instance))?;
+            let near = improved_by_families(alloc, instance, planned)?;
+            let better = improved(alloc, instance, near, tries_for(instance))?;
             Ok(Some(better))
         }
         None => Ok(None),
@@ -145,9 +163,9 @@ fn own_list(alloc: Global, instance: &Instance) -> Result<Vec<Planned>, AllocErr
 /// the cheapest costs no more than it; otherwise the list may be empty. It is empty where an item has a lead
 /// time, a least lot or a largest lot.
 ///
-/// The others are built backward by periods with six patterns of setups: everywhere, and where each item is
-/// served most cheaply by itself at five prices of stock; and the cheapest of these is improved. The error is
-/// that memory ran out.
+/// The others are built backward by periods with nine patterns of setups: everywhere, where each item is served most
+/// cheaply by itself at five prices of stock, and in each second, third and fourth period in turn; and the cheapest of
+/// these is improved, first by one family of items after the other. The error is that memory ran out.
 pub fn candidates(alloc: Global, instance: &Instance) -> Result<Vec<Planned>, AllocError>
     ensures each { IfOk result (λ list. All (IsMade instance.now) list.items) }
     ensures own { IfOk result (λ list. HasOwn instance.now list.items) }
@@ -158,8 +176,8 @@ pub fn candidates(alloc: Global, instance: &Instance) -> Result<Vec<Planned>, Al
     }
     let mut list = own_list(alloc, instance)?;
     keep_everywhere(alloc, instance, &mut list)?;
-    for quarters in 0..5 {
-        keep_apart(alloc, instance, quarters, &mut list)?;
+    for pattern in 0..PATTERNS {
+        keep_pattern(alloc, instance, pattern, &mut list)?;
     }
     keep_improved(alloc, instance, &mut list)?;
     Ok(list)

@@ -7,6 +7,42 @@ use crate::construction::Construction;
 use lot_model::Instance;
 use plan_rules::used_up;
 
+// The demand of an item from a period on.
+fn demand_from(instance: &Instance, item: u32, first: u32) -> u64
+    requires item_low { 1 ≤ item }
+    requires item_high { item ≤ item_count instance.now }
+    requires low { 1 ≤ first }
+{
+    let mut total = 0u64;
+    for period in first..instance.periods() + 1 {
+        total = total.saturating_add(instance.demand(item, period));
+    }
+    total
+}
+
+// The demand of an item that is met in a period: that of the period, or what may be late of an earlier one. None is later
+// than the last period.
+fn due_in(instance: &Instance, built: &Construction, item: u32, period: u32) -> u64
+    requires shape { HasShape instance.now built.now }
+    requires item_low { 1 ≤ item }
+    requires item_high { item ≤ item_count instance.now }
+    requires low { 1 ≤ period }
+    requires high { period ≤ instance.now.periods }
+{
+    let late = built.late;
+    if late == 0 || !instance.has_backlog_cost(item) {
+        return instance.demand(item, period);
+    }
+    let from = if period > late { period - late } else { 1 };
+    if period == instance.periods() {
+        demand_from(instance, item, from)
+    } else if period > late {
+        instance.demand(item, from)
+    } else {
+        0
+    }
+}
+
 // Units of an item that are asked for in a period: by its demand, by the lots of the items that it goes into,
 // by the end, and by later periods.
 fn asked_in(instance: &Instance, built: &Construction, item: u32, period: u32) -> u64
@@ -23,7 +59,7 @@ fn asked_in(instance: &Instance, built: &Construction, item: u32, period: u32) -
         0
     };
     let used = used_up(instance, &built.make, item, period).min(u64::MAX as u128) as u64;
-    let demand = instance.demand(item, period);
+    let demand = due_in(instance, built, item, period);
     carried
         .saturating_add(end_min)
         .saturating_add(used)

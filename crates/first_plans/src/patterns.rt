@@ -204,3 +204,29 @@ pub fn wanted_apart(alloc: Global, instance: &Instance, less: u64) -> Result<Gri
     }
     Ok(wanted)
 }
+
+// Wants a setup of an item where its number and that of the period add up to a multiple of this.
+fn want_spread(instance: &Instance, item: u32, every: u64, wanted: &mut Grid)
+    requires low { 1 ≤ item }
+    requires high { item ≤ item_count instance.now }
+    requires wanted { Fits instance.now wanted.old }
+    ensures { Fits instance.now wanted.new }
+{
+    for period in 1..instance.periods() + 1 {
+        let turn = u64::from(item) + u64::from(period);
+        if turn % every.max(1) == 0 {
+            wanted.set(item, period, 1);
+        }
+    }
+}
+
+/// Setups of each item in one of so many periods, the items in turn: 1 where there is one, else 0.
+pub fn wanted_spread(alloc: Global, instance: &Instance, every: u64) -> Result<Grid, AllocError>
+    ensures { IfOk result (Fits instance.now) }
+{
+    let mut wanted = Grid::filled(alloc, instance.items(), instance.periods(), 0)?;
+    for item in 1..instance.items() + 1 {
+        want_spread(instance, item, every, &mut wanted);
+    }
+    Ok(wanted)
+}

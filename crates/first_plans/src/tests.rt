@@ -1,5 +1,6 @@
 ghost use Rattle.std.specs.Prelude.{◌≡◌};
 
+use crate::by_families::improved_by_families;
 use crate::{built_plan, candidates, improved, own_period_is_one, own_period_plan};
 use lot_model::{Draft, DraftItem, DraftNeed, DraftResource, DraftUse, Instance};
 use plan_rules::Grid;
@@ -97,14 +98,13 @@ fn plans_to_begin_with(rt: HostRuntime) -> Result<(), Fail> {
     let alloc = rt.alloc();
     // With a quarter of its legs' costs taken off, a table in stock for two periods costs less than a setup. So the
     // other plans make all tables in the first period: 10 and a setup and 3, 3, 1 in stock, and 15 legs for 30 and a
-    // setup.
-    assert!(rt;
-        costs(alloc, &tables(alloc, 0, 22)?)?.as_slice() == &[61, 61, 61, 57, 57, 57, 57, 57][..]
-    );
+    // setup. Tables in the first and the second period, each for a setup, have 3 and 1 in stock, and all legs are made in
+    // the first one: 10, 30, three setups and 12 legs in stock.
+    let found = costs(alloc, &tables(alloc, 0, 22)?)?;
+    assert!(rt; found.as_slice() == &[61, 61, 61, 57, 57, 57, 57, 71, 57, 71, 57][..]);
     // A table is made a period earlier, for a setup and its stock; its legs too, or in the first period.
-    assert!(rt;
-        costs(alloc, &tables(alloc, 0, 21)?)?.as_slice() == &[72, 71, 57, 57, 57, 57, 57][..]
-    );
+    let found = costs(alloc, &tables(alloc, 0, 21)?)?;
+    assert!(rt; found.as_slice() == &[72, 71, 57, 57, 57, 57, 71, 57, 71, 57][..]);
     assert!(rt; costs(alloc, &tables(alloc, 1, 22)?)?.is_empty());
     Ok(())
 }
@@ -144,6 +144,62 @@ fn a_plan_is_improved(rt: HostRuntime) -> Result<(), Fail> {
     for (tries, cost) in [(0u32, 61u128), (1000, 57)] {
         let own = own_period_plan(alloc, &instance)?.ok_or("no plan")?;
         assert_eq!(rt; improved(alloc, &instance, own, tries)?.cost, cost);
+    }
+    Ok(())
+}
+
+// Items that a saw makes, a minute each, with so many minutes in each period.
+fn sawn(alloc: Global, items: Vec<DraftItem>, minutes: i64) -> Result<Instance, Fail> {
+    let mut list = Vec::new(alloc);
+    for mut item in items {
+        item.uses.push(DraftUse {
+            resource: String::from_str(alloc, "saw")?,
+            unit: 1,
+            setup: 0,
+        })?;
+        list.push(item)?;
+    }
+    let saw = DraftResource {
+        name: String::from_str(alloc, "saw")?,
+        capacity: vec![in alloc; minutes, minutes, minutes]?,
+    };
+    let draft = Draft {
+        periods: 3,
+        resources: vec![in alloc; saw]?,
+        items: list,
+    };
+    Ok(Instance::from_draft(alloc, draft).ok().ok_or("refused")?)
+}
+
+#[test]
+fn what_may_be_late_is_made_late(rt: HostRuntime) -> Result<(), Fail> {
+    let alloc = rt.alloc();
+    let mut board = item(alloc, "board", &[6, 0, 0])?;
+    board.backlog_cost = Some(vec![in alloc; 1i64, 1i64, 1i64]?);
+    let instance = sawn(alloc, vec![in alloc; board]?, 4)?;
+    let wanted = Grid::filled(alloc, instance.items(), instance.periods(), 1)?;
+    let found = built_plan(alloc, &instance, &wanted)?.ok_or("no plan")?;
+    // Only four of six boards can be made in a period, so four are owed for a period: 12, two setups and 4.
+    assert!(rt; found.plan.make.cells() == &[2, 4, 0][..]);
+    assert!(rt; found.plan.backlog.cells() == &[4, 0, 0][..]);
+    assert_eq!(rt; found.cost, 26);
+    Ok(())
+}
+
+#[test]
+fn one_family_after_the_other_is_improved(rt: HostRuntime) -> Result<(), Fail> {
+    let alloc = rt.alloc();
+    // All of an item in the first period costs 6, a setup and 2 and 1 in stock, and one more setup each lot: 14 and not 21.
+    // With five minutes in a period, one item has two lots: 6, two setups and 1.
+    for (minutes, cost) in [(6i64, 28u128), (5, 31)] {
+        let items = vec![in alloc;
+            item(alloc, "board", &[1, 1, 1])?,
+            item(alloc, "beam", &[1, 1, 1])?,
+        ]?;
+        let instance = sawn(alloc, items, minutes)?;
+        let own = own_period_plan(alloc, &instance)?.ok_or("no plan")?;
+        assert_eq!(rt; own.cost, 42);
+        assert_eq!(rt; improved_by_families(alloc, &instance, own)?.cost, cost);
     }
     Ok(())
 }

@@ -1,0 +1,187 @@
+// Plans that are improved by one family of items after the other.
+ghost use Rattle.std.specs.Prelude.{◌≤◌, IfOk, IfSome, OnOk};
+ghost use Rattle.plan_rules.specs.Cells.{Fits};
+ghost use Rattle.plan_rules.specs.Rows.{IfFound};
+ghost use Rattle.first_plans.specs.Made.{IsMade};
+
+use crate::families::{Families, Lots, family_alone, give_rows, take_rows};
+use crate::improving::improved_so;
+use crate::trials::copy;
+use lot_model::Instance;
+use plan_rules::{Grid, Planned, complete_at_cost};
+use std::alloc::{AllocError, Global};
+
+// The most times that all families are improved.
+const ROUNDS: u32 = 6;
+
+// What building plans of families may take in all: so many plans of a single item and period, each of which is compared with
+// the other items and periods.
+const FAMILY_WORK: u64 = 800_000_000;
+
+// What a plan takes to be built.
+fn size_of(instance: &Instance) -> u64 {
+    let (items, periods) = (u64::from(instance.items()), u64::from(instance.periods()));
+    items * periods * (items + periods)
+}
+
+// How many plans may be built within so much work.
+fn tries_within(instance: &Instance, work: u64) -> u32 {
+    u32::try_from(work / size_of(instance).max(1)).unwrap_or(u32::MAX)
+}
+
+// The plan of a family alone.
+fn own_plan(
+    alloc: Global,
+    instance: &Instance,
+    alone: &Instance,
+    families: &Families,
+    family: u32,
+    lots: Lots<'_>,
+) -> Result<Option<Planned>, AllocError>
+    ensures { IfFound result (IsMade alone.now) }
+{
+    let mut make = Grid::filled(alloc, alone.items(), alone.periods(), 0)?;
+    let mut setup = Grid::filled(alloc, alone.items(), alone.periods(), 0)?;
+    take_rows(instance, families, family, lots.make, &mut make);
+    take_rows(instance, families, family, lots.setup, &mut setup);
+    complete_at_cost(alloc, alone, make, setup)
+}
+
+// The plan of all items, with these lots of a family.
+fn plan_with(
+    alloc: Global,
+    instance: &Instance,
+    families: &Families,
+    family: u32,
+    lots: Lots<'_>,
+    own: Lots<'_>,
+) -> Result<Option<Planned>, AllocError>
+    requires make { Fits instance.now lots.make.now }
+    requires setup { Fits instance.now lots.setup.now }
+    ensures { IfFound result (IsMade instance.now) }
+{
+    let mut make = Grid::filled(alloc, instance.items(), instance.periods(), 0)?;
+    let mut setup = Grid::filled(alloc, instance.items(), instance.periods(), 0)?;
+    copy(instance, lots.make, &mut make);
+    copy(instance, lots.setup, &mut setup);
+    give_rows(instance, families, family, own.make, &mut make);
+    give_rows(instance, families, family, own.setup, &mut setup);
+    complete_at_cost(alloc, instance, make, setup)
+}
+
+// A plan, where one was found, and the work that is left.
+#[derive(Drop)]
+struct Tried {
+    found: Option<Planned>,
+    work: u64,
+}
+
+// The plan with the improved lots of a family, under the time that the others leave.
+fn try_family(
+    alloc: Global,
+    instance: &Instance,
+    families: &Families,
+    family: u32,
+    lots: Lots<'_>,
+    work: u64,
+) -> Result<Tried, AllocError>
+    requires make { Fits instance.now lots.make.now }
+    requires setup { Fits instance.now lots.setup.now }
+    ensures { IfOk result (λ tried. IfSome tried.found (IsMade instance.now)) }
+{
+    let none = Tried { found: None, work };
+    let Some(alone) = family_alone(alloc, instance, families, family, lots)? else {
+        return Ok(none);
+    };
+    let Some(start) = own_plan(alloc, instance, &alone, families, family, lots)? else {
+        return Ok(none);
+    };
+    let tries = tries_within(&alone, work);
+    let state = improved_so(alloc, &alone, start, tries)?;
+    let used = u64::from(tries.saturating_sub(state.tries));
+    let own = Lots {
+        make: &state.best.plan.make,
+        setup: &state.best.plan.setup,
+    };
+    Ok(Tried {
+        found: plan_with(alloc, instance, families, family, lots, own)?,
+        work: work.saturating_sub(used.saturating_mul(size_of(&alone))),
+    })
+}
+
+// Improves the lots of a family, and gives the work that is left.
+fn improve_family(
+    alloc: Global,
+    instance: &Instance,
+    families: &Families,
+    family: u32,
+    best: &mut Planned,
+    work: u64,
+) -> Result<u64, AllocError>
+    requires made { IsMade instance.now best.old }
+    ensures made { OnOk result (IsMade instance.now best.new) }
+    ensures cheap { OnOk result (best.new.cost ≤ best.old.cost) }
+{
+    let lots = Lots {
+        make: &best.plan.make,
+        setup: &best.plan.setup,
+    };
+    let Tried { found, work } = try_family(alloc, instance, families, family, lots, work)?;
+    if let Some(planned) = found {
+        if planned.cost < best.cost {
+            *best = planned;
+        }
+    }
+    Ok(work)
+}
+
+// Improves all families, one after the other, and gives the work that is left.
+fn improve_all(
+    alloc: Global,
+    instance: &Instance,
+    families: &Families,
+    best: &mut Planned,
+    work: u64,
+) -> Result<u64, AllocError>
+    requires made { IsMade instance.now best.old }
+    ensures made { OnOk result (IsMade instance.now best.new) }
+    ensures cheap { OnOk result (best.new.cost ≤ best.old.cost) }
+{
+    let mut left = work;
+    for family in 1..instance.items() + 1 {
+        if families.has(family, family) {
+            left = improve_family(alloc, instance, families, family, best, left)?;
+        }
+    }
+    Ok(left)
+}
+
+/// A feasible plan that costs no more than this one: the plan of each family of items, which lines of components tie
+/// together, is improved under the time that the others leave, until that brings nothing more or takes too long. A model of
+/// one family stays as it is.
+///
+/// The error is that memory ran out; the plan is lost then.
+pub fn improved_by_families(
+    alloc: Global,
+    instance: &Instance,
+    planned: Planned,
+) -> Result<Planned, AllocError>
+    requires made { IsMade instance.now planned }
+    ensures made { IfOk result (IsMade instance.now) }
+    ensures cheap { IfOk result (λ found. found.cost ≤ planned.cost) }
+{
+    let families = Families::of(alloc, instance)?;
+    let mut best = planned;
+    if families.is_one(instance) {
+        return Ok(best);
+    }
+    let mut work = FAMILY_WORK;
+    for _round in 0..ROUNDS {
+        let before = best.cost;
+        work = improve_all(alloc, instance, &families, &mut best, work)?;
+        if best.cost == before {
+            return Ok(best);
+        }
+    }
+    Ok(best)
+}
