@@ -8,7 +8,10 @@ use Rattle.std.proofs.lemmas.Slice.Eq.{bytes_eq-Decides}
 use Rattle.clap.specs.Words.{Kinds, Row, first_of, fault_of, subcommand_of}
 use Rattle.command_line.specs.Grammar.{planner_app}
 use Rattle.command_line.specs.Laws.{CommandsAreAllowed}
-use Rattle.command_line.specs.Words.{AreApart, Asked, IsAllowed, are_file_names, are_two_names, asked_by_matches, asked_if, asked_in, bounding, bounding_from, budget_from, checking, checking_from, command_of, demonstrating, demonstrating_from, generated, generating, generating_from, helping, is_budget, is_file_name, is_help, is_number, is_seed, judging, judging_from, largest_budget, largest_seed, most_items, most_periods, planned, planning, planning_from, reporting, reporting_from, unless_refused, upgrading, upgrading_from, usual_budget, version}
+use Rattle.lot_sizing.specs.declared.limits.TheConstants.{MAX_ITEMS}
+use Rattle.instance_reader.specs.declared.versions.TheConstants.{FIRST_VERSION_PERIODS}
+use Rattle.command_line.specs.declared.requests.TheConstants.{LARGEST_BUDGET, USUAL_BUDGET}
+use Rattle.command_line.specs.Words.{AreApart, Asked, IsAllowed, are_file_names, are_two_names, asked_by_matches, asked_if, asked_in, bounding, bounding_from, budget_from, checking, checking_from, command_of, demonstrating, demonstrating_from, generated, generating, generating_from, helping, is_budget, is_file_name, is_help, is_number, is_seed, judging, judging_from, largest_seed, planned, planning, planning_from, reporting, reporting_from, unless_refused, upgrading, upgrading_from, version}
 
 -- the parts of a test that came out true
 pub first_true : (a b : Bool) → (a && b) ≡ true → a ≡ true
@@ -74,15 +77,15 @@ fine_either : (t : Bool) (x y : Option Asked) → Fine x → Fine y → Fine (if
 fine_either true x y p q = p
 fine_either false x y p q = q
 
-budget_if : (n k : ℕ) (text : List ℕ) (t : Bool) → (t ≡ true → (1 ≤ n) × (n ≤ largest_budget)) → (if t then Some n else None) ≡ Some k → (1 ≤ k) × (k ≤ largest_budget)
-budget_if n k text true range is = let same : n ≡ k = cc is in subst (λ j. (1 ≤ j) × (j ≤ largest_budget)) same (range refl)
+budget_if : (n k : ℕ) (text : List ℕ) (t : Bool) → (t ≡ true → (1 ≤ n) × (n ≤ LARGEST_BUDGET)) → (if t then Some n else None) ≡ Some k → (1 ≤ k) × (k ≤ LARGEST_BUDGET)
+budget_if n k text true range is = let same : n ≡ k = cc is in subst (λ j. (1 ≤ j) × (j ≤ LARGEST_BUDGET)) same (range refl)
 budget_if n k text false range is = absurd (cc is)
 
-budget_in_range : (nodes : Option (List ℕ)) (k : ℕ) → budget_from nodes ≡ Some k → (1 ≤ k) × (k ≤ largest_budget)
-budget_in_range None k is = let same : usual_budget ≡ k = cc is in subst (λ j. (1 ≤ j) × (j ≤ largest_budget)) same (omega arith, omega arith)
-budget_in_range (Some text) k is = budget_if (digits_value 10 text) k text (is_budget text) (number_in_range 1 largest_budget text) is
+budget_in_range : (nodes : Option (List ℕ)) (k : ℕ) → budget_from nodes ≡ Some k → (1 ≤ k) × (k ≤ LARGEST_BUDGET)
+budget_in_range None k is = let same : USUAL_BUDGET ≡ k = cc is in subst (λ j. (1 ≤ j) × (j ≤ LARGEST_BUDGET)) same (omega arith, omega arith)
+budget_in_range (Some text) k is = budget_if (digits_value 10 text) k text (is_budget text) (number_in_range 1 LARGEST_BUDGET text) is
 
-fine_planned : (m p c : List ℕ) (budget : Option ℕ) → ((k : ℕ) → budget ≡ Some k → (1 ≤ k) × (k ≤ largest_budget)) → Fine (planned m p c budget)
+fine_planned : (m p c : List ℕ) (budget : Option ℕ) → ((k : ℕ) → budget ≡ Some k → (1 ≤ k) × (k ≤ LARGEST_BUDGET)) → Fine (planned m p c budget)
 fine_planned m p c None range = fine_none
 fine_planned m p c (Some k) range = fine_if (are_file_names m p c) (planning m p c k) (λ is. record { apart = are_apart m p c is; some = (range k refl).0; limit = (range k refl).1 })
 
@@ -110,10 +113,10 @@ fine_reporting (Some m) (Some p) = fine_if (are_two_names m p) (reporting m p) (
 
 fine_generated : (n items periods m : List ℕ) → Fine (generated n items periods m)
 fine_generated n items periods m = fine_if _ (generating (digits_value 10 n) (digits_value 10 items) (digits_value 10 periods) m) (λ is.
-    let others : (is_number 1 most_items items && (is_number 1 most_periods periods && is_file_name m)) ≡ true = rest_true (is_seed n) _ is in
-    let last : (is_number 1 most_periods periods && is_file_name m) ≡ true = rest_true (is_number 1 most_items items) _ others in
-    let i = number_in_range 1 most_items items (first_true (is_number 1 most_items items) _ others) in
-    let t = number_in_range 1 most_periods periods (first_true (is_number 1 most_periods periods) _ last) in
+    let others : (is_number 1 MAX_ITEMS items && (is_number 1 FIRST_VERSION_PERIODS periods && is_file_name m)) ≡ true = rest_true (is_seed n) _ is in
+    let last : (is_number 1 FIRST_VERSION_PERIODS periods && is_file_name m) ≡ true = rest_true (is_number 1 MAX_ITEMS items) _ others in
+    let i = number_in_range 1 MAX_ITEMS items (first_true (is_number 1 MAX_ITEMS items) _ others) in
+    let t = number_in_range 1 FIRST_VERSION_PERIODS periods (first_true (is_number 1 FIRST_VERSION_PERIODS periods) _ last) in
     record { bits = seed_fits n (first_true (is_seed n) _ is); some_items = i.0; items_limit = i.1; some_periods = t.0; periods_limit = t.1 })
 
 fine_generating : (n items periods m : Option (List ℕ)) → Fine (generating_from n items periods m)

@@ -5,7 +5,10 @@ use Rattle.std.specs.Str.Parse.{digits_value}
 use Rattle.std.proofs.lemmas.Slice.Eq.{bytes_eq-Decides}
 use Rattle.clap.proofs.OnLiterals.{clap_on_literals}
 use Rattle.command_line.specs.Laws.{PlainWordsKeepTheirMeaning}
-use Rattle.command_line.specs.Words.{Asked, are_file_names, are_two_names, asked_if, bounding, checking, command_of, demonstrating, generating, is_budget, is_file_name, is_number, is_seed, judging, largest_budget, most_items, most_periods, planned, planning, reporting, upgrading, usual_budget, version}
+use Rattle.lot_sizing.specs.declared.limits.TheConstants.{MAX_ITEMS}
+use Rattle.instance_reader.specs.declared.versions.TheConstants.{FIRST_VERSION_PERIODS}
+use Rattle.command_line.specs.declared.requests.TheConstants.{LARGEST_BUDGET, USUAL_BUDGET}
+use Rattle.command_line.specs.Words.{Asked, are_file_names, are_two_names, asked_if, bounding, checking, command_of, demonstrating, generating, is_budget, is_file_name, is_number, is_seed, judging, planned, planning, reporting, upgrading, version}
 use Rattle.command_line.proofs.Allowed.{first_true, rest_true}
 use Rattle.command_line.proofs.Budgets.{nodes_words}
 use Rattle.command_line.proofs.Numbers.{number_begins, seed_begins}
@@ -69,20 +72,20 @@ with_nodes w m p c o n is =
     let flag : o ≡ codes "--nodes" = (bytes_eq-Decides o (codes "--nodes")).0 (first_true (bytes_eq o (codes "--nodes")) (is_budget n) last) in
     let names = are_names m p c named in
     ap (λ x. command_of (x ∷ m ∷ p ∷ c ∷ o ∷ n ∷ [])) word ∙ ap (λ x. command_of (codes "plan" ∷ m ∷ p ∷ c ∷ x ∷ n ∷ [])) flag
-    ∙ nodes_words m p c n names.first names.second names.third (number_begins 1 largest_budget n (omega arith) number)
+    ∙ nodes_words m p c n names.first names.second names.third (number_begins 1 LARGEST_BUDGET n (omega arith) number)
     ∙ ap (λ t. planned m p c (if t then Some (digits_value 10 n) else None)) number
     ∙ ap (λ t. asked_if t (planning m p c (digits_value 10 n))) named
 
 -- a model that is drawn
-drawn : (w n items periods m : List ℕ) → (bytes_eq w (codes "gen") && (is_seed n && (is_number 1 most_items items && (is_number 1 most_periods periods && is_file_name m)))) ≡ true
+drawn : (w n items periods m : List ℕ) → (bytes_eq w (codes "gen") && (is_seed n && (is_number 1 MAX_ITEMS items && (is_number 1 FIRST_VERSION_PERIODS periods && is_file_name m)))) ≡ true
     → command_of (w ∷ n ∷ items ∷ periods ∷ m ∷ []) ≡ Some (generating (digits_value 10 n) (digits_value 10 items) (digits_value 10 periods) m)
-drawn w n items periods m = named w (codes "gen") (n ∷ items ∷ periods ∷ m ∷ []) (is_seed n && (is_number 1 most_items items && (is_number 1 most_periods periods && is_file_name m))) (generating (digits_value 10 n) (digits_value 10 items) (digits_value 10 periods) m) (λ met.
-    let others : (is_number 1 most_items items && (is_number 1 most_periods periods && is_file_name m)) ≡ true = rest_true (is_seed n) (is_number 1 most_items items && (is_number 1 most_periods periods && is_file_name m)) met in
-    let last : (is_number 1 most_periods periods && is_file_name m) ≡ true = rest_true (is_number 1 most_items items) (is_number 1 most_periods periods && is_file_name m) others in
-    gen_words n items periods m (seed_begins n (first_true (is_seed n) (is_number 1 most_items items && (is_number 1 most_periods periods && is_file_name m)) met))
-    (number_begins 1 most_items items (omega arith) (first_true (is_number 1 most_items items) (is_number 1 most_periods periods && is_file_name m) others))
-    (number_begins 1 most_periods periods (omega arith) (first_true (is_number 1 most_periods periods) (is_file_name m) last))
-    (rest_true (is_number 1 most_periods periods) (is_file_name m) last))
+drawn w n items periods m = named w (codes "gen") (n ∷ items ∷ periods ∷ m ∷ []) (is_seed n && (is_number 1 MAX_ITEMS items && (is_number 1 FIRST_VERSION_PERIODS periods && is_file_name m))) (generating (digits_value 10 n) (digits_value 10 items) (digits_value 10 periods) m) (λ met.
+    let others : (is_number 1 MAX_ITEMS items && (is_number 1 FIRST_VERSION_PERIODS periods && is_file_name m)) ≡ true = rest_true (is_seed n) (is_number 1 MAX_ITEMS items && (is_number 1 FIRST_VERSION_PERIODS periods && is_file_name m)) met in
+    let last : (is_number 1 FIRST_VERSION_PERIODS periods && is_file_name m) ≡ true = rest_true (is_number 1 MAX_ITEMS items) (is_number 1 FIRST_VERSION_PERIODS periods && is_file_name m) others in
+    gen_words n items periods m (seed_begins n (first_true (is_seed n) (is_number 1 MAX_ITEMS items && (is_number 1 FIRST_VERSION_PERIODS periods && is_file_name m)) met))
+    (number_begins 1 MAX_ITEMS items (omega arith) (first_true (is_number 1 MAX_ITEMS items) (is_number 1 FIRST_VERSION_PERIODS periods && is_file_name m) others))
+    (number_begins 1 FIRST_VERSION_PERIODS periods (omega arith) (first_true (is_number 1 FIRST_VERSION_PERIODS periods) (is_file_name m) last))
+    (rest_true (is_number 1 FIRST_VERSION_PERIODS periods) (is_file_name m) last))
 
 pub plain_words : PlainWordsKeepTheirMeaning
 plain_words [] asked is = no_words ∙ is
@@ -102,12 +105,12 @@ plain_words (w ∷ m ∷ p ∷ []) asked is =
     (named w (codes "report") (m ∷ p ∷ []) (are_two_names m p) (reporting m p) (λ met. report_words m p (first_name m p met) (second_name m p met))) (never asked answer))) is
 plain_words (w ∷ m ∷ p ∷ c ∷ []) asked is =
     let answer = command_of (w ∷ m ∷ p ∷ c ∷ []) in
-    by_test (bytes_eq w (codes "plan") && are_file_names m p c) (planning m p c usual_budget) asked _ answer
-    (named w (codes "plan") (m ∷ p ∷ c ∷ []) (are_file_names m p c) (planning m p c usual_budget) (λ met. let names = are_names m p c met in plan_words m p c names.first names.second names.third))
+    by_test (bytes_eq w (codes "plan") && are_file_names m p c) (planning m p c USUAL_BUDGET) asked _ answer
+    (named w (codes "plan") (m ∷ p ∷ c ∷ []) (are_file_names m p c) (planning m p c USUAL_BUDGET) (λ met. let names = are_names m p c met in plan_words m p c names.first names.second names.third))
     (by_test (bytes_eq w (codes "check") && are_file_names m p c) (checking m p c) asked None answer
     (named w (codes "check") (m ∷ p ∷ c ∷ []) (are_file_names m p c) (checking m p c) (λ met. let names = are_names m p c met in check_words m p c names.first names.second names.third)) (never asked answer)) is
 plain_words (w ∷ n ∷ items ∷ periods ∷ m ∷ []) asked is =
-    by_test (bytes_eq w (codes "gen") && (is_seed n && (is_number 1 most_items items && (is_number 1 most_periods periods && is_file_name m))))
+    by_test (bytes_eq w (codes "gen") && (is_seed n && (is_number 1 MAX_ITEMS items && (is_number 1 FIRST_VERSION_PERIODS periods && is_file_name m))))
     (generating (digits_value 10 n) (digits_value 10 items) (digits_value 10 periods) m) asked None (command_of (w ∷ n ∷ items ∷ periods ∷ m ∷ []))
     (drawn w n items periods m) (never asked (command_of (w ∷ n ∷ items ∷ periods ∷ m ∷ []))) is
 plain_words (w ∷ m ∷ p ∷ c ∷ o ∷ n ∷ []) asked is =

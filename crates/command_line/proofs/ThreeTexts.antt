@@ -6,7 +6,8 @@ use Rattle.clap.specs.Simple.{names_of}
 use Rattle.clap.specs.Faults.{level_fault}
 use Rattle.clap.proofs.OnLiterals.{clap_on_literals}
 use Rattle.command_line.specs.Grammar.{planner_app}
-use Rattle.command_line.specs.Words.{asked_if, asked_in, command_of, is_file_name, are_file_names, checking, planning, usual_budget}
+use Rattle.command_line.specs.declared.requests.TheConstants.{USUAL_BUDGET}
+use Rattle.command_line.specs.Words.{asked_if, asked_in, command_of, is_file_name, are_file_names, checking, planning}
 use Rattle.command_line.proofs.Leaves.{asks, held, leaf, takes}
 use Rattle.command_line.proofs.Placed.{ArePlaced, EndsWell}
 
@@ -30,11 +31,11 @@ plan_subcommand : (a b d : Text) → subcommand_of planner_app (codes "plan" ∷
 unfolding clap_on_literals
 plan_subcommand a b d = refl
 
-plan_asks : (a b d : Text) → asked_in (codes "plan") (finished (leaf (codes "plan")).rules (held (codes "plan") (a ∷ b ∷ d ∷ []))) ≡ asked_if (are_file_names a b d) (planning a b d usual_budget)
+plan_asks : (a b d : Text) → asked_in (codes "plan") (finished (leaf (codes "plan")).rules (held (codes "plan") (a ∷ b ∷ d ∷ []))) ≡ asked_if (are_file_names a b d) (planning a b d USUAL_BUDGET)
 unfolding clap_on_literals
 plan_asks a b d = refl
 
-pub plan_words : (a b d : Text) → is_file_name a ≡ true → is_file_name b ≡ true → is_file_name d ≡ true → command_of (codes "plan" ∷ a ∷ b ∷ d ∷ []) ≡ asked_if (are_file_names a b d) (planning a b d usual_budget)
+pub plan_words : (a b d : Text) → is_file_name a ≡ true → is_file_name b ≡ true → is_file_name d ≡ true → command_of (codes "plan" ∷ a ∷ b ∷ d ∷ []) ≡ asked_if (are_file_names a b d) (planning a b d USUAL_BUDGET)
 plan_words a b d p q r =
     let taken = takes (codes "plan") (a ∷ b ∷ d ∷ []) refl (plan_placed a b d p q r) (plan_ends a b d) in
     asks (codes "plan") (a ∷ b ∷ d ∷ []) _ (plan_fault a b d taken.level) (plan_subcommand a b d) taken.rows ∙ plan_asks a b d

@@ -6,6 +6,9 @@ use Rattle.std.specs.Str.Parse.{digits_value}
 use Rattle.clap.specs.Words.{Kinds, Row, fault_of, first_of, subcommand_of}
 use Rattle.clap.specs.declared.error.kind.ErrorKind.{ErrorKind}
 use Rattle.clap.specs.declared.error.kind.ErrorKind.TheVariants.{DisplayHelp, DisplayVersion}
+use Rattle.lot_sizing.specs.declared.limits.TheConstants.{MAX_ITEMS}
+use Rattle.instance_reader.specs.declared.versions.TheConstants.{FIRST_VERSION_PERIODS}
+use Rattle.command_line.specs.declared.requests.TheConstants.{LARGEST_BUDGET, USUAL_BUDGET}
 use Rattle.command_line.specs.Grammar.{planner_app}
 
 pub data Asked : Type 0 where
@@ -49,25 +52,12 @@ are_two_names m p = is_file_name m && (is_file_name p && not (bytes_eq m p))
 abbrev pub is_number : ℕ → ℕ → List ℕ → Bool
 is_number least most text = bytes_eq text (decimal (digits_value 10 text)) && is_in_range least most (digits_value 10 text)
 
--- the nodes where no number is given, and the most that may be
-abbrev pub usual_budget : ℕ
-usual_budget = 1000
-
-abbrev pub largest_budget : ℕ
-largest_budget = 1000000
-
--- the largest seed, and the most items and periods of a model
+-- the largest seed
 abbrev pub largest_seed : ℕ
 largest_seed = 18446744073709551615
 
-abbrev pub most_items : ℕ
-most_items = 40
-
-abbrev pub most_periods : ℕ
-most_periods = 60
-
 abbrev pub is_budget : List ℕ → Bool
-is_budget = is_number 1 largest_budget
+is_budget = is_number 1 LARGEST_BUDGET
 
 abbrev pub is_seed : List ℕ → Bool
 is_seed = is_number 0 largest_seed
@@ -80,7 +70,7 @@ asked_if false asked = None
 
 -- the nodes that a text gives, and where there is none the usual ones
 abbrev pub budget_from : Option (List ℕ) → Option ℕ
-budget_from None = Some usual_budget
+budget_from None = Some USUAL_BUDGET
 budget_from (Some n) = if is_budget n then Some (digits_value 10 n) else None
 
 abbrev pub planned : List ℕ → List ℕ → List ℕ → Option ℕ → Option Asked
@@ -88,7 +78,7 @@ planned m p c None = None
 planned m p c (Some budget) = asked_if (are_file_names m p c) (planning m p c budget)
 
 abbrev pub generated : List ℕ → List ℕ → List ℕ → List ℕ → Option Asked
-generated n items periods m = asked_if (is_seed n && (is_number 1 most_items items && (is_number 1 most_periods periods && is_file_name m)))
+generated n items periods m = asked_if (is_seed n && (is_number 1 MAX_ITEMS items && (is_number 1 FIRST_VERSION_PERIODS periods && is_file_name m)))
     (generating (digits_value 10 n) (digits_value 10 items) (digits_value 10 periods) m)
 
 abbrev pub planning_from : Option (List ℕ) → Option (List ℕ) → Option (List ℕ) → Option (List ℕ) → Option Asked
@@ -173,14 +163,14 @@ pub record AreApart (model_file plan_file certificate_file : List ℕ) : Type 0 
 pub record IsPlanned (m p c : List ℕ) (budget : ℕ) : Type 0 where
   pub apart : AreApart m p c
   pub some : 1 ≤ budget
-  pub limit : budget ≤ largest_budget
+  pub limit : budget ≤ LARGEST_BUDGET
 
 pub record IsGenerated (seed items periods : ℕ) : Type 0 where
   pub bits : seed < 2 ^ 64
   pub some_items : 1 ≤ items
-  pub items_limit : items ≤ most_items
+  pub items_limit : items ≤ MAX_ITEMS
   pub some_periods : 1 ≤ periods
-  pub periods_limit : periods ≤ most_periods
+  pub periods_limit : periods ≤ FIRST_VERSION_PERIODS
 
 -- what a command meets: names that are apart, numbers within their limits
 abbrev pub IsAllowed : Asked → Type 0

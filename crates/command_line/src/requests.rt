@@ -5,16 +5,14 @@ ghost use Rattle.command_line.specs.Words.{bounding_from, budget_from, checking_
 
 use crate::commands::{Command, Names, TwoNames, UpgradeNames};
 use crate::conditions::{are_file_names, are_two_names, is_file_name, read_number};
+use instance_reader::FIRST_VERSION_PERIODS;
+use lot_sizing::limits::MAX_ITEMS;
 
-// The nodes where no number is given, and the most that may be.
-const USUAL_BUDGET: u64 = 1000;
+/// The nodes where no number is given.
+pub const USUAL_BUDGET: u64 = 1_000;
 
-const LARGEST_BUDGET: u64 = 1_000_000;
-
-// The most items and periods of a model that is drawn.
-const MOST_ITEMS: u64 = 40;
-
-const MOST_PERIODS: u64 = 60;
+/// The most nodes that may be asked for.
+pub const LARGEST_BUDGET: u64 = 1_000_000;
 
 // The nodes that a plan may use.
 fn budget_of(nodes: Option<&str>) -> Option<u64>
@@ -102,8 +100,8 @@ fn generated<'a>(seed: &str, items: &str, periods: &str, model: &'a str) -> Opti
         return None;
     }
     let seed = read_number(seed, 0, u64::MAX)?;
-    let items = read_number(items, 1, MOST_ITEMS)? as u32;
-    let periods = read_number(periods, 1, MOST_PERIODS)? as u32;
+    let items = read_number(items, 1, u64::from(MAX_ITEMS))? as u32;
+    let periods = read_number(periods, 1, u64::from(FIRST_VERSION_PERIODS))? as u32;
     Some(Command::Generate {
         seed,
         items,
