@@ -14,3 +14,4 @@ pub mod Drawn
 pub mod Explained
 pub mod Certified
 pub mod Statuses
+pub mod Answered

@@ -16,7 +16,7 @@ mod run;
 mod said;
 mod status;
 
-pub use laws::statuses_are_one;
+pub use laws::{statuses_are_one, statuses_exist};
 use lot_io::{DiskShelf, Sink, StdSink};
 pub use run::run;
 use status::Status;
