@@ -278,6 +278,43 @@ fn the_largest_models_are_read_to_their_last_place(rt: HostRuntime) -> Result<()
     Ok(())
 }
 
+// 40 items over 120 periods, each with a hold cost for every period, and the last with a line for each of the others.
+fn longest(alloc: Global, end: &str) -> Result<String, Fail> {
+    let mut text = String::from_str(alloc, "version = 2\nperiods = 120\n")?;
+    for item in 1..41u32 {
+        write!(
+            &mut text,
+            "[[item]]\nname = \"i{item}\"\ndemand = 1\nhold_cost = ["
+        )?;
+        for _period in 1..120u32 {
+            write!(&mut text, "1, ")?;
+        }
+        write!(&mut text, "1]\n")?;
+    }
+    write!(&mut text, "needs = [")?;
+    for item in 1..39u32 {
+        write!(&mut text, "{{ item = \"i{item}\", quantity = 1 }}, ")?;
+    }
+    write!(&mut text, "{{ item = \"i39\", quantity = {end} }}]\n")?;
+    Ok(text)
+}
+
+// Long texts and long lists are no want of memory.
+#[test]
+fn long_models_are_refused_at_their_last_place(rt: HostRuntime) -> Result<(), Fail> {
+    let alloc = rt.alloc();
+    for (end, want) in [
+        ("1", "none"),
+        ("0", "M5 item 40 needs 39 quantity"),
+        ("=", "M1 root"),
+    ] {
+        let text = longest(alloc, end)?;
+        let found = refusal(alloc, text.as_str())?;
+        assert!(rt; found.as_str() == want, "{found}");
+    }
+    Ok(())
+}
+
 // The instance of a text.
 fn instance(alloc: Global, text: &str) -> Result<Instance, Fail> {
     Ok(read_instance(alloc, text.as_bytes())?)
