@@ -2,7 +2,7 @@
 //!
 //! Family: proofs. It stands on the linear model (`lin_rows`), the cuts (`round_cuts`, `echelon_rows`, `ls_cuts`,
 //! `facility_form`, `backlog_dp`), the certificates (`cert_lines`, `certificate`) and `split_trees`; the checker of
-//! certificates, the checker of their stream and the search are to stand on it. It has no code that runs: a reader
+//! certificates, the checker of their stream and the search stand on it. It has no code that runs: a reader
 //! finds here what those programs mean.
 //!
 //! `specs/Named` has the rows that a part can name: those of the problem, of earlier cuts, and of the bounds on the

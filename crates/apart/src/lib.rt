@@ -2,8 +2,8 @@
 //!
 //! Family: search. It stands on `echelon`, which says what is asked of an item and of all items
 //! that it goes into, on `backlog_dp`, which solves an item by itself, and on `acceptance` and
-//! `cert_checker`, which say what a cut and a leaf have to be. The search of coupled models begins
-//! with its leaf.
+//! `cert_checker`, which say what a cut and a leaf have to be. `branch_and_cut` stands on it: the
+//! search of coupled models begins with its leaf.
 //!
 //! The item apart serves the net demand of its echelon at the item's own costs; holding and owing
 //! cost something only where the item goes into no other one, so that nothing is counted twice. A
@@ -22,6 +22,3 @@ mod laws;
 pub use bound::{apart, apart_leaf};
 pub use found::Apart;
 pub use laws::apart_is_one;
-
-#[cfg(test)]
-mod tests;

@@ -218,9 +218,9 @@ fn test_blocks(
 /// The row holds at every feasible plan of any problem whose lead-free item has this echelon (`holds`), and has
 /// only columns of such a problem (`columns_exist`). `Length` comes exactly where a list of prices hasn't an
 /// entry for each period or there isn't a potential for each position; `TooLarge` exactly where the lists have
-/// these entries and a price is past 10^11 or a potential past 10^36; `Potential` exactly where neither is so and
-/// the potentials rise over some block by more than it costs: the first one by its first position, then its last
-/// one, then its server. So where all is allowed only memory can be wanting (`allowed_is_made`).
+/// these entries and a price is past `MAX_PRICE` or a potential past `MAX_STEP`; `Potential` exactly where neither
+/// is so and the potentials rise over some block by more than it costs: the first one by its first position, then
+/// its last one, then its server. So where all is allowed only memory can be wanting (`allowed_is_made`).
 ///
 /// It takes time in the number of periods times that of periods, positions and items; where a block is broken,
 /// in the number of periods times the square of that of the positions.

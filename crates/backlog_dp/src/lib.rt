@@ -44,6 +44,3 @@ pub fn solve(alloc: Global, single: &SingleItem) -> Result<Blocks, AllocError>
         None => wagner_whitin::solve(alloc, single),
     }
 }
-
-#[cfg(test)]
-mod tests;

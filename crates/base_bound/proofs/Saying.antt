@@ -1,10 +1,10 @@
 -- What the answers are by the run.
-use Rattle.std.proofs.Common.{◌≤◌, ◌*◌, ℕ}
-use Rattle.std.specs.Prelude.{◌^◌}
+use Rattle.std.proofs.Common.{◌≤◌, ℕ}
 use Rattle.rational.specs.Rational.{ℚ}
 use Rattle.lot_sizing.specs.Problem.{Problem}
 use Rattle.tableau.specs.Meaning.{AreEmpty}
 use Rattle.tableau.specs.Program.{Program}
+use Rattle.root_rows.specs.declared.limits.TheConstants.{MAX_CELLS}
 use Rattle.base_bound.specs.declared.bound.BoundSays.{BoundSays}
 use Rattle.base_bound.specs.declared.bound.BoundSays.TheVariants.{Bound, Empty, Skipped, Passed}
 use Rattle.base_bound.specs.Bounds.{IfBound, IfEmpty, IsBaseProgram, PassesAsRun, SkipsExactly, cell_count}
@@ -22,7 +22,7 @@ if_empty p P f Empty is = f is.0 is.1
 if_empty p P f (Skipped cells) is = tt
 if_empty p P f (Passed pivot row column) is = tt
 
-pub few : (m : Problem) (p : Program) → IsBaseProgram m p → cell_count p ≤ 2 * 10 ^ 6 → (s : BoundSays) → IsSolved p s → SkipsExactly m s
+pub few : (m : Problem) (p : Program) → IsBaseProgram m p → cell_count p ≤ MAX_CELLS → (s : BoundSays) → IsSolved p s → SkipsExactly m s
 few m p base low (Bound n) is = (p, base, low)
 few m p base low Empty is = (p, base, low)
 few m p base low (Skipped cells) is = absurd is

@@ -1,5 +1,5 @@
 -- The bound of the linear relaxation without cuts.
-use Rattle.std.specs.Prelude.{◌≡◌, ℕ, ◌+◌, ◌*◌, ◌^◌, ◌≤◌, ◌<◌, [], ⊤}
+use Rattle.std.specs.Prelude.{◌≡◌, ℕ, ◌+◌, ◌*◌, ◌≤◌, ◌<◌, [], ⊤}
 use Rattle.lot_sizing.specs.Problem.{Problem}
 use Rattle.lot_sizing.specs.Best.{IsFloor, IsImpossible}
 use Rattle.lot_sizing.specs.Totals.{AreLargestTotals, IsRanking}
@@ -9,6 +9,7 @@ use Rattle.tableau.specs.declared.outcome.Outcome.TheVariants as outcome
 use Rattle.tableau.specs.Program.{Program, column_count, row_count}
 use Rattle.tableau.specs.Stepwise.{IsEndOf}
 use Rattle.relaxation.specs.Relaxation.{MeetsBaseRows}
+use Rattle.root_rows.specs.declared.limits.TheConstants.{MAX_CELLS}
 use Rattle.root_rows.specs.Rounds.{IsRoundProgram}
 use Rattle.base_bound.specs.declared.bound.BoundSays.{BoundSays}
 use Rattle.base_bound.specs.declared.bound.BoundSays.TheVariants.{Bound, Empty, Skipped, Passed}
@@ -36,9 +37,13 @@ IsBaseProgram m p = (total : ℕ → ℕ) → AreLargestTotals m total → IsRou
 abbrev pub cell_count : Program → ℕ
 cell_count p = (row_count p + 1) * (column_count p + 1)
 
--- at most two million cells
+-- at most as many cells as are solved
 abbrev pub HasFewCells : Problem → Type 0
-HasFewCells m = (p : Program) × IsBaseProgram m p × (cell_count p ≤ 2 * 10 ^ 6)
+HasFewCells m = (p : Program) × IsBaseProgram m p × (cell_count p ≤ MAX_CELLS)
+
+-- more cells than that
+abbrev pub HasManyCells : Problem → Type 0
+HasManyCells m = (p : Program) × IsBaseProgram m p × (MAX_CELLS < cell_count p)
 
 -- ---- answers
 abbrev pub IfBound : (ℕ → Type 0) → BoundSays → Type 0
@@ -57,7 +62,7 @@ IfEmpty P (Passed pivot row column) = ⊤
 abbrev pub SkipsExactly : Problem → BoundSays → Type 0
 SkipsExactly m (Bound n) = HasFewCells m
 SkipsExactly m Empty = HasFewCells m
-SkipsExactly m (Skipped cells) = (p : Program) × IsBaseProgram m p × (cells ≡ cell_count p) × (2 * 10 ^ 6 < cells)
+SkipsExactly m (Skipped cells) = (p : Program) × IsBaseProgram m p × (cells ≡ cell_count p) × (MAX_CELLS < cells)
 SkipsExactly m (Passed pivot row column) = HasFewCells m
 
 -- passed only where the run by the least-index rule does so, at this pivot and cell

@@ -9,12 +9,9 @@ use crate::laws::base_bounds_are_floors;
 use frac128::Frac;
 use least_index::solve_to_end;
 use lot_model::Instance;
-use root_rows::{base_names_are_all, base_program, empty_is_said, least_is_said};
+use root_rows::{MAX_CELLS, base_names_are_all, base_program, empty_is_said, least_is_said};
 use std::alloc::{AllocError, Global};
 use tableau::{Lp, Outcome};
-
-// The largest tableau that is solved. A cell takes 32 bytes.
-const MAX_CELLS: u64 = 2_000_000;
 
 /// What is known of the base bound.
 #[derive(Clone, Copy, Debug, PartialEq, Eq)]
@@ -69,7 +66,7 @@ fn solved(alloc: Global, lp: &Lp) -> Result<BoundSays, AllocError>
 /// The base bound of a model: the least cost of a point that meets all rows which the rules of plans make, without cuts,
 /// rounded up to a whole number. No feasible plan costs less, and none is feasible where no point meets the rows.
 ///
-/// It is skipped where the tableau of these rows has more than 2,000,000 cells. An equal row has two rows of the tableau.
+/// It is skipped where the tableau of these rows has more than `MAX_CELLS` cells. An equal row has two rows of the tableau.
 /// The run by the least-index rule may pass 128 bits. It takes time in the number of cells for each pivot, and there is
 /// no useful limit on their number. The error is want of memory.
 pub fn base_bound(alloc: Global, instance: &Instance) -> Result<BoundSays, AllocError>

@@ -5,7 +5,7 @@ use Rattle.std.proofs.lemmas.Bool.{cases_eq, cases_lt}
 use Rattle.std.proofs.lemmas.List.{get_or_append_left, get_or_push, length_push}
 use Rattle.lot_sizing.specs.declared.limits.TheConstants.{MAX_TOTAL}
 use Rattle.lot_sizing.specs.Bill.{Bill, GoesInto, GoesIntoOver, HasRanks}
-use Rattle.bill.specs.Over.{IsBelow, IsClear, IsFirstOver, IsWithin}
+use Rattle.bill.specs.Over.{IsBelow, IsClear, IsFirstOver, KeepsBound}
 use Rattle.bill.specs.Sets.{AreComponents, HasNoCycle, IsFirstOnCycle, has, missing}
 use Rattle.bill.proofs.Paths.{fewer_others}
 
@@ -146,7 +146,7 @@ weights_or_not b weight i (suc n) =
     (λ past. inr (past.0, past.1, omega (arith, past.2), past.3))
     (weights_or_not b weight i n)
 
-within_or_not : (b : Bill) (total : ℕ → ℕ) (weight : ℕ → ℕ → ℕ) (i : ℕ) → IsWithin b total weight i ⊎ (IsWithin b total weight i → ⊥)
+within_or_not : (b : Bill) (total : ℕ → ℕ) (weight : ℕ → ℕ → ℕ) (i : ℕ) → KeepsBound b total weight i ⊎ (KeepsBound b total weight i → ⊥)
 within_or_not b total weight i =
     ⊎_elim
     (λ past. inr (λ within. omega (arith, past, within.in_all)))
@@ -158,7 +158,7 @@ within_or_not b total weight i =
 
 -- the items that an item goes into over one line are within the bound, and all that they go into
 abbrev AreUsersClear : Bill → (ℕ → ℕ) → (ℕ → ℕ → ℕ) → ℕ → ℕ → Type 0
-AreUsersClear b total weight i n = (k : ℕ) → 1 ≤ k → k ≤ n → 0 < b.units i k → IsWithin b total weight k × IsClear b total weight k
+AreUsersClear b total weight i n = (k : ℕ) → 1 ≤ k → k ≤ n → 0 < b.units i k → KeepsBound b total weight k × IsClear b total weight k
 
 clear_of : (b : Bill) (total : ℕ → ℕ) (weight : ℕ → ℕ → ℕ) (i : ℕ) → AreUsersClear b total weight i b.items → IsClear b total weight i
 clear_of b total weight i users k low high (zero, goes) = (users k low high goes).0
@@ -176,7 +176,7 @@ users_or_below b total weight i (suc n) high each =
     (λ below. inr (below_more b total weight i (suc n) (omega arith) high some below))
     (λ clear. ⊎_elim
     (λ within. inl (λ k low few more. ⊎_elim
-    (λ same. subst (λ x. IsWithin b total weight x × IsClear b total weight x) (sym same) (within, clear))
+    (λ same. subst (λ x. KeepsBound b total weight x × IsClear b total weight x) (sym same) (within, clear))
     (λ apart. before k low (omega (arith, few, apart)) more)
     (cases_eq k (suc n))))
     (λ past. inr (suc n, omega arith, high, (zero, some), past))
@@ -199,13 +199,13 @@ below_or_clear b total weight rank ranks (suc n) i low high few =
     (users_or_below b total weight i b.items (omega arith) (λ j j_low j_high some. below_or_clear b total weight rank ranks n j j_low j_high (omega (arith, few, ranks i j low high j_low j_high some))))
 
 -- the first item past the bound, of the first n
-over_or_not : (b : Bill) (total : ℕ → ℕ) (weight : ℕ → ℕ → ℕ) (rank : ℕ → ℕ) → HasRanks b rank → (n : ℕ) → n ≤ b.items → ((j : ℕ) → 1 ≤ j → j ≤ n → IsWithin b total weight j ⊎ IsBelow b total weight j) ⊎ ((i : ℕ) × IsFirstOver b total weight i)
+over_or_not : (b : Bill) (total : ℕ → ℕ) (weight : ℕ → ℕ → ℕ) (rank : ℕ → ℕ) → HasRanks b rank → (n : ℕ) → n ≤ b.items → ((j : ℕ) → 1 ≤ j → j ≤ n → KeepsBound b total weight j ⊎ IsBelow b total weight j) ⊎ ((i : ℕ) × IsFirstOver b total weight i)
 over_or_not b total weight rank ranks zero high = inl (λ j low few. absurd (omega (arith, low, few)))
 over_or_not b total weight rank ranks (suc n) high =
     ⊎_elim
     (λ before.
-    let more : IsWithin b total weight (suc n) ⊎ IsBelow b total weight (suc n) → (j : ℕ) → 1 ≤ j → j ≤ suc n → IsWithin b total weight j ⊎ IsBelow b total weight j = λ here j low few. ⊎_elim
-    (λ same. subst (λ k. IsWithin b total weight k ⊎ IsBelow b total weight k) (sym same) here)
+    let more : KeepsBound b total weight (suc n) ⊎ IsBelow b total weight (suc n) → (j : ℕ) → 1 ≤ j → j ≤ suc n → KeepsBound b total weight j ⊎ IsBelow b total weight j = λ here j low few. ⊎_elim
+    (λ same. subst (λ k. KeepsBound b total weight k ⊎ IsBelow b total weight k) (sym same) here)
     (λ apart. before j low (omega (arith, few, apart)))
     (cases_eq j (suc n)) in
     ⊎_elim
@@ -224,7 +224,7 @@ higher b rank ranks zero i j i_low i_high j_low j_high over = ranks i j i_low i_
 higher b rank ranks (suc n) i j i_low i_high j_low j_high (k, low, high, one, rest) =
     omega (arith, ranks i k i_low i_high low high one, higher b rank ranks n k j low high j_low j_high rest)
 
-none_over : (b : Bill) (total : ℕ → ℕ) (weight : ℕ → ℕ → ℕ) (rank : ℕ → ℕ) → HasRanks b rank → ((j : ℕ) → 1 ≤ j → j ≤ b.items → IsWithin b total weight j ⊎ IsBelow b total weight j) → (n i : ℕ) → 1 ≤ i → i ≤ b.items → rank i < n → IsWithin b total weight i
+none_over : (b : Bill) (total : ℕ → ℕ) (weight : ℕ → ℕ → ℕ) (rank : ℕ → ℕ) → HasRanks b rank → ((j : ℕ) → 1 ≤ j → j ≤ b.items → KeepsBound b total weight j ⊎ IsBelow b total weight j) → (n i : ℕ) → 1 ≤ i → i ≤ b.items → rank i < n → KeepsBound b total weight i
 none_over b total weight rank ranks each zero i low high few = absurd (omega (arith, few))
 none_over b total weight rank ranks each (suc n) i low high few =
     ⊎_elim
@@ -232,7 +232,7 @@ none_over b total weight rank ranks each (suc n) i low high few =
     (λ below. absurd (below.4 (none_over b total weight rank ranks each n below.0 below.1 below.2 (omega (arith, few, higher b rank ranks below.3.0 i below.0 low high below.1 below.2 below.3.1)))))
     (each i low high)
 
-pub within_or_over : (b : Bill) (total : ℕ → ℕ) (weight : ℕ → ℕ → ℕ) (rank : ℕ → ℕ) → HasRanks b rank → ((i : ℕ) → 1 ≤ i → i ≤ b.items → IsWithin b total weight i) ⊎ ((i : ℕ) × IsFirstOver b total weight i)
+pub within_or_over : (b : Bill) (total : ℕ → ℕ) (weight : ℕ → ℕ → ℕ) (rank : ℕ → ℕ) → HasRanks b rank → ((i : ℕ) → 1 ≤ i → i ≤ b.items → KeepsBound b total weight i) ⊎ ((i : ℕ) × IsFirstOver b total weight i)
 within_or_over b total weight rank ranks =
     ⊎_elim
     (λ each. inl (λ i low high. none_over b total weight rank ranks each (suc (rank i)) i low high (omega arith)))

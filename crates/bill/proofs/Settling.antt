@@ -6,7 +6,7 @@ use Rattle.lot_sizing.specs.declared.limits.TheConstants.{MAX_TOTAL}
 use Rattle.lot_sizing.specs.Problem.{entry}
 use Rattle.lot_sizing.specs.Bill.{Bill, AreTotals, AreWeights, HasRanks}
 use Rattle.bill.specs.Sets.{has}
-use Rattle.bill.specs.Over.{HasAll, IsFirstOver, IsWithin, IsClear, IsBelow, IsKnown, row_entry}
+use Rattle.bill.specs.Over.{HasAll, IsFirstOver, KeepsBound, IsClear, IsBelow, IsKnown, row_entry}
 use Rattle.bill.specs.Steps.{AreDone, AreKnown, HasLargeWeight, HasNoneStuck, IsFirstStuck, IsRowOf, IsSettled, total_by, weight_by}
 
 pub total_is : (b : Bill) (asked there total : ℕ → ℕ) (totals : List ℕ) (i : ℕ) → AreTotals b asked there total → 1 ≤ i → i ≤ b.items → ((k : ℕ) → 1 ≤ k → k ≤ b.items → 0 < b.units i k → entry totals k ≡ total k) → total_by b (asked i) (there i) totals i ≡ total i
@@ -52,7 +52,7 @@ below_undone b total weight done i k low high some undone settled =
     settled
 
 -- an item past the bound
-pub past_bound : (b : Bill) (asked there total : ℕ → ℕ) (weight : ℕ → ℕ → ℕ) (totals : List ℕ) (weights : List (List ℕ)) (i : ℕ) → IsRight b asked there total weight totals weights i → (MAX_TOTAL < total_by b (asked i) (there i) totals i) ⊎ HasLargeWeight b weights i → IsWithin b total weight i → ⊥
+pub past_bound : (b : Bill) (asked there total : ℕ → ℕ) (weight : ℕ → ℕ → ℕ) (totals : List ℕ) (weights : List (List ℕ)) (i : ℕ) → IsRight b asked there total weight totals weights i → (MAX_TOTAL < total_by b (asked i) (there i) totals i) ⊎ HasLargeWeight b weights i → KeepsBound b total weight i → ⊥
 past_bound b asked there total weight totals weights i is_right large within =
     ⊎_elim
     (λ in_all. omega (arith, in_all, is_right.in_all, within.in_all))
@@ -62,7 +62,7 @@ past_bound b asked there total weight totals weights i is_right large within =
 -- where an item's numbers are kept
 pub kept_known : (b : Bill) (asked there total : ℕ → ℕ) (weight : ℕ → ℕ → ℕ) (done new_done : List Bool) (totals new_totals : List ℕ) (weights new_weights : List (List ℕ)) (row : List ℕ) (i x : ℕ) → AreKnown b total weight done totals weights → IsRight b asked there total weight totals weights i → IsClear b total weight i → x ≡ total_by b (asked i) (there i) totals i → x ≤ MAX_TOTAL → IsRowOf b weights i row → entry new_totals i ≡ x → slice_index_or new_weights (i - 1) [] ≡ row → ((j : ℕ) → 1 ≤ j → (j ≡ i → ⊥) → (has new_done j ≡ has done j) × (entry new_totals j ≡ entry totals j) × (slice_index_or new_weights (j - 1) [] ≡ slice_index_or weights (j - 1) [])) → AreKnown b total weight new_done new_totals new_weights
 kept_known b asked there total weight done new_done totals new_totals weights new_weights row i x known is_right clear is small is_row total_here row_here others j j_low j_high some = ⊎_elim
-    (λ same. subst (λ k. IsWithin b total weight k × IsKnown b total weight new_totals new_weights k × IsClear b total weight k) (sym same) (
+    (λ same. subst (λ k. KeepsBound b total weight k × IsKnown b total weight new_totals new_weights k × IsClear b total weight k) (sym same) (
       record {
         in_all = omega (arith, is_right.in_all, is, small);
         each = λ k k_low k_high. omega (arith, is_right.each k k_low k_high, is_row.each k k_low k_high, is_row.small k);

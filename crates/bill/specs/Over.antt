@@ -5,25 +5,25 @@ use Rattle.lot_sizing.specs.Problem.{entry}
 use Rattle.lot_sizing.specs.Bill.{Bill, AreTotals, AreWeights, GoesInto}
 
 -- an item's total and its weights are within the bound
-pub record IsWithin (b : Bill) (total : ℕ → ℕ) (weight : ℕ → ℕ → ℕ) (i : ℕ) : Type 0 where
+pub record KeepsBound (b : Bill) (total : ℕ → ℕ) (weight : ℕ → ℕ → ℕ) (i : ℕ) : Type 0 where
   pub in_all : total i ≤ MAX_TOTAL
   pub each : (k : ℕ) → 1 ≤ k → k ≤ b.items → weight i k ≤ MAX_TOTAL
 
 -- all that an item goes into are within the bound
 abbrev pub IsClear : Bill → (ℕ → ℕ) → (ℕ → ℕ → ℕ) → ℕ → Type 0
-IsClear b total weight i = (k : ℕ) → 1 ≤ k → k ≤ b.items → GoesInto b i k → IsWithin b total weight k
+IsClear b total weight i = (k : ℕ) → 1 ≤ k → k ≤ b.items → GoesInto b i k → KeepsBound b total weight k
 
 -- an item goes into one that is past the bound
 abbrev pub IsBelow : Bill → (ℕ → ℕ) → (ℕ → ℕ → ℕ) → ℕ → Type 0
-IsBelow b total weight i = (k : ℕ) × (1 ≤ k) × (k ≤ b.items) × GoesInto b i k × (IsWithin b total weight k → ⊥)
+IsBelow b total weight i = (k : ℕ) × (1 ≤ k) × (k ≤ b.items) × GoesInto b i k × (KeepsBound b total weight k → ⊥)
 
 -- an item is past the bound, all that it goes into are within, and no earlier item is like that
 pub record IsFirstOver (b : Bill) (total : ℕ → ℕ) (weight : ℕ → ℕ → ℕ) (i : ℕ) : Type 0 where
   pub low : 1 ≤ i
   pub high : i ≤ b.items
-  pub over : IsWithin b total weight i → ⊥
+  pub over : KeepsBound b total weight i → ⊥
   pub above : IsClear b total weight i
-  pub first : (j : ℕ) → 1 ≤ j → j < i → IsWithin b total weight j ⊎ IsBelow b total weight j
+  pub first : (j : ℕ) → 1 ≤ j → j < i → KeepsBound b total weight j ⊎ IsBelow b total weight j
 
 -- a number for an item and another
 abbrev pub row_entry : List (List ℕ) → ℕ → ℕ → ℕ
@@ -44,7 +44,7 @@ pub record IsKnown (b : Bill) (total : ℕ → ℕ) (weight : ℕ → ℕ → �
 
 -- lists of all totals and weights, each within the bound
 pub record HasAll (b : Bill) (total : ℕ → ℕ) (weight : ℕ → ℕ → ℕ) (totals : List ℕ) (weights : List (List ℕ)) : Type 0 where
-  pub within : (i : ℕ) → 1 ≤ i → i ≤ b.items → IsWithin b total weight i
+  pub within : (i : ℕ) → 1 ≤ i → i ≤ b.items → KeepsBound b total weight i
   pub known : (i : ℕ) → 1 ≤ i → i ≤ b.items → IsKnown b total weight totals weights i
 
 -- of all totals and weights of the bill

@@ -6,7 +6,7 @@ use Rattle.lot_sizing.specs.declared.Need.{Need}
 use Rattle.lot_sizing.specs.Problem.{entry}
 use Rattle.lot_sizing.specs.Bill.{Bill, one_if_same}
 use Rattle.bill.specs.Lines.{bill_of_lines}
-use Rattle.bill.specs.Over.{AreSmall, HaveSize, IsBelow, IsClear, IsKnown, IsWithin, OfAll, row_entry}
+use Rattle.bill.specs.Over.{AreSmall, HaveSize, IsBelow, IsClear, IsKnown, KeepsBound, OfAll, row_entry}
 use Rattle.bill.specs.Sets.{has}
 use Rattle.bill.specs.declared.totals.Known.{Known}
 
@@ -96,11 +96,11 @@ pub record AreSameBut (item : ℕ) (old new : Known) : Type 0 where
 
 -- the numbers of the items that are done are known and within the bound, and so are all that they go into
 abbrev pub AreKnown : Bill → (ℕ → ℕ) → (ℕ → ℕ → ℕ) → List Bool → List ℕ → List (List ℕ) → Type 0
-AreKnown b total weight done totals weights = (i : ℕ) → 1 ≤ i → i ≤ b.items → has done i ≡ true → IsWithin b total weight i × IsKnown b total weight totals weights i × IsClear b total weight i
+AreKnown b total weight done totals weights = (i : ℕ) → 1 ≤ i → i ≤ b.items → has done i ≡ true → KeepsBound b total weight i × IsKnown b total weight totals weights i × IsClear b total weight i
 
 -- the item is done with: its numbers are known, or it goes into one past the bound, or it is past the bound
 abbrev pub IsSettled : Bill → (ℕ → ℕ) → (ℕ → ℕ → ℕ) → List Bool → ℕ → Type 0
-IsSettled b total weight done j = (has done j ≡ true) ⊎ (IsBelow b total weight j ⊎ (IsWithin b total weight j → ⊥))
+IsSettled b total weight done j = (has done j ≡ true) ⊎ (IsBelow b total weight j ⊎ (KeepsBound b total weight j → ⊥))
 
 -- what is known is true of all totals and weights of the bill
 abbrev pub IsProgress : List (List Need) → List ℕ → List ℕ → Known → Type 0

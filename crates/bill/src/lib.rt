@@ -1,6 +1,8 @@
 //! Bills of materials: which items are components of which, over any number of lines, and how much of
 //! them goes into one unit.
 //!
+//! Family: models. It stands on `lot_sizing`; `lot_model` stands on it.
+//!
 //! `BillLines` lends the list of each item's components. `Ranking` gives each item a number above those
 //! of the items that it goes into, or names the first item that is its own component. With ranks,
 //! `Totals::of` gives each item's total and weights, or names the first item whose numbers are above
@@ -20,6 +22,3 @@ pub use lines::{BillLines, is_bill};
 pub use lot_sizing::Need;
 pub use ranking::{CycleFault, Ranking};
 pub use totals::{BoundFault, Tables, Totals};
-
-#[cfg(test)]
-mod tests;

@@ -1,6 +1,7 @@
 -- From the least number that a leaf says to the claim.
 use Rattle.std.proofs.Common.{◌≡◌, ◌≤◌, ◌<◌, ◌+◌, ◌*◌, ◌∙◌, ⊎_elim, inl, inr, ℕ, sym, subst, arith, List, [], length, Option, Some, None}
 use Rattle.std.proofs.lemmas.Bool.{cases_lt}
+use Rattle.cert_lines.specs.declared.limits.TheConstants.{MAX_BRANCHES}
 use Rattle.branch_and_bound.specs.declared.sought.Sought.{Sought as Tree}
 use Rattle.branch_and_bound.specs.declared.sought.Sought.TheVariants.{Branch', Leaf as LeafOf}
 use Rattle.cert_lines.specs.declared.parts.Claim.{Claim}
@@ -60,23 +61,23 @@ long_paths rules best most rs path (Branch' c spot at p low q high) less h = (
 )
 long_paths rules best most rs path (LeafOf leaf) less h = λ below. let d = h below in omega (arith, d, less)
 
-pub no_bound : (rules : Rules) (best least : Option ℕ) (budget : ℕ) (rs : List Range) (tree : Tree) (claim : Claim) → AreOrdered rs → IsGrown rules best budget rs [] tree → least_said tree ≡ least → IsLeastClaim best least claim → 2 * volume rs ≤ budget + 1 → height rs ≤ 2000 → IsBound claim → ⊥
+pub no_bound : (rules : Rules) (best least : Option ℕ) (budget : ℕ) (rs : List Range) (tree : Tree) (claim : Claim) → AreOrdered rs → IsGrown rules best budget rs [] tree → least_said tree ≡ least → IsLeastClaim best least claim → 2 * volume rs ≤ budget + 1 → height rs ≤ MAX_BRANCHES → IsBound claim → ⊥
 no_bound rules best least budget rs tree claim o g e h enough low b =
     closed_least rules best rs [] tree (decided rules best budget rs [] tree o g enough (omega (arith, low))) (bound_open rules best least tree claim e h b)
 
 -- deep leaves are more than the height allows
-deep_high : (rules : Rules) (best : Option ℕ) (budget : ℕ) (rs : List Range) (tree : Tree) → AreOrdered rs → IsGrown rules best budget rs [] tree → EachLeaf rules.place (IsOpenDeep rules best) rs [] tree → height rs ≤ 2000 → EachLeaf rules.place (IsClosed rules best) rs [] tree
+deep_high : (rules : Rules) (best : Option ℕ) (budget : ℕ) (rs : List Range) (tree : Tree) → AreOrdered rs → IsGrown rules best budget rs [] tree → EachLeaf rules.place (IsOpenDeep rules best) rs [] tree → height rs ≤ MAX_BRANCHES → EachLeaf rules.place (IsClosed rules best) rs [] tree
 deep_high rules best budget rs tree o g deep low =
     each_map rules.place
-    (λ rs path leaf. ((length path + height rs ≤ 2000) × AreOrdered rs) × (IsOpenApart rules best rs path leaf × IsOpenDeep rules best rs path leaf))
+    (λ rs path leaf. ((length path + height rs ≤ MAX_BRANCHES) × AreOrdered rs) × (IsOpenApart rules best rs path leaf × IsOpenDeep rules best rs path leaf))
     (IsClosed rules best)
     (λ rs path leaf h below. h.1.0 below (point_of_height rs h.0.1 (let d = h.1.1 below in let s = h.0.0 in omega (arith, d, s))))
     rs [] tree
     (each_both rules.place
-    (λ rs path leaf. (length path + height rs ≤ 2000) × AreOrdered rs)
+    (λ rs path leaf. (length path + height rs ≤ MAX_BRANCHES) × AreOrdered rs)
     (λ rs path leaf. IsOpenApart rules best rs path leaf × IsOpenDeep rules best rs path leaf)
     rs [] tree
-    (each_both rules.place (λ rs path leaf. length path + height rs ≤ 2000) (λ rs path leaf. AreOrdered rs) rs [] tree (shallow rules.place rs [] tree g.allowed (omega (arith, low))) (ordered_leaves rules.place rs [] tree o g.split))
+    (each_both rules.place (λ rs path leaf. length path + height rs ≤ MAX_BRANCHES) (λ rs path leaf. AreOrdered rs) rs [] tree (shallow rules.place rs [] tree g.allowed (omega (arith, low))) (ordered_leaves rules.place rs [] tree o g.split))
     (each_both rules.place (IsOpenApart rules best) (IsOpenDeep rules best) rs [] tree g.apart deep))
 
 pub cause : (rules : Rules) (best least : Option ℕ) (budget : ℕ) (rs : List Range) (tree : Tree) (claim : Claim) → AreOrdered rs → IsGrown rules best budget rs [] tree → least_said tree ≡ least → IsLeastClaim best least claim → IsBound claim → IsUndecided rules best budget rs tree
@@ -86,16 +87,16 @@ cause rules best least budget rs tree claim o g e h b =
     (λ much. inl much)
     (λ little.
     let deep = g.deep little in
-    let long : 2000 ≤ longest tree =
+    let long : MAX_BRANCHES ≤ longest tree =
     ⊎_elim
-    (λ less. absurd (closed_least rules best rs [] tree (long_paths rules best 2000 rs [] tree (omega (arith, less)) deep) gap))
+    (λ less. absurd (closed_least rules best rs [] tree (long_paths rules best MAX_BRANCHES rs [] tree (omega (arith, less)) deep) gap))
     (λ enough. enough)
-    (cases_lt (longest tree) 2000) in
-    let short : longest tree ≤ 2000 = omega (arith, g.short) in
-    let high : 2000 < height rs =
+    (cases_lt (longest tree) MAX_BRANCHES) in
+    let short : longest tree ≤ MAX_BRANCHES = omega (arith, g.short) in
+    let high : MAX_BRANCHES < height rs =
     ⊎_elim
     (λ more. more)
     (λ low. absurd (closed_least rules best rs [] tree (deep_high rules best budget rs tree o g deep low) gap))
-    (cases_lt 2000 (height rs)) in
+    (cases_lt MAX_BRANCHES (height rs)) in
     inr (omega (arith, long, short), high, deep))
     (cases_lt budget (nodes tree + 2))

@@ -1,5 +1,6 @@
 -- What a search gives in the end.
 use Rattle.std.proofs.Common.{◌≡◌, ◌≤◌, ◌<◌, ◌+◌, ◌*◌, ◌-◌, ◌/◌, ◌∙◌, ℕ, sym, refl, subst, arith, rules, List, [], length, Option, Some, None, true}
+use Rattle.cert_lines.specs.declared.limits.TheConstants.{MAX_BRANCHES}
 use Rattle.lin_rows.specs.declared.bound.Bound.{Bound as BoundOf}
 use Rattle.branch_and_bound.specs.declared.sought.Sought.{Sought as Tree}
 use Rattle.branch_and_bound.specs.declared.sought.Sought.TheVariants.{Branch', Leaf as LeafOf}
@@ -42,9 +43,9 @@ allowed_of_branches rules rs path (Branch' c spot at p low q high) b =
     )
 allowed_of_branches rules rs path (LeafOf leaf) b = tt
 
-pub short_of_branches : (rules : Rules) (rs : List Range) (path : List BoundOf) (tree : Tree) → length path ≤ 2000 → AreBranches rules rs path tree → length path + longest tree ≤ 2000
+pub short_of_branches : (rules : Rules) (rs : List Range) (path : List BoundOf) (tree : Tree) → length path ≤ MAX_BRANCHES → AreBranches rules rs path tree → length path + longest tree ≤ MAX_BRANCHES
 short_of_branches rules rs path (Branch' c spot at p low q high) h b =
-    let s : length path < 2000 = b.0.short in
+    let s : length path < MAX_BRANCHES = b.0.short in
     let one = short_of_branches rules (low_side rs spot at) (low_path path c at) low (omega (arith, s, low_path-length path c at)) b.1 in
     let two = short_of_branches rules (high_side rs spot at) (high_path path c at) high (omega (arith, s, high_path-length path c at)) b.2 in
     omega (arith, one, two, low_path-length path c at, high_path-length path c at)

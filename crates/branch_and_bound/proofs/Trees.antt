@@ -1,6 +1,7 @@
 -- Laws of trees that split ranges.
 use Rattle.std.proofs.Common.{◌≡◌, ◌≤◌, ◌+◌, ◌*◌, ⊎_elim, ℕ, arith, List, [], ◌∷◌, length, length-append, Option}
 use Rattle.std.proofs.lemmas.Bool.{cases_lt}
+use Rattle.cert_lines.specs.declared.limits.TheConstants.{MAX_BRANCHES}
 use Rattle.lin_rows.specs.declared.column.Column.{Column}
 use Rattle.branch_and_bound.specs.declared.proposal.Proposal.{Proposal as Leaf}
 use Rattle.branch_and_bound.specs.declared.sought.Sought.{Sought as Tree}
@@ -25,7 +26,7 @@ IsOpenApart rules best rs path leaf = IsBelow leaf.says best → IsPoint rs → 
 -- a tree over the ranges, below the path, that has at most so many nodes and is left open against the best cost only for want of nodes or depth
 pub record IsGrown (rules : Rules) (best : Option ℕ) (budget : ℕ) (rs : List Range) (path : List Bound) (tree : Tree) : Type 0 where
   pub within : nodes tree ≤ budget
-  pub short : length path + longest tree ≤ 2000
+  pub short : length path + longest tree ≤ MAX_BRANCHES
   pub split : IsSplitTree rules.place rs tree
   pub allowed : IsAllowedTree rules.place rs path tree
   pub apart : EachLeaf rules.place (IsOpenApart rules best) rs path tree
@@ -74,7 +75,7 @@ pub high_path-length : (path : List Bound) (c : Column) (at : ℕ) → length (h
 high_path-length path c at = length-append path (at_least c (at + 1) ∷ [])
 
 -- where a path has room for the height, so have all longer ones
-pub shallow : (place : Place) (rs : List Range) (path : List Bound) (tree : Tree) → IsAllowedTree place rs path tree → length path + height rs ≤ 2000 → EachLeaf place (λ rs path leaf. length path + height rs ≤ 2000) rs path tree
+pub shallow : (place : Place) (rs : List Range) (path : List Bound) (tree : Tree) → IsAllowedTree place rs path tree → length path + height rs ≤ MAX_BRANCHES → EachLeaf place (λ rs path leaf. length path + height rs ≤ MAX_BRANCHES) rs path tree
 shallow place rs path (Branch' c spot at p low q high) h k = (
   shallow place (low_side rs (place c) at) (low_path path c at) low h.1 (let r = h.0.0 in omega (arith, r, k, low_path-length path c at)),
   shallow place (high_side rs (place c) at) (high_path path c at) high h.2 (let r = h.0.1 in omega (arith, r, k, high_path-length path c at)),
@@ -108,7 +109,7 @@ least_first rules m rs path (Branch' c spot at p low q high) h =
 least_first rules m rs path (LeafOf leaf) h = h
 
 -- with budget for all nodes and no more height than depth, no leaf is left open
-pub decided : (rules : Rules) (best : Option ℕ) (budget : ℕ) (rs : List Range) (path : List Bound) (tree : Tree) → AreOrdered rs → IsGrown rules best budget rs path tree → 2 * volume rs ≤ budget + 1 → length path + height rs ≤ 2000 → EachLeaf rules.place (IsClosed rules best) rs path tree
+pub decided : (rules : Rules) (best : Option ℕ) (budget : ℕ) (rs : List Range) (path : List Bound) (tree : Tree) → AreOrdered rs → IsGrown rules best budget rs path tree → 2 * volume rs ≤ budget + 1 → length path + height rs ≤ MAX_BRANCHES → EachLeaf rules.place (IsClosed rules best) rs path tree
 decided rules best budget rs path tree o g enough low =
     ⊎_elim
     (λ much.
@@ -120,14 +121,14 @@ decided rules best budget rs path tree o g enough low =
     (each_both rules.place (λ rs path leaf. IsPoint rs) (IsOpenApart rules best) rs path tree (full rules.place rs path tree o g.split (omega (arith, much, enough))) g.apart))
     (λ little.
     each_map rules.place
-    (λ rs path leaf. ((length path + height rs ≤ 2000) × AreOrdered rs) × (IsOpenApart rules best rs path leaf × IsOpenDeep rules best rs path leaf))
+    (λ rs path leaf. ((length path + height rs ≤ MAX_BRANCHES) × AreOrdered rs) × (IsOpenApart rules best rs path leaf × IsOpenDeep rules best rs path leaf))
     (IsClosed rules best)
     (λ rs path leaf h below. h.1.0 below (point_of_height rs h.0.1 (let d = h.1.1 below in let s = h.0.0 in omega (arith, d, s))))
     rs path tree
     (each_both rules.place
-    (λ rs path leaf. (length path + height rs ≤ 2000) × AreOrdered rs)
+    (λ rs path leaf. (length path + height rs ≤ MAX_BRANCHES) × AreOrdered rs)
     (λ rs path leaf. IsOpenApart rules best rs path leaf × IsOpenDeep rules best rs path leaf)
     rs path tree
-    (each_both rules.place (λ rs path leaf. length path + height rs ≤ 2000) (λ rs path leaf. AreOrdered rs) rs path tree (shallow rules.place rs path tree g.allowed low) (ordered_leaves rules.place rs path tree o g.split))
+    (each_both rules.place (λ rs path leaf. length path + height rs ≤ MAX_BRANCHES) (λ rs path leaf. AreOrdered rs) rs path tree (shallow rules.place rs path tree g.allowed low) (ordered_leaves rules.place rs path tree o g.split))
     (each_both rules.place (IsOpenApart rules best) (IsOpenDeep rules best) rs path tree g.apart (g.deep little))))
     (cases_lt budget (nodes tree + 2))

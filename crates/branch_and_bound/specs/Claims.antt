@@ -1,5 +1,6 @@
 -- What a tree shows of all plans in its ranges.
 use Rattle.std.specs.Prelude.{◌≡◌, ◌⊎◌, ℕ, ◌+◌, ◌<◌, ◌≤◌, List, [], length, Option, Some, None}
+use Rattle.cert_lines.specs.declared.limits.TheConstants.{MAX_BRANCHES}
 use Rattle.branch_and_bound.specs.declared.sought.Sought.{Sought as Tree}
 use Rattle.branch_and_bound.specs.declared.proposal.Proposal.{Proposal}
 use Rattle.lin_rows.specs.declared.bound.Bound.{Bound as PathBound}
@@ -36,15 +37,15 @@ IsTold rules Tells rs tree (Optimal cost) = Unit {0}
 IsTold rules Tells rs tree Infeasible = Unit {0}
 IsTold rules Tells rs tree (Bound bound) = EachLeaf rules.place (λ rs path leaf. leaf.says ≡ Some bound → Tells rs path leaf) rs [] tree
 
--- a leaf that is open against a best cost has 2000 branches above it
+-- a leaf that is open against a best cost has MAX_BRANCHES branches above it
 abbrev pub IsOpenDeep : Rules → Option ℕ → List Range → List PathBound → Proposal → Type 0
-IsOpenDeep rules best rs path leaf = IsBelow leaf.says best → 2000 ≤ length path
+IsOpenDeep rules best rs path leaf = IsBelow leaf.says best → MAX_BRANCHES ≤ length path
 
--- two more nodes would pass the budget, or all leaves that are open have 2000 branches above them, which is the longest path, and there is more height than that
+-- two more nodes would pass the budget, or all leaves that are open have MAX_BRANCHES branches above them, which is the longest path, and there is more height than that
 abbrev pub IsUndecided : Rules → Option ℕ → ℕ → List Range → Tree → Type 0
 IsUndecided rules best budget rs tree =
     (budget < nodes tree + 2)
-    ⊎ ((longest tree ≡ 2000) × (2000 < height rs) × EachLeaf rules.place (IsOpenDeep rules best) rs [] tree)
+    ⊎ ((longest tree ≡ MAX_BRANCHES) × (MAX_BRANCHES < height rs) × EachLeaf rules.place (IsOpenDeep rules best) rs [] tree)
 
 -- the claim of a cost and of the least number that a leaf says
 abbrev pub IsLeastClaim : Option ℕ → Option ℕ → Claim → Type 0

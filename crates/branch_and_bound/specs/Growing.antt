@@ -1,5 +1,6 @@
 -- What holds of a tree while it is searched.
 use Rattle.std.specs.Prelude.{◌≡◌, ℕ, ◌+◌, ◌≤◌, ◌<◌, ◌==◌, if◌then◌else◌, Bool, true, false, List, length, Option, Some, None}
+use Rattle.cert_lines.specs.declared.limits.TheConstants.{MAX_BRANCHES}
 use Rattle.lin_rows.specs.declared.column.Column.{Column}
 use Rattle.lin_rows.specs.declared.bound.Bound.{Bound}
 use Rattle.branch_and_bound.specs.declared.proposal.Proposal.{Proposal as Leaf}
@@ -10,10 +11,10 @@ use Rattle.branch_and_bound.specs.Ranges.{IsAllowed, IsPoint, IsSplitAt, high_si
 use Rattle.branch_and_bound.specs.Costs.{IsBelow}
 use Rattle.branch_and_bound.specs.Trees.{AtLeaf, Rules, high_path, least_said, low_path}
 
--- a branch on the column, whose range is at the place, with fewer than 2000 branches above it
+-- a branch on the column, whose range is at the place, with fewer than MAX_BRANCHES branches above it
 pub record IsBranchAt (rules : Rules) (rs : List Range) (path : List Bound) (c : Column) (k at : ℕ) : Type 0 where
   pub place : rules.place c ≡ k
-  pub short : length path < 2000
+  pub short : length path < MAX_BRANCHES
   pub split : IsSplitAt rs k at
   pub allowed : IsAllowed (length path) rs k at
 
@@ -38,9 +39,9 @@ pub record IsSound (Holds Tells : AtLeaf) (best : Option ℕ) (rs : List Range) 
   pub told : leaf.asked ≡ true → Tells rs path leaf
   pub apart : IsBelow leaf.says best → IsPoint rs → ⊥
 
--- a leaf below a mark that is open against a best cost has 2000 branches above it
+-- a leaf below a mark that is open against a best cost has MAX_BRANCHES branches above it
 abbrev pub IsMarkedDeep : Option ℕ → Option ℕ → List Range → List Bound → Leaf → Type 0
-IsMarkedDeep mark best rs path leaf = IsBelow leaf.says mark → IsBelow leaf.says best → 2000 ≤ length path
+IsMarkedDeep mark best rs path leaf = IsBelow leaf.says mark → IsBelow leaf.says best → MAX_BRANCHES ≤ length path
 
 -- the cost is just this number
 abbrev pub is_cost : ℕ → Option ℕ → Bool

@@ -7,5 +7,4 @@ pub mod Growing
 pub mod Sides
 pub mod Joined
 pub mod Claims
-pub mod Weak
 pub mod Whole

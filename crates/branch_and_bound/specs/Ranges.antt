@@ -1,5 +1,6 @@
 -- The ranges of the columns that are branched on: how many choices lie in them, and how often they can be halved.
 use Rattle.std.specs.Prelude.{◌≡◌, ℕ, zero, suc, ◌+◌, ◌-◌, ◌*◌, ◌/◌, ◌≤◌, ◌<◌, max, ◌==◌, if◌then◌else◌, List, [], ◌∷◌, length, slice_index_or, slice_set}
+use Rattle.cert_lines.specs.declared.limits.TheConstants.{MAX_BRANCHES}
 use Rattle.branch_and_bound.specs.declared.node.Range.{Range}
 
 -- how many numbers a range has beside its least one
@@ -63,8 +64,8 @@ IsSplitAt rs k at = (k < length rs) × ((range_at rs k).low ≤ at) × (at < (ra
 abbrev pub IsLowered : List Range → ℕ → ℕ → Type 0
 IsLowered rs k at = (height (low_side rs k at) < height rs) × (height (high_side rs k at) < height rs)
 
--- below so many branches, each side of a branch has room for its height on a path of 2000 branches, or has less than there was
+-- below so many branches, each side of a branch has room for its height on a path of MAX_BRANCHES branches, or has less than there was
 abbrev pub IsAllowed : ℕ → List Range → ℕ → ℕ → Type 0
 IsAllowed depth rs k at =
-    (depth + 1 + height (low_side rs k at) ≤ max 2000 (depth + height rs))
-    × (depth + 1 + height (high_side rs k at) ≤ max 2000 (depth + height rs))
+    (depth + 1 + height (low_side rs k at) ≤ max MAX_BRANCHES (depth + height rs))
+    × (depth + 1 + height (high_side rs k at) ≤ max MAX_BRANCHES (depth + height rs))

@@ -1,5 +1,6 @@
 // One pass over a tree: leaves below a mark are branched on.
 ghost use Rattle.std.specs.Prelude.{◌≡◌, ◌≤◌, ◌+◌, ◌<◌, ℕ, List, OnOk, IfOk, length, true, false};
+ghost use Rattle.cert_lines.specs.declared.limits.TheConstants.{MAX_BRANCHES};
 ghost use Rattle.branch_and_bound.specs.Ranges.{AreOrdered};
 ghost use Rattle.branch_and_bound.specs.Costs.{IsAtMost, IsBelow};
 ghost use Rattle.branch_and_bound.specs.Counts.{branches};
@@ -23,8 +24,8 @@ fn is_branched(
     mark: Option<u128>,
     best: Option<u128>,
 ) -> bool
-    ensures open { result ≡ true → ((1 ≤ room) × (depth < 2000) × IsBelow says best) }
-    ensures shut { result ≡ false → 1 ≤ room → IsBelow says mark → IsBelow says best → 2000 ≤ depth }
+    ensures open { result ≡ true → ((1 ≤ room) × (depth < MAX_BRANCHES) × IsBelow says best) }
+    ensures shut { result ≡ false → 1 ≤ room → IsBelow says mark → IsBelow says best → MAX_BRANCHES ≤ depth }
 {
     room >= 1 && depth < MAX_BRANCHES as usize && is_below(says, mark) && is_below(says, best)
 }

@@ -2,13 +2,13 @@
 //!
 //! A `Guide` tells what each `Node` says: it proposes a leaf for it (`Proposal`), and a `Split` where the leaf
 //! is left open. `search` branches until no leaf is open against the best plan, or the budget of nodes or of
-//! 2,000 branches on a path is used up, and gives the `Claim` that the leaves show, with the tree of leaves
+//! `MAX_BRANCHES` branches on a path is used up, and gives the `Claim` that the leaves show, with the tree of leaves
 //! that say so. Where it claims a bound, evidence was asked for at each leaf that says just this number.
 //! `strip` gives the tree of a certificate. `open_place` and `middle` are for guides that branch in the middle
 //! of a range, and `whole_is_measured` counts the choices of a whole problem.
 //!
 //! Family: search. It stands on `lin_rows`, whose columns are branched on, and on `cert_lines` and
-//! `certificate`, whose leaves and trees it gives; the search of a model is to stand on it.
+//! `certificate`, whose leaves and trees it gives; `branch_and_cut` stands on it.
 #![tactic(auto)]
 
 mod asking;
@@ -36,8 +36,3 @@ pub use rules::Guide;
 pub use searching::search;
 pub use sought::{Searched, Sought};
 pub use stripping::strip;
-
-#[cfg(test)]
-mod tests;
-#[cfg(test)]
-mod weak;

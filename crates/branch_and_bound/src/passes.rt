@@ -14,14 +14,19 @@ use std::alloc::{AllocError, Global};
 // How many passes have a mark.
 const PASSES: u32 = 64;
 
-// The next mark: the least number and a 64th of the way from the root's number to the best cost, or, without a
-// plan, some thousandths of the least number, and at least one more.
+// In how many steps a mark goes from the root's number to the best cost: one for each pass.
+const STEPS_TO_COST: u128 = PASSES as u128;
+
+// In how many steps it would go from 0 to the least number, where there is no plan.
+const STEPS_TO_NUMBER: u128 = 250;
+
+// The next mark: the least number and one step, which is at least 1.
 fn next_mark(least: Option<u128>, root: Option<u128>, best: Option<u128>) -> Option<u128> {
     let number = least?;
     let step = match root {
         Some(from) => match best {
-            Some(cost) => cost.saturating_sub(from) / 64,
-            None => number / 250,
+            Some(cost) => cost.saturating_sub(from) / STEPS_TO_COST,
+            None => number / STEPS_TO_NUMBER,
         },
         None => 1,
     };

@@ -1,5 +1,6 @@
 // A search of all ranges, and what it shows.
 ghost use Rattle.std.specs.Prelude.{◌≡◌, ◌≤◌, ◌+◌, ◌*◌, ℕ, [], length, None, Option, OnOk, IfOk};
+ghost use Rattle.cert_lines.specs.declared.limits.TheConstants.{MAX_BRANCHES};
 ghost use Rattle.branch_and_bound.specs.Counts.{branches, longest, nodes};
 ghost use Rattle.branch_and_bound.specs.Ranges.{AreOrdered, height, volume};
 ghost use Rattle.branch_and_bound.specs.Costs.{IsAtMost};
@@ -64,7 +65,7 @@ fn search_tree<S, G: Guide<S>>(
 }
 
 /// Searches all choices in the ranges, with at most so many nodes. The claim is a bound only for one of two
-/// causes: two more nodes would pass the budget, or all leaves that are left open have 2,000 branches above
+/// causes: two more nodes would pass the budget, or all leaves that are left open have `MAX_BRANCHES` branches above
 /// them. Where a bound is claimed, evidence was asked for at each leaf that says just this number. It fails
 /// only where memory runs out.
 pub fn search<S, G: Guide<S>>(
@@ -83,13 +84,13 @@ pub fn search<S, G: Guide<S>>(
     ensures kept { OnOk result (IsAtMost (G.cost state.new) (G.cost state.old)) }
     ensures nodes { IfOk result (λ s. nodes s.tree ≡ s.nodes) }
     ensures within { IfOk result (λ s. s.nodes ≤ budget) }
-    ensures short { IfOk result (λ s. longest s.tree ≤ 2000) }
+    ensures short { IfOk result (λ s. longest s.tree ≤ MAX_BRANCHES) }
     ensures split { IfOk result (λ s. IsSplitTree (G.rules guide.now).place ranges.items s.tree) }
     ensures holds { IfOk result (λ s. EachLeaf (G.rules guide.now).place (G.Holds guide.now state.new) ranges.items [] s.tree) }
     ensures shown { IfOk result (λ s. IsShown (G.rules guide.now) (G.cost state.new) ranges.items s.tree s.claim) }
     ensures evidence { IfOk result (λ s. IsTold (G.rules guide.now) (G.Tells guide.now) ranges.items s.tree s.claim) }
     ensures cause { IfOk result (λ s. IsBound s.claim → IsUndecided (G.rules guide.now) (G.cost state.new) budget ranges.items s.tree) }
-    ensures decided { IfOk result (λ s. 2 * volume ranges.items ≤ budget + 1 → height ranges.items ≤ 2000 → IsBound s.claim → ⊥) }
+    ensures decided { IfOk result (λ s. 2 * volume ranges.items ≤ budget + 1 → height ranges.items ≤ MAX_BRANCHES → IsBound s.claim → ⊥) }
 {
     let all = (budget - 1) / 2;
     let mut room = all;

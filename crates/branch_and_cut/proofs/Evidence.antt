@@ -22,7 +22,7 @@ use Rattle.branch_and_bound.specs.declared.node.Range.{Range}
 use Rattle.branch_and_bound.specs.declared.proposal.Proposal.{Proposal}
 use Rattle.branch_and_bound.specs.Costs.{IsAtMost}
 use Rattle.branch_and_cut.specs.Branching.{within_any}
-use Rattle.branch_and_cut.specs.Nodes.{IsKept, IsRaised, IsToldAt, LeafSaysWithin, asked_of, said}
+use Rattle.branch_and_cut.specs.Nodes.{IsKept, IsRaised, IsToldAt, LeafSaysWithin, marked_asked, said}
 use Rattle.branch_and_cut.specs.Search.{IsEvidence}
 
 -- a leaf of the path without cuts is one over any rows
@@ -66,9 +66,9 @@ kept_of m ranges version least rows rs path p leaf says same amount is lines no_
   kind = inl (subst IsOfRows (sym same) of);
 }
 
-pub asked_kept : (m : Problem) (ranges : Ranges) (version least : ℕ) (rows : List LinRow) (rs : List Range) (path : List Bound) (p new : Proposal) → new ≡ asked_of p → IsKept m ranges version least rows rs path p → IsKept m ranges version least rows rs path new
+pub asked_kept : (m : Problem) (ranges : Ranges) (version least : ℕ) (rows : List LinRow) (rs : List Range) (path : List Bound) (p new : Proposal) → new ≡ marked_asked p → IsKept m ranges version least rows rs path p → IsKept m ranges version least rows rs path new
 asked_kept m ranges version least rows rs path p new same is =
-    let here : IsKept m ranges version least rows rs path (asked_of p) = record {
+    let here : IsKept m ranges version least rows rs path (marked_asked p) = record {
       good = record { says = is.good.says; lines = is.good.lines; no_less = is.good.no_less; small = is.good.small };
       kind = is.kind;
     } in
@@ -143,10 +143,10 @@ some_evidence : (m : Problem) (root : RootSays) (path : List Bound) (says : Opti
 some_evidence m root path None all = tt
 some_evidence m root path (Some amount) all = all amount
 
-pub asked_told : (m : Problem) (root : RootSays) (path : List Bound) (old new : Proposal) → new ≡ asked_of old → ((amount : ℕ) → IsEvidence m root path amount) → IsToldAt m root path new
+pub asked_told : (m : Problem) (root : RootSays) (path : List Bound) (old new : Proposal) → new ≡ marked_asked old → ((amount : ℕ) → IsEvidence m root path amount) → IsToldAt m root path new
 asked_told m root path old new same all short = some_evidence m root path new.says all
 
-pub asked_more : (old new : Proposal) → new ≡ asked_of old → IsAtMost old.says new.says
+pub asked_more : (old new : Proposal) → new ≡ marked_asked old → IsAtMost old.says new.says
 asked_more old new same = subst (λ (p : Proposal). IsAtMost old.says p.says) (sym same) (at_most_same old.says)
 
 -- what follows of what came back
@@ -157,7 +157,7 @@ ok_on (Err e) P Q f is = tt
 pub raised_asked : (old new : Proposal) (leaf : Leaf) (bound : ℕ) → IsRaised old leaf bound new → new.asked ≡ true
 raised_asked old new leaf bound raised = ⊎_elim (λ same. ap (λ (p : Proposal). p.asked) same.0) (λ more. more.2) raised
 
-pub asked_asked : (old new : Proposal) → new ≡ asked_of old → new.asked ≡ true
+pub asked_asked : (old new : Proposal) → new ≡ marked_asked old → new.asked ≡ true
 asked_asked old new same = ap (λ (p : Proposal). p.asked) same
 
 -- what holds anyway holds on success

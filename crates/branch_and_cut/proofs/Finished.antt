@@ -29,6 +29,7 @@ use Rattle.cert_checker.specs.Cuts.{OfProblem}
 use Rattle.first_plans.specs.Made.{IsMade}
 use Rattle.branching.specs.declared.found.Found.{Found}
 use Rattle.branching.specs.declared.found.RootSays.{RootSays}
+use Rattle.leaf_growth.specs.declared.limits.TheConstants.{MAX_NODES}
 use Rattle.branch_and_bound.specs.declared.node.Range.{Range}
 use Rattle.branch_and_bound.specs.declared.proposal.Proposal.{Proposal}
 use Rattle.branch_and_bound.specs.declared.sought.Sought.{Sought}
@@ -206,7 +207,7 @@ within_of m ranges None is = tt
 within_of m ranges (Some p) is = is.within
 
 module _ (g : Model) (k : Known) (budget : ℕ) (rs : List Range) (s : Searched) (t : Tree) (is : IsSearched g k budget rs s) (of : IsTreeOf s t) where
-  pub shown_by : s.nodes ≤ 2 ^ 45 → IsShownBy g.instance.now (ranges_in g) (made_shape g k s t) k.rows.items (plan_kept k.best)
+  pub shown_by : s.nodes ≤ MAX_NODES → IsShownBy g.instance.now (ranges_in g) (made_shape g k s t) k.rows.items (plan_kept k.best)
   shown_by few =
       let m = g.instance.now in
       let ranges = ranges_in g in
@@ -288,7 +289,7 @@ finished g k budget rs s t found measured one total totals is of claim_is cuts_a
     }
 
 -- what is found is proved
-pub found_proved : (g : Model) (k : Known) (budget : ℕ) (rs : List Range) (s : Searched) (t : Tree) (found : Found) → Grounds g.instance.now → IsSearched g k budget rs s → IsTreeOf s t → s.nodes ≤ 2 ^ 45 → shape_of found.certificate ≡ made_shape g k s t → found.plan ≡ plan_kept k.best → found.nodes ≡ s.nodes → IsProvedWithin g.instance.now (ranges_in g) found
+pub found_proved : (g : Model) (k : Known) (budget : ℕ) (rs : List Range) (s : Searched) (t : Tree) (found : Found) → Grounds g.instance.now → IsSearched g k budget rs s → IsTreeOf s t → s.nodes ≤ MAX_NODES → shape_of found.certificate ≡ made_shape g k s t → found.plan ≡ plan_kept k.best → found.nodes ≡ s.nodes → IsProvedWithin g.instance.now (ranges_in g) found
 found_proved g k budget rs s t found by is of few shape plan_is nodes_are =
     let m = g.instance.now in
     let ranges = ranges_in g in

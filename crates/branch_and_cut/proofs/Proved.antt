@@ -33,6 +33,7 @@ use Rattle.acceptance.specs.Accepts.{GoesWith, IsAccepted, IsEnough, IsSmallLeaf
 use Rattle.acceptance.specs.Laws.{AcceptedOverRanges}
 use Rattle.cert_checker.specs.Checks.{ComesWith, HaveGoodRows, line_count, plan_given}
 use Rattle.cert_checker.specs.Cuts.{OfProblem}
+use Rattle.leaf_growth.specs.declared.limits.TheConstants.{MAX_NODES}
 use Rattle.leaf_growth.specs.Written.{AreSmallTotals, FewLines, HasVersion, LeafHasLines, MadeIsWritable}
 use Rattle.branch_and_cut.specs.Nodes.{LeafSaysWithin}
 use Rattle.branch_and_cut.specs.SearchWithin.{IsCertifiedWithin}
@@ -66,7 +67,7 @@ pub record IsShownBy (m : Problem) (ranges : Ranges) (s : Shape) (rows : List Li
   pub leaves : EachLeaf (IsEnoughAt m ranges s.version rows s.claim) [] s.tree
   pub comes : ComesWith m s.claim given
   pub within : IfSome given (λ p. IsWithin m ranges (plan_of p))
-  pub nodes : node_count s.tree ≤ 2 ^ 45
+  pub nodes : node_count s.tree ≤ MAX_NODES
 
 -- what it comes to
 pub record IsProvedShape (m : Problem) (ranges : Ranges) (s : Shape) (given : Option Plan) : Type 0 where

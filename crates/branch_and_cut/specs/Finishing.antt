@@ -1,6 +1,7 @@
 -- What a search has shown when it ends.
 use Rattle.std.specs.Prelude.{◌≡◌, ℕ, ◌+◌, ◌*◌, ◌≤◌, List, []}
 use Rattle.lot_sizing.specs.Problem.{Problem, item_count}
+use Rattle.cert_lines.specs.declared.limits.TheConstants.{MAX_BRANCHES}
 use Rattle.split_trees.specs.Ranges.{Ranges, WithTotals}
 use Rattle.branching.specs.declared.found.Found.{Found}
 use Rattle.branch_and_bound.specs.declared.node.Range.{Range}
@@ -30,13 +31,13 @@ pub record IsSearched (g : Model) (k : Known) (budget : ℕ) (rs : List Range) (
   pub node : IsNodeIn g rs []
   pub nodes : nodes s.tree ≡ s.nodes
   pub within : s.nodes ≤ budget
-  pub short : longest s.tree ≤ 2000
+  pub short : longest s.tree ≤ MAX_BRANCHES
   pub split : IsSplitTree (choice_place g.instance.now) rs s.tree
   pub holds : EachLeaf (choice_place g.instance.now) (IsKeptIn g k) rs [] s.tree
   pub shown : IsShown (choice_rules g.instance.now) (cost_kept k.best) rs s.tree s.claim
   pub told : IsTold (choice_rules g.instance.now) (λ rs path p. IsToldIn g path p) rs s.tree s.claim
   pub cause : IsBound s.claim → IsLeftOpen (choice_rules g.instance.now) (cost_kept k.best) budget rs s.tree
-  pub decided : 2 * volume rs ≤ budget + 1 → height rs ≤ 2000 → IsBound s.claim → ⊥
+  pub decided : 2 * volume rs ≤ budget + 1 → height rs ≤ MAX_BRANCHES → IsBound s.claim → ⊥
 
 -- what is found with its certificate, after such a search
 pub record IsFinished (g : Model) (k : Known) (budget : ℕ) (found : Found) : Type 0 where

@@ -116,11 +116,11 @@ abbrev pub IsToldAt : Problem → RootSays → List Bound → Proposal → Type 
 IsToldAt m root path p = length path ≤ MAX_BRANCHES → IfSome p.says (IsEvidence m root path)
 
 -- the proposal with evidence asked for
-abbrev pub asked_of : Proposal → Proposal
-asked_of p = record p { asked = true }
+abbrev pub marked_asked : Proposal → Proposal
+marked_asked p = record p { asked = true }
 
 -- it says at least the bound and is as it was, or has this leaf and says the bound, which is no less
 abbrev pub IsRaised : Proposal → Leaf → ℕ → Proposal → Type 0
 IsRaised old leaf bound new =
-    ((new ≡ asked_of old) × IsAtMost (Some bound) old.says)
+    ((new ≡ marked_asked old) × IsAtMost (Some bound) old.says)
     ⊎ ((new.leaf ≡ leaf) × (new.says ≡ Some bound) × (new.asked ≡ true) × IsAtMost old.says (Some bound))

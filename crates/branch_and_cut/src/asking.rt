@@ -4,7 +4,7 @@ ghost use Rattle.lin_rows.specs.Rows.{LinRow};
 ghost use Rattle.leaf_growth.specs.Written.{HasVersion};
 ghost use Rattle.branch_and_bound.specs.Costs.{IsAtMost};
 ghost use Rattle.branch_and_cut.specs.Knowing.{IsNodeIn, ranges_in};
-ghost use Rattle.branch_and_cut.specs.Nodes.{IsKept, IsRaised, IsToldAt, asked_of};
+ghost use Rattle.branch_and_cut.specs.Nodes.{IsKept, IsRaised, IsToldAt, marked_asked};
 
 use crate::guiding::Model;
 use branch_and_bound::{Node, Proposal};
@@ -15,7 +15,7 @@ use std::alloc::{AllocError, Global};
 
 // The proposal as it was, now that evidence was asked for.
 fn asked(proposal: Proposal) -> Proposal
-    ensures { result ≡ asked_of proposal }
+    ensures { result ≡ marked_asked proposal }
 {
     Proposal {
         asked: true,

@@ -12,12 +12,9 @@ use acceptance::{accepted_over_ranges, says_are_one};
 use branch_and_bound::{Searched, strip, whole_is_measured};
 use branching::Found;
 use certificate::{Certificate, shapes_are_counted};
-use leaf_growth::{few_lines, made_is_writable};
+use leaf_growth::{MAX_NODES, few_lines, made_is_writable};
 use lot_sizing::totals_are_one;
 use std::alloc::{AllocError, Global};
-
-// The most nodes of a certificate. Each takes some bytes, and no machine has memory for more.
-const MOST_NODES: u64 = 35_184_372_088_832;
 
 /// What a search has found, with the certificate of it.
 pub(crate) fn finish(
@@ -43,7 +40,7 @@ pub(crate) fn finish(
     whole_is_measured();
     // It reads that the instance is one.
     let _periods = model.instance.periods();
-    if searched.nodes > MOST_NODES {
+    if searched.nodes > MAX_NODES {
         return Err(AllocError);
     }
     let tree = strip(alloc, searched.tree)?;

@@ -2,7 +2,7 @@
 //!
 //! Family: search. It stands on `branch_and_bound` for the tree, on `root_rounds`, `apart`, `path_relaxation` and
 //! `first_plans` for cuts, leaves and plans, on `branching` for uncoupled models, and on `leaf_growth`, `cert_checker` and
-//! `acceptance` for what certificates are. `lotplan` uses it.
+//! `acceptance` for what certificates are; `lotplan` stands on it.
 #![tactic(auto)]
 
 mod adding;
@@ -27,6 +27,3 @@ mod within;
 pub use branching::{Found, PassedAt, RootSays};
 pub use searching::{search, search_all};
 pub use within::Ranges;
-
-#[cfg(test)]
-mod tests;

@@ -1,14 +1,14 @@
 // What is remembered of nodes for those below them, and of plans that were tried. Nothing is claimed of it.
 use crate::choosing::Choice;
 use lin_rows::Bound;
-use priced_leaves::{Average, Prices};
+use priced_leaves::{Average, DualPrices};
 use std::alloc::{AllocError, Global};
 
 /// What the rounds of prices came to at a node.
 #[derive(Debug, Drop)]
 pub(crate) struct Note {
     /// The best prices.
-    pub(crate) prices: Prices,
+    pub(crate) prices: DualPrices,
     /// How often each item is set up in each period, on the average of the rounds.
     pub(crate) average: Average,
     /// The setup on which the node is to be branched, where it was chosen.

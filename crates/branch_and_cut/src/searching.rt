@@ -184,7 +184,7 @@ fn answer(
 /// |---|---|
 /// | `Optimal` | no plan within the ranges costs less than the plan, which costs this amount of money |
 /// | `Infeasible` | no plan within the ranges is feasible |
-/// | `Bound` | every plan within the ranges costs at least this amount, which is below the cost of the plan, if there is one. The cause is the budget, which two more nodes would pass, or the 2,000 branches that a path may have |
+/// | `Bound` | every plan within the ranges costs at least this amount, which is below the cost of the plan, if there is one. The cause is the budget, which two more nodes would pass, or the `MAX_BRANCHES` branches that a path may have |
 ///
 /// No amount is below what the items cost apart. A bound is said by some leaf; at each leaf that says it, some point of the
 /// relaxation without cuts on the path to it costs no more, or that relaxation wasn't found, for the exact cause that
@@ -233,7 +233,7 @@ pub fn search(
 /// |---|---|
 /// | `Optimal` | the plan is best and costs this amount of money |
 /// | `Infeasible` | no plan is feasible |
-/// | `Bound` | every plan costs at least this amount, which is below the cost of the plan, if there is one. The cause is the budget, which two more nodes would pass, or the 2,000 branches that a path may have |
+/// | `Bound` | every plan costs at least this amount, which is below the cost of the plan, if there is one. The cause is the budget, which two more nodes would pass, or the `MAX_BRANCHES` branches that a path may have |
 ///
 /// No amount is below what the items cost apart or what the root closes to. A bound is said by some leaf; at each leaf
 /// that says it, some point of the relaxation without cuts on the path to it costs no more, or that relaxation wasn't

@@ -1,7 +1,7 @@
 //! Plans with certificates.
 //!
 //! Family: search. It stands on `uncoupled`, which plans items by themselves, and on `acceptance` and
-//! `cert_checker`, which say what a certificate has to be. `lotplan` uses it.
+//! `cert_checker`, which say what a certificate has to be; `branch_and_cut` and `lotplan` stand on it.
 //!
 //! What a search finds is a `Found`: a certificate, the plan that goes with it, what was said at the root, and
 //! the number of nodes. `plan_uncoupled` plans instances whose items have nothing to do with each other: its
@@ -21,6 +21,3 @@ pub use found::{Found, PassedAt, RootSays};
 pub use laws::{block_leaves_are_certified, echelons_are_items};
 pub use no_room::no_room_is_certified;
 pub use uncoupled_plans::plan_uncoupled;
-
-#[cfg(test)]
-mod tests;

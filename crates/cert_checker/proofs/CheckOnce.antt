@@ -15,7 +15,7 @@ use Rattle.plan_rules.specs.declared.plan.Plan.{Plan}
 use Rattle.lin_rows.specs.declared.bound.Bound.{Bound}
 use Rattle.lin_rows.specs.declared.column.Column.{Column}
 use Rattle.lin_rows.specs.declared.column.Column.TheVariants.{X, Y, S, R}
-use Rattle.lin_rows.specs.Columns.{IsCell, IsColumn, order_of, place_of}
+use Rattle.lin_rows.specs.Columns.{IsCell, IsColumn, order_of, order_at}
 use Rattle.lin_rows.specs.Rows.{LinRow}
 use Rattle.backlog_dp.specs.Broken.{IsEarlier, IsFirstBroken}
 use Rattle.cert_lines.specs.declared.parts.Claim.{Claim}
@@ -43,13 +43,13 @@ use Rattle.cert_checker.proofs.CheckNever.{no_cuts_fault, no_first_wrong, no_lea
 use Rattle.cert_checker.proofs.CheckWhole.{enough_leaves, small_leaves}
 
 -- columns at one place are the same: items and periods have 32 bits
-by_numbers : (kind other i j t u : ℕ) → i < 2 ^ 32 → j < 2 ^ 32 → t < 2 ^ 32 → u < 2 ^ 32 → place_of kind i t ≡ place_of other j u → (kind ≡ other) × (i ≡ j) × (t ≡ u)
+by_numbers : (kind other i j t u : ℕ) → i < 2 ^ 32 → j < 2 ^ 32 → t < 2 ^ 32 → u < 2 ^ 32 → order_at kind i t ≡ order_at other j u → (kind ≡ other) × (i ≡ j) × (t ≡ u)
 by_numbers kind other i j t u a b c d same = (omega (arith, a, b, c, d, same), omega (arith, a, b, c, d, same), omega (arith, a, b, c, d, same))
 
 small_cell : (m : Problem) (i t : ℕ) → IsWithinLimits m → IsCell m i t → (i < 2 ^ 32) × (t < 2 ^ 32)
 small_cell m i t limits is = (omega (arith, limits.items, is.1), omega (arith, limits.periods, is.3))
 
-by_cells : (m : Problem) (kind other i j t u : ℕ) → IsWithinLimits m → IsCell m i t → IsCell m j u → place_of kind i t ≡ place_of other j u → (kind ≡ other) × (i ≡ j) × (t ≡ u)
+by_cells : (m : Problem) (kind other i j t u : ℕ) → IsWithinLimits m → IsCell m i t → IsCell m j u → order_at kind i t ≡ order_at other j u → (kind ≡ other) × (i ≡ j) × (t ≡ u)
 by_cells m kind other i j t u limits is also same =
     let (a, c) = small_cell m i t limits is in
     let (b, d) = small_cell m j u limits also in

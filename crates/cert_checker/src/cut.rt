@@ -36,7 +36,7 @@ use std::alloc::Global;
 /// | Cut | Cause |
 /// |---|---|
 /// | `Ls` | `Range`: there is no such item or no such last period, or there isn't a mark for each period up to that one |
-/// | `Price`, `Block` | `Range`: there is no such item, a list of prices hasn't an entry for each period, or a price is past 10^11 or a potential past 10^36 |
+/// | `Price`, `Block` | `Range`: there is no such item, a list of prices hasn't an entry for each period, or a price is past `MAX_PRICE` or a potential past `MAX_STEP` |
 /// | these three | `Lead`: the item, or one that it goes into, has a lead time |
 /// | `Block` | `Range`: there isn't a potential for each period with a net demand |
 /// | `Block` | `Block`: potentials rise over a block of such periods by more than it costs; it is the first one |

@@ -2,7 +2,7 @@
 //!
 //! Family: proofs. It stands on `acceptance`, which says what all of it means, on `split_trees` for the ranges that a
 //! branch splits, on the cuts' crates for their rows, and on `plan_rules` for the plan that goes with an optimal
-//! cost; the checker of certificates in files and the search are to stand on it.
+//! cost; the checker of certificates in files and the search stand on it.
 //!
 //! `check` is the call that the crate exists for: where it answers Ok, the claim of the certificate is true of all plans
 //! of the instance, whoever wrote the certificate. It goes by `cut_row`, which gives the row of one cut, and by
@@ -38,10 +38,3 @@ pub use fault::{CheckFault, Rejected, Why};
 pub use laws::{certified_is_not_refused, checks_are_one, lines_are_bytes};
 pub use leaf::{leaf_bound, leaf_bound_in};
 pub use named::NamedSums;
-
-#[cfg(test)]
-mod check_tests;
-#[cfg(test)]
-mod cut_tests;
-#[cfg(test)]
-mod leaf_tests;

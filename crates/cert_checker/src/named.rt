@@ -84,7 +84,7 @@ fn cell(instance: &Instance, number: u32, period: u32) -> usize
 
 // Where the row of a name is kept. That of `Late` has a place with that of `Link`, and that of `Least` with that of
 // `Top`: few items have both, and they have a term or two.
-fn place_of(instance: &Instance, name: RowName) -> usize
+fn row_place(instance: &Instance, name: RowName) -> usize
     requires { HasRow instance.now name }
 {
     let items = instance.items() as usize;
@@ -206,7 +206,7 @@ impl NamedSums {
         ensures added { IfOk result (λ _. WithTotals instance.now (λ total. AddsWithin self.old.sums self.new.sums (row_of instance.now total name) times)) }
         ensures passed { result ≡ Err TooLarge → WithTotals instance.now (λ total. PassesWith self.old.sums (row_of instance.now total name) times) }
     {
-        let place = place_of(instance, name);
+        let place = row_place(instance, name);
         let row = self.take_row(alloc, instance, place, name)?;
         let added = add_row(instance, &mut self.sums, &row, times);
         self.keep(instance, place, name, row);

@@ -29,14 +29,14 @@ later_line (FarkasLine parts) = farkas_line parts
 later_line PointLine = codes "point"
 later_line EndLine = codes "end"
 
-abbrev pub ArePrices : PriceLists → Type 0
-ArePrices a = All Is64 a.price × All Is64 a.unit × All Is64 a.hold × All Is64 a.back
+abbrev pub ArePriceLists : PriceLists → Type 0
+ArePriceLists a = All Is64 a.price × All Is64 a.unit × All Is64 a.hold × All Is64 a.back
 
 abbrev pub AreCosts : BlockLists → Type 0
 AreCosts a = All Is64 a.setup × All Is64 a.unit × All Is64 a.hold × All Is64 a.back
 
-abbrev pub ArePotentials : BlockLists → Type 0
-ArePotentials a = All Is64 a.setup × All Is64 a.unit × All Is64 a.hold × All Is64 a.back × All Is127 a.steps
+abbrev pub AreBlockLists : BlockLists → Type 0
+AreBlockLists a = All Is64 a.setup × All Is64 a.unit × All Is64 a.hold × All Is64 a.back × All Is127 a.steps
 
 abbrev pub IsSmallColumn : Column → Type 0
 IsSmallColumn (X i t) = Is32 i × Is32 t
@@ -59,8 +59,8 @@ IsSmallName (CutRow n) = Is32 n
 -- a cut of one line; one with parts has a form of its own
 abbrev pub IsSmallCut : CutShape → Type 0
 IsSmallCut (LsCut item last chosen) = Is32 item × (1 ≤ last) × Is32 last × (length chosen ≡ last)
-IsSmallCut (PriceCut item prices) = Is32 item × ArePrices prices
-IsSmallCut (BlockCut item potentials) = Is32 item × ArePotentials potentials
+IsSmallCut (PriceCut item prices) = Is32 item × ArePriceLists prices
+IsSmallCut (BlockCut item potentials) = Is32 item × AreBlockLists potentials
 IsSmallCut (RoundCut divisor parts) = ⊥
 
 -- the limits on numbers

@@ -5,7 +5,7 @@ ghost use Rattle.lin_rows.specs.Texts.{column_text, name_text, one_text, two_tex
 ghost use Rattle.std.specs.List.{All};
 ghost use Rattle.cert_lines.specs.Text.{bits_text, block_line, branch_line, farkas_line, linear_line, list_text, ls_line, part_line, price_line, round_line};
 ghost use Rattle.cert_lines.specs.Limits.{Is64};
-ghost use Rattle.cert_lines.specs.Line.{AreCosts, ArePrices, IsSmallColumn, IsSmallName};
+ghost use Rattle.cert_lines.specs.Line.{AreCosts, ArePriceLists, IsSmallColumn, IsSmallName};
 ghost use Rattle.cert_lines.specs.Shapes.{block_lists, price_lists};
 
 use crate::Part;
@@ -142,7 +142,7 @@ pub fn ls_length(item: u32, last: u32, chosen: &[bool]) -> u128
 /// The length of the line of a price row.
 pub fn price_length(item: u32, prices: &Prices) -> u128
     ensures value { result ≡ length (price_line item (price_lists prices.now)) }
-    ensures fits { ArePrices (price_lists prices.now) }
+    ensures fits { ArePriceLists (price_lists prices.now) }
 {
     13 + one_length(u128::from(item))
         + list_length(&prices.price)

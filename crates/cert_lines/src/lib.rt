@@ -37,6 +37,3 @@ pub use round_cuts::MAX_DIVISOR;
 pub use writing::{
     add_branch, add_claim, add_count, add_cut_line, add_leaf_line, add_mark, add_part,
 };
-
-#[cfg(test)]
-mod tests;

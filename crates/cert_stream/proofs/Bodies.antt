@@ -8,24 +8,24 @@ use Rattle.cert_lines.specs.Shapes.{BlockCut, BranchLine, CutLine, CutShape, End
 use Rattle.certificate.specs.Shapes.{End, Split, TreeShape}
 use Rattle.certificate.specs.Counts.{longest_path}
 use Rattle.certificate.specs.Values.{AreLines, Values, all_cut_values, cut_values, part_values, tree_values}
-use Rattle.certificate.specs.Needs.{Need, Runs, a_cut, a_part, a_tree, after, the_end}
+use Rattle.certificate.specs.Needs.{Due, TakesAll, a_cut, a_part, a_tree, after, the_end}
 use Rattle.certificate.specs.Faults.{body_needs}
 use Rattle.certificate.proofs.Shorts.{lines_split}
 use Rattle.cert_stream.specs.Laws.{IsBody}
 
 -- lines that meet some needs and then others are those of the first, and then those of the others
-record AreSplit (xs ys : List Need) (ls : Values) : Type 0 where
+record AreSplit (xs ys : List Due) (ls : Values) : Type 0 where
   first : Values
   later : Values
   is : ls ≡ first ++ later
-  first_runs : Runs xs first []
-  later_runs : Runs ys later []
+  first_runs : TakesAll xs first []
+  later_runs : TakesAll ys later []
 
-runs_split : (xs ys : List Need) (ls : Values) → Runs (xs ++ ys) ls [] → AreSplit xs ys ls
+runs_split : (xs ys : List Due) (ls : Values) → TakesAll (xs ++ ys) ls [] → AreSplit xs ys ls
 runs_split [] ys ls runs = record { first = []; later = ls; is = refl; first_runs = refl; later_runs = runs }
 runs_split (x ∷ xs) ys [] runs = absurd (cc runs)
 runs_split (x ∷ xs) ys (l ∷ ls) runs =
-    let rest = runs_split (after x l ++ xs) ys ls (subst (λ ns. Runs ns ls []) (sym (append_assoc (after x l) xs ys)) runs.2) in
+    let rest = runs_split (after x l ++ xs) ys ls (subst (λ ns. TakesAll ns ls []) (sym (append_assoc (after x l) xs ys)) runs.2) in
     record {
       first = l ∷ rest.first;
       later = rest.later;
@@ -34,7 +34,7 @@ runs_split (x ∷ xs) ys (l ∷ ls) runs =
       later_runs = rest.later_runs;
     }
 
-no_lines : (ls : Values) → Runs [] ls [] → ls ≡ []
+no_lines : (ls : Values) → TakesAll [] ls [] → ls ≡ []
 no_lines [] runs = refl
 no_lines (l ∷ ls) runs = absurd runs
 
@@ -44,7 +44,7 @@ record AreParts (count : ℕ) (ls : Values) : Type 0 where
   count_is : length parts ≡ count
   values : ls ≡ part_values parts
 
-parts_of : (count : ℕ) (ls : Values) → Runs (replicate count a_part) ls [] → AreParts count ls
+parts_of : (count : ℕ) (ls : Values) → TakesAll (replicate count a_part) ls [] → AreParts count ls
 parts_of zero ls runs = record { parts = []; count_is = refl; values = no_lines ls runs }
 parts_of (suc count) [] runs = absurd (cc runs)
 parts_of (suc count) (PartLine part ∷ ls) runs =
@@ -53,15 +53,15 @@ parts_of (suc count) (PartLine part ∷ ls) runs =
 parts_of (suc count) (_ ∷ ls) runs = absurd runs.0
 
 -- the needs after a line stand alone
-alone : (needs : List Need) (ls : Values) → Runs (needs ++ []) ls [] → Runs needs ls []
-alone needs ls runs = subst (λ ns. Runs ns ls []) (append-nil needs) runs
+alone : (needs : List Due) (ls : Values) → TakesAll (needs ++ []) ls [] → TakesAll needs ls []
+alone needs ls runs = subst (λ ns. TakesAll ns ls []) (append-nil needs) runs
 
 -- the lines of a cut
 record IsCut (ls : Values) : Type 0 where
   cut : CutShape
   values : ls ≡ cut_values cut
 
-cut_of : (version : ℕ) (ls : Values) → AreLines version ls → Runs (a_cut ∷ []) ls [] → IsCut ls
+cut_of : (version : ℕ) (ls : Values) → AreLines version ls → TakesAll (a_cut ∷ []) ls [] → IsCut ls
 cut_of version [] lines runs = absurd (cc runs)
 cut_of version (CutLine (LsCut item last chosen) ∷ ls) lines runs = record { cut = LsCut item last chosen; values = ap (λ t. CutLine (LsCut item last chosen) ∷ t) (no_lines ls runs.2) }
 cut_of version (CutLine (PriceCut item lists) ∷ ls) lines runs = record { cut = PriceCut item lists; values = ap (λ t. CutLine (PriceCut item lists) ∷ t) (no_lines ls runs.2) }
@@ -78,7 +78,7 @@ record AreCuts (count : ℕ) (ls : Values) : Type 0 where
   count_is : length cuts ≡ count
   values : ls ≡ all_cut_values cuts
 
-cuts_of : (version count : ℕ) (ls : Values) → AreLines version ls → Runs (replicate count a_cut) ls [] → AreCuts count ls
+cuts_of : (version count : ℕ) (ls : Values) → AreLines version ls → TakesAll (replicate count a_cut) ls [] → AreCuts count ls
 cuts_of version zero ls lines runs = record { cuts = []; count_is = refl; values = no_lines ls runs }
 cuts_of version (suc count) ls lines runs =
     let split = runs_split (a_cut ∷ []) (replicate count a_cut) ls runs in
@@ -97,7 +97,7 @@ record IsTree (above : ℕ) (ls : Values) : Type 0 where
   values : ls ≡ tree_values tree
   paths : above + longest_path tree ≤ MAX_BRANCHES
 
-tree_of : (most above : ℕ) (ls : Values) → length ls ≤ most → above ≤ MAX_BRANCHES → Runs (a_tree above ∷ []) ls [] → IsTree above ls
+tree_of : (most above : ℕ) (ls : Values) → length ls ≤ most → above ≤ MAX_BRANCHES → TakesAll (a_tree above ∷ []) ls [] → IsTree above ls
 tree_of most above [] short high runs = absurd (cc runs)
 tree_of zero above (l ∷ ls) short high runs = absurd (omega (arith, short))
 tree_of (suc most) above (BranchLine column at ∷ ls) short high runs =
@@ -121,12 +121,12 @@ tree_of (suc most) above (FarkasLine count ∷ ls) short high runs =
 tree_of (suc most) above (PointLine ∷ ls) short high runs = record { tree = End PointLeaf; values = ap (λ t. PointLine ∷ t) (no_lines ls runs.2); paths = omega (arith, high) }
 tree_of (suc most) above (_ ∷ ls) short high runs = absurd runs.0
 
-end_of : (ls : Values) → Runs (the_end ∷ []) ls [] → ls ≡ EndLine ∷ []
+end_of : (ls : Values) → TakesAll (the_end ∷ []) ls [] → ls ≡ EndLine ∷ []
 end_of [] runs = absurd (cc runs)
 end_of (EndLine ∷ ls) runs = ap (λ t. EndLine ∷ t) (no_lines ls runs.2)
 end_of (_ ∷ ls) runs = absurd runs.0
 
-pub body_of : (version count : ℕ) (ls : Values) → AreLines version ls → Runs (body_needs count) ls [] → IsBody count ls
+pub body_of : (version count : ℕ) (ls : Values) → AreLines version ls → TakesAll (body_needs count) ls [] → IsBody count ls
 body_of version count ls lines runs =
     let split = runs_split (replicate count a_cut) (a_tree 0 ∷ the_end ∷ []) ls runs in
     let apart = lines_split version split.first split.later (subst (AreLines version) split.is lines) in

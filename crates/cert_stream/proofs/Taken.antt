@@ -6,7 +6,7 @@ use Rattle.cert_lines.specs.Shapes.{line_shape}
 use Rattle.certificate.specs.Shapes.{Shape}
 use Rattle.certificate.specs.Text.{head_values, heads_text}
 use Rattle.certificate.specs.Values.{AreLines, value_text, values_text}
-use Rattle.certificate.specs.Needs.{Need, Runs}
+use Rattle.certificate.specs.Needs.{Due, TakesAll}
 use Rattle.certificate.specs.Faults.{AreHeads, body_needs}
 use Rattle.certificate.proofs.Joins.{values_append}
 use Rattle.certificate.proofs.Needed.{runs_join}
@@ -21,7 +21,7 @@ use Rattle.cert_stream.specs.Values.{IsGiven, IsValue}
 use Rattle.cert_stream.proofs.Bodies.{body_of}
 
 -- one line
-pub one_taken : (version : ℕ) (v : Value) (line : CertLine) (a b : LineReader) (needs left : List Need) (text rest : List ℕ) → v ≡ value.Line line → IsValue version v text rest → IsGiven version v a b → Runs needs (line_shape line ∷ []) left → AreTaken version needs text a.number left rest b.number
+pub one_taken : (version : ℕ) (v : Value) (line : CertLine) (a b : LineReader) (needs left : List Due) (text rest : List ℕ) → v ≡ value.Line line → IsValue version v text rest → IsGiven version v a b → TakesAll needs (line_shape line ∷ []) left → AreTaken version needs text a.number left rest b.number
 one_taken version v line a b needs left text rest is value given runs =
     let here = subst (λ x. IsValue version x text rest) is value in
     let (form, further) = subst (λ x. IsGiven version x a b) is given in
@@ -34,7 +34,7 @@ one_taken version v line a b needs left text rest is value given runs =
     }
 
 -- and more of them
-pub taken_on : {version : ℕ} {needs mid left : List Need} {text rest more : List ℕ} {n k m : ℕ} → AreTaken version needs text n mid rest k → AreTaken version mid rest k left more m → AreTaken version needs text n left more m
+pub taken_on : {version : ℕ} {needs mid left : List Due} {text rest more : List ℕ} {n k m : ℕ} → AreTaken version needs text n mid rest k → AreTaken version mid rest k left more m → AreTaken version needs text n left more m
 taken_on {version = version} {needs = needs} {mid = mid} {left = left} {more = more} first later = record {
   read = first.read ++ later.read;
   lines = lines_join version first.read later.read first.lines later.lines;

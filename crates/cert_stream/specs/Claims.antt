@@ -6,7 +6,7 @@ use Rattle.certificate.specs.declared.fault.CertTextFault.TheVariants.{Memory}
 use Rattle.certificate.specs.Shapes.{Shape}
 use Rattle.certificate.specs.Limits.{IsTextOf}
 use Rattle.certificate.specs.Values.{AreLines, Values, values_text}
-use Rattle.certificate.specs.Needs.{IsStop, Need, Runs}
+use Rattle.certificate.specs.Needs.{IsStop, Due, TakesAll}
 use Rattle.certificate.specs.Faults.{IsCertTextFault}
 use Rattle.cert_stream.specs.declared.fault.ClaimFault.{ClaimFault}
 use Rattle.cert_stream.specs.declared.fault.ClaimFault.TheVariants as stream
@@ -41,15 +41,15 @@ WhenWhole _ P = ⊤
 
 -- ---- on the way
 -- lines of a text are as needed, and then this is needed and this is left
-pub record AreTaken (version : ℕ) (needs : List Need) (text : List ℕ) (n : ℕ) (left : List Need) (rest : List ℕ) (m : ℕ) : Type 0 where
+pub record AreTaken (version : ℕ) (needs : List Due) (text : List ℕ) (n : ℕ) (left : List Due) (rest : List ℕ) (m : ℕ) : Type 0 where
   pub read : Values
   pub lines : AreLines version read
   pub is : text ≡ values_text read ++ rest
-  pub runs : Runs needs read left
+  pub runs : TakesAll needs read left
   pub number : m ≡ n + length read
 
 -- what a line of a text, which has this number, was in place of what is needed, and what is needed then
-abbrev pub IsStep : ℕ → List Need → List ℕ → ℕ → Step → List Need → List ℕ → ℕ → Type 0
+abbrev pub IsStep : ℕ → List Due → List ℕ → ℕ → Step → List Due → List ℕ → ℕ → Type 0
 IsStep version needs text n step.Taken left rest m = AreTaken version needs text n left rest m
 IsStep version needs text n step.Ended left rest m = (text ≡ []) × (needs ≡ [])
 IsStep version needs text n (step.Stopped f) left rest m = IsStop version needs text n f
@@ -61,8 +61,8 @@ IsStepGiven step.Ended a b = ⊤
 IsStepGiven (step.Stopped f) a b = f ≢ Memory
 
 -- the text is lines that are as needed, and then nothing is needed
-pub record AreAll (version : ℕ) (needs : List Need) (text : List ℕ) : Type 0 where
+pub record AreAll (version : ℕ) (needs : List Due) (text : List ℕ) : Type 0 where
   pub read : Values
   pub lines : AreLines version read
   pub is : text ≡ values_text read
-  pub runs : Runs needs read []
+  pub runs : TakesAll needs read []

@@ -5,7 +5,7 @@ use Rattle.cert_lines.specs.Shapes.{CutShape, EndLine}
 use Rattle.certificate.specs.Shapes.{TreeShape}
 use Rattle.certificate.specs.Counts.{longest_path}
 use Rattle.certificate.specs.Values.{AreLines, Values, all_cut_values, tree_values}
-use Rattle.certificate.specs.Needs.{Runs}
+use Rattle.certificate.specs.Needs.{TakesAll}
 use Rattle.certificate.specs.Faults.{body_needs}
 
 -- the lines are those of so many cuts, a tree and the end
@@ -18,4 +18,4 @@ pub record IsBody (count : ℕ) (ls : Values) : Type 0 where
 
 -- lines that meet all that is needed after the first three
 abbrev pub RunsAreBodies : Type 0
-RunsAreBodies = (version count : ℕ) (ls : Values) → AreLines version ls → Runs (body_needs count) ls [] → IsBody count ls
+RunsAreBodies = (version count : ℕ) (ls : Values) → AreLines version ls → TakesAll (body_needs count) ls [] → IsBody count ls

@@ -131,7 +131,7 @@ fn walk<S: Shelf>(
 /// The claim of the certificate whose text the file is. One pass goes over the file to its end, also where a line is
 /// wrong, so that a fetch that fails later comes before that line.
 ///
-/// It keeps one piece of 65,536 bytes, one line, and what the text needs next: memory in the greatest number of
+/// It keeps one piece of `PIECE` bytes, one line, and what the text needs next: memory in the greatest number of
 /// branches on a path and not in the length of the file.
 pub fn read_claim<S: Shelf>(alloc: Global, shelf: &mut S, name: &str) -> Result<Claim, ClaimFault>
     // What the file is. Want of memory stands in for no other refusal.

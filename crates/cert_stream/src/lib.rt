@@ -22,6 +22,3 @@ pub use heads::{Heads, read_heads};
 pub use laws::runs_are_bodies;
 pub use lines::{LineReader, Next};
 pub use values::{Value, next_head, next_value};
-
-#[cfg(test)]
-mod tests;

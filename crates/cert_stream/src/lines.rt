@@ -5,11 +5,8 @@ ghost use Rattle.cert_lines.specs.Text.{HasNoFeed};
 ghost use Rattle.cert_stream.specs.Reader.{GoesOn, IsBegun, IsBroken, IsCounted, IsFound, IsNext, IsSound, IsWhole, KeepsPiece, bytes_of, left_of, rest_in, text_from};
 
 use cert_lines::MAX_LINE;
-use lot_io::{ReadFault, Shelf, ShelfFault};
+use lot_io::{PIECE, ReadFault, Shelf, ShelfFault};
 use std::alloc::{AllocError, Global};
-
-// How many bytes go over in one call.
-const PIECE: usize = 65_536;
 
 // The most bytes of a file.
 const MOST_BYTES: u64 = 9_223_372_036_854_775_807;

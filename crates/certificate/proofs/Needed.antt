@@ -20,49 +20,49 @@ use Rattle.certificate.specs.Nodes.{IsHigh, node_values}
 use Rattle.certificate.specs.Counts.{longest_path}
 use Rattle.cert_lines.specs.Line.{HasLine}
 use Rattle.certificate.specs.Values.{AreLines, Values, all_cut_values, cut_values, leaf_values, part_values, tree_values, value_text, values_text}
-use Rattle.certificate.specs.Needs.{IsDeep, IsFaultFrom, IsStop, Need, Runs, Takes, a_cut, a_part, a_tree, after, the_end}
+use Rattle.certificate.specs.Needs.{IsDeep, IsFaultFrom, IsStop, Due, TakesAll, Takes, a_cut, a_part, a_tree, after, the_end}
 use Rattle.certificate.specs.Rest.{AreRead}
 use Rattle.certificate.proofs.Joins.{values_append}
 use Rattle.certificate.proofs.Shorts.{lines_join}
 
-pub runs_join : (needs mid left : List Need) (xs ys : Values) → Runs needs xs mid → Runs mid ys left → Runs needs (xs ++ ys) left
-runs_join needs mid left [] ys a b = subst (λ ns. Runs ns ys left) (sym a) b
+pub runs_join : (needs mid left : List Due) (xs ys : Values) → TakesAll needs xs mid → TakesAll mid ys left → TakesAll needs (xs ++ ys) left
+runs_join needs mid left [] ys a b = subst (λ ns. TakesAll ns ys left) (sym a) b
 runs_join [] mid left (x ∷ xs) ys a b = absurd a
 runs_join (need ∷ later) mid left (x ∷ xs) ys a b = (a.0, a.1, runs_join (after need x ++ later) mid left xs ys a.2 b)
 
 -- ---- what each part of a certificate meets
 -- the first of so many parts
-pub parts_so_far : (parts : List Part) (count m : ℕ) (later : List Need) → count ≡ length parts + m → Runs (replicate count a_part ++ later) (part_values parts) (replicate m a_part ++ later)
+pub parts_so_far : (parts : List Part) (count m : ℕ) (later : List Due) → count ≡ length parts + m → TakesAll (replicate count a_part ++ later) (part_values parts) (replicate m a_part ++ later)
 parts_so_far [] count m later e = ap (λ k. replicate k a_part ++ later) (omega (arith, e))
 parts_so_far (p ∷ ps) zero m later e = absurd (omega (arith, e))
 parts_so_far (p ∷ ps) (suc count) m later e = (tt, λ no_depth. no_depth, parts_so_far ps count m later (omega (arith, e)))
 
-pub parts_run : (parts : List Part) (count : ℕ) (later : List Need) → length parts ≡ count → Runs (replicate count a_part ++ later) (part_values parts) later
+pub parts_run : (parts : List Part) (count : ℕ) (later : List Due) → length parts ≡ count → TakesAll (replicate count a_part ++ later) (part_values parts) later
 parts_run parts count later e = parts_so_far parts count 0 later (omega (arith, e))
 
-pub cut_run : (c : CutShape) (later : List Need) → Runs (a_cut ∷ later) (cut_values c) later
+pub cut_run : (c : CutShape) (later : List Due) → TakesAll (a_cut ∷ later) (cut_values c) later
 cut_run (LsCut item last chosen) later = (tt, λ no_depth. no_depth, refl)
 cut_run (PriceCut item prices) later = (tt, λ no_depth. no_depth, refl)
 cut_run (BlockCut item potentials) later = (tt, λ no_depth. no_depth, refl)
 cut_run (RoundCut divisor parts) later = (tt, λ no_depth. no_depth, parts_run parts (length parts) later refl)
 
 -- the first of so many cuts
-pub cuts_so_far : (cuts : List CutShape) (count m : ℕ) (later : List Need) → count ≡ length cuts + m → Runs (replicate count a_cut ++ later) (all_cut_values cuts) (replicate m a_cut ++ later)
+pub cuts_so_far : (cuts : List CutShape) (count m : ℕ) (later : List Due) → count ≡ length cuts + m → TakesAll (replicate count a_cut ++ later) (all_cut_values cuts) (replicate m a_cut ++ later)
 cuts_so_far [] count m later e = ap (λ k. replicate k a_cut ++ later) (omega (arith, e))
 cuts_so_far (c ∷ cs) zero m later e = absurd (omega (arith, e))
 cuts_so_far (c ∷ cs) (suc count) m later e =
     let rest = replicate count a_cut ++ later in
     runs_join (a_cut ∷ rest) rest (replicate m a_cut ++ later) (cut_values c) (all_cut_values cs) (cut_run c rest) (cuts_so_far cs count m later (omega (arith, e)))
 
-pub cuts_run : (cuts : List CutShape) (count : ℕ) (later : List Need) → length cuts ≡ count → Runs (replicate count a_cut ++ later) (all_cut_values cuts) later
+pub cuts_run : (cuts : List CutShape) (count : ℕ) (later : List Due) → length cuts ≡ count → TakesAll (replicate count a_cut ++ later) (all_cut_values cuts) later
 cuts_run cuts count later e = cuts_so_far cuts count 0 later (omega (arith, e))
 
-pub leaf_run : (l : LeafShape) (above : ℕ) (later : List Need) → Runs (a_tree above ∷ later) (leaf_values l) later
+pub leaf_run : (l : LeafShape) (above : ℕ) (later : List Due) → TakesAll (a_tree above ∷ later) (leaf_values l) later
 leaf_run (LinearLeaf den parts) above later = (tt, λ no_depth. no_depth, parts_run parts (length parts) later refl)
 leaf_run (FarkasLeaf parts) above later = (tt, λ no_depth. no_depth, parts_run parts (length parts) later refl)
 leaf_run PointLeaf above later = (tt, λ no_depth. no_depth, refl)
 
-pub tree_run : (t : TreeShape) (above : ℕ) (later : List Need) → above + longest_path t ≤ MAX_BRANCHES → Runs (a_tree above ∷ later) (tree_values t) later
+pub tree_run : (t : TreeShape) (above : ℕ) (later : List Due) → above + longest_path t ≤ MAX_BRANCHES → TakesAll (a_tree above ∷ later) (tree_values t) later
 tree_run (Split column at low high) above later fits =
     let next = a_tree (above + 1) in (
       tt,
@@ -85,7 +85,7 @@ read_join {version = version} a b c xs ys low high = record {
 }
 
 -- ---- faults
-pub fault_here : {version : ℕ} (needs : List Need) (text : List ℕ) (n : ℕ) (f : CertTextFault) → IsStop version needs text n f → IsFaultFrom version needs text n f
+pub fault_here : {version : ℕ} (needs : List Due) (text : List ℕ) (n : ℕ) (f : CertTextFault) → IsStop version needs text n f → IsFaultFrom version needs text n f
 fault_here {version = version} needs text n f stop = record {
   read = [];
   rest = text;
@@ -96,11 +96,11 @@ fault_here {version = version} needs text n f stop = record {
   stop = subst (λ k. IsStop version needs text k f) (omega arith) stop;
 }
 
-pub fault_memory : {version : ℕ} (needs : List Need) (text : List ℕ) (n : ℕ) → IsFaultFrom version needs text n Memory
+pub fault_memory : {version : ℕ} (needs : List Due) (text : List ℕ) (n : ℕ) → IsFaultFrom version needs text n Memory
 fault_memory {version = version} needs text n = fault_here {version = version} needs text n Memory tt
 
 -- a fault of what is left
-pub fault_later : {version : ℕ} (a b : Rest) (needs mid : List Need) (xs : Values) (f : CertTextFault) → AreRead version a b xs → Runs needs xs mid → IsFaultFrom version mid b.text.now b.line f → IsFaultFrom version needs a.text.now a.line f
+pub fault_later : {version : ℕ} (a b : Rest) (needs mid : List Due) (xs : Values) (f : CertTextFault) → AreRead version a b xs → TakesAll needs xs mid → IsFaultFrom version mid b.text.now b.line f → IsFaultFrom version needs a.text.now a.line f
 fault_later {version = version} a b needs mid xs f read runs g = record {
   read = xs ++ g.read;
   rest = g.rest;
@@ -112,10 +112,10 @@ fault_later {version = version} a b needs mid xs f read runs g = record {
 }
 
 -- the next line is another one
-pub fault_shape : {version : ℕ} (text rest : List ℕ) (n : ℕ) (need : Need) (later : List Need) (l : LineShape) → text ≡ value_text l ++ rest → HasLine version l → (Takes need l → ⊥) → IsFaultFrom version (need ∷ later) text n (Shape n)
+pub fault_shape : {version : ℕ} (text rest : List ℕ) (n : ℕ) (need : Due) (later : List Due) (l : LineShape) → text ≡ value_text l ++ rest → HasLine version l → (Takes need l → ⊥) → IsFaultFrom version (need ∷ later) text n (Shape n)
 fault_shape {version = version} text rest n need later l is line other = fault_here {version = version} (need ∷ later) text n (Shape n) (refl, inr (l, record { rest = rest; text = is; line = line }, other))
 
-pub some_need : (need : Need) (later : List Need) → need ∷ later ≢ []
+pub some_need : (need : Due) (later : List Due) → need ∷ later ≢ []
 some_need need later e = cc e
 
 -- ---- one part or cut after the other
@@ -123,7 +123,7 @@ pub read_part_more : {version : ℕ} (a b d : Rest) (parts more : List Part) (p 
 read_part_more {version = version} a b d parts more p low high is =
     subst (λ ps. AreRead version a d (part_values ps)) (sym is) (subst (AreRead version a d) (sym (map-append (λ x. PartLine x) parts (p ∷ []))) (read_join a b d (part_values parts) (PartLine p ∷ []) low high))
 
-pub part_fault : {version : ℕ} (a b : Rest) (parts : List Part) (count : ℕ) (f : CertTextFault) → AreRead version a b (part_values parts) → length parts < count → ((later : List Need) → IsFaultFrom version (a_part ∷ later) b.text.now b.line f) → (later : List Need) → IsFaultFrom version (replicate count a_part ++ later) a.text.now a.line f
+pub part_fault : {version : ℕ} (a b : Rest) (parts : List Part) (count : ℕ) (f : CertTextFault) → AreRead version a b (part_values parts) → length parts < count → ((later : List Due) → IsFaultFrom version (a_part ∷ later) b.text.now b.line f) → (later : List Due) → IsFaultFrom version (replicate count a_part ++ later) a.text.now a.line f
 part_fault {version = version} a b parts count f read less fault later =
     let m = count - length parts - 1 in
     fault_later a b (replicate count a_part ++ later) (replicate (suc m) a_part ++ later) (part_values parts) f read (parts_so_far parts count (suc m) later (omega (arith, less))) (fault (replicate m a_part ++ later))
@@ -135,7 +135,7 @@ read_cut_more {version = version} a b d cuts more c low high is =
     let all : all_cut_values (map cut_shape (cuts ++ c ∷ [])) ≡ all_cut_values shapes ++ cut_values (cut_shape c) = ap all_cut_values (map-append cut_shape cuts (c ∷ [])) ∙ joined in
     subst (λ cs. AreRead version a d (all_cut_values (map cut_shape cs))) (sym is) (subst (AreRead version a d) (sym all) (read_join a b d (all_cut_values shapes) (cut_values (cut_shape c)) low high))
 
-pub cut_fault : {version : ℕ} (a b : Rest) (cuts : List Cut) (count : ℕ) (f : CertTextFault) → AreRead version a b (all_cut_values (map cut_shape cuts)) → length cuts < count → ((later : List Need) → IsFaultFrom version (a_cut ∷ later) b.text.now b.line f) → (later : List Need) → IsFaultFrom version (replicate count a_cut ++ later) a.text.now a.line f
+pub cut_fault : {version : ℕ} (a b : Rest) (cuts : List Cut) (count : ℕ) (f : CertTextFault) → AreRead version a b (all_cut_values (map cut_shape cuts)) → length cuts < count → ((later : List Due) → IsFaultFrom version (a_cut ∷ later) b.text.now b.line f) → (later : List Due) → IsFaultFrom version (replicate count a_cut ++ later) a.text.now a.line f
 cut_fault {version = version} a b cuts count f read less fault later =
     let m = count - length cuts - 1 in
     fault_later a b (replicate count a_cut ++ later) (replicate (suc m) a_cut ++ later) (all_cut_values (map cut_shape cuts)) f read (cuts_so_far (map cut_shape cuts) count (suc m) later (omega (arith, less, length-map cuts cut_shape))) (fault (replicate m a_cut ++ later))
@@ -164,7 +164,7 @@ counted_read {version = version} a b d line_of count parts first rest e =
     subst (λ k. AreRead version a d (line_of k ∷ part_values parts)) (sym e) (line_then a b d (line_of count) (part_values parts) first rest)
 
 -- a fault after a line that is as needed
-pub line_fault : {version : ℕ} (a b : Rest) (need : Need) (l : LineShape) (more : List Need) (f : CertTextFault) → AreRead version a b (l ∷ []) → Takes need l → (IsDeep need l → ⊥) → after need l ≡ more → ((later : List Need) → IsFaultFrom version (more ++ later) b.text.now b.line f) → (later : List Need) → IsFaultFrom version (need ∷ later) a.text.now a.line f
+pub line_fault : {version : ℕ} (a b : Rest) (need : Due) (l : LineShape) (more : List Due) (f : CertTextFault) → AreRead version a b (l ∷ []) → Takes need l → (IsDeep need l → ⊥) → after need l ≡ more → ((later : List Due) → IsFaultFrom version (more ++ later) b.text.now b.line f) → (later : List Due) → IsFaultFrom version (need ∷ later) a.text.now a.line f
 line_fault {version = version} a b need l more f read takes shallow same fault later =
     fault_later a b (need ∷ later) (more ++ later) (l ∷ []) f read (takes, shallow, ap (λ ms. ms ++ later) same) (fault later)
 
@@ -189,7 +189,7 @@ not_tree line.Point above branch linear farkas point takes = point refl
 not_tree line.End above branch linear farkas point takes = takes
 
 -- a branch with too many branches above it
-pub fault_deep : {version : ℕ} (text rest : List ℕ) (n above : ℕ) (later : List Need) (column : Column) (at : ℕ) (l : CertLine) → l ≡ line.Branch column at → text ≡ value_text (line_shape l) ++ rest → HasLine version (line_shape l) → MAX_BRANCHES ≤ above → IsFaultFrom version (a_tree above ∷ later) text n (Deep n)
+pub fault_deep : {version : ℕ} (text rest : List ℕ) (n above : ℕ) (later : List Due) (column : Column) (at : ℕ) (l : CertLine) → l ≡ line.Branch column at → text ≡ value_text (line_shape l) ++ rest → HasLine version (line_shape l) → MAX_BRANCHES ≤ above → IsFaultFrom version (a_tree above ∷ later) text n (Deep n)
 fault_deep {version = version} text rest n above later column at l same is line deep =
     fault_here {version = version} (a_tree above ∷ later) text n (Deep n) (refl, (line_shape l, record { rest = rest; text = is; line = line }, subst (λ x. IsDeep (a_tree above) (line_shape x)) (sym same) deep))
 
@@ -211,12 +211,12 @@ pub stop_past : {version : ℕ} (text rest : List ℕ) (n : ℕ) (l : LineShape)
 stop_past {version = version} text rest n l is line = (refl, inr (l, record { rest = rest; text = is; line = line }, tt))
 
 -- ---- a branch, its low side and its high side
-pub low_fault : {version : ℕ} (a b : Rest) (above : ℕ) (column : Column) (at : ℕ) (f : CertTextFault) → AreRead version a b (BranchLine column at ∷ []) → above < MAX_BRANCHES → ((later : List Need) → IsFaultFrom version (a_tree (above + 1) ∷ later) b.text.now b.line f) → (later : List Need) → IsFaultFrom version (a_tree above ∷ later) a.text.now a.line f
+pub low_fault : {version : ℕ} (a b : Rest) (above : ℕ) (column : Column) (at : ℕ) (f : CertTextFault) → AreRead version a b (BranchLine column at ∷ []) → above < MAX_BRANCHES → ((later : List Due) → IsFaultFrom version (a_tree (above + 1) ∷ later) b.text.now b.line f) → (later : List Due) → IsFaultFrom version (a_tree above ∷ later) a.text.now a.line f
 low_fault {version = version} a b above column at f read less fault =
     let next = a_tree (above + 1) in
     line_fault a b (a_tree above) (BranchLine column at) (next ∷ next ∷ []) f read tt (λ deep. omega (arith, deep, less)) refl (λ later. fault (next ∷ later))
 
-pub high_fault : {version : ℕ} (a b d : Rest) (above : ℕ) (column : Column) (at : ℕ) (low : TreeShape) (f : CertTextFault) → AreRead version a b (BranchLine column at ∷ []) → above < MAX_BRANCHES → AreRead version b d (tree_values low) → above + 1 + longest_path low ≤ MAX_BRANCHES → ((later : List Need) → IsFaultFrom version (a_tree (above + 1) ∷ later) d.text.now d.line f) → (later : List Need) → IsFaultFrom version (a_tree above ∷ later) a.text.now a.line f
+pub high_fault : {version : ℕ} (a b d : Rest) (above : ℕ) (column : Column) (at : ℕ) (low : TreeShape) (f : CertTextFault) → AreRead version a b (BranchLine column at ∷ []) → above < MAX_BRANCHES → AreRead version b d (tree_values low) → above + 1 + longest_path low ≤ MAX_BRANCHES → ((later : List Due) → IsFaultFrom version (a_tree (above + 1) ∷ later) d.text.now d.line f) → (later : List Due) → IsFaultFrom version (a_tree above ∷ later) a.text.now a.line f
 high_fault {version = version} a b d above column at low f read less low_read fits fault =
     let next = a_tree (above + 1) in
     line_fault a b (a_tree above) (BranchLine column at) (next ∷ next ∷ []) f read tt (λ deep. omega (arith, deep, less)) refl (λ later. fault_later b d (next ∷ next ∷ later) (next ∷ later) (tree_values low) f low_read (tree_run low (above + 1) (next ∷ later) fits) (fault later))

@@ -1,11 +1,11 @@
 -- What is needed next, and what is left after it.
 use Rattle.std.proofs.Common.{◌≡◌, ◌≤◌, ◌<◌, ◌∙◌, ℕ, zero, suc, refl, sym, ap, arith, length, true, false, List, [], ◌∷◌, ◌++◌, Bool}
 use Rattle.std.specs.Prelude.{IsTrue, not, replicate}
-use Rattle.certificate.specs.Needs.{Need, a_cut, a_part, a_tree}
+use Rattle.certificate.specs.Needs.{Due, a_cut, a_part, a_tree}
 use Rattle.certificate.specs.Stacks.{last_needs, trees_before}
 
 -- by its numbers
-abbrev pub needs_of : ℕ → ℕ → List ℕ → Bool → List Need
+abbrev pub needs_of : ℕ → ℕ → List ℕ → Bool → List Due
 needs_of parts cuts trees end = replicate parts a_part ++ (replicate cuts a_cut ++ trees_before trees (last_needs end))
 
 pub same_needs : (p q c d : ℕ) (t u : List ℕ) (e f : Bool) → p ≡ q → c ≡ d → t ≡ u → e ≡ f → needs_of p c t e ≡ needs_of q d u f
@@ -18,7 +18,7 @@ part_first p q c t e is = ap (λ x. needs_of x c t e) is
 pub cut_first : (p c d : ℕ) (t : List ℕ) (e : Bool) → p ≡ 0 → c ≡ suc d → needs_of p c t e ≡ a_cut ∷ (replicate d a_cut ++ trees_before t (last_needs e))
 cut_first p c d t e none is = same_needs p 0 c (suc d) t t e e none is refl refl
 
-trees_push : (trees : List ℕ) (above : ℕ) (rest : List Need) → trees_before (trees ++ above ∷ []) rest ≡ a_tree above ∷ trees_before trees rest
+trees_push : (trees : List ℕ) (above : ℕ) (rest : List Due) → trees_before (trees ++ above ∷ []) rest ≡ a_tree above ∷ trees_before trees rest
 trees_push [] above rest = refl
 trees_push (b ∷ trees) above rest = trees_push trees above (a_tree b ∷ rest)
 
@@ -36,7 +36,7 @@ some_cut (suc p) c t e parts some none = omega (arith, parts)
 some_cut zero zero t e parts some none = omega (arith, some)
 some_cut zero (suc c) t e parts some none = cc none
 
-before_some : (trees : List ℕ) (need : Need) (rest : List Need) → trees_before trees (need ∷ rest) ≡ [] → ⊥
+before_some : (trees : List ℕ) (need : Due) (rest : List Due) → trees_before trees (need ∷ rest) ≡ [] → ⊥
 before_some [] need rest none = cc none
 before_some (above ∷ trees) need rest none = before_some trees (a_tree above) (need ∷ rest) none
 

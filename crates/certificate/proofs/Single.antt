@@ -17,7 +17,7 @@ use Rattle.certificate.specs.Shapes.{End, Shape, Split, TreeShape}
 use Rattle.certificate.specs.Text.{head_text, head_values, heads_text}
 use Rattle.certificate.specs.Limits.{IsTextOf}
 use Rattle.certificate.specs.Values.{AreLines, Values, all_cut_values, body_values, cut_values, leaf_values, part_values, tree_values, value_text, values_text}
-use Rattle.certificate.specs.Needs.{IsDeep, IsMisshapen, IsStop, IsTooDeep, Need, Runs, StartsWith, Takes, a_tree, after, the_end}
+use Rattle.certificate.specs.Needs.{IsDeep, IsMisshapen, IsStop, IsTooDeep, Due, TakesAll, StartsWith, Takes, a_tree, after, the_end}
 use Rattle.certificate.specs.Faults.{AreHeads, IsBodyFault, IsCertTextFault, IsHeadFault, StartsWithHead, body_needs}
 use Rattle.certificate.specs.Laws.{MeansOneThing}
 use Rattle.cert_lines.proofs.Alike.{one_value}
@@ -48,17 +48,17 @@ values_same version (x ∷ xs) (y ∷ ys) a b e =
     ap (λ z. z ∷ xs) first ∙ ap (λ zs. y ∷ zs) (values_same version xs ys a.1 b.1 rest)
 
 -- a branch that is too deep is a branch
-deep_takes : (need : Need) (l : LineShape) → IsDeep need l → Takes need l
+deep_takes : (need : Due) (l : LineShape) → IsDeep need l → Takes need l
 deep_takes (a_tree above) (BranchLine column at) d = tt
 deep_takes _ _ d = search rules
 
 -- ---- where the reading ends: with nothing left, or at a fault that isn't memory's
-abbrev IsEnd : ℕ → List Need → List ℕ → ℕ → Option CertTextFault → Type 0
+abbrev IsEnd : ℕ → List Due → List ℕ → ℕ → Option CertTextFault → Type 0
 IsEnd version left rest n None = (left ≡ []) × (rest ≡ [])
 IsEnd version left rest n (Some f) = IsStop version left rest n f × (f ≢ fault.Memory)
 
 -- a line that is as needed is no end
-no_end : {version : ℕ} (need : Need) (later : List Need) (text : List ℕ) (n : ℕ) (l : LineShape) (e : Option CertTextFault) → StartsWith version text l → Takes need l → (IsDeep need l → ⊥) → IsEnd version (need ∷ later) text n e → ⊥
+no_end : {version : ℕ} (need : Due) (later : List Due) (text : List ℕ) (n : ℕ) (l : LineShape) (e : Option CertTextFault) → StartsWith version text l → Takes need l → (IsDeep need l → ⊥) → IsEnd version (need ∷ later) text n e → ⊥
 no_end {version = version} need later text n l None s takes shallow end = cc end.0
 no_end {version = version} need later text n l (Some (fault.Header m)) s takes shallow end = end.0
 no_end {version = version} need later text n l (Some (fault.Line m)) s takes shallow end = end.0.2 l s
@@ -68,12 +68,12 @@ no_end {version = version} need later text n l (Some (fault.Deep m)) s takes sha
 no_end {version = version} need later text n l (Some fault.Memory) s takes shallow end = end.1 refl
 
 -- a line that is too deep isn't misshapen
-not_both : {version : ℕ} (needs : List Need) (text : List ℕ) (l : LineShape) → StartsWith version text l → IsTooDeep needs l → IsMisshapen version needs text → ⊥
+not_both : {version : ℕ} (needs : List Due) (text : List ℕ) (l : LineShape) → StartsWith version text l → IsTooDeep needs l → IsMisshapen version needs text → ⊥
 not_both {version = version} [] text l s deep shape = deep
 not_both {version = version} (need ∷ later) text l s deep shape =
     ⊎_elim (λ early. no_first text l early.0 s) (λ other. other.2 (subst (Takes need) (start_same text l other.0 s other.1) (deep_takes need l deep))) shape
 
-no_shape : {version : ℕ} (needs : List Need) (text : List ℕ) → text ≢ [] → ((l : LineShape) → StartsWith version text l → ⊥) → IsMisshapen version needs text → ⊥
+no_shape : {version : ℕ} (needs : List Due) (text : List ℕ) → text ≢ [] → ((l : LineShape) → StartsWith version text l → ⊥) → IsMisshapen version needs text → ⊥
 no_shape {version = version} needs text some none shape = ⊎_elim (λ early. some early.0) (λ other. none other.0 other.1) shape
 
 -- nothing left is no fault
@@ -84,7 +84,7 @@ no_stop version (fault.Shape m) n stop other = ⊎_elim (λ early. early.1 refl)
 no_stop version (fault.Deep m) n stop other = stop.1.2
 no_stop version fault.Memory n stop other = other refl
 
-one_stop : (version : ℕ) (needs : List Need) (text : List ℕ) (n : ℕ) (f g : CertTextFault) → IsStop version needs text n f → IsStop version needs text n g → f ≢ fault.Memory → g ≢ fault.Memory → f ≡ g
+one_stop : (version : ℕ) (needs : List Due) (text : List ℕ) (n : ℕ) (f g : CertTextFault) → IsStop version needs text n f → IsStop version needs text n g → f ≢ fault.Memory → g ≢ fault.Memory → f ≡ g
 one_stop version needs text n (fault.Header m) g a b x y = absurd a
 one_stop version needs text n f (fault.Header k) a b x y = absurd b
 one_stop version needs text n fault.Memory g a b x y = absurd (x refl)
@@ -99,13 +99,13 @@ one_stop version needs text n (fault.Deep m) (fault.Line k) a b x y = absurd (b.
 one_stop version needs text n (fault.Shape m) (fault.Deep k) a b x y = absurd (not_both {version = version} needs text b.1.0 b.1.1 b.1.2 a.1)
 one_stop version needs text n (fault.Deep m) (fault.Shape k) a b x y = absurd (not_both {version = version} needs text a.1.0 a.1.1 a.1.2 b.1)
 
-same_end : (version : ℕ) (needs : List Need) (text : List ℕ) (n : ℕ) (e f : Option CertTextFault) → IsEnd version needs text n e → IsEnd version needs text n f → e ≡ f
+same_end : (version : ℕ) (needs : List Due) (text : List ℕ) (n : ℕ) (e f : Option CertTextFault) → IsEnd version needs text n e → IsEnd version needs text n f → e ≡ f
 same_end version needs text n None None a b = refl
 same_end version needs text n None (Some g) a b = absurd (no_stop version g n (subst (λ ns. IsStop version ns [] n g) a.0 (subst (λ t. IsStop version needs t n g) a.1 b.0)) b.1)
 same_end version needs text n (Some f) None a b = absurd (no_stop version f n (subst (λ ns. IsStop version ns [] n f) b.0 (subst (λ t. IsStop version needs t n f) b.1 a.0)) a.1)
 same_end version needs text n (Some f) (Some g) a b = ap Some (one_stop version needs text n f g a.0 b.0 a.1 b.1)
 
-one_end : (version : ℕ) (needs : List Need) (n : ℕ) (xs ys : Values) (left mid : List Need) (rest more : List ℕ) (e f : Option CertTextFault) → AreLines version xs → AreLines version ys → values_text xs ++ rest ≡ values_text ys ++ more → Runs needs xs left → Runs needs ys mid → IsEnd version left rest (n + length xs) e → IsEnd version mid more (n + length ys) f → e ≡ f
+one_end : (version : ℕ) (needs : List Due) (n : ℕ) (xs ys : Values) (left mid : List Due) (rest more : List ℕ) (e f : Option CertTextFault) → AreLines version xs → AreLines version ys → values_text xs ++ rest ≡ values_text ys ++ more → TakesAll needs xs left → TakesAll needs ys mid → IsEnd version left rest (n + length xs) e → IsEnd version mid more (n + length ys) f → e ≡ f
 one_end version needs n [] [] left mid rest more e f a b text x y p q =
     same_end version left rest (n + length {A = LineShape} []) e f p (subst (λ ns. IsEnd version ns rest (n + length {A = LineShape} []) f) (sym y ∙ x) (subst (λ t. IsEnd version mid t (n + length {A = LineShape} []) f) (sym text) q))
 one_end version [] n [] (v ∷ ys) left mid rest more e f a b text x y p q = absurd y
@@ -120,7 +120,7 @@ one_end version [] n (u ∷ xs) (v ∷ ys) left mid rest more e f a b text x y p
 one_end version (need ∷ later) n (u ∷ xs) (v ∷ ys) left mid rest more e f a b text x y p q =
     let (first, after_first) = first_same u v (values_text xs ++ rest) (values_text ys ++ more) a.0 b.0 (sym (append_assoc (value_text u) (values_text xs) rest) ∙ text ∙ append_assoc (value_text v) (values_text ys) more) in
     one_end version (after need u ++ later) (n + 1) xs ys left mid rest more e f a.1 b.1 after_first x.2
-    (subst (λ ns. Runs (ns ++ later) ys mid) (sym (ap (after need) first)) y.2)
+    (subst (λ ns. TakesAll (ns ++ later) ys mid) (sym (ap (after need) first)) y.2)
     (subst (λ k. IsEnd version left rest k e) (omega arith) p)
     (subst (λ k. IsEnd version mid more k f) (omega arith) q)
 
@@ -158,7 +158,7 @@ certificate_heads bytes c t = (
   ),
 )
 
-certificate_runs : (bytes : List ℕ) (c : Shape) → IsTextOf bytes c → Runs (body_needs (length c.cuts)) (body_values c) []
+certificate_runs : (bytes : List ℕ) (c : Shape) → IsTextOf bytes c → TakesAll (body_needs (length c.cuts)) (body_values c) []
 certificate_runs bytes c t =
     runs_join (body_needs (length c.cuts)) (a_tree 0 ∷ the_end ∷ []) [] (all_cut_values c.cuts) (tree_values c.tree ++ EndLine ∷ []) (cuts_run c.cuts (length c.cuts) (a_tree 0 ∷ the_end ∷ []) refl)
     (runs_join (a_tree 0 ∷ the_end ∷ []) (the_end ∷ []) [] (tree_values c.tree) (EndLine ∷ []) (tree_run c.tree 0 (the_end ∷ []) (omega (arith, t.writable.paths))) (tt, λ no_depth. no_depth, refl))
@@ -177,10 +177,10 @@ one_head_fault bytes n m a b =
     inside n m a b less = heads_inside 1 a.read b.read a.rest b.rest a.lines b.lines (sym a.text ∙ b.text) (omega (arith, a.number, b.number, less)) (λ h s. a.none h (subst (λ k. StartsWithHead k a.rest h) (omega (arith, a.number)) s))
 
 -- two ends after the same three lines
-one_body : (bytes rest more : List ℕ) (v w : ℕ) (c d : Claim) (n m : ℕ) (xs ys : Values) (left mid : List Need) (r s : List ℕ) (e f : Option CertTextFault) → bytes ≡ heads_text (head_values v c n) ++ rest → bytes ≡ heads_text (head_values w d m) ++ more → AreHeads 1 (head_values v c n) → AreHeads 1 (head_values w d m) → AreLines v xs → AreLines w ys → rest ≡ values_text xs ++ r → more ≡ values_text ys ++ s → Runs (body_needs n) xs left → Runs (body_needs m) ys mid → IsEnd v left r (4 + length xs) e → IsEnd w mid s (4 + length ys) f → e ≡ f
+one_body : (bytes rest more : List ℕ) (v w : ℕ) (c d : Claim) (n m : ℕ) (xs ys : Values) (left mid : List Due) (r s : List ℕ) (e f : Option CertTextFault) → bytes ≡ heads_text (head_values v c n) ++ rest → bytes ≡ heads_text (head_values w d m) ++ more → AreHeads 1 (head_values v c n) → AreHeads 1 (head_values w d m) → AreLines v xs → AreLines w ys → rest ≡ values_text xs ++ r → more ≡ values_text ys ++ s → TakesAll (body_needs n) xs left → TakesAll (body_needs m) ys mid → IsEnd v left r (4 + length xs) e → IsEnd w mid s (4 + length ys) f → e ≡ f
 one_body bytes rest more v w c d n m xs ys left mid r s e f text other heads others a b first second x y p q =
     let (version, same, count, after_heads) = same_heads v w c d n m rest more heads others (sym text ∙ other) in
-    one_end v (body_needs n) 4 xs ys left mid r s e f a (subst (λ k. AreLines k ys) (sym version) b) (sym first ∙ after_heads ∙ second) x (subst (λ k. Runs (body_needs k) ys mid) (sym count) y) p (subst (λ k. IsEnd k mid s (4 + length ys) f) (sym version) q)
+    one_end v (body_needs n) 4 xs ys left mid r s e f a (subst (λ k. AreLines k ys) (sym version) b) (sym first ∙ after_heads ∙ second) x (subst (λ k. TakesAll (body_needs k) ys mid) (sym count) y) p (subst (λ k. IsEnd k mid s (4 + length ys) f) (sym version) q)
 
 one_body_fault : (bytes : List ℕ) (f g : CertTextFault) → f ≢ fault.Memory → g ≢ fault.Memory → IsBodyFault bytes f → IsBodyFault bytes g → f ≡ g
 one_body_fault bytes f g x y a b =

@@ -6,7 +6,7 @@ use Rattle.certificate.specs.declared.fault.CertTextFault.{CertTextFault}
 use Rattle.certificate.specs.declared.fault.CertTextFault.TheVariants as fault
 use Rattle.cert_lines.specs.Head.{IsHead, head_line}
 use Rattle.certificate.specs.Text.{head_text, head_values, heads_text}
-use Rattle.certificate.specs.Needs.{IsFaultFrom, Need, a_cut, a_tree, the_end}
+use Rattle.certificate.specs.Needs.{IsFaultFrom, Due, a_cut, a_tree, the_end}
 
 -- these are the values of lines from this number on
 abbrev pub AreHeads : ℕ → List HeadLine → Type 0
@@ -30,7 +30,7 @@ pub record IsHeadFault (bytes : List ℕ) (n : ℕ) : Type 0 where
   pub none : (h : HeadLine) → StartsWithHead n rest h → ⊥
 
 -- what is needed after them
-abbrev pub body_needs : ℕ → List Need
+abbrev pub body_needs : ℕ → List Due
 body_needs count = replicate count a_cut ++ (a_tree 0 ∷ the_end ∷ [])
 
 -- a later line is wrong

@@ -8,14 +8,14 @@ use Rattle.cert_lines.specs.Line.{HasLine}
 use Rattle.certificate.specs.Values.{AreLines, Values, value_text, values_text}
 
 -- what stands where: a part, a cut, a tree with so many branches above it, the end
-pub data Need : Type 0 where
-  a_part : Need
-  a_cut : Need
-  a_tree : ℕ → Need
-  the_end : Need
+pub data Due : Type 0 where
+  a_part : Due
+  a_cut : Due
+  a_tree : ℕ → Due
+  the_end : Due
 
 -- a line of this value may stand where this is needed
-abbrev pub Takes : Need → LineShape → Type 0
+abbrev pub Takes : Due → LineShape → Type 0
 Takes a_part (PartLine part) = ⊤
 Takes a_cut (CutLine c) = ⊤
 Takes a_cut (RoundLine divisor parts) = ⊤
@@ -27,12 +27,12 @@ Takes the_end EndLine = ⊤
 Takes _ _ = ⊥
 
 -- a branch with too many branches above it
-abbrev pub IsDeep : Need → LineShape → Type 0
+abbrev pub IsDeep : Due → LineShape → Type 0
 IsDeep (a_tree above) (BranchLine column at) = MAX_BRANCHES ≤ above
 IsDeep _ _ = ⊥
 
 -- what is needed after the line, before all else
-abbrev pub after : Need → LineShape → List Need
+abbrev pub after : Due → LineShape → List Due
 after need (RoundLine divisor parts) = replicate parts a_part
 after need (LinearLine den parts) = replicate parts a_part
 after need (FarkasLine parts) = replicate parts a_part
@@ -40,10 +40,10 @@ after (a_tree above) (BranchLine column at) = a_tree (above + 1) ∷ a_tree (abo
 after _ _ = []
 
 -- these lines may stand where these are needed, and then the rest is needed
-abbrev pub Runs : List Need → Values → List Need → Type 0
-Runs needs [] left = needs ≡ left
-Runs [] (l ∷ ls) left = ⊥
-Runs (need ∷ later) (l ∷ ls) left = Takes need l × (IsDeep need l → ⊥) × Runs (after need l ++ later) ls left
+abbrev pub TakesAll : List Due → Values → List Due → Type 0
+TakesAll needs [] left = needs ≡ left
+TakesAll [] (l ∷ ls) left = ⊥
+TakesAll (need ∷ later) (l ∷ ls) left = Takes need l × (IsDeep need l → ⊥) × TakesAll (after need l ++ later) ls left
 
 -- the text's first line has this value
 pub record StartsWith (version : ℕ) (bytes : List ℕ) (l : LineShape) : Type 0 where
@@ -52,20 +52,20 @@ pub record StartsWith (version : ℕ) (bytes : List ℕ) (l : LineShape) : Type 
   pub line : HasLine version l
 
 -- another line is needed, or none
-abbrev pub IsUnwanted : List Need → LineShape → Type 0
+abbrev pub IsUnwanted : List Due → LineShape → Type 0
 IsUnwanted [] l = ⊤
 IsUnwanted (need ∷ later) l = Takes need l → ⊥
 
-abbrev pub IsTooDeep : List Need → LineShape → Type 0
+abbrev pub IsTooDeep : List Due → LineShape → Type 0
 IsTooDeep [] l = ⊥
 IsTooDeep (need ∷ later) l = IsDeep need l
 
 -- the text ends, or its first line is another one
-abbrev pub IsMisshapen : ℕ → List Need → List ℕ → Type 0
+abbrev pub IsMisshapen : ℕ → List Due → List ℕ → Type 0
 IsMisshapen version needs text = ((text ≡ []) × (needs ≢ [])) ⊎ ((l : LineShape) × StartsWith version text l × IsUnwanted needs l)
 
 -- why the first line of the text, which has this number, isn't what is needed
-abbrev pub IsStop : ℕ → List Need → List ℕ → ℕ → CertTextFault → Type 0
+abbrev pub IsStop : ℕ → List Due → List ℕ → ℕ → CertTextFault → Type 0
 IsStop version needs text n (fault.Header m) = ⊥
 IsStop version needs text n (fault.Line m) = (m ≡ n) × (text ≢ []) × ((l : LineShape) → StartsWith version text l → ⊥)
 IsStop version needs text n (fault.Shape m) = (m ≡ n) × IsMisshapen version needs text
@@ -73,11 +73,11 @@ IsStop version needs text n (fault.Deep m) = (m ≡ n) × ((l : LineShape) × St
 IsStop version needs text n fault.Memory = ⊤
 
 -- the first lines are as needed, and the next one isn't; the text's first line has this number
-pub record IsFaultFrom (version : ℕ) (needs : List Need) (bytes : List ℕ) (n : ℕ) (f : CertTextFault) : Type 0 where
+pub record IsFaultFrom (version : ℕ) (needs : List Due) (bytes : List ℕ) (n : ℕ) (f : CertTextFault) : Type 0 where
   pub read : Values
   pub rest : List ℕ
-  pub left : List Need
+  pub left : List Due
   pub text : bytes ≡ values_text read ++ rest
   pub lines : AreLines version read
-  pub runs : Runs needs read left
+  pub runs : TakesAll needs read left
   pub stop : IsStop version left rest (n + length read) f

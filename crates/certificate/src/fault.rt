@@ -13,7 +13,7 @@ pub enum CertTextFault {
     /// The line has a form and another one is needed here, or the text ends before `end`, or something
     /// follows it.
     Shape(u64),
-    /// A branch has 2,000 branches above it.
+    /// A branch has `MAX_BRANCHES` branches above it.
     Deep(u64),
     /// Memory ran out.
     Memory,

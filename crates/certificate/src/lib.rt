@@ -8,7 +8,7 @@
 //! `read_line` a later one. That no text means two things is `texts_mean_one_thing`.
 //!
 //! Family: proofs. It stands on `cert_lines`, whose lines it puts together and whose calls it hands on; the
-//! checker of certificates and the search are to stand on it.
+//! checker of certificates and the search stand on it.
 #![tactic(auto)]
 
 mod counts;
@@ -35,8 +35,3 @@ pub use needs::{Misfit, Needs};
 pub use reading::read_certificate;
 pub use tree::{Certificate, Tree};
 pub use writing::write_certificate;
-
-#[cfg(test)]
-mod reading_tests;
-#[cfg(test)]
-mod tests;

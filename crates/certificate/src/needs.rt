@@ -2,7 +2,7 @@
 ghost use Rattle.std.specs.Prelude.{◌≡◌, ◌≤◌, ◌↔◌, [], ◌∷◌, IfOk, IsErrOf, IsTrue, OnOk};
 ghost use Rattle.cert_lines.specs.Shapes.{line_shape};
 ghost use Rattle.certificate.specs.declared.needs.Misfit.TheVariants.{Deep, Unwanted};
-ghost use Rattle.certificate.specs.Needs.{IsTooDeep, IsUnwanted, Runs, a_tree};
+ghost use Rattle.certificate.specs.Needs.{IsTooDeep, IsUnwanted, TakesAll, a_tree};
 ghost use Rattle.certificate.specs.Faults.{body_needs};
 ghost use Rattle.certificate.specs.Stacks.{needs_in};
 
@@ -72,7 +72,7 @@ impl Needs {
     /// Takes the next line: what it needs itself comes first then. The line is another one than is needed, or a
     /// branch too deep, exactly where this is the answer. Memory is taken for a branch alone.
     pub fn take(&mut self, line: &CertLine) -> Result<(), Misfit>
-        ensures taken { OnOk result (Runs (needs_in self.old) (line_shape line.now ∷ []) (needs_in self.new)) }
+        ensures taken { OnOk result (TakesAll (needs_in self.old) (line_shape line.now ∷ []) (needs_in self.new)) }
         ensures unwanted { IsErrOf result Unwanted → IsUnwanted (needs_in self.old) (line_shape line.now) }
         ensures deep { IsErrOf result Deep → IsTooDeep (needs_in self.old) (line_shape line.now) }
     {
@@ -107,7 +107,7 @@ impl Needs {
     // A line where a part is needed.
     fn take_part(&mut self, line: &CertLine) -> Result<(), Misfit>
         requires some { 1 ≤ self.old.parts }
-        ensures taken { OnOk result (Runs (needs_in self.old) (line_shape line.now ∷ []) (needs_in self.new)) }
+        ensures taken { OnOk result (TakesAll (needs_in self.old) (line_shape line.now ∷ []) (needs_in self.new)) }
         ensures unwanted { IsErrOf result Unwanted → IsUnwanted (needs_in self.old) (line_shape line.now) }
         ensures deep { IsErrOf result Deep → ⊥ }
     {
@@ -124,7 +124,7 @@ impl Needs {
     fn take_cut(&mut self, line: &CertLine) -> Result<(), Misfit>
         requires none { self.old.parts ≡ 0 }
         requires some { 1 ≤ self.old.cuts }
-        ensures taken { OnOk result (Runs (needs_in self.old) (line_shape line.now ∷ []) (needs_in self.new)) }
+        ensures taken { OnOk result (TakesAll (needs_in self.old) (line_shape line.now ∷ []) (needs_in self.new)) }
         ensures unwanted { IsErrOf result Unwanted → IsUnwanted (needs_in self.old) (line_shape line.now) }
         ensures deep { IsErrOf result Deep → ⊥ }
     {
@@ -146,7 +146,7 @@ impl Needs {
     fn take_tree(&mut self, line: &CertLine, above: u32) -> Result<(), Misfit>
         requires parts { self.old.parts ≡ 0 }
         requires cuts { self.old.cuts ≡ 0 }
-        ensures taken { OnOk result (Runs (a_tree above ∷ needs_in self.old) (line_shape line.now ∷ []) (needs_in self.new)) }
+        ensures taken { OnOk result (TakesAll (a_tree above ∷ needs_in self.old) (line_shape line.now ∷ []) (needs_in self.new)) }
         ensures unwanted { IsErrOf result Unwanted → IsUnwanted (a_tree above ∷ needs_in self.old) (line_shape line.now) }
         ensures deep { IsErrOf result Deep → IsTooDeep (a_tree above ∷ needs_in self.old) (line_shape line.now) }
     {
@@ -177,7 +177,7 @@ impl Needs {
         requires parts { self.old.parts ≡ 0 }
         requires cuts { self.old.cuts ≡ 0 }
         requires trees { self.old.trees.items ≡ [] }
-        ensures taken { OnOk result (Runs (needs_in self.old) (line_shape line.now ∷ []) (needs_in self.new)) }
+        ensures taken { OnOk result (TakesAll (needs_in self.old) (line_shape line.now ∷ []) (needs_in self.new)) }
         ensures unwanted { IsErrOf result Unwanted → IsUnwanted (needs_in self.old) (line_shape line.now) }
         ensures deep { IsErrOf result Deep → ⊥ }
     {

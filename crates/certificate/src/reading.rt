@@ -7,7 +7,7 @@ ghost use Rattle.certificate.specs.Shapes.{shape_of, tree_shape};
 ghost use Rattle.certificate.specs.Limits.{IsTextOf};
 ghost use Rattle.certificate.specs.Counts.{longest_path};
 ghost use Rattle.certificate.specs.Values.{all_cut_values, cut_values, part_values, tree_values};
-ghost use Rattle.certificate.specs.Needs.{IsFaultFrom, Need, Takes, a_cut, a_part, a_tree, the_end};
+ghost use Rattle.certificate.specs.Needs.{IsFaultFrom, Due, Takes, a_cut, a_part, a_tree, the_end};
 ghost use Rattle.certificate.specs.Faults.{IsCertTextFault};
 ghost use Rattle.certificate.specs.Rest.{AreRead};
 ghost use Rattle.certificate.specs.Nodes.{IsHigh, node_values};
@@ -37,7 +37,7 @@ fn read_part(alloc: Global, rest: &mut Rest, version: u32) -> Result<Part, CertT
     requires room { rest.old.line + length rest.old.text.now < 2 ^ 64 }
     ensures part { IfOk result (λ part. AreRead version rest.old rest.new (PartLine part ∷ [])) }
     ensures room { OnOk result (rest.new.line + length rest.new.text.now ≤ rest.old.line + length rest.old.text.now) }
-    ensures refused { IfErr result (λ f. (later : List Need) → IsFaultFrom version (a_part ∷ later) rest.old.text.now rest.old.line f) }
+    ensures refused { IfErr result (λ f. (later : List Due) → IsFaultFrom version (a_part ∷ later) rest.old.text.now rest.old.line f) }
 {
     let number = rest.line;
     match part_of(next_line(alloc, rest, version)?) {
@@ -58,7 +58,7 @@ fn read_parts(
     ensures parts { IfOk result (λ parts. AreRead version rest.old rest.new (part_values parts.items)) }
     ensures count { IfOk result (λ parts. length parts.items ≡ count) }
     ensures room { OnOk result (rest.new.line + length rest.new.text.now ≤ rest.old.line + length rest.old.text.now) }
-    ensures refused { IfErr result (λ f. (later : List Need) → IsFaultFrom version (replicate count a_part ++ later) rest.old.text.now rest.old.line f) }
+    ensures refused { IfErr result (λ f. (later : List Due) → IsFaultFrom version (replicate count a_part ++ later) rest.old.text.now rest.old.line f) }
 {
     let mut parts = Vec::new(alloc);
     for _ in 0..count {
@@ -73,7 +73,7 @@ fn read_cut(alloc: Global, rest: &mut Rest, version: u32) -> Result<Cut, CertTex
     requires room { rest.old.line + length rest.old.text.now < 2 ^ 64 }
     ensures cut { IfOk result (λ cut. AreRead version rest.old rest.new (cut_values (cut_shape cut))) }
     ensures room { OnOk result (rest.new.line + length rest.new.text.now ≤ rest.old.line + length rest.old.text.now) }
-    ensures refused { IfErr result (λ f. (later : List Need) → IsFaultFrom version (a_cut ∷ later) rest.old.text.now rest.old.line f) }
+    ensures refused { IfErr result (λ f. (later : List Due) → IsFaultFrom version (a_cut ∷ later) rest.old.text.now rest.old.line f) }
 {
     let number = rest.line;
     match next_line(alloc, rest, version)? {
@@ -101,7 +101,7 @@ fn read_cuts(
     ensures cuts { IfOk result (λ cuts. AreRead version rest.old rest.new (all_cut_values (map cut_shape cuts.items))) }
     ensures count { IfOk result (λ cuts. length cuts.items ≡ count) }
     ensures room { OnOk result (rest.new.line + length rest.new.text.now ≤ rest.old.line + length rest.old.text.now) }
-    ensures refused { IfErr result (λ f. (later : List Need) → IsFaultFrom version (replicate count a_cut ++ later) rest.old.text.now rest.old.line f) }
+    ensures refused { IfErr result (λ f. (later : List Due) → IsFaultFrom version (replicate count a_cut ++ later) rest.old.text.now rest.old.line f) }
 {
     let mut cuts = Vec::new(alloc);
     for _ in 0..count {
@@ -130,7 +130,7 @@ fn read_node(
     ensures node { IfOk result (λ node. AreRead version rest.old rest.new (node_values node)) }
     ensures high { IfOk result (λ node. IsHigh above node) }
     ensures room { OnOk result (rest.new.line + length rest.new.text.now ≤ rest.old.line + length rest.old.text.now) }
-    ensures refused { IfErr result (λ f. (later : List Need) → IsFaultFrom version (a_tree above ∷ later) rest.old.text.now rest.old.line f) }
+    ensures refused { IfErr result (λ f. (later : List Due) → IsFaultFrom version (a_tree above ∷ later) rest.old.text.now rest.old.line f) }
 {
     let number = rest.line;
     match next_line(alloc, rest, version)? {
@@ -166,7 +166,7 @@ fn read_tree(
     ensures tree { IfOk result (λ tree. AreRead version rest.old rest.new (tree_values (tree_shape tree))) }
     ensures paths { IfOk result (λ tree. above + longest_path (tree_shape tree) ≤ MAX_BRANCHES) }
     ensures room { OnOk result (rest.new.line + length rest.new.text.now ≤ rest.old.line + length rest.old.text.now) }
-    ensures refused { IfErr result (λ f. (later : List Need) → IsFaultFrom version (a_tree above ∷ later) rest.old.text.now rest.old.line f) }
+    ensures refused { IfErr result (λ f. (later : List Due) → IsFaultFrom version (a_tree above ∷ later) rest.old.text.now rest.old.line f) }
 {
     match read_node(alloc, rest, version, above)? {
         Node::Branch { column, at } => {

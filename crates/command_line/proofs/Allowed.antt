@@ -11,7 +11,7 @@ use Rattle.command_line.specs.Laws.{CommandsAreAllowed}
 use Rattle.lot_sizing.specs.declared.limits.TheConstants.{MAX_ITEMS}
 use Rattle.instance_reader.specs.declared.versions.TheConstants.{FIRST_VERSION_PERIODS}
 use Rattle.command_line.specs.declared.requests.TheConstants.{LARGEST_BUDGET, USUAL_BUDGET}
-use Rattle.command_line.specs.Words.{AreApart, Asked, IsAllowed, are_file_names, are_two_names, asked_by_matches, asked_if, asked_in, bounding, bounding_from, budget_from, checking, checking_from, command_of, demonstrating, demonstrating_from, generated, generating, generating_from, helping, is_budget, is_file_name, is_help, is_number, is_seed, judging, judging_from, largest_seed, planned, planning, planning_from, reporting, reporting_from, unless_refused, upgrading, upgrading_from, version}
+use Rattle.command_line.specs.Words.{AreApart, Request, IsAllowed, are_file_names, are_two_names, asked_by_matches, asked_if, asked_in, bounding, bounding_from, budget_from, checking, checking_from, command_of, demonstrating, demonstrating_from, generated, generating, generating_from, helping, is_budget, is_file_name, is_help, is_number, is_seed, judging, judging_from, largest_seed, planned, planning, planning_from, reporting, reporting_from, unless_refused, upgrading, upgrading_from, version}
 
 -- the parts of a test that came out true
 pub first_true : (a b : Bool) → (a && b) ≡ true → a ≡ true
@@ -60,20 +60,20 @@ seed_fits text is = seed_has_bits (digits_value 10 text) (number_in_range 0 larg
 
 -- ---- what is asked for is allowed
 
-abbrev Fine : Option Asked → Type 0
-Fine o = (asked : Asked) → o ≡ Some asked → IsAllowed asked
+abbrev Fine : Option Request → Type 0
+Fine o = (asked : Request) → o ≡ Some asked → IsAllowed asked
 
 fine_none : Fine None
 fine_none asked is = absurd (cc is)
 
-fine_some : (x : Asked) → IsAllowed x → Fine (Some x)
+fine_some : (x : Request) → IsAllowed x → Fine (Some x)
 fine_some x allowed asked is = let same : x ≡ asked = cc is in subst IsAllowed same allowed
 
-fine_if : (t : Bool) (x : Asked) → (t ≡ true → IsAllowed x) → Fine (asked_if t x)
+fine_if : (t : Bool) (x : Request) → (t ≡ true → IsAllowed x) → Fine (asked_if t x)
 fine_if true x allowed = fine_some x (allowed refl)
 fine_if false x allowed = fine_none
 
-fine_either : (t : Bool) (x y : Option Asked) → Fine x → Fine y → Fine (if t then x else y)
+fine_either : (t : Bool) (x y : Option Request) → Fine x → Fine y → Fine (if t then x else y)
 fine_either true x y p q = p
 fine_either false x y p q = q
 
@@ -154,7 +154,7 @@ fine_matches : (s : Option (List ℕ × List Row)) → Fine (asked_by_matches s)
 fine_matches None = fine_some version tt
 fine_matches (Some s) = fine_in s.0 s.1
 
-fine_unless : (ks : Kinds) (o : Option Asked) → Fine o → Fine (unless_refused ks o)
+fine_unless : (ks : Kinds) (o : Option Request) → Fine o → Fine (unless_refused ks o)
 fine_unless [] o fine = fine
 fine_unless (k ∷ ks) o fine = fine_if (is_help k) helping (λ is. tt)
 

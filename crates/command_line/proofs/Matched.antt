@@ -12,7 +12,7 @@ use Rattle.clap.proofs.OnLiterals.{clap_on_literals}
 use Rattle.command_line.specs.Grammar.{planner_app}
 use Rattle.std.specs.declared.alloc.AllocError.{AllocError}
 use Rattle.command_line.specs.Meant.{IsRefusedText, read_as}
-use Rattle.command_line.specs.Words.{Asked, AreTaken, asked_by_matches, asked_if, command_of, helping, is_help, unless_refused}
+use Rattle.command_line.specs.Words.{Request, AreTaken, asked_by_matches, asked_if, command_of, helping, is_help, unless_refused}
 use Rattle.command_line.specs.declared.commands.Reading.{Reading}
 use Rattle.command_line.specs.declared.commands.Reading.TheVariants as reading
 use Rattle.command_line.proofs.Alike.{Alike, alike_among, alike_faults}
@@ -51,7 +51,7 @@ failed : (a : App) (words : List Text) (e : Error) → a ≡ planner_app → (is
     → HasKind (fault_of planner_app words) e
 failed a words e same kinds = subst (λ b. HasKind (fault_of b words) e) same (kinds (ap is_simple_and_free same ∙ is_planner_free))
 
-stopped_by : (ks : Kinds) (e : Error) (answer : Option Asked) → Alike ks → HasKind ks e → kind_of e ≢ OutOfMemory
+stopped_by : (ks : Kinds) (e : Error) (answer : Option Request) → Alike ks → HasKind ks e → kind_of e ≢ OutOfMemory
     → asked_if (is_help (kind_of e)) helping ≡ unless_refused ks answer
 stopped_by [] e answer alike kind other = elim kind [ inl memory ↦ absurd (other memory) | inr none ↦ absurd none ]
 stopped_by (k ∷ ks) e answer alike kind other = elim kind [

@@ -8,7 +8,7 @@ use Rattle.command_line.specs.Laws.{PlainWordsKeepTheirMeaning}
 use Rattle.lot_sizing.specs.declared.limits.TheConstants.{MAX_ITEMS}
 use Rattle.instance_reader.specs.declared.versions.TheConstants.{FIRST_VERSION_PERIODS}
 use Rattle.command_line.specs.declared.requests.TheConstants.{LARGEST_BUDGET, USUAL_BUDGET}
-use Rattle.command_line.specs.Words.{Asked, are_file_names, are_two_names, asked_if, bounding, checking, command_of, demonstrating, generating, is_budget, is_file_name, is_number, is_seed, judging, planned, planning, reporting, upgrading, version}
+use Rattle.command_line.specs.Words.{Request, are_file_names, are_two_names, asked_if, bounding, checking, command_of, demonstrating, generating, is_budget, is_file_name, is_number, is_seed, judging, planned, planning, reporting, upgrading, version}
 use Rattle.command_line.proofs.Allowed.{first_true, rest_true}
 use Rattle.command_line.proofs.Budgets.{nodes_words}
 use Rattle.command_line.proofs.Numbers.{number_begins, seed_begins}
@@ -22,16 +22,16 @@ unfolding clap_on_literals command_of
 no_words = refl
 
 -- a command that is asked for under a test is what the words ask for, where the test is met and where it isn't
-by_test : (t : Bool) (x asked : Asked) (rest answer : Option Asked) → (t ≡ true → answer ≡ Some x) → (rest ≡ Some asked → answer ≡ Some asked)
+by_test : (t : Bool) (x asked : Request) (rest answer : Option Request) → (t ≡ true → answer ≡ Some x) → (rest ≡ Some asked → answer ≡ Some asked)
     → (if t then Some x else rest) ≡ Some asked → answer ≡ Some asked
 by_test true x asked rest answer h k is = h refl ∙ is
 by_test false x asked rest answer h k is = k is
 
-never : (asked : Asked) (answer : Option Asked) → None ≡ Some asked → answer ≡ Some asked
+never : (asked : Request) (answer : Option Request) → None ≡ Some asked → answer ≡ Some asked
 never asked answer is = absurd (cc is)
 
 -- the first word is this one, and the test of the names is met
-named : (word name : List ℕ) (rest : List (List ℕ)) (t : Bool) (x : Asked) → (t ≡ true → command_of (name ∷ rest) ≡ asked_if t x) → (bytes_eq word name && t) ≡ true
+named : (word name : List ℕ) (rest : List (List ℕ)) (t : Bool) (x : Request) → (t ≡ true → command_of (name ∷ rest) ≡ asked_if t x) → (bytes_eq word name && t) ≡ true
     → command_of (word ∷ rest) ≡ Some x
 named word name rest t x h is =
     let same : word ≡ name = (bytes_eq-Decides word name).0 (first_true (bytes_eq word name) t is) in

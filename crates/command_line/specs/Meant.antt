@@ -1,13 +1,13 @@
 -- What the program's own values stand for.
 use Rattle.std.specs.Prelude.{◌≡◌, ⊤, ℕ, List, Option, Some, None, codes}
-use Rattle.command_line.specs.Words.{Asked, AreTaken, version, helping, planning, judging, checking, reporting, generating, demonstrating, upgrading, bounding}
+use Rattle.command_line.specs.Words.{Request, AreTaken, version, helping, planning, judging, checking, reporting, generating, demonstrating, upgrading, bounding}
 use Rattle.command_line.specs.declared.commands.Command.{Command}
 use Rattle.command_line.specs.declared.commands.Command.TheVariants as command
 use Rattle.command_line.specs.declared.commands.Reading.{Reading}
 use Rattle.command_line.specs.declared.commands.Reading.TheVariants as reading
 
 -- what a command asks for
-abbrev pub asked_by : Command → Asked
+abbrev pub asked_by : Command → Request
 asked_by command.Name = version
 asked_by (command.Plan names budget) = planning names.model.now names.plan.now names.certificate.now budget
 asked_by (command.Judge names) = judging names.model.now names.plan.now
@@ -19,7 +19,7 @@ asked_by (command.Generate seed items periods model) = generating seed items per
 asked_by (command.Demo seed) = demonstrating seed
 
 -- what the words were read as
-abbrev pub read_as : Reading → Option Asked
+abbrev pub read_as : Reading → Option Request
 read_as (reading.Command c) = Some (asked_by c)
 read_as (reading.Help text) = Some helping
 read_as (reading.Refused text) = None

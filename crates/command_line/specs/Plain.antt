@@ -5,11 +5,11 @@ use Rattle.std.specs.Str.Parse.{digits_value}
 use Rattle.lot_sizing.specs.declared.limits.TheConstants.{MAX_ITEMS}
 use Rattle.instance_reader.specs.declared.versions.TheConstants.{FIRST_VERSION_PERIODS}
 use Rattle.command_line.specs.declared.requests.TheConstants.{USUAL_BUDGET}
-use Rattle.command_line.specs.Words.{Asked, version, planning, judging, checking, upgrading, reporting, generating, demonstrating, bounding, are_file_names, are_two_names, is_budget, is_file_name, is_number, is_seed}
+use Rattle.command_line.specs.Words.{Request, version, planning, judging, checking, upgrading, reporting, generating, demonstrating, bounding, are_file_names, are_two_names, is_budget, is_file_name, is_number, is_seed}
 
 -- no words, or `bound` and a name, or `demo` and a seed, or `judge`, `upgrade` or `report` and two names, or `plan` or `check` and three, or `gen` with a seed, numbers of items and periods and a name, or
 -- `plan` with a number of nodes after the names
-abbrev pub plain_command_of : List (List ℕ) → Option Asked
+abbrev pub plain_command_of : List (List ℕ) → Option Request
 plain_command_of [] = Some version
 plain_command_of (word ∷ m ∷ []) = if bytes_eq word (codes "bound") && is_file_name m then Some (bounding m)
     else (if bytes_eq word (codes "demo") && is_seed m then Some (demonstrating (digits_value 10 m)) else None)

@@ -11,27 +11,27 @@ use Rattle.instance_reader.specs.declared.versions.TheConstants.{FIRST_VERSION_P
 use Rattle.command_line.specs.declared.requests.TheConstants.{LARGEST_BUDGET, USUAL_BUDGET}
 use Rattle.command_line.specs.Grammar.{planner_app}
 
-pub data Asked : Type 0 where
+pub data Request : Type 0 where
   -- the program's name
-  version : Asked
+  version : Request
   -- help, or the version, of the program or of a command
-  helping : Asked
+  helping : Request
   -- to plan a model file, with the names of the model file, the plan file and the certificate file, and the most nodes that the certificate's tree may have
-  planning : List ℕ → List ℕ → List ℕ → ℕ → Asked
+  planning : List ℕ → List ℕ → List ℕ → ℕ → Request
   -- to judge a plan file, with the names of the model file and the plan file
-  judging : List ℕ → List ℕ → Asked
+  judging : List ℕ → List ℕ → Request
   -- to check a certificate file, with the names of the model file, the plan file and the certificate file
-  checking : List ℕ → List ℕ → List ℕ → Asked
+  checking : List ℕ → List ℕ → List ℕ → Request
   -- to judge a plan file and to sum it up, with the names of the model file and the plan file
-  reporting : List ℕ → List ℕ → Asked
+  reporting : List ℕ → List ℕ → Request
   -- to write a model with this seed, this many items and this many periods into the file of this name
-  generating : ℕ → ℕ → ℕ → List ℕ → Asked
+  generating : ℕ → ℕ → ℕ → List ℕ → Request
   -- to plan two models with this seed
-  demonstrating : ℕ → Asked
+  demonstrating : ℕ → Request
   -- to write a model of the first version as one of the newest, with the names of the model file and the new file
-  upgrading : List ℕ → List ℕ → Asked
+  upgrading : List ℕ → List ℕ → Request
   -- to bound the cost of plans of the model in this file
-  bounding : List ℕ → Asked
+  bounding : List ℕ → Request
 
 -- ---- names and numbers
 
@@ -64,7 +64,7 @@ is_seed = is_number 0 largest_seed
 
 -- ---- what the texts of a command ask for, where each text that it needs is there
 
-abbrev pub asked_if : Bool → Asked → Option Asked
+abbrev pub asked_if : Bool → Request → Option Request
 asked_if true asked = Some asked
 asked_if false asked = None
 
@@ -73,50 +73,50 @@ abbrev pub budget_from : Option (List ℕ) → Option ℕ
 budget_from None = Some USUAL_BUDGET
 budget_from (Some n) = if is_budget n then Some (digits_value 10 n) else None
 
-abbrev pub planned : List ℕ → List ℕ → List ℕ → Option ℕ → Option Asked
+abbrev pub planned : List ℕ → List ℕ → List ℕ → Option ℕ → Option Request
 planned m p c None = None
 planned m p c (Some budget) = asked_if (are_file_names m p c) (planning m p c budget)
 
-abbrev pub generated : List ℕ → List ℕ → List ℕ → List ℕ → Option Asked
+abbrev pub generated : List ℕ → List ℕ → List ℕ → List ℕ → Option Request
 generated n items periods m = asked_if (is_seed n && (is_number 1 MAX_ITEMS items && (is_number 1 FIRST_VERSION_PERIODS periods && is_file_name m)))
     (generating (digits_value 10 n) (digits_value 10 items) (digits_value 10 periods) m)
 
-abbrev pub planning_from : Option (List ℕ) → Option (List ℕ) → Option (List ℕ) → Option (List ℕ) → Option Asked
+abbrev pub planning_from : Option (List ℕ) → Option (List ℕ) → Option (List ℕ) → Option (List ℕ) → Option Request
 planning_from (Some m) (Some p) (Some c) nodes = planned m p c (budget_from nodes)
 planning_from _ _ _ _ = None
 
-abbrev pub judging_from : Option (List ℕ) → Option (List ℕ) → Option Asked
+abbrev pub judging_from : Option (List ℕ) → Option (List ℕ) → Option Request
 judging_from (Some m) (Some p) = asked_if (are_two_names m p) (judging m p)
 judging_from _ _ = None
 
-abbrev pub checking_from : Option (List ℕ) → Option (List ℕ) → Option (List ℕ) → Option Asked
+abbrev pub checking_from : Option (List ℕ) → Option (List ℕ) → Option (List ℕ) → Option Request
 checking_from (Some m) (Some p) (Some c) = asked_if (are_file_names m p c) (checking m p c)
 checking_from _ _ _ = None
 
-abbrev pub reporting_from : Option (List ℕ) → Option (List ℕ) → Option Asked
+abbrev pub reporting_from : Option (List ℕ) → Option (List ℕ) → Option Request
 reporting_from (Some m) (Some p) = asked_if (are_two_names m p) (reporting m p)
 reporting_from _ _ = None
 
-abbrev pub generating_from : Option (List ℕ) → Option (List ℕ) → Option (List ℕ) → Option (List ℕ) → Option Asked
+abbrev pub generating_from : Option (List ℕ) → Option (List ℕ) → Option (List ℕ) → Option (List ℕ) → Option Request
 generating_from (Some n) (Some items) (Some periods) (Some m) = generated n items periods m
 generating_from _ _ _ _ = None
 
-abbrev pub demonstrating_from : Option (List ℕ) → Option Asked
+abbrev pub demonstrating_from : Option (List ℕ) → Option Request
 demonstrating_from (Some n) = asked_if (is_seed n) (demonstrating (digits_value 10 n))
 demonstrating_from _ = None
 
-abbrev pub upgrading_from : Option (List ℕ) → Option (List ℕ) → Option Asked
+abbrev pub upgrading_from : Option (List ℕ) → Option (List ℕ) → Option Request
 upgrading_from (Some m) (Some n) = asked_if (are_two_names m n) (upgrading m n)
 upgrading_from _ _ = None
 
-abbrev pub bounding_from : Option (List ℕ) → Option Asked
+abbrev pub bounding_from : Option (List ℕ) → Option Request
 bounding_from (Some m) = asked_if (is_file_name m) (bounding m)
 bounding_from _ = None
 
 -- ---- what the matches ask for
 
 -- what a subcommand of this name asks for, by the texts of its arguments
-abbrev pub asked_in : List ℕ → List Row → Option Asked
+abbrev pub asked_in : List ℕ → List Row → Option Request
 asked_in name rows =
     if bytes_eq name (codes "plan") then planning_from (first_of (codes "M") rows) (first_of (codes "P") rows) (first_of (codes "C") rows) (first_of (codes "nodes") rows)
     else if bytes_eq name (codes "judge") then judging_from (first_of (codes "M") rows) (first_of (codes "P") rows)
@@ -129,7 +129,7 @@ asked_in name rows =
     else None
 
 -- words with no subcommand are the program's name
-abbrev pub asked_by_matches : Option (List ℕ × List Row) → Option Asked
+abbrev pub asked_by_matches : Option (List ℕ × List Row) → Option Request
 asked_by_matches None = Some version
 asked_by_matches (Some s) = asked_in s.0 s.1
 
@@ -139,12 +139,12 @@ is_help DisplayVersion = true
 is_help _ = false
 
 -- a call for help is one; other words that a step of the parse refuses ask for nothing
-abbrev pub unless_refused : Kinds → Option Asked → Option Asked
+abbrev pub unless_refused : Kinds → Option Request → Option Request
 unless_refused [] answer = answer
 unless_refused (k ∷ ks) answer = asked_if (is_help k) helping
 
 -- the command that the matches of the words give
-unfoldable pub command_of : List (List ℕ) → Option Asked
+unfoldable pub command_of : List (List ℕ) → Option Request
 command_of words = unless_refused (fault_of planner_app words) (asked_by_matches (subcommand_of planner_app words))
 
 -- no step of the parse refuses the words
@@ -173,7 +173,7 @@ pub record IsGenerated (seed items periods : ℕ) : Type 0 where
   pub periods_limit : periods ≤ FIRST_VERSION_PERIODS
 
 -- what a command meets: names that are apart, numbers within their limits
-abbrev pub IsAllowed : Asked → Type 0
+abbrev pub IsAllowed : Request → Type 0
 IsAllowed (planning m p c budget) = IsPlanned m p c budget
 IsAllowed (judging m p) = m ≢ p
 IsAllowed (checking m p c) = AreApart m p c

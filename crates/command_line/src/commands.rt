@@ -9,7 +9,7 @@ pub enum Command<'a> {
     Plan {
         /// The names of the files.
         names: Names<'a>,
-        /// The most nodes that the certificate's tree may have, from 1 to 1,000,000.
+        /// The most nodes that the certificate's tree may have, from 1 to `LARGEST_BUDGET`.
         budget: u64,
     },
     /// To judge a plan file.
@@ -26,9 +26,9 @@ pub enum Command<'a> {
     Generate {
         /// The number, from which the model's numbers are drawn.
         seed: u64,
-        /// How many items the model has, from 1 to 40.
+        /// How many items the model has, from 1 to `MAX_ITEMS`.
         items: u32,
-        /// How many periods the model has, from 1 to 60.
+        /// How many periods the model has, from 1 to `FIRST_VERSION_PERIODS`.
         periods: u32,
         /// The model file, which is written.
         model: &'a str,

@@ -1,8 +1,8 @@
 // Laws of the command line, each the contract of a function that does nothing.
 ghost use Rattle.command_line.specs.Laws.{CommandsAreAllowed, PlainWordsKeepTheirMeaning};
 
-/// Each command has names that are apart, and numbers within their limits: a budget is 1 to 1,000,000, a seed is
-/// below 2^64, items are 1 to 40, and periods 1 to 60.
+/// Each command has names that are apart, and numbers within their limits: a budget is 1 to `LARGEST_BUDGET`, a
+/// seed is below 2^64, items are 1 to `MAX_ITEMS`, and periods 1 to `FIRST_VERSION_PERIODS`.
 pub fn commands_are_allowed()
     ensures { CommandsAreAllowed }
 {}

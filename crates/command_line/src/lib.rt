@@ -1,8 +1,8 @@
 //! The words of a command line, read by `clap`.
 //!
 //! Family: commands. It stands on `clap`, which matches the words, on `whole_numbers` for the numbers
-//! among them, and on `lot_sizing` and `instance_reader` for the limits of a model that is drawn.
-//! `lotplan` uses it.
+//! among them, and on `lot_sizing` and `instance_reader` for the limits of a model that is drawn;
+//! `lotplan` stands on it.
 //!
 //! `read_words` gives the command that the words are, a text of help, or why they are refused.
 #![tactic(auto)]

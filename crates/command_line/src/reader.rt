@@ -16,10 +16,10 @@ use std::alloc::{AllocError, Global};
 /// numbers are in order, a call for help, or else no command.
 ///
 /// Names of files aren't empty, don't begin with `-`, and no two of a command are the same. Numbers are decimal
-/// digits with no sign and no 0 before others: a seed is below 2^64, items are 1 to 40, periods 1 to 60, and the
-/// nodes of `--nodes` 1 to 1,000,000; without that option they are 1,000. The text of help and of words that
-/// `clap` refuses is its own; words that it takes, and whose names or numbers aren't in order, are refused by
-/// `refused words` and a line feed.
+/// digits with no sign and no 0 before others: a seed is below 2^64, items are 1 to `MAX_ITEMS`, periods 1
+/// to `FIRST_VERSION_PERIODS`, and the nodes of `--nodes` 1 to `LARGEST_BUDGET`; without that option they are
+/// `USUAL_BUDGET`. The text of help and of words that `clap` refuses is its own; words that it takes, and whose
+/// names or numbers aren't in order, are refused by `refused words` and a line feed.
 ///
 /// `Err` comes where memory runs out. The cost grows with the length of the words.
 pub fn read_words<'a>(alloc: Global, words: &'a [String]) -> Result<Reading<'a>, AllocError>

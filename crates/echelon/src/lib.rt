@@ -1,7 +1,7 @@
 //! Items by themselves, and with what they go into.
 //!
-//! Family: single items. Stands on `lot_sizing`, `bill`, `lot_model`; used by the recursions and, later,
-//! by the cuts over echelons.
+//! Family: single items. It stands on `lot_sizing`, `bill` and `lot_model`; the recursions and the cuts stand
+//! on it.
 //!
 //! An `Explosion` has the weights of an instance's items, and an order in which each stands before its
 //! components. `lead_free` tells whether an item and all that it goes into arrive when they are
@@ -30,6 +30,3 @@ pub use lot_sizing::Block;
 pub use net::{EchelonItem, MAX_ASKED, Net, is_echelon_within_bounds, net_of};
 pub use single::{Blocks, SingleItem, is_within_bounds, positions};
 pub use whole::{echelon_of, lead_free};
-
-#[cfg(test)]
-mod tests;

@@ -82,10 +82,10 @@ fn marks_agree(echelon: &EchelonItem) -> bool
     echelon.backlogged == marked
 }
 
-/// Whether an echelon is within the bounds that `net_of` asks for: one of at most 40 items, over at
-/// most 120 periods, with a weight of at most 10^12 and a backlog mark for each item, and demands,
-/// opening stock and required end stock that add to at most 10^25; and it may be owed exactly where
-/// an item with a weight above 0 has a backlog mark. It takes no memory.
+/// Whether an echelon is within the bounds that `net_of` asks for: one of at most `MAX_ITEMS` items, over
+/// at most `MAX_PERIODS` periods, with a weight of at most `MAX_TOTAL` and a backlog mark for each item, and
+/// demands, opening stock and required end stock that add to at most `MAX_ASKED`; and it may be owed
+/// exactly where an item with a weight above 0 has a backlog mark. It takes no memory.
 pub fn is_echelon_within_bounds(echelon: &EchelonItem) -> bool
     ensures { IsTrue result ↔ IsEchelonWithinBounds echelon.now }
 {

@@ -38,14 +38,14 @@ pub struct Blocks {
     pub potentials: Vec<u128>,
 }
 
-// Whether a list has an entry for each period, none above a billion.
+// Whether a list has an entry for each period, none above `MAX_AMOUNT`.
 fn is_series(list: &[u64], periods: usize) -> bool
     ensures { IsTrue result ↔ IsSeries periods MAX_AMOUNT list.now }
 {
     list.len() == periods && list.iter().all(|number| *number <= MAX_AMOUNT)
 }
 
-// Whether the backlog costs, if there are any, have an entry for each period, none above a billion.
+// Whether the backlog costs, if there are any, have an entry for each period, none above `MAX_AMOUNT`.
 fn is_optional_series(list: &Option<Vec<u64>>, periods: usize) -> bool
     ensures { IsTrue result ↔ IfSome list.now (λ costs. IsSeries periods MAX_AMOUNT costs.items) }
 {
@@ -55,7 +55,7 @@ fn is_optional_series(list: &Option<Vec<u64>>, periods: usize) -> bool
     }
 }
 
-// Whether the net demands add to at most 10^12.
+// Whether the net demands add to at most `MAX_TOTAL`.
 fn is_small_in_all(single: &SingleItem) -> bool
     ensures { IsTrue result ↔ (sum_to (period_count (single_of_item single.now)) (net_demand (single_of_item single.now)) ≤ MAX_TOTAL) }
 {
@@ -70,8 +70,8 @@ fn is_small_in_all(single: &SingleItem) -> bool
     true
 }
 
-/// Whether an item is within the bounds that the recursions ask for: at most 120 periods, an entry
-/// for each in every list, no cost above a billion, and net demands that add to at most 10^12.
+/// Whether an item is within the bounds that the recursions ask for: at most `MAX_PERIODS` periods, an
+/// entry for each in every list, no cost above `MAX_AMOUNT`, and net demands that add to at most `MAX_TOTAL`.
 pub fn is_within_bounds(single: &SingleItem) -> bool
     ensures { IsTrue result ↔ IsWithinBounds (single_of_item single.now) }
 {

@@ -10,7 +10,7 @@ use Rattle.echelon.specs.Views.{IsEchelonWithinBounds}
 use Rattle.lin_rows.specs.declared.column.Column.{Column}
 use Rattle.lin_rows.specs.declared.column.Column.TheVariants.{X, Y, S, R}
 use Rattle.lin_rows.specs.declared.row.Term.{Term}
-use Rattle.lin_rows.specs.Columns.{IsColumn, order_of, place_of}
+use Rattle.lin_rows.specs.Columns.{IsColumn, order_of, order_at}
 use Rattle.lin_rows.specs.Rows.{AreTerms}
 use Rattle.lin_rows.specs.Base.{is_some_term, some_terms, term}
 use Rattle.lin_rows.proofs.Terms.{RiseTo, all_one, all_to, are_terms, rise_append, rise_to}
@@ -24,21 +24,21 @@ rise_from_here [] lower low high h x = omega (arith, h, x)
 rise_from_here (a ∷ ts) lower low high h x = (omega (arith, h, x.0), x.1)
 
 -- one column of a kind and an item, period by period
-pub periods_rise : (kind i T : ℕ) (c : ℕ → Column) (k : ℕ → ℕ) (low high : ℕ) → T < 2 ^ 32 - 1 → ((t : ℕ) → order_of (c t) ≡ place_of kind i t) → low ≤ place_of kind i 0 → place_of kind (i + 1) 0 ≤ high → RiseTo low (periods_to T (λ t. term (c t) (pos (k t)))) high
+pub periods_rise : (kind i T : ℕ) (c : ℕ → Column) (k : ℕ → ℕ) (low high : ℕ) → T < 2 ^ 32 - 1 → ((t : ℕ) → order_of (c t) ≡ order_at kind i t) → low ≤ order_at kind i 0 → order_at kind (i + 1) 0 ≤ high → RiseTo low (periods_to T (λ t. term (c t) (pos (k t)))) high
 periods_rise kind i T c k low high small each above below =
-    rise_from_here (periods_to T (λ t. term (c t) (pos (k t)))) low (place_of kind i 0) high above
-    (rise_to T (λ t. term (c t) (pos (k t)) ∷ []) (place_of kind i 0) 1 high
+    rise_from_here (periods_to T (λ t. term (c t) (pos (k t)))) low (order_at kind i 0) high above
+    (rise_to T (λ t. term (c t) (pos (k t)) ∷ []) (order_at kind i 0) 1 high
     (λ t t_low t_high. (omega (arith, each t), omega (arith, each t)))
     (omega (arith, small, below)))
 
 -- and item by item
-pub items_rise : (kind n T : ℕ) (c : ℕ → ℕ → Column) (k : ℕ → ℕ → ℕ) (low high : ℕ) → T < 2 ^ 32 - 1 → ((j t : ℕ) → order_of (c j t) ≡ place_of kind j t) → low ≤ place_of kind 1 0 → place_of kind (n + 1) 0 ≤ high → RiseTo low (cells_to n T (λ j t. term (c j t) (pos (k j t)))) high
+pub items_rise : (kind n T : ℕ) (c : ℕ → ℕ → Column) (k : ℕ → ℕ → ℕ) (low high : ℕ) → T < 2 ^ 32 - 1 → ((j t : ℕ) → order_of (c j t) ≡ order_at kind j t) → low ≤ order_at kind 1 0 → order_at kind (n + 1) 0 ≤ high → RiseTo low (cells_to n T (λ j t. term (c j t) (pos (k j t)))) high
 items_rise kind zero T c k low high small each above below = omega (arith, above, below)
 items_rise kind (suc n) T c k low high small each above below =
     let f = λ (j t : ℕ). term (c j t) (pos (k j t)) in
-    rise_append (cells_to n T f) (periods_to T (f (suc n))) low (place_of kind (n + 1) 0) high
-    (items_rise kind n T c k low (place_of kind (n + 1) 0) small each above (omega arith))
-    (periods_rise kind (suc n) T (c (suc n)) (k (suc n)) (place_of kind (n + 1) 0) high small (each (suc n)) (omega arith) (omega (arith, below)))
+    rise_append (cells_to n T f) (periods_to T (f (suc n))) low (order_at kind (n + 1) 0) high
+    (items_rise kind n T c k low (order_at kind (n + 1) 0) small each above (omega arith))
+    (periods_rise kind (suc n) T (c (suc n)) (k (suc n)) (order_at kind (n + 1) 0) high small (each (suc n)) (omega arith) (omega (arith, below)))
 
 -- numbers of 32 bits
 pub record IsSmall (e : Echelon) : Type 0 where

@@ -25,6 +25,3 @@ pub use costs::{are_prices, are_steps, cost_terms_of, held_of, worth_of};
 pub use laws::{cost_rows_hold, cost_terms_are_terms, echelons_go, nets_are_small, priced_is_net};
 pub use serving::serving_prices;
 pub use terms::{push_backlogs, push_setups, push_stocks, push_units};
-
-#[cfg(test)]
-mod tests;

@@ -5,7 +5,7 @@ use Rattle.lot_sizing.specs.Problem.{Problem, item_at, item_count, resource_coun
 use Rattle.lot_sizing.specs.Plan.{Plan, IsSetup, IsBalanced, IsMadeWithSetup, IsWithinCapacity, IsEndStock, IsBacklogAllowed, IsLot, IsInHorizon, IsFeasible, arriving, backlog_after, cost, stock_after, time_used, used_up}
 use Rattle.plan_rules.specs.Held.{AllFit, plan_of}
 use Rattle.plan_rules.specs.Cells.{Cells, Fits}
-use Rattle.plan_rules.specs.Broken.{IsBroken, IsJudged, left_side, right_side}
+use Rattle.plan_rules.specs.Broken.{IsBroken, IsJudged, balance_left, balance_right}
 use Rattle.plan_rules.specs.declared.broken.Broken.{Broken}
 use Rattle.plan_rules.specs.declared.broken.Broken.TheVariants.{Shape, SetupRange, Balance, SetupMissing, Capacity, EndStock, BacklogNotAllowed, Lot, Late}
 use Rattle.plan_rules.specs.declared.plan.Plan as grids
@@ -62,7 +62,7 @@ module _ (m : Problem) (p : Plan) where
       (each_or_first (resource_count m) m.periods (IsWithinCapacity m p) time_or_not))
       (λ f. inr (SetupMissing f.0 f.1, ((setup, balance), f.2)))
       (each_or_first (item_count m) m.periods (IsMadeWithSetup p) made_or_not))
-      (λ f. inr (Balance f.0 f.1 (left_side m p f.0 f.1) (right_side m p f.0 f.1), (setup, f.2, refl, refl)))
+      (λ f. inr (Balance f.0 f.1 (balance_left m p f.0 f.1) (balance_right m p f.0 f.1), (setup, f.2, refl, refl)))
       (each_or_first (item_count m) m.periods (IsBalanced m p) balanced_or_not))
       (λ f. inr (SetupRange f.0 f.1, f.2))
       (each_or_first (item_count m) m.periods (IsSetup p) setup_or_not)

@@ -4,3 +4,8 @@ pub mod Judging
 pub mod Choices
 pub mod Bytes
 pub mod Records
+pub mod Passing
+pub mod Parts
+pub mod Accepted
+pub mod Pivoting
+pub mod Runs

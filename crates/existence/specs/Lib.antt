@@ -1,2 +1,4 @@
 pub mod Plans
 pub mod Readings
+pub mod Rules
+pub mod Runs

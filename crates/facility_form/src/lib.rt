@@ -19,6 +19,3 @@ mod price_rows;
 pub use assignment::{Assignment, assign};
 pub use laws::price_rows_hold;
 pub use price_rows::price_row;
-
-#[cfg(test)]
-mod tests;

@@ -103,7 +103,7 @@ fn are_small(prices: &Prices) -> bool
 ///
 /// The row holds at every feasible plan of any problem whose lead-free item has this echelon (`holds`), and has only
 /// columns of such a problem (`columns_exist`). `Length` comes exactly where a list hasn't an entry for each period,
-/// and `TooLarge` exactly where the lists have these entries and one of them is past 10^11. It takes time in the
+/// and `TooLarge` exactly where the lists have these entries and one of them is past `MAX_PRICE`. It takes time in the
 /// square of the number of periods, and in the number of items times that of the periods.
 pub fn price_row(alloc: Global, echelon: &EchelonItem, prices: &Prices) -> Result<Row, CutFault>
     requires within { IsEchelonWithinBounds echelon.now }

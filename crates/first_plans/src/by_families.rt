@@ -5,7 +5,8 @@ ghost use Rattle.plan_rules.specs.Rows.{IfFound};
 ghost use Rattle.first_plans.specs.Made.{IsMade};
 
 use crate::families::{Families, Lots, family_alone, give_rows, take_rows};
-use crate::improving::improved_so;
+use crate::improving::{Improving, improved_so};
+use crate::kicks::kicked;
 use crate::trials::copy;
 use lot_model::Instance;
 use plan_rules::{Grid, Planned, complete_at_cost};
@@ -18,14 +19,26 @@ const ROUNDS: u32 = 6;
 // the other items and periods.
 const FAMILY_WORK: u64 = 800_000_000;
 
+// How often a family is improved once more, each time after some changes of its setups.
+const KICKS: u32 = 40;
+
+// The most items times periods of a family of which that is done. A larger one takes too long for what it gains.
+const KICKED_CELLS: u32 = 100;
+
+// How often that is done: never with an item alone, for which the recursion finds the best lots.
+fn kicks_of(alone: &Instance) -> u32 {
+    let small = alone.items() * alone.periods() <= KICKED_CELLS;
+    if alone.items() > 1 && small { KICKS } else { 0 }
+}
+
 // What a plan takes to be built.
 fn size_of(instance: &Instance) -> u64 {
     let (items, periods) = (u64::from(instance.items()), u64::from(instance.periods()));
     items * periods * (items + periods)
 }
 
-// How many plans may be built within so much work.
-fn tries_within(instance: &Instance, work: u64) -> u32 {
+/// How many plans may be built within so much work.
+pub(crate) fn tries_within(instance: &Instance, work: u64) -> u32 {
     u32::try_from(work / size_of(instance).max(1)).unwrap_or(u32::MAX)
 }
 
@@ -97,11 +110,16 @@ fn try_family(
         return Ok(none);
     };
     let tries = tries_within(&alone, work);
-    let state = improved_so(alloc, &alone, start, tries)?;
-    let used = u64::from(tries.saturating_sub(state.tries));
+    let Improving {
+        best,
+        tries: left,
+        ..
+    } = improved_so(alloc, &alone, start, tries)?;
+    let used = u64::from(tries.saturating_sub(left));
+    let best = kicked(alloc, &alone, best, kicks_of(&alone), 0)?;
     let own = Lots {
-        make: &state.best.plan.make,
-        setup: &state.best.plan.setup,
+        make: &best.plan.make,
+        setup: &best.plan.setup,
     };
     Ok(Tried {
         found: plan_with(alloc, instance, families, family, lots, own)?,
@@ -149,7 +167,7 @@ fn improve_all(
 {
     let mut left = work;
     for family in 1..instance.items() + 1 {
-        if families.has(family, family) {
+        if left > 0 && families.has(family, family) {
             left = improve_family(alloc, instance, families, family, best, left)?;
         }
     }
@@ -157,8 +175,8 @@ fn improve_all(
 }
 
 /// A feasible plan that costs no more than this one: the plan of each family of items, which lines of components tie
-/// together, is improved under the time that the others leave, until that brings nothing more or takes too long. A model of
-/// one family stays as it is.
+/// together, is improved under the time that the others leave, also after random changes of its setups, until that brings
+/// nothing more or takes too long. A model of one family stays as it is.
 ///
 /// The error is that memory ran out; the plan is lost then.
 pub fn improved_by_families(

@@ -77,7 +77,7 @@ pub fn begin(alloc: Global, instance: &Instance, late: u32) -> Result<Constructi
 }
 
 /// Whether a setup of an item is wanted in a period, or a lot was moved there.
-pub fn is_wanted(
+pub(crate) fn is_wanted(
     instance: &Instance,
     wanted: &Grid,
     built: &Construction,

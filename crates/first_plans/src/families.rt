@@ -16,7 +16,7 @@ pub struct Families {
 
 impl Families {
     /// The families of a model.
-    pub fn of(alloc: Global, instance: &Instance) -> Result<Families, AllocError> {
+    pub(crate) fn of(alloc: Global, instance: &Instance) -> Result<Families, AllocError> {
         let mut marks = Vec::new(alloc);
         for item in 1..instance.items() + 1 {
             marks.push(item)?;
@@ -63,7 +63,7 @@ impl Families {
     }
 
     /// Whether all items are of one family.
-    pub fn is_one(&self, instance: &Instance) -> bool {
+    pub(crate) fn is_one(&self, instance: &Instance) -> bool {
         for item in 1..instance.items() + 1 {
             if self.mark(item) != 1 {
                 return false;
@@ -73,7 +73,7 @@ impl Families {
     }
 
     /// Whether an item is of a family, by the least number of an item there.
-    pub fn has(&self, family: u32, item: u32) -> bool {
+    pub(crate) fn has(&self, family: u32, item: u32) -> bool {
         self.mark(item) == family
     }
 }
@@ -262,7 +262,7 @@ fn resources_of(
 
 /// The model of a family alone: its items in their order, and the time that these lots of the others leave. None where that
 /// is no model.
-pub fn family_alone(
+pub(crate) fn family_alone(
     alloc: Global,
     instance: &Instance,
     families: &Families,

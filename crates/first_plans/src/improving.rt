@@ -6,6 +6,7 @@ ghost use Rattle.first_plans.specs.Made.{IsMade};
 ghost use Rattle.first_plans.specs.Trials.{IsImproving, IsTrial};
 
 use crate::building::built_plan;
+use crate::by_items::improve_by_items;
 use crate::trials::{Trial, change, copy, is_worth_trying};
 use lot_model::Instance;
 use plan_rules::{Grid, Planned};
@@ -146,7 +147,8 @@ fn sweeps(alloc: Global, instance: &Instance, state: &mut Improving) -> Result<(
     Ok(())
 }
 
-/// The best plan that is found from this one by changes of its setups, and how many plans may still be built.
+/// The best plan that is found from this one by making its items' lots anew and by changes of its setups, and how many plans
+/// may still be built.
 pub fn improved_so(
     alloc: Global,
     instance: &Instance,
@@ -157,20 +159,23 @@ pub fn improved_so(
     ensures state { IfOk result (IsImproving instance.now) }
     ensures cheap { IfOk result (λ found. found.best.cost ≤ planned.cost) }
 {
+    let mut best = planned;
+    improve_by_items(alloc, instance, &mut best)?;
     let mut wanted = Grid::filled(alloc, instance.items(), instance.periods(), 0)?;
-    copy(instance, &planned.plan.setup, &mut wanted);
+    copy(instance, &best.plan.setup, &mut wanted);
     let mut state = Improving {
         wanted,
-        best: planned,
+        best,
         tries,
     };
     sweeps(alloc, instance, &mut state)?;
     Ok(state)
 }
 
-/// A feasible plan that costs no more than this one: setups are put in, left out and moved to the periods
-/// beside theirs, one after the other, alone or with those of all components, the plan is built anew, and what
-/// is cheaper is kept. It ends when no such change is cheaper, or so many plans have been built.
+/// A feasible plan that costs no more than this one. First the lots of one item after the other are made anew, where others
+/// cost less while those of the other items stay. Then setups are put in, left out and moved to the periods beside theirs,
+/// one after the other, alone or with those of all components, the plan is built anew, and what is cheaper is kept. It ends
+/// when no such change is cheaper, or so many plans have been built.
 ///
 /// It takes memory for six grids, and the time of so many calls of `built_plan`. The error is that memory ran
 /// out; the plan is lost then.

@@ -5,8 +5,9 @@ ghost use Rattle.plan_rules.specs.Rows.{IfFound};
 ghost use Rattle.first_plans.specs.Made.{HasOwn, IsEmptyUnlessPlain, IsMade, IsLonger, those};
 
 use crate::building::built_plan;
-use crate::by_families::improved_by_families;
+use crate::by_families::{improved_by_families, tries_within};
 use crate::improving::improved;
+use crate::kicks::kicked;
 use crate::own_period::own_period_plan;
 use crate::patterns::{wanted_apart, wanted_spread};
 use lot_model::{Instance, is_plain};
@@ -15,6 +16,13 @@ use std::alloc::{AllocError, Global};
 
 // What building plans may take to improve one: so many plans of a single item and period.
 const BUILDING_WORK: u32 = 4_000_000;
+
+// What may be built to improve a plan once more after random changes: so many plans of a single item and period, each of which
+// is compared with the other items and periods.
+const KICK_WORK: u64 = 400_000_000;
+
+// So often that is done at most.
+const KICKS: u32 = 100;
 
 // So many patterns of setups are those of items by themselves, and so many are there in all.
 const QUARTERS: u64 = 5;
@@ -95,6 +103,23 @@ fn tries_for(instance: &Instance) -> u32 {
     BUILDING_WORK / size.max(1)
 }
 
+// The best plan that is found after random changes of a plan's setups, where enough plans may be built to try all other changes
+// of their setups some times.
+fn kicked_within(
+    alloc: Global,
+    instance: &Instance,
+    planned: Planned,
+) -> Result<Planned, AllocError>
+    requires made { IsMade instance.now planned }
+    ensures made { IfOk result (IsMade instance.now) }
+{
+    let tries = tries_within(instance, KICK_WORK);
+    if tries / 32 < instance.items() * instance.periods() {
+        return Ok(planned);
+    }
+    kicked(alloc, instance, planned, KICKS, tries)
+}
+
 // The cheapest plan that is found by changing these setups.
 fn improved_from(
     alloc: Global,
@@ -108,7 +133,7 @@ fn improved_from(
         Some(planned) => {
             let near = improved_by_families(alloc, instance, planned)?;
             let better = improved(alloc, instance, near, tries_for(instance))?;
-            Ok(Some(better))
+            Ok(Some(kicked_within(alloc, instance, better)?))
         }
         None => Ok(None),
     }
@@ -165,7 +190,8 @@ fn own_list(alloc: Global, instance: &Instance) -> Result<Vec<Planned>, AllocErr
 ///
 /// The others are built backward by periods with nine patterns of setups: everywhere, where each item is served most
 /// cheaply by itself at five prices of stock, and in each second, third and fourth period in turn; and the cheapest of
-/// these is improved, first by one family of items after the other. The error is that memory ran out.
+/// these is improved, first by one family of items after the other, and again after random changes of its setups, which are
+/// the same each time. The error is that memory ran out.
 pub fn candidates(alloc: Global, instance: &Instance) -> Result<Vec<Planned>, AllocError>
     ensures each { IfOk result (λ list. All (IsMade instance.now) list.items) }
     ensures own { IfOk result (λ list. HasOwn instance.now list.items) }

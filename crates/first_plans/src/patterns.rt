@@ -14,7 +14,12 @@ use plan_rules::{Grid, used_up};
 use std::alloc::{AllocError, Global};
 
 // What must be made of an item for each period, with the lots of the items that it goes into.
-fn nets(alloc: Global, instance: &Instance, item: u32, make: &Grid) -> Result<Vec<u128>, AllocError>
+pub(crate) fn nets(
+    alloc: Global,
+    instance: &Instance,
+    item: u32,
+    make: &Grid,
+) -> Result<Vec<u128>, AllocError>
     requires low { 1 ≤ item }
     requires high { item ≤ item_count instance.now }
     requires make { Fits instance.now make.now }

@@ -5,7 +5,7 @@ ghost use Rattle.lot_sizing.specs.Problem.{item_count};
 use lot_model::Instance;
 
 /// What a unit of an item in stock costs at the end of a period, less what its components would cost there.
-pub fn echelon_hold(instance: &Instance, item: u32, period: u32) -> u64
+pub(crate) fn echelon_hold(instance: &Instance, item: u32, period: u32) -> u64
     requires item_low { 1 ≤ item }
     requires item_high { item ≤ item_count instance.now }
     requires low { 1 ≤ period }

@@ -50,7 +50,7 @@ fn change_along(instance: &Instance, wanted: &mut Grid, trial: Trial, setup: u64
 
 /// Whether a change changes something that another one doesn't: a setup that is moved stands there, and an
 /// item whose components go along has some.
-pub fn is_worth_trying(instance: &Instance, wanted: &Grid, trial: Trial) -> bool
+pub(crate) fn is_worth_trying(instance: &Instance, wanted: &Grid, trial: Trial) -> bool
     requires wanted { Fits instance.now wanted.now }
     requires trial { IsTrial instance.now trial }
 {

@@ -1,5 +1,8 @@
 //! Exact fractions of 128 bits: the arithmetic of the dual simplex.
 //!
+//! Family: numbers. It stands on `algebra` and `rational`; `tableau`, `lin_rows` and the crates that solve or
+//! read linear programs stand on it.
+//!
 //! A `Frac` is in lowest terms with a denominator above 0, both at most 2^127 - 1 in absolute value,
 //! and contracts see it as the rational number that it is. Each operation gives the exact number, or
 //! None by a rule that its contract states; `compare` and `ceil` always answer. No call takes memory.
@@ -18,6 +21,3 @@ mod wide;
 
 pub use fraction::Frac;
 pub use ratio::Ratio;
-
-#[cfg(test)]
-mod tests;

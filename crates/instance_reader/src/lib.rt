@@ -1,5 +1,7 @@
 //! Models as TOML documents (TOML 1.1).
 //!
+//! Family: models. It stands on `lot_draft` and `lot_model`; the commands stand on it.
+//!
 //! `read_instance` gives the instance that bytes mean, or the first rule that they break. A document is
 //! read with `toml`, and its table key by key: what is absent, unknown or of another kind is a fault. What
 //! is read makes a draft, and `lot_model` makes the instance of it.
@@ -57,6 +59,3 @@ fn read_up_to(alloc: Global, bytes: &[u8], newest: u32) -> Result<Instance, Read
         Err(DraftRefusal::Memory(_)) => Err(ReadModelFault::Memory),
     }
 }
-
-#[cfg(test)]
-mod tests;

@@ -18,6 +18,7 @@ use Rattle.split_trees.specs.Ranges.{IsChoice, whole_ranges}
 use Rattle.split_trees.specs.Paths.{cut_span, left_to, narrowed}
 use Rattle.split_trees.specs.Trees.{EachLeaf, IsSplitTree, high_path, low_path}
 use Rattle.cert_checker.specs.Checks.{line_count}
+use Rattle.leaf_growth.specs.declared.limits.TheConstants.{MAX_NODES}
 use Rattle.leaf_growth.specs.Written.{AreSmallTotals, IsMadeOf, LeafHasLines}
 use Rattle.leaf_growth.proofs.Lines.{branch_has_line}
 
@@ -88,7 +89,7 @@ tree_few version (Split c at low high) are =
     let both = lines_split version (tree_values low) (tree_values high) are.1 in
     omega (arith, length-append (tree_values low) (tree_values high), tree_few version low both.0, tree_few version high both.1)
 
-pub lines_few : (s : Shape) → IsWritable s → node_count s.tree ≤ 2 ^ 45 → line_count s < 2 ^ 63
+pub lines_few : (s : Shape) → IsWritable s → node_count s.tree ≤ MAX_NODES → line_count s < 2 ^ 63
 lines_few s is nodes =
     let rest = tree_values s.tree ++ (EndLine ∷ []) in
     let both = lines_split s.version (all_cut_values s.cuts) rest is.lines in

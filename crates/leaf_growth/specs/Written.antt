@@ -19,6 +19,7 @@ use Rattle.acceptance.specs.declared.says.LeafSays.{LeafSays}
 use Rattle.acceptance.specs.Named.{names}
 use Rattle.acceptance.specs.Says.{Says}
 use Rattle.cert_checker.specs.Checks.{line_count}
+use Rattle.leaf_growth.specs.declared.limits.TheConstants.{MAX_NODES}
 
 -- a version of texts that has the names of the problem's rows: the first one has none of least lots and of lots that come too late
 pub record HasVersion (m : Problem) (version : ℕ) : Type 0 where
@@ -68,4 +69,4 @@ MadeIsWritable =
 
 -- a certificate with a text has few lines for each node
 abbrev pub FewLines : Type 0
-FewLines = (s : Shape) → IsWritable s → node_count s.tree ≤ 2 ^ 45 → line_count s < 2 ^ 63
+FewLines = (s : Shape) → IsWritable s → node_count s.tree ≤ MAX_NODES → line_count s < 2 ^ 63

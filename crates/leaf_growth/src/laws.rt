@@ -34,7 +34,7 @@ pub fn made_is_writable()
     ensures shapes { MadeIsWritable }
 {}
 
-/// A certificate that has a text and at most 2^45 nodes has fewer than 2^63 lines.
+/// A certificate that has a text and at most `MAX_NODES` nodes has fewer than 2^63 lines.
 pub fn few_lines()
     ensures { FewLines }
 {}

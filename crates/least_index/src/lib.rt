@@ -1,6 +1,6 @@
 //! Runs of the dual simplex by the least-index rule end (Bland 1977).
 //!
-//! Family: numbers. It stands on `algebra`, `rational`, `frac128` and `tableau`.
+//! Family: numbers. It stands on `algebra`, `rational`, `frac128` and `tableau`; `base_bound` stands on it.
 //!
 //! A run of `tableau` goes from dictionary to dictionary. The variables that are basic in one are its basis, which says
 //! all: dictionaries of a program that have one basis have the same numbers (`bases_have_one_dictionary`). So a run that
@@ -29,6 +29,3 @@ pub use laws::{
     bases_have_one_dictionary, ends_are_outcomes, no_basis_comes_twice, runs_are_short,
 };
 pub use rounds::solve_to_end;
-
-#[cfg(test)]
-mod tests;

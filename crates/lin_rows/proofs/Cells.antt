@@ -8,7 +8,7 @@ use Rattle.lin_rows.specs.declared.column.Column.{Column}
 use Rattle.lin_rows.specs.declared.column.Column.TheVariants.{X, Y, S, R}
 use Rattle.lin_rows.specs.declared.total.Total.{Total}
 use Rattle.lin_rows.specs.declared.row.Term.{Term}
-use Rattle.lin_rows.specs.Sums.{AddsTerm, IsWithin, Summed, cell_of, is_within, item_of, kind_of, no_total, period_of, same_column, total_in, total_of, with_more}
+use Rattle.lin_rows.specs.Sums.{AddsTerm, IsColumnWithin, Summed, cell_of, is_within, item_of, kind_of, no_total, period_of, same_column, total_in, total_of, with_more}
 
 pub kind_small : (c : Column) → kind_of c ≤ 3
 kind_small (X i t) = omega arith
@@ -16,7 +16,7 @@ kind_small (Y i t) = omega arith
 kind_small (S i t) = omega arith
 kind_small (R i t) = omega arith
 
-pub cell_small : (items periods : ℕ) (c : Column) → IsWithin items periods c → cell_of items periods c < 4 * items * periods
+pub cell_small : (items periods : ℕ) (c : Column) → IsColumnWithin items periods c → cell_of items periods c < 4 * items * periods
 cell_small items periods c h =
     let k = kind_of c in
     let row = k * items + (item_of c - 1) in
@@ -43,7 +43,7 @@ one_place n a b x y x_small y_small same =
 all_same : (k l i j t s : ℕ) → k ≡ l → i ≡ j → t ≡ s → ((k == l) && ((i == j) && (t == s))) ≡ true
 all_same k l i j t s a b c = grind (arith, a, b, c)
 
-pub one_column : (items periods : ℕ) (c d : Column) → IsWithin items periods c → IsWithin items periods d → cell_of items periods c ≡ cell_of items periods d → same_column c d ≡ true
+pub one_column : (items periods : ℕ) (c d : Column) → IsColumnWithin items periods c → IsColumnWithin items periods d → cell_of items periods c ≡ cell_of items periods d → same_column c d ≡ true
 one_column items periods c d in_c in_d same =
     let (rows, times) = one_place periods (kind_of c * items + (item_of c - 1)) (kind_of d * items + (item_of d - 1)) (period_of c - 1) (period_of d - 1) (omega (arith, in_c.2, in_c.3)) (omega (arith, in_d.2, in_d.3)) same in
     let (kinds, numbers) = one_place items (kind_of c) (kind_of d) (item_of c - 1) (item_of d - 1) (omega (arith, in_c.0, in_c.1)) (omega (arith, in_d.0, in_d.1)) rows in
@@ -67,13 +67,13 @@ same_cell items periods c d is = let (k, i, t) = same_parts c d is in rw (k, i, 
 within_parts : (items periods i t : ℕ) → ((nat_le 1 i && nat_le i items) && (nat_le 1 t && nat_le t periods)) ≡ true → (1 ≤ i) × (i ≤ items) × (1 ≤ t) × (t ≤ periods)
 within_parts items periods i t is = (grind (arith, is), grind (arith, is), grind (arith, is), grind (arith, is))
 
-pub is_in : (items periods : ℕ) (c : Column) → is_within items periods c ≡ true → IsWithin items periods c
+pub is_in : (items periods : ℕ) (c : Column) → is_within items periods c ≡ true → IsColumnWithin items periods c
 is_in items periods c is = within_parts items periods (item_of c) (period_of c) is
 
 within_whole : (items periods i t : ℕ) → 1 ≤ i → i ≤ items → 1 ≤ t → t ≤ periods → ((nat_le 1 i && nat_le i items) && (nat_le 1 t && nat_le t periods)) ≡ true
 within_whole items periods i t a b c d = grind (arith, a, b, c, d)
 
-pub in_is : (items periods : ℕ) (c : Column) → IsWithin items periods c → is_within items periods c ≡ true
+pub in_is : (items periods : ℕ) (c : Column) → IsColumnWithin items periods c → is_within items periods c ≡ true
 in_is items periods c h = within_whole items periods (item_of c) (period_of c) h.0 h.1 h.2 h.3
 
 pub true_or_false : (b : Bool) → (b ≡ true) ⊎ (b ≡ false)
@@ -83,11 +83,11 @@ true_or_false false = inr refl
 pub total_same : (items periods : ℕ) (cells : List Total) (c d : Column) → same_column c d ≡ true → total_in items periods cells d ≡ total_in items periods cells c
 total_same items periods cells c d is = rw (same_within items periods c d is, same_cell items periods c d is) refl
 
-pub total_at : (items periods : ℕ) (cells : List Total) (c : Column) → IsWithin items periods c → total_in items periods cells c ≡ slice_index_or cells (cell_of items periods c) no_total
+pub total_at : (items periods : ℕ) (cells : List Total) (c : Column) → IsColumnWithin items periods c → total_in items periods cells c ≡ slice_index_or cells (cell_of items periods c) no_total
 total_at items periods cells c h = rw (in_is items periods c h) refl
 
 -- one total is set
-pub total_set : (items periods : ℕ) (cells : List Total) (a c : Column) (v : Total) → length cells ≡ 4 * items * periods → IsWithin items periods a → total_in items periods (slice_set cells (cell_of items periods a) v) c ≡ (if same_column a c then v else total_in items periods cells c)
+pub total_set : (items periods : ℕ) (cells : List Total) (a c : Column) (v : Total) → length cells ≡ 4 * items * periods → IsColumnWithin items periods a → total_in items periods (slice_set cells (cell_of items periods a) v) c ≡ (if same_column a c then v else total_in items periods cells c)
 total_set items periods cells a c v size h =
     ⊎_elim
     (λ same. rw same (total_same items periods (slice_set cells (cell_of items periods a) v) a c same ∙ total_at items periods (slice_set cells (cell_of items periods a) v) a h ∙ get_or-set_same cells (cell_of items periods a) v no_total (omega (arith, cell_small items periods a h, size))))
@@ -98,11 +98,11 @@ total_set items periods cells a c v size h =
     (true_or_false (same_column a c))
 
 -- a place among the totals
-pub place_small : (s : Summed) (n : ℕ) (cells : List Total) (c : Column) (place : ℕ) → length cells ≡ 4 * s.items * s.periods → IsWithin s.items s.periods c → place ≡ cell_of s.items s.periods c → n ≡ length cells → place < n
+pub place_small : (s : Summed) (n : ℕ) (cells : List Total) (c : Column) (place : ℕ) → length cells ≡ 4 * s.items * s.periods → IsColumnWithin s.items s.periods c → place ≡ cell_of s.items s.periods c → n ≡ length cells → place < n
 place_small s n cells c place size h is count = omega (arith, is, cell_small s.items s.periods c h, size, count)
 
 -- the total that is read there
-pub read_total : (s : Summed) (c : Column) (place : ℕ) (got : Total) → length s.cells ≡ 4 * s.items * s.periods → IsWithin s.items s.periods c → place ≡ cell_of s.items s.periods c → got ≡ slice_index_or s.cells place got → got ≡ total_of s c
+pub read_total : (s : Summed) (c : Column) (place : ℕ) (got : Total) → length s.cells ≡ 4 * s.items * s.periods → IsColumnWithin s.items s.periods c → place ≡ cell_of s.items s.periods c → got ≡ slice_index_or s.cells place got → got ≡ total_of s c
 read_total s c place got size h is read =
     read ∙ get_or_default s.cells place got no_total (place_small s (length s.cells) s.cells c place size h is refl) ∙ ap (λ n. slice_index_or s.cells n no_total) is ∙ sym (total_at s.items s.periods s.cells c h)
 
@@ -110,7 +110,7 @@ abbrev with_cells : Summed → List Total → Summed
 with_cells s cells = record { items = s.items; periods = s.periods; cells = cells; right = s.right }
 
 -- the total of a term's column is set to that with its multiple
-pub adds_term : (s : Summed) (a : Term) (times : ℤ) (place : ℕ) (v : Total) → length s.cells ≡ 4 * s.items * s.periods → IsWithin s.items s.periods a.column → place ≡ cell_of s.items s.periods a.column → v ≡ with_more (total_of s a.column) (times *ℤ a.times) → AddsTerm s (with_cells s (slice_set s.cells place v)) a times
+pub adds_term : (s : Summed) (a : Term) (times : ℤ) (place : ℕ) (v : Total) → length s.cells ≡ 4 * s.items * s.periods → IsColumnWithin s.items s.periods a.column → place ≡ cell_of s.items s.periods a.column → v ≡ with_more (total_of s a.column) (times *ℤ a.times) → AddsTerm s (with_cells s (slice_set s.cells place v)) a times
 adds_term s a times place v size h is value c =
     ap (λ n. total_in s.items s.periods (slice_set s.cells n v) c) is ∙ total_set s.items s.periods s.cells a.column c v size h
     ∙ ⊎_elim

@@ -9,16 +9,16 @@ use Rattle.lin_rows.specs.declared.column.Column.TheVariants.{X, Y, S, R}
 use Rattle.lin_rows.specs.declared.row.Term.{Term}
 use Rattle.lin_rows.specs.declared.base.RowName.{RowName}
 use Rattle.lin_rows.specs.declared.base.RowName.TheVariants.{Balance, Link, Capacity, EndMin, EndMax, Top, Least, Late, Path, Cut}
-use Rattle.lin_rows.specs.Columns.{IsColumn, order_of, place_of}
+use Rattle.lin_rows.specs.Columns.{IsColumn, order_of, order_at}
 use Rattle.lin_rows.specs.Base.{HasRow, all_terms, arrives_now, earlier_terms, is_earlier, is_owing, made_terms, most_made, owing_terms, setup_terms, stock_terms, term, terms_to, unit_terms}
 use Rattle.lin_rows.proofs.Terms.{RiseTo, all_both, all_none, all_one, all_to, rise_append, rise_to}
 
 -- the stock at the end of a period
-stock_rise : (i t : ℕ) (times : ℤ) (low high : ℕ) → low ≤ place_of 2 i t → place_of 2 i t < high → RiseTo low (stock_terms i t times) high
+stock_rise : (i t : ℕ) (times : ℤ) (low high : ℕ) → low ≤ order_at 2 i t → order_at 2 i t < high → RiseTo low (stock_terms i t times) high
 stock_rise i zero times low high above below = omega (arith, above, below)
 stock_rise i (suc t) times low high above below = (above, omega (arith, below))
 
-owing_rise : (b : Bool) (i t : ℕ) (times : ℤ) (low high : ℕ) → low ≤ place_of 3 i t → place_of 3 i t < high → RiseTo low (if b then term (R i t) times ∷ [] else []) high
+owing_rise : (b : Bool) (i t : ℕ) (times : ℤ) (low high : ℕ) → low ≤ order_at 3 i t → order_at 3 i t < high → RiseTo low (if b then term (R i t) times ∷ [] else []) high
 owing_rise true i t times low high above below = (above, omega (arith, below))
 owing_rise false i t times low high above below = omega (arith, above, below)
 
@@ -37,27 +37,27 @@ earlier_parts : (lead t : ℕ) → (nat_le 1 lead && nat_lt lead t) ≡ true →
 earlier_parts lead t is = (grind (arith, is), grind (arith, is))
 
 -- a lot that was started in an earlier period
-earlier_rise : (m : Problem) (b : Bool) (i t : ℕ) → is_earlier m i t ≡ b → RiseTo (place_of 0 i 0) (if b then term (X i (t - (item_at m i).lead)) (pos 1) ∷ [] else []) (place_of 0 i t)
+earlier_rise : (m : Problem) (b : Bool) (i t : ℕ) → is_earlier m i t ≡ b → RiseTo (order_at 0 i 0) (if b then term (X i (t - (item_at m i).lead)) (pos 1) ∷ [] else []) (order_at 0 i t)
 earlier_rise m true i t is =
     let parts = earlier_parts (item_at m i).lead t is in
-    one_rise (term (X i (t - (item_at m i).lead)) (pos 1)) (place_of 0 i 0) (place_of 0 i t) (omega arith) (omega (arith, parts.0, parts.1))
+    one_rise (term (X i (t - (item_at m i).lead)) (pos 1)) (order_at 0 i 0) (order_at 0 i t) (omega arith) (omega (arith, parts.0, parts.1))
 earlier_rise m false i t is = omega arith
 
 same_item : (i k : ℕ) → (i == k) ≡ true → i ≡ k
 same_item i k is = grind (arith, is)
 
-given_rise : (m : Problem) (b : Bool) (i t k : ℕ) → (i == k) ≡ b → RiseTo (place_of 0 k 0) (if b then earlier_terms m i t else []) (place_of 0 k t)
-given_rise m true i t k is = subst (λ j. RiseTo (place_of 0 j 0) (earlier_terms m i t) (place_of 0 j t)) (same_item i k is) (earlier_rise m (is_earlier m i t) i t refl)
+given_rise : (m : Problem) (b : Bool) (i t k : ℕ) → (i == k) ≡ b → RiseTo (order_at 0 k 0) (if b then earlier_terms m i t else []) (order_at 0 k t)
+given_rise m true i t k is = subst (λ j. RiseTo (order_at 0 j 0) (earlier_terms m i t) (order_at 0 j t)) (same_item i k is) (earlier_rise m (is_earlier m i t) i t refl)
 given_rise m false i t k is = omega arith
 
 made_rise : (m : Problem) (i t k : ℕ) → t < 2 ^ 32 → RiseTo (0 * 2 ^ 64 + k * 2 ^ 32) (made_terms m i t k) (0 * 2 ^ 64 + k * 2 ^ 32 + 2 ^ 32)
 made_rise m i t k t_small =
     let taken = term (X k t) (pos (arrives_now m i k) -ℤ pos (per_unit m i k)) in
-    rise_append (if i == k then earlier_terms m i t else []) (taken ∷ []) (0 * 2 ^ 64 + k * 2 ^ 32) (place_of 0 k t) (0 * 2 ^ 64 + k * 2 ^ 32 + 2 ^ 32)
-    (subst (λ l. RiseTo l (if i == k then earlier_terms m i t else []) (place_of 0 k t)) (start k) (given_rise m (i == k) i t k refl))
-    (one_rise taken (place_of 0 k t) (0 * 2 ^ 64 + k * 2 ^ 32 + 2 ^ 32) (omega arith) (omega (arith, t_small)))
+    rise_append (if i == k then earlier_terms m i t else []) (taken ∷ []) (0 * 2 ^ 64 + k * 2 ^ 32) (order_at 0 k t) (0 * 2 ^ 64 + k * 2 ^ 32 + 2 ^ 32)
+    (subst (λ l. RiseTo l (if i == k then earlier_terms m i t else []) (order_at 0 k t)) (start k) (given_rise m (i == k) i t k refl))
+    (one_rise taken (order_at 0 k t) (0 * 2 ^ 64 + k * 2 ^ 32 + 2 ^ 32) (omega arith) (omega (arith, t_small)))
   where
-    start : (k : ℕ) → place_of 0 k 0 ≡ 0 * 2 ^ 64 + k * 2 ^ 32
+    start : (k : ℕ) → order_at 0 k 0 ≡ 0 * 2 ^ 64 + k * 2 ^ 32
     start k = omega arith
 
 -- the columns of a row rise
@@ -67,13 +67,13 @@ base_rise m total (Balance i t) within h =
     let i_small : i ≤ MAX_ITEMS = omega (arith, h.1, within.items) in
     rise_append (terms_to (item_count m) (made_terms m i t)) (stock_terms i (t - 1) (pos 1) ++ (stock_terms i t (negsuc 0) ++ (owing_terms m i (t - 1) (negsuc 0) ++ owing_terms m i t (pos 1)))) 0 (2 ^ 64) (4 * 2 ^ 64)
     (column_rise (item_count m) 0 t (made_terms m i t) 0 (2 ^ 64) within.items (λ k low high. made_rise m i t k t_small) (omega arith) (omega arith))
-    (rise_append (stock_terms i (t - 1) (pos 1)) (stock_terms i t (negsuc 0) ++ (owing_terms m i (t - 1) (negsuc 0) ++ owing_terms m i t (pos 1))) (2 ^ 64) (place_of 2 i t) (4 * 2 ^ 64)
-    (stock_rise i (t - 1) (pos 1) (2 ^ 64) (place_of 2 i t) (omega arith) (omega (arith, h.2)))
-    (rise_append (stock_terms i t (negsuc 0)) (owing_terms m i (t - 1) (negsuc 0) ++ owing_terms m i t (pos 1)) (place_of 2 i t) (3 * 2 ^ 64) (4 * 2 ^ 64)
-    (stock_rise i t (negsuc 0) (place_of 2 i t) (3 * 2 ^ 64) (omega arith) (omega (arith, t_small, i_small)))
-    (rise_append (owing_terms m i (t - 1) (negsuc 0)) (owing_terms m i t (pos 1)) (3 * 2 ^ 64) (place_of 3 i t) (4 * 2 ^ 64)
-    (owing_rise (is_owing m i (t - 1)) i (t - 1) (negsuc 0) (3 * 2 ^ 64) (place_of 3 i t) (omega arith) (omega (arith, h.2)))
-    (owing_rise (is_owing m i t) i t (pos 1) (place_of 3 i t) (4 * 2 ^ 64) (omega arith) (omega (arith, t_small, i_small))))))
+    (rise_append (stock_terms i (t - 1) (pos 1)) (stock_terms i t (negsuc 0) ++ (owing_terms m i (t - 1) (negsuc 0) ++ owing_terms m i t (pos 1))) (2 ^ 64) (order_at 2 i t) (4 * 2 ^ 64)
+    (stock_rise i (t - 1) (pos 1) (2 ^ 64) (order_at 2 i t) (omega arith) (omega (arith, h.2)))
+    (rise_append (stock_terms i t (negsuc 0)) (owing_terms m i (t - 1) (negsuc 0) ++ owing_terms m i t (pos 1)) (order_at 2 i t) (3 * 2 ^ 64) (4 * 2 ^ 64)
+    (stock_rise i t (negsuc 0) (order_at 2 i t) (3 * 2 ^ 64) (omega arith) (omega (arith, t_small, i_small)))
+    (rise_append (owing_terms m i (t - 1) (negsuc 0)) (owing_terms m i t (pos 1)) (3 * 2 ^ 64) (order_at 3 i t) (4 * 2 ^ 64)
+    (owing_rise (is_owing m i (t - 1)) i (t - 1) (negsuc 0) (3 * 2 ^ 64) (order_at 3 i t) (omega arith) (omega (arith, h.2)))
+    (owing_rise (is_owing m i t) i t (pos 1) (order_at 3 i t) (4 * 2 ^ 64) (omega arith) (omega (arith, t_small, i_small))))))
 base_rise m total (Link i t) within h = (omega arith, (omega (arith, h.1, within.items, h.3, within.periods), omega (arith, h.1, within.items, h.3, within.periods)))
 base_rise m total (Capacity k t) within h =
     let t_small : t < 2 ^ 32 = omega (arith, h.3, within.periods) in

@@ -11,7 +11,7 @@ use Rattle.lin_rows.specs.declared.column.Column.{Column}
 use Rattle.lin_rows.specs.declared.column.Column.TheVariants.{X, Y, S, R}
 use Rattle.lin_rows.specs.Columns.{IsColumn, cell_count, cell_number, number_of, owes, owing_count}
 use Rattle.lin_rows.specs.Points.{IsPointOf, Pointed, has_column, number_in, owing_to, read_at}
-use Rattle.lin_rows.specs.Sums.{IsWithin, is_within}
+use Rattle.lin_rows.specs.Sums.{IsColumnWithin, is_within}
 use Rattle.lin_rows.proofs.Cells.{in_is, is_in}
 
 three_true : (a b c : Bool) → a ≡ true → b ≡ true → c ≡ true → (a && (b && c)) ≡ true
@@ -44,10 +44,10 @@ module _ (m : Problem) (p : Pointed) (shape : IsShapeOf m p) where
   owing_step : (i : ℕ) → 1 ≤ i → i ≤ item_count m → owing_to p i ≡ owing_to p (i - 1) + owes m i
   owing_step i low high = omega (arith, shape.owing i high, shape.owing (i - 1) (omega (arith, high)), sum_to_at i (owes m) low)
 
-  within : (c : Column) → IsWithin (item_count m) m.periods c → is_within p.items p.periods c ≡ true
+  within : (c : Column) → IsColumnWithin (item_count m) m.periods c → is_within p.items p.periods c ≡ true
   within c h = in_is p.items p.periods c (h.0, omega (arith, h.1, shape.items), h.2, omega (arith, h.3, shape.periods))
 
-  is_cell : (c : Column) → is_within p.items p.periods c ≡ true → IsWithin (item_count m) m.periods c
+  is_cell : (c : Column) → is_within p.items p.periods c ≡ true → IsColumnWithin (item_count m) m.periods c
   is_cell c is = let h = is_in p.items p.periods c is in (h.0, omega (arith, h.1, shape.items), h.2, omega (arith, h.3, shape.periods))
 
   has_of : (c : Column) → IsColumn m c → has_column p c ≡ true

@@ -25,15 +25,15 @@ IsColumn m (S i t) = IsCell m i t
 IsColumn m (R i t) = IsCell m i t × (t < m.periods) × IsSome (item_at m i).backlog_cost
 
 -- by kind, then by item, then by period, both of which have 32 bits
-abbrev pub place_of : ℕ → ℕ → ℕ → ℕ
-place_of kind i t = kind * 2 ^ 64 + i * 2 ^ 32 + t
+abbrev pub order_at : ℕ → ℕ → ℕ → ℕ
+order_at kind i t = kind * 2 ^ 64 + i * 2 ^ 32 + t
 
 -- the place of a column in the order of columns
 abbrev pub order_of : Column → ℕ
-order_of (X i t) = place_of 0 i t
-order_of (Y i t) = place_of 1 i t
-order_of (S i t) = place_of 2 i t
-order_of (R i t) = place_of 3 i t
+order_of (X i t) = order_at 0 i t
+order_of (Y i t) = order_at 1 i t
+order_of (S i t) = order_at 2 i t
+order_of (R i t) = order_at 3 i t
 
 -- 1 where the item has a backlog cost
 abbrev pub owes : Problem → ℕ → ℕ

@@ -32,8 +32,8 @@ period_of (R i t) = t
 abbrev pub is_within : ℕ → ℕ → Column → Bool
 is_within items periods c = (nat_le 1 (item_of c) && nat_le (item_of c) items) && (nat_le 1 (period_of c) && nat_le (period_of c) periods)
 
-abbrev pub IsWithin : ℕ → ℕ → Column → Type 0
-IsWithin items periods c = (1 ≤ item_of c) × (item_of c ≤ items) × (1 ≤ period_of c) × (period_of c ≤ periods)
+abbrev pub IsColumnWithin : ℕ → ℕ → Column → Type 0
+IsColumnWithin items periods c = (1 ≤ item_of c) × (item_of c ≤ items) × (1 ≤ period_of c) × (period_of c ≤ periods)
 
 abbrev pub same_column : Column → Column → Bool
 same_column a b = (kind_of a == kind_of b) && ((item_of a == item_of b) && (period_of a == period_of b))
@@ -69,8 +69,8 @@ abbrev pub total_of : Summed → Column → Total
 total_of s c = total_in s.items s.periods s.cells c
 
 -- the amount stays below 2^127
-abbrev pub HasRoom : Total → ℤ → Type 0
-HasRoom a z = a.amount + unsigned_abs z < 2 ^ 127
+abbrev pub HasRoomToAdd : Total → ℤ → Type 0
+HasRoomToAdd a z = a.amount + unsigned_abs z < 2 ^ 127
 
 abbrev pub sums_in : Inside → Summed
 sums_in a = record { items = a.items; periods = a.periods; cells = a.cells.items; right = a.right }
@@ -106,21 +106,21 @@ pub record AddsRow (old new : Summed) (row : LinRow) (times : ℤ) : Type 0 wher
 
 -- the absolute values of a column, or of the right sides, would add to 2^127 or more
 abbrev pub PassesWith : Summed → LinRow → ℤ → Type 0
-PassesWith s row times = ((c : Column) × (HasRoom (total_of s c) (times *ℤ coefficient row.terms c) → ⊥)) ⊎ (HasRoom s.right (times *ℤ row.right) → ⊥)
+PassesWith s row times = ((c : Column) × (HasRoomToAdd (total_of s c) (times *ℤ coefficient row.terms c) → ⊥)) ⊎ (HasRoomToAdd s.right (times *ℤ row.right) → ⊥)
 
 -- all of them stay below it
 pub record HasRoomFor (s : Summed) (row : LinRow) (times : ℤ) : Type 0 where
-  pub columns : (c : Column) → HasRoom (total_of s c) (times *ℤ coefficient row.terms c)
-  pub right : HasRoom s.right (times *ℤ row.right)
+  pub columns : (c : Column) → HasRoomToAdd (total_of s c) (times *ℤ coefficient row.terms c)
+  pub right : HasRoomToAdd s.right (times *ℤ row.right)
 
 -- each term by itself has room
 abbrev pub EachHasRoom : Summed → List Term → ℤ → Type 0
-EachHasRoom s terms times = All (λ a. HasRoom (total_of s a.column) (times *ℤ a.times)) terms
+EachHasRoom s terms times = All (λ a. HasRoomToAdd (total_of s a.column) (times *ℤ a.times)) terms
 
 -- the columns of terms are those of the sums
 abbrev pub AreWithin : Summed → List Term → Type 0
-AreWithin s terms = All (λ a. IsWithin s.items s.periods a.column) terms
+AreWithin s terms = All (λ a. IsColumnWithin s.items s.periods a.column) terms
 
 -- a term by itself has no room
 abbrev pub LacksRoom : Summed → List Term → ℤ → Type 0
-LacksRoom s terms times = (k : ℕ) × (a : Term) × (k < length terms) × (a ≡ slice_index_or terms k a) × (HasRoom (total_of s a.column) (times *ℤ a.times) → ⊥)
+LacksRoom s terms times = (k : ℕ) × (a : Term) × (k < length terms) × (a ≡ slice_index_or terms k a) × (HasRoomToAdd (total_of s a.column) (times *ℤ a.times) → ⊥)

@@ -45,6 +45,3 @@ pub use prices::{Potentials, Prices};
 pub use row::{Row, Term};
 pub use sums::{SumFault, Sums};
 pub use total::Total;
-
-#[cfg(test)]
-mod tests;

@@ -4,7 +4,7 @@ ghost use Rattle.lot_sizing.specs.Problem.{item_count};
 ghost use Rattle.lin_rows.specs.Columns.{IsColumn};
 ghost use Rattle.lin_rows.specs.Rows.{AreTerms};
 ghost use Rattle.std.specs.Prelude.{◌-◌, ◌+◌, ◌*◌};
-ghost use Rattle.lin_rows.specs.Sums.{AddsRow, AddsTerm, AreWithin, HasRoom, HasRoomFor, IsTotal, IsWithin, PassesWith, SameShape, cell_of, is_within, item_of, kind_of, no_total, period_of, total_of, with_more};
+ghost use Rattle.lin_rows.specs.Sums.{AddsRow, AddsTerm, AreWithin, HasRoomToAdd, HasRoomFor, IsTotal, IsColumnWithin, PassesWith, SameShape, cell_of, is_within, item_of, kind_of, no_total, period_of, total_of, with_more};
 ghost use Rattle.lin_rows.specs.declared.column.Column.{Column};
 ghost use Rattle.lin_rows.specs.declared.sums.SumFault.TheVariants.{Passed128};
 
@@ -119,7 +119,7 @@ impl Sums {
 
     // Where the total of a column stands.
     fn cell(&self, column: Column) -> usize
-        requires within { IsWithin self.now.items self.now.periods column }
+        requires within { IsColumnWithin self.now.items self.now.periods column }
         ensures value { result ≡ cell_of self.now.items self.now.periods column }
     {
         let row = kind(column) * self.items as usize + (item(column) - 1) as usize;
@@ -140,7 +140,7 @@ impl Sums {
 
     // Whether a column is one of those of the sums.
     pub(crate) fn has_column(&self, column: Column) -> bool
-        ensures { IsTrue result ↔ IsWithin self.now.items self.now.periods column }
+        ensures { IsTrue result ↔ IsColumnWithin self.now.items self.now.periods column }
     {
         is_within(self.items, self.periods, column)
     }
@@ -154,14 +154,14 @@ impl Sums {
 
     // Whether a multiple of a term can be added.
     pub(crate) fn has_room_for_term(&self, term: Term, times: i128) -> bool
-        ensures { IsTrue result ↔ HasRoom (total_of self.now term.column) (times *ℤ term.times) }
+        ensures { IsTrue result ↔ HasRoomToAdd (total_of self.now term.column) (times *ℤ term.times) }
     {
         self.total(term.column).has_room(times, term.times)
     }
 
     // Whether a multiple of a right side can be added.
     pub(crate) fn has_room_for_right(&self, right: i128, times: i128) -> bool
-        ensures value { IsTrue result ↔ HasRoom self.now.right (times *ℤ right) }
+        ensures value { IsTrue result ↔ HasRoomToAdd self.now.right (times *ℤ right) }
         ensures small { (c : Column) → (total_of self.now c).amount < 2 ^ 127 }
     {
         self.right.has_room(times, right)
@@ -169,8 +169,8 @@ impl Sums {
 
     // Adds a multiple of a term.
     pub(crate) fn add_term(&mut self, term: Term, times: i128)
-        requires within { IsWithin self.old.items self.old.periods term.column }
-        requires room { HasRoom (total_of self.old term.column) (times *ℤ term.times) }
+        requires within { IsColumnWithin self.old.items self.old.periods term.column }
+        requires room { HasRoomToAdd (total_of self.old term.column) (times *ℤ term.times) }
         ensures adds { AddsTerm self.old self.new term times }
         ensures shape { SameShape self.old self.new }
         ensures right { self.new.right ≡ self.old.right }
@@ -182,7 +182,7 @@ impl Sums {
 
     // Adds a multiple of a right side.
     pub(crate) fn add_right(&mut self, right: i128, times: i128)
-        requires room { HasRoom self.old.right (times *ℤ right) }
+        requires room { HasRoomToAdd self.old.right (times *ℤ right) }
         ensures right { self.new.right ≡ with_more self.old.right (times *ℤ right) }
         ensures shape { SameShape self.old self.new }
         ensures columns { (c : Column) → total_of self.new c ≡ total_of self.old c }

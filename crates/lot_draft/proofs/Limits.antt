@@ -129,7 +129,7 @@ uses_known names i lines h (suc k) few =
     let read : slice_index_or (use_names lines) k [] ≡ a.resource = get_or_default (map (λ u. u.resource) lines) k [] blank_use.resource (omega (arith, few, length-map lines (λ u. u.resource))) ∙ get_or-map (λ u. u.resource) lines k blank_use in
     rw e (known_next (use_names lines) names k a.resource (omega (arith, few, length-map lines (λ u. u.resource))) read (ap (λ n. is_among (take n (use_names lines)) a.resource) (sym back) ∙ use_new names i lines (1 + k) a none) (use_known names i lines (1 + k) a none) (uses_known names i lines h k (omega (arith, few))))
 
-uses : (names : List (List ℕ)) (i : ℕ) (lines : List RawUse) → first_in (use_fault names i lines) 1 lines ≡ None → length names ≤ 20 → AreUses (length names) (map (use_of names) lines)
+uses : (names : List (List ℕ)) (i : ℕ) (lines : List RawUse) → first_in (use_fault names i lines) 1 lines ≡ None → length names ≤ MAX_RESOURCES → AreUses (length names) (map (use_of names) lines)
 uses names i lines h few =
     let each : (k : ℕ) (d : RawUse) → k < length lines → use_fault names i lines (1 + k) (slice_index_or lines k d) ≡ None = λ k d less. each_none (use_fault names i lines) 1 k d lines h less in
     record {
@@ -268,7 +268,7 @@ have_needs m p i low high =
     let less : i - 1 < length m.items = omega (arith, low, high, items) in
     rw (item_read m (i - 1) less, items) (item_needs m (i - 1) blank_item p less)
 
-pub few_items : (m : RawModel) → IsChecked m → length (problem_of m).items ≤ 40
+pub few_items : (m : RawModel) → IsChecked m → length (problem_of m).items ≤ MAX_ITEMS
 few_items m p = omega (arith, length-map m.items (item_of (resource_names m.resources) (item_names m.items)), p.counted.items)
 
 -- the lines of a draft's items are those of the problem's
@@ -279,5 +279,5 @@ same_lines names others (a ∷ is) =
     let raw_count : RawItem → ℕ = λ i. length i.needs in
     sum_by-cons count (item_of names others a) (map (item_of names others) is) ∙ ap (λ n. n + sum_by count (map (item_of names others) is)) (length-map a.needs (need_of others)) ∙ ap (λ n. length a.needs + n) (same_lines names others is) ∙ sym (sum_by-cons raw_count a is)
 
-pub few_lines : (m : RawModel) → IsChecked m → sum_by (λ i. length i.needs) (problem_of m).items ≤ 400
+pub few_lines : (m : RawModel) → IsChecked m → sum_by (λ i. length i.needs) (problem_of m).items ≤ MAX_BILL_LINES
 few_lines m p = omega (arith, same_lines (resource_names m.resources) (item_names m.items) m.items, p.counted.lines)

@@ -4,6 +4,7 @@ use Rattle.std.specs.Prelude.{Bool, true, false, ◌||◌, nat_le}
 use Rattle.std.specs.Str.{bytes_eq}
 use Rattle.std.proofs.lemmas.Bool.{cases_lt}
 use Rattle.std.proofs.lemmas.List.Folds.{list_any-append, list_any-from_Any, list_any_more}
+use Rattle.lot_sizing.specs.declared.limits.TheConstants.{MAX_BILL_LINES}
 use Rattle.lot_draft.specs.Refusals.{is_among}
 use Rattle.std.specs.List.{list_any, sum_by}
 use Rattle.std.proofs.Math.ListN.{get_or-map}
@@ -23,7 +24,7 @@ sum_more f g xs k x h is =
     let count = length-map xs f in
     ap (sum_by g) ((take_at_read (map f xs) k (f x) (omega (arith, h, count))).1) ∙ sum_by_push g (take k (map f xs)) (slice_index_or (map f xs) k (f x)) ∙ ap (λ y. sum_by g (take k (map f xs)) + g y) (member_read f xs k x (f x) h is)
 
-pub not_few : (n : ℕ) → 400 < n → false ≡ nat_le n 400
+pub not_few : (n : ℕ) → MAX_BILL_LINES < n → false ≡ nat_le n MAX_BILL_LINES
 not_few n h = grind (arith, h)
 
 last_one : (b : Bool) → (b || false) ≡ b

@@ -469,7 +469,7 @@ fn uses_fault(resources: &[DraftResource], item: u32, uses: &[DraftUse]) -> Opti
 
 // The lines of components of an item.
 fn needs_fault(items: &[DraftItem], item: u32, needs: &[DraftNeed]) -> Option<ModelFault>
-    requires few { length needs.now ≤ 400 }
+    requires few { length needs.now ≤ MAX_BILL_LINES }
     ensures { result ≡ first_in (need_fault (item_names (map raw_item items.now)) item (map raw_need needs.now)) 1 (map raw_need needs.now) }
 {
     for at in 0..needs.len() {
@@ -483,8 +483,8 @@ fn needs_fault(items: &[DraftItem], item: u32, needs: &[DraftNeed]) -> Option<Mo
 
 // The lines of an item: its components, then its resources.
 fn item_lines_fault(draft: &Draft, number: u32, item: &DraftItem) -> Option<ModelFault>
-    requires few { length draft.now.resources.items ≤ 20 }
-    requires lines { length item.now.needs.items ≤ 400 }
+    requires few { length draft.now.resources.items ≤ MAX_RESOURCES }
+    requires lines { length item.now.needs.items ≤ MAX_BILL_LINES }
     ensures { result ≡ item_lines_fault (raw_model draft.now) number (raw_item item.now) }
 {
     if let Some(found) = needs_fault(&draft.items, number, &item.needs) {
@@ -495,9 +495,9 @@ fn item_lines_fault(draft: &Draft, number: u32, item: &DraftItem) -> Option<Mode
 
 // The lines of the items.
 fn lines_fault(draft: &Draft) -> Option<ModelFault>
-    requires resources { length draft.now.resources.items ≤ 20 }
-    requires items { length draft.now.items.items ≤ 40 }
-    requires lines { sum_by (λ i. length i.needs) (map raw_item draft.now.items.items) ≤ 400 }
+    requires resources { length draft.now.resources.items ≤ MAX_RESOURCES }
+    requires items { length draft.now.items.items ≤ MAX_ITEMS }
+    requires lines { sum_by (λ i. length i.needs) (map raw_item draft.now.items.items) ≤ MAX_BILL_LINES }
     ensures { result ≡ lines_fault (raw_model draft.now) }
 {
     for at in 0..draft.items.len() {
@@ -511,8 +511,8 @@ fn lines_fault(draft: &Draft) -> Option<ModelFault>
 
 // The names of resources and items, then repeated ones.
 fn names_fault(draft: &Draft) -> Option<ModelFault>
-    requires resources { length draft.now.resources.items ≤ 20 }
-    requires items { length draft.now.items.items ≤ 40 }
+    requires resources { length draft.now.resources.items ≤ MAX_RESOURCES }
+    requires items { length draft.now.items.items ≤ MAX_ITEMS }
     ensures { result ≡ or_then (name_fault (raw_model draft.now)) (repeat_fault (raw_model draft.now)) }
 {
     if let Some(found) = resource_names_fault(&draft.resources) {
@@ -529,9 +529,9 @@ fn names_fault(draft: &Draft) -> Option<ModelFault>
 
 // The lists and numbers, then the lines.
 fn numbers_and_lines_fault(draft: &Draft, periods: u32) -> Option<ModelFault>
-    requires resources { length draft.now.resources.items ≤ 20 }
-    requires items { length draft.now.items.items ≤ 40 }
-    requires lines { sum_by (λ i. length i.needs) (map raw_item draft.now.items.items) ≤ 400 }
+    requires resources { length draft.now.resources.items ≤ MAX_RESOURCES }
+    requires items { length draft.now.items.items ≤ MAX_ITEMS }
+    requires lines { sum_by (λ i. length i.needs) (map raw_item draft.now.items.items) ≤ MAX_BILL_LINES }
     requires periods { draft.now.periods ≡ pos periods }
     ensures { result ≡ or_then (numbers_fault (raw_model draft.now)) (lines_fault (raw_model draft.now)) }
 {
@@ -546,12 +546,12 @@ fn numbers_and_lines_fault(draft: &Draft, periods: u32) -> Option<ModelFault>
 
 /// The first rule of counts, names, lists, numbers and lines that a draft breaks.
 ///
-/// Names and lines are compared pair by pair, of which there are at most 400 times 400.
+/// Names and lines are compared pair by pair, of which there are at most `MAX_BILL_LINES` squared.
 ///
-/// Where there is none, the components of each item are items, and one unit takes at most a million of each.
+/// Where there is none, the components of each item are items, and one unit takes at most `MAX_QUANTITY` of each.
 pub fn plain_fault(draft: &Draft) -> Option<ModelFault>
     ensures value { result ≡ plain_fault (raw_model draft.now) }
-    ensures count { result ≡ None → item_count (problem_of (raw_model draft.now)) ≤ 40 }
+    ensures count { result ≡ None → item_count (problem_of (raw_model draft.now)) ≤ MAX_ITEMS }
     ensures needs { result ≡ None → HaveNeeds (problem_of (raw_model draft.now)) }
 {
     if let Some(found) = count_fault(draft) {

@@ -1,6 +1,6 @@
 //! Models as a reader found them, and the plain rules that they break.
 //!
-//! Family: models. Stands on `lot_sizing`; used by `lot_model` and `instance_reader`.
+//! Family: models. It stands on `lot_sizing`; `lot_model` and `instance_reader` stand on it.
 //!
 //! A `Draft` has the numbers and names of a model as they stand, of any sign and size. `plain_fault`
 //! names the first rule of counts, names, lists, numbers and lines that it breaks, by a `ModelFault` with
@@ -22,6 +22,3 @@ pub use draft::{Draft, DraftItem, DraftNeed, DraftRefusal, DraftResource, DraftU
 pub use fault::{Key, ModelCode, ModelFault, Place};
 pub use later::later_fault;
 pub use places::{item_place, resource_place};
-
-#[cfg(test)]
-mod tests;

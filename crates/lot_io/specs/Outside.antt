@@ -1,5 +1,6 @@
 -- What shelves and sinks show, what their calls do to it, and what stays.
 use Rattle.std.specs.Prelude.{◌≡◌, ◌≢◌, ◌⊎◌, ◌<◌, ◌≤◌, ◌+◌, ◌-◌, ◌^◌, ◌/◌, ℕ, min, Bool, List, ◌++◌, length, take, drop, Option, IsTrue}
+use Rattle.lot_io.specs.declared.files.TheConstants.{PIECE}
 
 -- ---- counts
 -- the value at which a count stands still
@@ -90,7 +91,7 @@ pub record Fetched (file : List ℕ) (at n : ℕ) (room : List ℕ) : Type 0 whe
 
 -- how many bytes of a file go over in one call
 abbrev pub piece_size : ℕ
-piece_size = 65536
+piece_size = PIECE
 
 -- how many pieces so many bytes make
 abbrev pub pieces_of : ℕ → ℕ

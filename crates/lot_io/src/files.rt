@@ -8,8 +8,8 @@ use std::alloc::{AllocError, Global};
 use std::error::Error;
 use std::fmt;
 
-/// How many bytes go over in one call.
-const PIECE: usize = 65_536;
+/// How many bytes of a file go over in one call.
+pub const PIECE: usize = 65_536;
 
 /// Why a file was not read.
 #[derive(Clone, Copy, Debug, PartialEq, Eq)]
@@ -58,7 +58,7 @@ fn room_of(alloc: Global, size: usize) -> Result<Vec<u8>, AllocError>
 
 /// The whole file, if it has at most so many bytes.
 ///
-/// It is fetched in pieces of at most 65,536 bytes, until a fetch gives none. No more than one
+/// It is fetched in pieces of at most `PIECE` bytes, until a fetch gives none. No more than one
 /// piece past the limit is asked for.
 pub fn read_file<S: Shelf>(
     alloc: Global,
@@ -107,7 +107,7 @@ pub fn read_file<S: Shelf>(
 
 /// Writes the whole file, and takes no memory of its own.
 ///
-/// It starts the file, and then appends pieces of 65,536 bytes and what is left, if anything is.
+/// It starts the file, and then appends pieces of `PIECE` bytes and what is left, if anything is.
 /// After a refusal the file may be absent or hold anything; all others stay.
 pub fn write_file<S: Shelf>(shelf: &mut S, name: &str, bytes: &[u8]) -> Result<(), WriteFailed>
     ensures written { OnOk result (IsTrue (S.shown shelf.old).told → (S.shown shelf.new).file name.now ≡ Some bytes.now) }

@@ -1,6 +1,6 @@
 //! What lies outside the planner: named files to read and write, and a place to print to.
 //!
-//! Family: the outside. Stands on `whole_numbers`; used by `lotplan`.
+//! Family: the outside. It stands on `whole_numbers`; `cert_stream` and the commands stand on it.
 //!
 //! `Shelf` and `Sink` are the two traits that the rest is written over. Each has one ghost member,
 //! `shown`: what it tells of its contents, and its counts. `specs/Outside` has the words in which
@@ -16,7 +16,7 @@ mod real;
 mod shelf;
 mod sink;
 
-pub use files::{ReadFault, read_file, write_file};
+pub use files::{PIECE, ReadFault, read_file, write_file};
 pub use memory::{MemoryShelf, MemorySink};
 pub use real::{DiskShelf, StdSink};
 pub use shelf::{Shelf, ShelfFault, WriteFailed};

@@ -9,7 +9,7 @@ use Rattle.lot_sizing.specs.Problem.{IsWithinLimits, Problem, entry, item_at, it
 use Rattle.lot_sizing.specs.Bill.{AreTotals, AreWeights, Bill, GoesIntoOver, HasRanks, bill_of}
 use Rattle.lot_sizing.proofs.Sums.{sum_to-same}
 use Rattle.bill.specs.Lines.{AreLines, bill_of_lines, lines_of, units_in}
-use Rattle.bill.specs.Over.{HasAll, HaveSize, IsWithin, OfAll}
+use Rattle.bill.specs.Over.{HasAll, HaveSize, KeepsBound, OfAll}
 use Rattle.bill.specs.Sets.{HasNoCycle}
 use Rattle.bill.specs.Laws.{TotalsExist, WeightsExist}
 use Rattle.bill.proofs.Existing.{totals_exist, weights_exist}
@@ -17,7 +17,7 @@ use Rattle.lot_sizing.specs.declared.limits.TheConstants.{MAX_TOTAL}
 use Rattle.std.specs.Prelude.{Result, Ok, Err, IfOk, IfErr}
 use Rattle.lot_draft.specs.Meaning.{HaveNeeds}
 use Rattle.lot_model.specs.Held.{AreOf, AreTotalsOf, needs_in}
-use Rattle.lot_model.specs.Meaning.{AreSmallRows, IsRanked, asked_of, there_of}
+use Rattle.lot_model.specs.Meaning.{AreSmallRows, IsRanked, most_asked, there_of}
 
 abbrev with_units : ℕ → (ℕ → ℕ → ℕ) → Bill
 with_units n u = record { items = n; units = u }
@@ -82,13 +82,13 @@ known_small b asked there rank totals weights ranks some_total some_weight all i
     let h = all t.0 w.0 t.1 w.1 in
     omega (arith, (h.known i low high).each k k_low k_high, (h.within i low high).each k k_low k_high)
 
-pub all_within : (b : Bill) (asked there : ℕ → ℕ) (totals : List ℕ) (weights : List (List ℕ)) → OfAll b asked there (λ total weight. HasAll b total weight totals weights) → OfAll b asked there (λ total weight. (i : ℕ) → 1 ≤ i → i ≤ b.items → IsWithin b total weight i)
+pub all_within : (b : Bill) (asked there : ℕ → ℕ) (totals : List ℕ) (weights : List (List ℕ)) → OfAll b asked there (λ total weight. HasAll b total weight totals weights) → OfAll b asked there (λ total weight. (i : ℕ) → 1 ≤ i → i ≤ b.items → KeepsBound b total weight i)
 all_within b asked there totals weights all total weight t w = (all total weight t w).within
 
 -- what is said of the lists is said of the problem
-pub from_lists : (m : Problem) (lines : List (List Need)) (asked there : List ℕ) (P : Bill → (ℕ → ℕ) → (ℕ → ℕ → ℕ) → Type 0) → lines ≡ needs_in m → AreOf m (asked_of m) asked → AreOf m (there_of m) there → OfAll (bill_of_lines lines) (entry asked) (entry there) (P (bill_of_lines lines)) → OfAll (bill_of m) (asked_of m) (there_of m) (P (bill_of m))
+pub from_lists : (m : Problem) (lines : List (List Need)) (asked there : List ℕ) (P : Bill → (ℕ → ℕ) → (ℕ → ℕ → ℕ) → Type 0) → lines ≡ needs_in m → AreOf m (most_asked m) asked → AreOf m (there_of m) there → OfAll (bill_of_lines lines) (entry asked) (entry there) (P (bill_of_lines lines)) → OfAll (bill_of m) (most_asked m) (there_of m) (P (bill_of m))
 from_lists m lines asked there P same as_asked as_there h =
-    of_same (bill_of m) (entry asked) (entry there) (asked_of m) (there_of m) (P (bill_of m))
+    of_same (bill_of m) (entry asked) (entry there) (most_asked m) (there_of m) (P (bill_of m))
     as_asked
     as_there
     (subst (λ b. OfAll b (entry asked) (entry there) (P b)) (bill_is m lines same) h)
@@ -106,16 +106,16 @@ pub some_weights : (p : Problem) → IsRanked p → (weight : ℕ → ℕ → �
 some_weights p ranked = weights_exist (bill_of p) ranked.0 ranked.1
 
 -- totals and weights of the lists are those of the problem
-pub totals_of : (m : Problem) (lines : List (List Need)) (asked there totals : List ℕ) (weights : List (List ℕ)) (rank : ℕ → ℕ) → lines ≡ needs_in m → AreOf m (asked_of m) asked → AreOf m (there_of m) there → HasRanks (bill_of m) rank → length totals ≡ item_count m → length weights ≡ item_count m → HaveSize (item_count m) weights → ((i : ℕ) → entry totals i ≤ MAX_TOTAL) → OfAll (bill_of_lines lines) (entry asked) (entry there) (λ total weight. HasAll (bill_of_lines lines) total weight totals weights) → AreTotalsOf m totals weights
+pub totals_of : (m : Problem) (lines : List (List Need)) (asked there totals : List ℕ) (weights : List (List ℕ)) (rank : ℕ → ℕ) → lines ≡ needs_in m → AreOf m (most_asked m) asked → AreOf m (there_of m) there → HasRanks (bill_of m) rank → length totals ≡ item_count m → length weights ≡ item_count m → HaveSize (item_count m) weights → ((i : ℕ) → entry totals i ≤ MAX_TOTAL) → OfAll (bill_of_lines lines) (entry asked) (entry there) (λ total weight. HasAll (bill_of_lines lines) total weight totals weights) → AreTotalsOf m totals weights
 totals_of m lines asked there totals weights rank same as_asked as_there ranks totals_size weights_size row_sizes small h =
     let all = from_lists m lines asked there (λ b total weight. HasAll b total weight totals weights) same as_asked as_there h in
     record {
       totals_size = totals_size;
       weights_size = weights_size;
       row_sizes = row_sizes;
-      rows_small = known_small (bill_of m) (asked_of m) (there_of m) rank totals weights ranks totals_exist weights_exist all;
+      rows_small = known_small (bill_of m) (most_asked m) (there_of m) rank totals weights ranks totals_exist weights_exist all;
       all = all;
-      totals = known_totals (bill_of m) (asked_of m) (there_of m) rank totals weights ranks totals_exist weights_exist all;
+      totals = known_totals (bill_of m) (most_asked m) (there_of m) rank totals weights ranks totals_exist weights_exist all;
       small = small;
-      bounded = all_within (bill_of m) (asked_of m) (there_of m) totals weights all;
+      bounded = all_within (bill_of m) (most_asked m) (there_of m) totals weights all;
     }

@@ -4,7 +4,7 @@ use Rattle.std.specs.Prelude.{Result, Ok, Err, Option}
 use Rattle.std.proofs.lemmas.Bool.{cases_lt}
 use Rattle.lot_sizing.specs.Problem.{Problem}
 use Rattle.lot_sizing.specs.Bill.{Bill, bill_of}
-use Rattle.bill.specs.Over.{IsFirstOver, IsWithin, OfAll}
+use Rattle.bill.specs.Over.{IsFirstOver, KeepsBound, OfAll}
 use Rattle.bill.specs.Sets.{IsFirstOnCycle}
 use Rattle.bill.proofs.Existing.{totals_exist, weights_exist}
 use Rattle.lot_draft.specs.Raw.{RawModel}
@@ -12,7 +12,7 @@ use Rattle.lot_draft.specs.Meaning.{problem_of}
 use Rattle.lot_draft.specs.Refusals.{later_fault, plain_fault}
 use Rattle.lot_draft.specs.declared.fault.ModelFault.{ModelFault}
 use Rattle.lot_draft.specs.declared.fault.ModelCode.TheVariants.{Cycle, QuantityBound}
-use Rattle.lot_model.specs.Meaning.{BreaksFirst, BreaksNone, IsCycle, IsPastBound, IsRanked, Means, asked_of, at_item, there_of}
+use Rattle.lot_model.specs.Meaning.{BreaksFirst, BreaksNone, IsCycle, IsPastBound, IsRanked, Means, most_asked, at_item, there_of}
 use Rattle.lot_model.proofs.Bills.{no_cycle}
 
 abbrev fault_or : Option ModelFault → ModelFault → ModelFault
@@ -45,9 +45,9 @@ same_over b total weight i j one other =
     (cases_lt i j)
 
 -- what is said of all totals and weights holds of some, where items have ranks
-of_some : {A : Type 0} (p : Problem) (P : (ℕ → ℕ) → (ℕ → ℕ → ℕ) → Type 0) → IsRanked p → OfAll (bill_of p) (asked_of p) (there_of p) P → ((total : ℕ → ℕ) (weight : ℕ → ℕ → ℕ) → P total weight → A) → A
+of_some : {A : Type 0} (p : Problem) (P : (ℕ → ℕ) → (ℕ → ℕ → ℕ) → Type 0) → IsRanked p → OfAll (bill_of p) (most_asked p) (there_of p) P → ((total : ℕ → ℕ) (weight : ℕ → ℕ → ℕ) → P total weight → A) → A
 of_some p P (rank, ranks) all then =
-    let (total, totals) = totals_exist (bill_of p) (asked_of p) (there_of p) rank ranks in
+    let (total, totals) = totals_exist (bill_of p) (most_asked p) (there_of p) rank ranks in
     let (weight, weights) = weights_exist (bill_of p) rank ranks in
     then total weight (all total weight totals weights)
 
@@ -91,7 +91,7 @@ none_first m f none first =
     (λ cycle. ranked_cycle p f none.ranked cycle)
     (λ ranked. ⊎_elim
     (λ later. no_fault (later_fault m) f none.later later)
-    (λ past. of_some p (λ total weight. IsFirstOver (bill_of p) total weight past.1.0 × ((i : ℕ) → 1 ≤ i → i ≤ (bill_of p).items → IsWithin (bill_of p) total weight i)) ranked.0 (λ total weight ts ws. (past.1.1 total weight ts ws, none.bounded total weight ts ws)) (λ total weight both. both.0.over (both.1 past.1.0 both.0.low both.0.high)))
+    (λ past. of_some p (λ total weight. IsFirstOver (bill_of p) total weight past.1.0 × ((i : ℕ) → 1 ≤ i → i ≤ (bill_of p).items → KeepsBound (bill_of p) total weight i)) ranked.0 (λ total weight ts ws. (past.1.1 total weight ts ws, none.bounded total weight ts ws)) (λ total weight both. both.0.over (both.1 past.1.0 both.0.low both.0.high)))
     ranked.1)
     rest.1)
     first)

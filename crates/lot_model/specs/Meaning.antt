@@ -4,7 +4,7 @@ use Rattle.lot_sizing.specs.Sums.{sum_to}
 use Rattle.lot_sizing.specs.declared.limits.TheConstants.{MAX_TOTAL}
 use Rattle.lot_sizing.specs.Problem.{Problem, demand, item_at, item_count}
 use Rattle.lot_sizing.specs.Bill.{HasRanks, bill_of}
-use Rattle.bill.specs.Over.{HasAll, IsFirstOver, IsWithin, OfAll, row_entry}
+use Rattle.bill.specs.Over.{HasAll, IsFirstOver, KeepsBound, OfAll, row_entry}
 use Rattle.bill.specs.Sets.{IsFirstOnCycle}
 use Rattle.lot_draft.specs.Raw.{RawModel, raw_model}
 use Rattle.lot_draft.specs.Meaning.{problem_of}
@@ -18,8 +18,8 @@ use Rattle.lot_draft.specs.declared.fault.ModelCode.TheVariants.{Cycle, Quantity
 use Rattle.lot_draft.specs.declared.fault.Place.TheVariants.{Item}
 
 -- what is asked of an item from outside, and what is there of it
-abbrev pub asked_of : Problem → ℕ → ℕ
-asked_of m i = sum_to m.periods (demand m i) + (item_at m i).end_max
+abbrev pub most_asked : Problem → ℕ → ℕ
+most_asked m i = sum_to m.periods (demand m i) + (item_at m i).end_max
 
 abbrev pub there_of : Problem → ℕ → ℕ
 there_of m i = (item_at m i).opening
@@ -38,15 +38,15 @@ IsCycle p f = (i : ℕ) × IsFirstOnCycle (bill_of p) i × (f ≡ at_item Cycle 
 
 -- the first item whose largest total or one of whose weights is past the bound, of those that go only into items within it
 abbrev pub IsPastBound : Problem → ModelFault → Type 0
-IsPastBound p f = (i : ℕ) × OfAll (bill_of p) (asked_of p) (there_of p) (λ total weight. IsFirstOver (bill_of p) total weight i) × (f ≡ at_item QuantityBound i)
+IsPastBound p f = (i : ℕ) × OfAll (bill_of p) (most_asked p) (there_of p) (λ total weight. IsFirstOver (bill_of p) total weight i) × (f ≡ at_item QuantityBound i)
 
 -- all largest totals and weights are within the bound
 abbrev pub IsBounded : Problem → Type 0
-IsBounded p = OfAll (bill_of p) (asked_of p) (there_of p) (λ total weight. (i : ℕ) → 1 ≤ i → i ≤ item_count p → IsWithin (bill_of p) total weight i)
+IsBounded p = OfAll (bill_of p) (most_asked p) (there_of p) (λ total weight. (i : ℕ) → 1 ≤ i → i ≤ item_count p → KeepsBound (bill_of p) total weight i)
 
 -- lists of all largest totals and weights
 abbrev pub AreAllOf : Problem → List ℕ → List (List ℕ) → Type 0
-AreAllOf p totals weights = OfAll (bill_of p) (asked_of p) (there_of p) (λ total weight. HasAll (bill_of p) total weight totals weights)
+AreAllOf p totals weights = OfAll (bill_of p) (most_asked p) (there_of p) (λ total weight. HasAll (bill_of p) total weight totals weights)
 
 -- no weight is past the bound
 abbrev pub AreSmallRows : ℕ → List (List ℕ) → Type 0

@@ -3,9 +3,9 @@ use Rattle.std.specs.Prelude.{◌≡◌, ℕ, ◌≤◌, List, length}
 use Rattle.lot_sizing.specs.Problem.{EachItem, Problem, entry, item_at, item_count, IsWithinLimits}
 use Rattle.lot_sizing.specs.Bill.{bill_of}
 use Rattle.lot_sizing.specs.Totals.{AreLargestTotals, IsRanking}
-use Rattle.bill.specs.Over.{HaveSize, IsWithin, OfAll}
+use Rattle.bill.specs.Over.{HaveSize, KeepsBound, OfAll}
 use Rattle.lot_sizing.specs.declared.limits.TheConstants.{MAX_TOTAL}
-use Rattle.lot_model.specs.Meaning.{AreAllOf, AreSmallRows, asked_of, there_of}
+use Rattle.lot_model.specs.Meaning.{AreAllOf, AreSmallRows, most_asked, there_of}
 use Rattle.lot_model.specs.Valid.{HasFewLines, HaveNoBacklogs, HaveOwnNames, HaveOwnResourceNames, NameOnce, UseOnce}
 use Rattle.lot_model.specs.declared.instance.Instance.TheInside.{Inside}
 
@@ -19,7 +19,7 @@ pub record IsInstance (m : Problem) : Type 0 where
   pub lines : HasFewLines m
   pub ranked : (rank : ℕ → ℕ) × IsRanking m rank
   pub totals : (total : ℕ → ℕ) × AreLargestTotals m total × ((i : ℕ) → total i ≤ MAX_TOTAL)
-  pub within : OfAll (bill_of m) (asked_of m) (there_of m) (λ total weight. (i : ℕ) → 1 ≤ i → i ≤ item_count m → IsWithin (bill_of m) total weight i)
+  pub within : OfAll (bill_of m) (most_asked m) (there_of m) (λ total weight. (i : ℕ) → 1 ≤ i → i ≤ item_count m → KeepsBound (bill_of m) total weight i)
   pub names : HaveOwnNames m
   pub resource_names : HaveOwnResourceNames m
   pub needs_once : EachItem m (λ i. NameOnce (item_at m i).needs)

@@ -1,7 +1,7 @@
 //! Problems that the program plans, each within its limits.
 //!
-//! Family: models. Stands on `lot_sizing`, `lot_draft` and `bill`; used by all that read, judge or plan
-//! an instance.
+//! Family: models. It stands on `lot_sizing`, `lot_draft` and `bill`; all that read, judge or plan an
+//! instance stand on it.
 //!
 //! A `Draft` is what a reader found, as it stands. `Instance::from_draft` makes an `Instance` of it, or
 //! says by a `ModelFault` which rule it breaks first. An `Instance` is seen by contracts as the problem of
@@ -24,6 +24,3 @@ pub use lot_draft::{
     Place,
 };
 pub use lot_sizing::{Need, Usage};
-
-#[cfg(test)]
-mod tests;

@@ -4,7 +4,7 @@ ghost use Rattle.lot_sizing.specs.Sums.{sum_to};
 ghost use Rattle.lot_sizing.specs.declared.limits.TheConstants.{MAX_ITEMS, MAX_PERIODS};
 ghost use Rattle.lot_sizing.specs.Problem.{entry, item_count, IsWithinLimits};
 ghost use Rattle.bill.specs.Lines.{AreLines};
-ghost use Rattle.lot_model.specs.Meaning.{asked_of, there_of};
+ghost use Rattle.lot_model.specs.Meaning.{most_asked, there_of};
 ghost use Rattle.lot_model.specs.Held.{AreOf, IsAsked, problem_of_parts};
 
 use crate::building::Parts;
@@ -27,7 +27,7 @@ pub fn bill_lines<'a>(alloc: Global, items: &'a [ItemData]) -> Result<BillLines<
 }
 
 // What is asked of an item from outside: its demands and its largest end stock.
-fn asked_of(item: &ItemData, periods: u32) -> u64
+fn most_asked(item: &ItemData, periods: u32) -> u64
     requires periods { periods ≤ MAX_PERIODS }
     requires item { IsAsked periods item.now }
     ensures { result ≡ sum_to periods (entry item.now.demand) + item.now.end_max }
@@ -44,11 +44,11 @@ pub fn write_asked(parts: &Parts, list: &mut [u64])
     requires limits { IsWithinLimits (problem_of_parts parts.now) }
     requires size { length list.now ≡ item_count (problem_of_parts parts.now) }
     ensures size { length list.new ≡ length list.old }
-    ensures each { AreOf (problem_of_parts parts.now) (asked_of (problem_of_parts parts.now)) list.new }
+    ensures each { AreOf (problem_of_parts parts.now) (most_asked (problem_of_parts parts.now)) list.new }
 {
     for item in 1..parts.items.len() as u32 + 1 {
         let data = &parts.items[(item - 1) as usize];
-        list[(item - 1) as usize] = asked_of(data, parts.periods);
+        list[(item - 1) as usize] = most_asked(data, parts.periods);
     }
 }
 

@@ -166,7 +166,7 @@ net_to : Single → ℕ → ℕ
 net_to s t = sum_to t (net_demand s)
 
 -- after period t the server u of the periods after a is the cheapest one for the next period, and what is left or owed has been paid
-record Runs (s : Single) (p : NetPlan) (g : List ℕ) (t u a : ℕ) : Type 0 where
+record Spans (s : Single) (p : NetPlan) (g : List ℕ) (t u a : ℕ) : Type 0 where
   server : IsServer s u (suc a)
   cheapest : IsCheapest s p u (suc t)
   before : a ≤ t
@@ -179,7 +179,7 @@ record IsIdle (s : Single) (p : NetPlan) (t : ℕ) : Type 0 where
   make : sum_to t p.make ≡ 0
 
 Goes : Single → NetPlan → List ℕ → ℕ → Type 0
-Goes s p g t = IsIdle s p t ⊎ ((u : ℕ) × (a : ℕ) × Runs s p g t u a)
+Goes s p g t = IsIdle s p t ⊎ ((u : ℕ) × (a : ℕ) × Spans s p g t u a)
 
 -- a price and what is owed or left change from one period to the next
 carry_price : (c d h b made net paid sum : ℕ) → paid + c * made ≤ sum + c * net → d ≤ c + h → (c ≤ d + b) ⊎ (net ≤ made) → paid + d * made ≤ sum + h * (made - net) + b * (net - made) + d * net
@@ -238,7 +238,7 @@ more_setups s p u v less set =
     omega (arith, sum_to_at v f (omega (arith, less)), sum_to-front u (v - 1) f (omega (arith, less)), ap (λ k. entry s.setup v * k) set)
 
 -- what was paid after the quantities of period suc t
-served_next : (s : Single) (p : NetPlan) (g : List ℕ) → IsNetPlan s p → (t u a : ℕ) → suc t ≤ period_count s → Runs s p g t u a → potential g (count s a) + entry s.setup u + serving s u a (suc t - a) + unit_price s u (suc t) * sum_to (suc t) p.make ≤ spent s p t + entry s.unit (suc t) * p.make (suc t) + setups s p u + unit_price s u (suc t) * sum_to (suc t) (net_demand s)
+served_next : (s : Single) (p : NetPlan) (g : List ℕ) → IsNetPlan s p → (t u a : ℕ) → suc t ≤ period_count s → Spans s p g t u a → potential g (count s a) + entry s.setup u + serving s u a (suc t - a) + unit_price s u (suc t) * sum_to (suc t) p.make ≤ spent s p t + entry s.unit (suc t) * p.make (suc t) + setups s p u + unit_price s u (suc t) * sum_to (suc t) (net_demand s)
 served_next s p g plan t u a high runs = omega (arith, runs.paid, serving_more s u a t runs.before, made_at s p plan u t high runs.cheapest)
 
 -- a price of what is owed falls by no more than the backlog cost, or nothing is owed
@@ -251,7 +251,7 @@ falls s p plan t u v high cheap next =
     inl (omega (arith, cheap.least v now, price_fall s v (suc t))))
     (none_or_some s.back)
 
-from_run : (s : Single) (p : NetPlan) (g : List ℕ) → ArePotentials s g → IsNetPlan s p → (t u a : ℕ) → suc t ≤ period_count s → Runs s p g t u a → Goes s p g (suc t)
+from_run : (s : Single) (p : NetPlan) (g : List ℕ) → ArePotentials s g → IsNetPlan s p → (t u a : ℕ) → suc t ≤ period_count s → Spans s p g t u a → Goes s p g (suc t)
 unfolding Goes
 from_run s p g pots plan t u a high runs =
     let w = suc t in

@@ -12,7 +12,7 @@ use Rattle.instance_reader.specs.declared.versions.TheConstants.{FIRST_VERSION, 
 use Rattle.existence.specs.Plans.{PlansAreDecided, PlansAreJudged}
 use Rattle.existence.specs.Readings.{BytesMeanSomething, RecordsMeanSomething}
 use Rattle.plan_file.specs.Records.{records_of}
-use Rattle.command_line.specs.Words.{Asked, version, helping, planning, judging, checking, reporting, generating, demonstrating, upgrading, bounding}
+use Rattle.command_line.specs.Words.{Request, version, helping, planning, judging, checking, reporting, generating, demonstrating, upgrading, bounding}
 use Rattle.lotplan.specs.Reading.{file_limit}
 use Rattle.lotplan.specs.Planning.{BytesCallFor, FileCallsFor, ProblemCallsFor}
 use Rattle.lotplan.specs.Judging.{JudgeCallsFor, PlanCallsFor}
@@ -92,7 +92,7 @@ module _ (by : Grounds) where
       (λ short. let means = by.bytes FIRST_VERSION bytes in upgraded_some bytes short means.0 means.1)
       (cases_lt file_limit (length bytes))
 
-  pub call_some : (asked : Option Asked) (file : Files) → HasAnswer asked → (status : ℕ) × CallFor asked file status
+  pub call_some : (asked : Option Request) (file : Files) → HasAnswer asked → (status : ℕ) × CallFor asked file status
   call_some None file has = (4, refl)
   call_some (Some version) file has = (0, refl)
   call_some (Some helping) file has = (0, refl)

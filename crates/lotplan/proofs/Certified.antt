@@ -11,7 +11,7 @@ use Rattle.lot_draft.specs.Meaning.{problem_of}
 use Rattle.lot_draft.specs.Refusals.{first_in, backlog_fault, ends_fault, lots_fault, or_then}
 use Rattle.lot_draft.proofs.Faults.{first_none, rest_none}
 use Rattle.lot_draft.proofs.Limits.{plain, within}
-use Rattle.lot_model.specs.Meaning.{asked_of, there_of}
+use Rattle.lot_model.specs.Meaning.{most_asked, there_of}
 use Rattle.instance_reader.specs.Model.{BytesMean}
 use Rattle.plan_rules.specs.Held.{AllFit, plan_of}
 use Rattle.plan_rules.specs.declared.plan.Plan.{Plan}
@@ -49,7 +49,7 @@ meant totals weights bytes m means = ⊎_elim
     subst IsMeant (sym same) (record {
       some_period = limits.some_period;
       limits = limits;
-      totals = totals (bill_of p) (asked_of p) (there_of p) rules.ranked.0 rules.ranked.1;
+      totals = totals (bill_of p) (most_asked p) (there_of p) rules.ranked.0 rules.ranked.1;
       weights = weights (bill_of p) rules.ranked.0 rules.ranked.1;
     }))
     means

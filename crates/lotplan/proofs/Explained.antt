@@ -7,7 +7,7 @@ use Rattle.lot_io.specs.Outside.{GrewBy, OnlyReads, Printed, Rose, Shelved}
 use Rattle.lotplan.specs.declared.said.Said.{Said}
 use Rattle.lotplan.specs.declared.status.Status.{Status}
 use Rattle.lotplan.specs.declared.status.Status.TheVariants.{Done, NoCommand}
-use Rattle.command_line.specs.Words.{AreApart, AreTaken, Asked, IsAllowed, version, helping, planning, judging, checking, reporting, generating, demonstrating, upgrading, bounding}
+use Rattle.command_line.specs.Words.{AreApart, AreTaken, Request, IsAllowed, version, helping, planning, judging, checking, reporting, generating, demonstrating, upgrading, bounding}
 use Rattle.lotplan.specs.Status.{code_of}
 use Rattle.lotplan.specs.Saying.{Ends, Gains, IsSaid, Prints}
 use Rattle.lotplan.specs.Reading.{ReadAnswer, refused, missing, unread, too_long, read_status}
@@ -40,7 +40,7 @@ use Rattle.lotplan.proofs.Reported as reported
 use Rattle.lotplan.proofs.Generated as made
 
 -- ---- from what is said and printed to the run
-runs_as : (asked : Option Asked) (code : ℕ) (old new : Shelved) (out_old out_new : Printed) (said : Said) → SaysFor asked old new said → Ends (Ok said) code out_old out_new → RunsAs asked code old new out_old out_new
+runs_as : (asked : Option Request) (code : ℕ) (old new : Shelved) (out_old out_new : Printed) (said : Said) → SaysFor asked old new said → Ends (Ok said) code out_old out_new → RunsAs asked code old new out_old out_new
 runs_as None code old new out_old out_new said (same, text, says) done = (same, text, prints_as text NoCommand said code out_old out_new says done)
 runs_as (Some version) code old new out_old out_new said (same, says) done = (same, prints_as version_line Done said code out_old out_new says done)
 runs_as (Some helping) code old new out_old out_new said (same, text, says) done = (same, text, prints_as text Done said code out_old out_new says done)
@@ -53,12 +53,12 @@ runs_as (Some (demonstrating seed)) code old new out_old out_new said (same, x) 
 runs_as (Some (upgrading m n)) code old new out_old out_new said (answer, x, says) done = (answer, x, prints_as (upgrade_line answer) (upgrade_status answer) said code out_old out_new says done)
 runs_as (Some (bounding m)) code old new out_old out_new said ((answer, x, says), reads) done = (answer, x, reads, prints_as (bound_line answer) (bound_status answer) said code out_old out_new says done)
 
-pub is_run : (asked : Option Asked) (code : ℕ) (old new : Shelved) (out_old out_new : Printed) (r : Result Said AllocError) → IfOk r (SaysFor asked old new) → OnErr r (Leaves asked old new) → Ends r code out_old out_new → IsRun asked code old new out_old out_new
+pub is_run : (asked : Option Request) (code : ℕ) (old new : Shelved) (out_old out_new : Printed) (r : Result Said AllocError) → IfOk r (SaysFor asked old new) → OnErr r (Leaves asked old new) → Ends r code out_old out_new → IsRun asked code old new out_old out_new
 is_run asked code old new out_old out_new (Ok said) says left done = runs (runs_as asked code old new out_old out_new said says done)
 is_run asked code old new out_old out_new (Err e) says left done = ran_out (record { is = done.0; left = left; silent = done.1 })
 
 -- ---- a run whose number is neither that of a failed print nor that of memory
-abbrev EndsAs : Option Asked → ℕ → Shelved → Shelved → Printed → Printed → Type 0
+abbrev EndsAs : Option Request → ℕ → Shelved → Shelved → Printed → Printed → Type 0
 EndsAs None code old new out_old out_new = (new ≡ old) × (code ≡ 4) × (text : List ℕ) × Gains text out_old out_new
 EndsAs (Some version) code old new out_old out_new = (new ≡ old) × (code ≡ 0)
 EndsAs (Some helping) code old new out_old out_new = (new ≡ old) × (code ≡ 0)
@@ -78,7 +78,7 @@ EndsAs (Some (upgrading m n)) code old new out_old out_new =
 EndsAs (Some (bounding m)) code old new out_old out_new =
     (answer : BoundAnswer) × BoundExplains m old new answer × OnlyReads old new × (code ≡ code_of (bound_status answer)) × Gains (bound_line answer) out_old out_new
 
-ends_by : (asked : Option Asked) (code : ℕ) (old new : Shelved) (out_old out_new : Printed) → RunsAs asked code old new out_old out_new → code ≢ 9 → EndsAs asked code old new out_old out_new
+ends_by : (asked : Option Request) (code : ℕ) (old new : Shelved) (out_old out_new : Printed) → RunsAs asked code old new out_old out_new → code ≢ 9 → EndsAs asked code old new out_old out_new
 ends_by None code old new out_old out_new (same, text, x) other =
     let d = printed text NoCommand code out_old out_new x other in
     (same, d.0, text, d.1)
@@ -109,94 +109,94 @@ ends_by (Some (bounding m)) code old new out_old out_new (answer, x, reads, done
     let d = printed (bound_line answer) (bound_status answer) code out_old out_new done other in
     (answer, x, reads, d.0, d.1)
 
-ends : (asked : Option Asked) (code : ℕ) (old new : Shelved) (out_old out_new : Printed) → IsRun asked code old new out_old out_new → code ≢ 10 → code ≢ 9 → EndsAs asked code old new out_old out_new
+ends : (asked : Option Request) (code : ℕ) (old new : Shelved) (out_old out_new : Printed) → IsRun asked code old new out_old out_new → code ≢ 10 → code ≢ 9 → EndsAs asked code old new out_old out_new
 ends asked code old new out_old out_new (ran_out x) some other = absurd (some x.is)
 ends asked code old new out_old out_new (runs x) some other = ends_by asked code old new out_old out_new x other
 
 -- ---- what each number says
-optimal_by : (asked : Option Asked) (code : ℕ) (old new : Shelved) (out_old out_new : Printed) (m p c : List ℕ) (budget : ℕ) → asked ≡ Some (planning m p c budget) → EndsAs asked code old new out_old out_new → code ≡ 0 → (IsTrue old.told → PlansBest old.file new.file m p c budget out_old out_new) × GrewBy 2 old.starts new.starts
+optimal_by : (asked : Option Request) (code : ℕ) (old new : Shelved) (out_old out_new : Printed) (m p c : List ℕ) (budget : ℕ) → asked ≡ Some (planning m p c budget) → EndsAs asked code old new out_old out_new → code ≡ 0 → (IsTrue old.told → PlansBest old.file new.file m p c budget out_old out_new) × GrewBy 2 old.starts new.starts
 optimal_by asked code old new out_old out_new m p c budget is x zero =
     let (answer, why, number, line) = subst (λ a. EndsAs a code old new out_old out_new) is x in
     planned.optimal_at m p c budget code old new out_old out_new answer why number line zero
 
-pub optimal : (asked : Option Asked) (code : ℕ) (old new : Shelved) (out_old out_new : Printed) → IsRun asked code old new out_old out_new → (m p c : List ℕ) (budget : ℕ) → asked ≡ Some (planning m p c budget) → code ≡ 0 → IsTrue old.told → PlansBest old.file new.file m p c budget out_old out_new
+pub optimal : (asked : Option Request) (code : ℕ) (old new : Shelved) (out_old out_new : Printed) → IsRun asked code old new out_old out_new → (m p c : List ℕ) (budget : ℕ) → asked ≡ Some (planning m p c budget) → code ≡ 0 → IsTrue old.told → PlansBest old.file new.file m p c budget out_old out_new
 optimal asked code old new out_old out_new run m p c budget is zero t =
     (optimal_by asked code old new out_old out_new m p c budget is (ends asked code old new out_old out_new run (λ e. omega (arith, e, zero)) (λ e. omega (arith, e, zero))) zero).0 t
 
-pub wrote : (asked : Option Asked) (code : ℕ) (old new : Shelved) (out_old out_new : Printed) → IsRun asked code old new out_old out_new → (m p c : List ℕ) (budget : ℕ) → asked ≡ Some (planning m p c budget) → code ≡ 0 → GrewBy 2 old.starts new.starts
+pub wrote : (asked : Option Request) (code : ℕ) (old new : Shelved) (out_old out_new : Printed) → IsRun asked code old new out_old out_new → (m p c : List ℕ) (budget : ℕ) → asked ≡ Some (planning m p c budget) → code ≡ 0 → GrewBy 2 old.starts new.starts
 wrote asked code old new out_old out_new run m p c budget is zero =
     (optimal_by asked code old new out_old out_new m p c budget is (ends asked code old new out_old out_new run (λ e. omega (arith, e, zero)) (λ e. omega (arith, e, zero))) zero).1
 
-wrote_one_by : (asked : Option Asked) (code : ℕ) (old new : Shelved) (out_old out_new : Printed) (m p c : List ℕ) (budget : ℕ) → asked ≡ Some (planning m p c budget) → EndsAs asked code old new out_old out_new → code ≡ 1 → StartsOnly c old new
+wrote_one_by : (asked : Option Request) (code : ℕ) (old new : Shelved) (out_old out_new : Printed) (m p c : List ℕ) (budget : ℕ) → asked ≡ Some (planning m p c budget) → EndsAs asked code old new out_old out_new → code ≡ 1 → StartsOnly c old new
 wrote_one_by asked code old new out_old out_new m p c budget is x one =
     let (answer, why, number, line) = subst (λ a. EndsAs a code old new out_old out_new) is x in
     (planned.impossible_at m p c budget code old new out_old out_new answer why number line one).1
 
-pub wrote_one : (asked : Option Asked) (code : ℕ) (old new : Shelved) (out_old out_new : Printed) → IsRun asked code old new out_old out_new → (m p c : List ℕ) (budget : ℕ) → asked ≡ Some (planning m p c budget) → code ≡ 1 → StartsOnly c old new
+pub wrote_one : (asked : Option Request) (code : ℕ) (old new : Shelved) (out_old out_new : Printed) → IsRun asked code old new out_old out_new → (m p c : List ℕ) (budget : ℕ) → asked ≡ Some (planning m p c budget) → code ≡ 1 → StartsOnly c old new
 wrote_one asked code old new out_old out_new run m p c budget is one =
     wrote_one_by asked code old new out_old out_new m p c budget is (ends asked code old new out_old out_new run (λ e. omega (arith, e, one)) (λ e. omega (arith, e, one))) one
 
-wrote_some_by : (asked : Option Asked) (code : ℕ) (old new : Shelved) (out_old out_new : Printed) (m p c : List ℕ) (budget : ℕ) → asked ≡ Some (planning m p c budget) → EndsAs asked code old new out_old out_new → code ≡ 2 → StartsBoth p c old new ⊎ StartsOnly c old new
+wrote_some_by : (asked : Option Request) (code : ℕ) (old new : Shelved) (out_old out_new : Printed) (m p c : List ℕ) (budget : ℕ) → asked ≡ Some (planning m p c budget) → EndsAs asked code old new out_old out_new → code ≡ 2 → StartsBoth p c old new ⊎ StartsOnly c old new
 wrote_some_by asked code old new out_old out_new m p c budget is x two =
     let (answer, why, number, line) = subst (λ a. EndsAs a code old new out_old out_new) is x in
     (planned.open_at m p c budget code old new out_old out_new answer why number line two).1
 
-pub wrote_some : (asked : Option Asked) (code : ℕ) (old new : Shelved) (out_old out_new : Printed) → IsRun asked code old new out_old out_new → (m p c : List ℕ) (budget : ℕ) → asked ≡ Some (planning m p c budget) → code ≡ 2 → StartsBoth p c old new ⊎ StartsOnly c old new
+pub wrote_some : (asked : Option Request) (code : ℕ) (old new : Shelved) (out_old out_new : Printed) → IsRun asked code old new out_old out_new → (m p c : List ℕ) (budget : ℕ) → asked ≡ Some (planning m p c budget) → code ≡ 2 → StartsBoth p c old new ⊎ StartsOnly c old new
 wrote_some asked code old new out_old out_new run m p c budget is two =
     wrote_some_by asked code old new out_old out_new m p c budget is (ends asked code old new out_old out_new run (λ e. omega (arith, e, two)) (λ e. omega (arith, e, two))) two
 
-pub feasible : (asked : Option Asked) (code : ℕ) (old new : Shelved) (out_old out_new : Printed) → IsRun asked code old new out_old out_new → (m p : List ℕ) → asked ≡ Some (judging m p) → code ≡ 0 → IsTrue old.told → FindsFeasible old.file m p out_old out_new
+pub feasible : (asked : Option Request) (code : ℕ) (old new : Shelved) (out_old out_new : Printed) → IsRun asked code old new out_old out_new → (m p : List ℕ) → asked ≡ Some (judging m p) → code ≡ 0 → IsTrue old.told → FindsFeasible old.file m p out_old out_new
 feasible asked code old new out_old out_new run m p is zero t =
     let (answer, why, reads, number, line) = subst (λ a. EndsAs a code old new out_old out_new) is (ends asked code old new out_old out_new run (λ e. omega (arith, e, zero)) (λ e. omega (arith, e, zero))) in
     judged.feasible_at m p code old new out_old out_new answer why number line zero t
 
-pub accepts : (asked : Option Asked) (code : ℕ) (old new : Shelved) (out_old out_new : Printed) → IsRun asked code old new out_old out_new → (m p c : List ℕ) → asked ≡ Some (checking m p c) → code ≡ 0 → IsTrue old.told → Accepts old.file m p c out_old out_new
+pub accepts : (asked : Option Request) (code : ℕ) (old new : Shelved) (out_old out_new : Printed) → IsRun asked code old new out_old out_new → (m p c : List ℕ) → asked ≡ Some (checking m p c) → code ≡ 0 → IsTrue old.told → Accepts old.file m p c out_old out_new
 accepts asked code old new out_old out_new run m p c is none t =
     let (answer, why, reads, number, line) = subst (λ a. EndsAs a code old new out_old out_new) is (ends asked code old new out_old out_new run (λ e. omega (arith, e, none)) (λ e. omega (arith, e, none))) in
     checked.accepts_at m p c code old new out_old out_new answer why number line none t
 
-upgraded_by : (asked : Option Asked) (code : ℕ) (old new : Shelved) (out_old out_new : Printed) (m n : List ℕ) → asked ≡ Some (upgrading m n) → EndsAs asked code old new out_old out_new → code ≡ 0 → (IsTrue old.told → Upgrades old.file new.file m n out_old out_new) × GrewBy 1 old.starts new.starts
+upgraded_by : (asked : Option Request) (code : ℕ) (old new : Shelved) (out_old out_new : Printed) (m n : List ℕ) → asked ≡ Some (upgrading m n) → EndsAs asked code old new out_old out_new → code ≡ 0 → (IsTrue old.told → Upgrades old.file new.file m n out_old out_new) × GrewBy 1 old.starts new.starts
 upgraded_by asked code old new out_old out_new m n is x none =
     let (answer, why, number, line) = subst (λ a. EndsAs a code old new out_old out_new) is x in
     upgraded.upgraded_at m n code old new out_old out_new answer why number line none
 
-pub upgrades : (asked : Option Asked) (code : ℕ) (old new : Shelved) (out_old out_new : Printed) → IsRun asked code old new out_old out_new → (m n : List ℕ) → asked ≡ Some (upgrading m n) → code ≡ 0 → IsTrue old.told → Upgrades old.file new.file m n out_old out_new
+pub upgrades : (asked : Option Request) (code : ℕ) (old new : Shelved) (out_old out_new : Printed) → IsRun asked code old new out_old out_new → (m n : List ℕ) → asked ≡ Some (upgrading m n) → code ≡ 0 → IsTrue old.told → Upgrades old.file new.file m n out_old out_new
 upgrades asked code old new out_old out_new run m n is none t =
     (upgraded_by asked code old new out_old out_new m n is (ends asked code old new out_old out_new run (λ e. omega (arith, e, none)) (λ e. omega (arith, e, none))) none).0 t
 
-pub rewrote : (asked : Option Asked) (code : ℕ) (old new : Shelved) (out_old out_new : Printed) → IsRun asked code old new out_old out_new → (m n : List ℕ) → asked ≡ Some (upgrading m n) → code ≡ 0 → GrewBy 1 old.starts new.starts
+pub rewrote : (asked : Option Request) (code : ℕ) (old new : Shelved) (out_old out_new : Printed) → IsRun asked code old new out_old out_new → (m n : List ℕ) → asked ≡ Some (upgrading m n) → code ≡ 0 → GrewBy 1 old.starts new.starts
 rewrote asked code old new out_old out_new run m n is none =
     (upgraded_by asked code old new out_old out_new m n is (ends asked code old new out_old out_new run (λ e. omega (arith, e, none)) (λ e. omega (arith, e, none))) none).1
 
-pub bounds : (asked : Option Asked) (code : ℕ) (old new : Shelved) (out_old out_new : Printed) → IsRun asked code old new out_old out_new → (m : List ℕ) → asked ≡ Some (bounding m) → code ≡ 0 → IsTrue old.told → FindsBound old.file m out_old out_new
+pub bounds : (asked : Option Request) (code : ℕ) (old new : Shelved) (out_old out_new : Printed) → IsRun asked code old new out_old out_new → (m : List ℕ) → asked ≡ Some (bounding m) → code ≡ 0 → IsTrue old.told → FindsBound old.file m out_old out_new
 bounds asked code old new out_old out_new run m is none t =
     let (answer, why, reads, number, line) = subst (λ a. EndsAs a code old new out_old out_new) is (ends asked code old new out_old out_new run (λ e. omega (arith, e, none)) (λ e. omega (arith, e, none))) in
     bounded.bounded_at m code old new out_old out_new answer why number line none t
 
-pub sums_up : (asked : Option Asked) (code : ℕ) (old new : Shelved) (out_old out_new : Printed) → IsRun asked code old new out_old out_new → (m p : List ℕ) → asked ≡ Some (reporting m p) → code ≡ 0 → IsTrue old.told → SumsUp old.file m p out_old out_new
+pub sums_up : (asked : Option Request) (code : ℕ) (old new : Shelved) (out_old out_new : Printed) → IsRun asked code old new out_old out_new → (m p : List ℕ) → asked ≡ Some (reporting m p) → code ≡ 0 → IsTrue old.told → SumsUp old.file m p out_old out_new
 sums_up asked code old new out_old out_new run m p is none t =
     let (answer, why, reads, number, line) = subst (λ a. EndsAs a code old new out_old out_new) is (ends asked code old new out_old out_new run (λ e. omega (arith, e, none)) (λ e. omega (arith, e, none))) in
     reported.summed_at m p code old new out_old out_new answer why number line none t
 
-made_by : (asked : Option Asked) (code : ℕ) (old new : Shelved) (out_old out_new : Printed) (seed items periods : ℕ) (m : List ℕ) → asked ≡ Some (generating seed items periods m) → EndsAs asked code old new out_old out_new → code ≡ 0 → (IsTrue old.told → Generates new.file seed items periods m out_old out_new) × GrewBy 1 old.starts new.starts
+made_by : (asked : Option Request) (code : ℕ) (old new : Shelved) (out_old out_new : Printed) (seed items periods : ℕ) (m : List ℕ) → asked ≡ Some (generating seed items periods m) → EndsAs asked code old new out_old out_new → code ≡ 0 → (IsTrue old.told → Generates new.file seed items periods m out_old out_new) × GrewBy 1 old.starts new.starts
 made_by asked code old new out_old out_new seed items periods m is x none =
     let (answer, why, number, line) = subst (λ a. EndsAs a code old new out_old out_new) is x in
     made.generated_at seed items periods m code old new out_old out_new answer why number line none
 
-pub generates : (asked : Option Asked) (code : ℕ) (old new : Shelved) (out_old out_new : Printed) → IsRun asked code old new out_old out_new → (seed items periods : ℕ) (m : List ℕ) → asked ≡ Some (generating seed items periods m) → code ≡ 0 → IsTrue old.told → Generates new.file seed items periods m out_old out_new
+pub generates : (asked : Option Request) (code : ℕ) (old new : Shelved) (out_old out_new : Printed) → IsRun asked code old new out_old out_new → (seed items periods : ℕ) (m : List ℕ) → asked ≡ Some (generating seed items periods m) → code ≡ 0 → IsTrue old.told → Generates new.file seed items periods m out_old out_new
 generates asked code old new out_old out_new run seed items periods m is none t =
     (made_by asked code old new out_old out_new seed items periods m is (ends asked code old new out_old out_new run (λ e. omega (arith, e, none)) (λ e. omega (arith, e, none))) none).0 t
 
-pub wrote_made : (asked : Option Asked) (code : ℕ) (old new : Shelved) (out_old out_new : Printed) → IsRun asked code old new out_old out_new → (seed items periods : ℕ) (m : List ℕ) → asked ≡ Some (generating seed items periods m) → code ≡ 0 → GrewBy 1 old.starts new.starts
+pub wrote_made : (asked : Option Request) (code : ℕ) (old new : Shelved) (out_old out_new : Printed) → IsRun asked code old new out_old out_new → (seed items periods : ℕ) (m : List ℕ) → asked ≡ Some (generating seed items periods m) → code ≡ 0 → GrewBy 1 old.starts new.starts
 wrote_made asked code old new out_old out_new run seed items periods m is none =
     (made_by asked code old new out_old out_new seed items periods m is (ends asked code old new out_old out_new run (λ e. omega (arith, e, none)) (λ e. omega (arith, e, none))) none).1
 
-pub shows : (asked : Option Asked) (code : ℕ) (old new : Shelved) (out_old out_new : Printed) → IsRun asked code old new out_old out_new → (seed : ℕ) → asked ≡ Some (demonstrating seed) → code ≡ 0 → Shows seed out_old out_new
+pub shows : (asked : Option Request) (code : ℕ) (old new : Shelved) (out_old out_new : Printed) → IsRun asked code old new out_old out_new → (seed : ℕ) → asked ≡ Some (demonstrating seed) → code ≡ 0 → Shows seed out_old out_new
 shows asked code old new out_old out_new run seed is none =
     let (same, number, shown) = subst (λ a. EndsAs a code old new out_old out_new) is (ends asked code old new out_old out_new run (λ e. omega (arith, e, none)) (λ e. omega (arith, e, none))) in
     shown
 
-infeasible_by : (asked : Option Asked) (code : ℕ) (old new : Shelved) (out_old out_new : Printed) → EndsAs asked code old new out_old out_new → code ≡ 1 → IsTrue old.told → IsInfeasible asked old.file new.file out_old out_new
+infeasible_by : (asked : Option Request) (code : ℕ) (old new : Shelved) (out_old out_new : Printed) → EndsAs asked code old new out_old out_new → code ≡ 1 → IsTrue old.told → IsInfeasible asked old.file new.file out_old out_new
 infeasible_by None code old new out_old out_new x one t = absurd (omega (arith, x.1, one))
 infeasible_by (Some version) code old new out_old out_new x one t = absurd (omega (arith, x.1, one))
 infeasible_by (Some helping) code old new out_old out_new x one t = absurd (omega (arith, x.1, one))
@@ -210,10 +210,10 @@ infeasible_by (Some (demonstrating seed)) code old new out_old out_new x one t =
 infeasible_by (Some (upgrading m n)) code old new out_old out_new (answer, why, number, line) one t = absurd ((upgraded.numbers answer code number).one one)
 infeasible_by (Some (bounding m)) code old new out_old out_new (answer, why, reads, number, line) one t = inr (bounded.empty_at m code old new out_old out_new answer why number line one t)
 
-pub infeasible : (asked : Option Asked) (code : ℕ) (old new : Shelved) (out_old out_new : Printed) → IsRun asked code old new out_old out_new → code ≡ 1 → IsTrue old.told → IsInfeasible asked old.file new.file out_old out_new
+pub infeasible : (asked : Option Request) (code : ℕ) (old new : Shelved) (out_old out_new : Printed) → IsRun asked code old new out_old out_new → code ≡ 1 → IsTrue old.told → IsInfeasible asked old.file new.file out_old out_new
 infeasible asked code old new out_old out_new run is t = infeasible_by asked code old new out_old out_new (ends asked code old new out_old out_new run (λ e. omega (arith, e, is)) (λ e. omega (arith, e, is))) is t
 
-undecided_by : (asked : Option Asked) (code : ℕ) (old new : Shelved) (out_old out_new : Printed) → EndsAs asked code old new out_old out_new → code ≡ 2 → IsTrue old.told → LeavesUndecided asked old.file new.file out_old out_new
+undecided_by : (asked : Option Request) (code : ℕ) (old new : Shelved) (out_old out_new : Printed) → EndsAs asked code old new out_old out_new → code ≡ 2 → IsTrue old.told → LeavesUndecided asked old.file new.file out_old out_new
 undecided_by None code old new out_old out_new x two t = absurd (omega (arith, x.1, two))
 undecided_by (Some version) code old new out_old out_new x two t = absurd (omega (arith, x.1, two))
 undecided_by (Some helping) code old new out_old out_new x two t = absurd (omega (arith, x.1, two))
@@ -226,10 +226,10 @@ undecided_by (Some (demonstrating seed)) code old new out_old out_new x two t = 
 undecided_by (Some (upgrading m n)) code old new out_old out_new (answer, why, number, line) two t = absurd ((upgraded.numbers answer code number).two two)
 undecided_by (Some (bounding m)) code old new out_old out_new (answer, why, reads, number, line) two t = inr (bounded.undecided_at m code old new out_old out_new answer why number line two t)
 
-pub undecided : (asked : Option Asked) (code : ℕ) (old new : Shelved) (out_old out_new : Printed) → IsRun asked code old new out_old out_new → code ≡ 2 → IsTrue old.told → LeavesUndecided asked old.file new.file out_old out_new
+pub undecided : (asked : Option Request) (code : ℕ) (old new : Shelved) (out_old out_new : Printed) → IsRun asked code old new out_old out_new → code ≡ 2 → IsTrue old.told → LeavesUndecided asked old.file new.file out_old out_new
 undecided asked code old new out_old out_new run is t = undecided_by asked code old new out_old out_new (ends asked code old new out_old out_new run (λ e. omega (arith, e, is)) (λ e. omega (arith, e, is))) is t
 
-faulty_by : (asked : Option Asked) (code : ℕ) (old new : Shelved) (out_old out_new : Printed) → EndsAs asked code old new out_old out_new → code ≡ 3 → IsTrue old.told → IsFaulty asked old.file out_old out_new
+faulty_by : (asked : Option Request) (code : ℕ) (old new : Shelved) (out_old out_new : Printed) → EndsAs asked code old new out_old out_new → code ≡ 3 → IsTrue old.told → IsFaulty asked old.file out_old out_new
 faulty_by None code old new out_old out_new x three t = absurd (omega (arith, x.1, three))
 faulty_by (Some version) code old new out_old out_new x three t = absurd (omega (arith, x.1, three))
 faulty_by (Some helping) code old new out_old out_new x three t = absurd (omega (arith, x.1, three))
@@ -242,10 +242,10 @@ faulty_by (Some (demonstrating seed)) code old new out_old out_new x three t = a
 faulty_by (Some (upgrading m n)) code old new out_old out_new (answer, why, number, line) three t = absurd ((upgraded.numbers answer code number).three three)
 faulty_by (Some (bounding m)) code old new out_old out_new (answer, why, reads, number, line) three t = absurd ((bounded.numbers answer code number).three three)
 
-pub faulty : (asked : Option Asked) (code : ℕ) (old new : Shelved) (out_old out_new : Printed) → IsRun asked code old new out_old out_new → code ≡ 3 → IsTrue old.told → IsFaulty asked old.file out_old out_new
+pub faulty : (asked : Option Request) (code : ℕ) (old new : Shelved) (out_old out_new : Printed) → IsRun asked code old new out_old out_new → code ≡ 3 → IsTrue old.told → IsFaulty asked old.file out_old out_new
 faulty asked code old new out_old out_new run is t = faulty_by asked code old new out_old out_new (ends asked code old new out_old out_new run (λ e. omega (arith, e, is)) (λ e. omega (arith, e, is))) is t
 
-unwritten_by : (asked : Option Asked) (code : ℕ) (old new : Shelved) (out_old out_new : Printed) → EndsAs asked code old new out_old out_new → code ≡ 8 → CannotWrite asked old new out_old out_new
+unwritten_by : (asked : Option Request) (code : ℕ) (old new : Shelved) (out_old out_new : Printed) → EndsAs asked code old new out_old out_new → code ≡ 8 → CannotWrite asked old new out_old out_new
 unwritten_by None code old new out_old out_new x eight = absurd (omega (arith, x.1, eight))
 unwritten_by (Some version) code old new out_old out_new x eight = absurd (omega (arith, x.1, eight))
 unwritten_by (Some helping) code old new out_old out_new x eight = absurd (omega (arith, x.1, eight))
@@ -258,7 +258,7 @@ unwritten_by (Some (demonstrating seed)) code old new out_old out_new x eight = 
 unwritten_by (Some (upgrading m n)) code old new out_old out_new (answer, why, number, line) eight = inr (inl (upgraded.unwritten_at m n code old new out_old out_new answer why number line eight))
 unwritten_by (Some (bounding m)) code old new out_old out_new (answer, why, reads, number, line) eight = absurd ((bounded.numbers answer code number).eight eight)
 
-pub unwritten : (asked : Option Asked) (code : ℕ) (old new : Shelved) (out_old out_new : Printed) → IsRun asked code old new out_old out_new → code ≡ 8 → CannotWrite asked old new out_old out_new
+pub unwritten : (asked : Option Request) (code : ℕ) (old new : Shelved) (out_old out_new : Printed) → IsRun asked code old new out_old out_new → code ≡ 8 → CannotWrite asked old new out_old out_new
 unwritten asked code old new out_old out_new run is = unwritten_by asked code old new out_old out_new (ends asked code old new out_old out_new run (λ e. omega (arith, e, is)) (λ e. omega (arith, e, is))) is
 
 judge_not_four : {A : Type 0} (answer : JudgeAnswer) (code : ℕ) → code ≡ code_of (judge_status answer) → code ≡ 4 → A
@@ -271,7 +271,7 @@ report_not_four : {A : Type 0} (answer : ReportAnswer) (code : ℕ) → code ≡
 report_not_four (report.summed text) code is four = absurd (omega (arith, is, four))
 report_not_four (report.judged answer) code is four = judge_not_four answer code is four
 
-no_command_by : (asked : Option Asked) (code : ℕ) (old new : Shelved) (out_old out_new : Printed) → EndsAs asked code old new out_old out_new → code ≡ 4 → IsNoCommand asked out_old out_new
+no_command_by : (asked : Option Request) (code : ℕ) (old new : Shelved) (out_old out_new : Printed) → EndsAs asked code old new out_old out_new → code ≡ 4 → IsNoCommand asked out_old out_new
 no_command_by None code old new out_old out_new (same, number, text, line) four = record { is = refl; text = text; line = line }
 no_command_by (Some version) code old new out_old out_new x four = absurd (omega (arith, x.1, four))
 no_command_by (Some helping) code old new out_old out_new x four = absurd (omega (arith, x.1, four))
@@ -284,17 +284,17 @@ no_command_by (Some (demonstrating seed)) code old new out_old out_new x four = 
 no_command_by (Some (upgrading m n)) code old new out_old out_new (answer, why, number, line) four = absurd ((upgraded.numbers answer code number).four four)
 no_command_by (Some (bounding m)) code old new out_old out_new (answer, why, reads, number, line) four = absurd ((bounded.numbers answer code number).four four)
 
-pub no_command : (asked : Option Asked) (code : ℕ) (old new : Shelved) (out_old out_new : Printed) → IsRun asked code old new out_old out_new → code ≡ 4 → IsNoCommand asked out_old out_new
+pub no_command : (asked : Option Request) (code : ℕ) (old new : Shelved) (out_old out_new : Printed) → IsRun asked code old new out_old out_new → code ≡ 4 → IsNoCommand asked out_old out_new
 no_command asked code old new out_old out_new run is = no_command_by asked code old new out_old out_new (ends asked code old new out_old out_new run (λ e. omega (arith, e, is)) (λ e. omega (arith, e, is))) is
 
 -- words that the parse takes and that are no command are refused by this line
-pub refused_words : (asked : Option Asked) (words : List (List ℕ)) (code : ℕ) (old new : Shelved) (out_old out_new : Printed) (r : Result Said AllocError) → IsRun asked code old new out_old out_new → (asked ≡ None → AreTaken words → IfOk r (IsSaid refused_line NoCommand)) → Ends r code out_old out_new → code ≡ 4 → AreTaken words → Gains refused_line out_old out_new
+pub refused_words : (asked : Option Request) (words : List (List ℕ)) (code : ℕ) (old new : Shelved) (out_old out_new : Printed) (r : Result Said AllocError) → IsRun asked code old new out_old out_new → (asked ≡ None → AreTaken words → IfOk r (IsSaid refused_line NoCommand)) → Ends r code out_old out_new → code ≡ 4 → AreTaken words → Gains refused_line out_old out_new
 refused_words asked words code old new out_old out_new (Ok said) run says done four taken =
     (printed refused_line NoCommand code out_old out_new (prints_as refused_line NoCommand said code out_old out_new (says (no_command asked code old new out_old out_new run four).is taken) done) (λ e. omega (arith, e, four))).1
 refused_words asked words code old new out_old out_new (Err e) run says done four taken = absurd (omega (arith, done.0, four))
 
 -- ---- files that give nothing to go on with
-abbrev SomeStop : Option Asked → ℕ → Shelved → Shelved → Printed → Printed → Type 0
+abbrev SomeStop : Option Request → ℕ → Shelved → Shelved → Printed → Printed → Type 0
 SomeStop asked code old new out_old out_new = (why : ReadAnswer) × Stops asked old new out_old out_new why × (code ≡ code_of (read_status why))
 
 plan_stop : (m p c : List ℕ) (budget code : ℕ) (old new : Shelved) (out_old out_new : Printed) (answer : PlanAnswer) → PlanExplains m p c budget old new answer → code ≡ code_of (plan_status answer) → Gains (plan_line answer) out_old out_new → IsReading code → SomeStop (Some (planning m p c budget)) code old new out_old out_new
@@ -341,7 +341,7 @@ bound_stop m code old new out_old out_new bound.skipped x is line r = absurd (om
 bound_stop m code old new out_old out_new bound.passed x is line r = absurd (omega (arith, is, r.low))
 bound_stop m code old new out_old out_new (bound.stopped why) x is line r = (why, record { cause = x; line = line }, is)
 
-stop_by : (asked : Option Asked) (code : ℕ) (old new : Shelved) (out_old out_new : Printed) → EndsAs asked code old new out_old out_new → IsReading code → SomeStop asked code old new out_old out_new
+stop_by : (asked : Option Request) (code : ℕ) (old new : Shelved) (out_old out_new : Printed) → EndsAs asked code old new out_old out_new → IsReading code → SomeStop asked code old new out_old out_new
 stop_by None code old new out_old out_new x r = absurd (omega (arith, x.1, r.low))
 stop_by (Some version) code old new out_old out_new x r = absurd (omega (arith, x.1, r.low))
 stop_by (Some helping) code old new out_old out_new x r = absurd (omega (arith, x.1, r.low))
@@ -354,10 +354,10 @@ stop_by (Some (demonstrating seed)) code old new out_old out_new x r = absurd (o
 stop_by (Some (upgrading m n)) code old new out_old out_new (answer, why, number, line) r = upgrade_stop m n code old new out_old out_new answer why number line r
 stop_by (Some (bounding m)) code old new out_old out_new (answer, why, reads, number, line) r = bound_stop m code old new out_old out_new answer why number line r
 
-stop : (asked : Option Asked) (code : ℕ) (old new : Shelved) (out_old out_new : Printed) → IsRun asked code old new out_old out_new → IsReading code → code ≢ 9 → code ≢ 10 → SomeStop asked code old new out_old out_new
+stop : (asked : Option Request) (code : ℕ) (old new : Shelved) (out_old out_new : Printed) → IsRun asked code old new out_old out_new → IsReading code → code ≢ 9 → code ≢ 10 → SomeStop asked code old new out_old out_new
 stop asked code old new out_old out_new run r nine ten = stop_by asked code old new out_old out_new (ends asked code old new out_old out_new run ten nine) r
 
-pub refuses : (asked : Option Asked) (code : ℕ) (old new : Shelved) (out_old out_new : Printed) → IsRun asked code old new out_old out_new → code ≡ 5 → (fault : ModelFault) × Stops asked old new out_old out_new (refused fault)
+pub refuses : (asked : Option Request) (code : ℕ) (old new : Shelved) (out_old out_new : Printed) → IsRun asked code old new out_old out_new → code ≡ 5 → (fault : ModelFault) × Stops asked old new out_old out_new (refused fault)
 refuses asked code old new out_old out_new run is = pick (stop asked code old new out_old out_new run (record { low = omega (arith, is); high = omega (arith, is); other = λ e. omega (arith, is, e) }) (λ e. omega (arith, is, e)) (λ e. omega (arith, is, e)))
   where
     pick : SomeStop asked code old new out_old out_new → (fault : ModelFault) × Stops asked old new out_old out_new (refused fault)
@@ -366,7 +366,7 @@ refuses asked code old new out_old out_new run is = pick (stop asked code old ne
     pick (unread file, x, number) = absurd (omega (arith, is, number))
     pick (too_long file, x, number) = absurd (omega (arith, is, number))
 
-pub misses : (asked : Option Asked) (code : ℕ) (old new : Shelved) (out_old out_new : Printed) → IsRun asked code old new out_old out_new → code ≡ 6 → (file : List ℕ) × Stops asked old new out_old out_new (missing file)
+pub misses : (asked : Option Request) (code : ℕ) (old new : Shelved) (out_old out_new : Printed) → IsRun asked code old new out_old out_new → code ≡ 6 → (file : List ℕ) × Stops asked old new out_old out_new (missing file)
 misses asked code old new out_old out_new run is = pick (stop asked code old new out_old out_new run (record { low = omega (arith, is); high = omega (arith, is); other = λ e. omega (arith, is, e) }) (λ e. omega (arith, is, e)) (λ e. omega (arith, is, e)))
   where
     pick : SomeStop asked code old new out_old out_new → (file : List ℕ) × Stops asked old new out_old out_new (missing file)
@@ -375,7 +375,7 @@ misses asked code old new out_old out_new run is = pick (stop asked code old new
     pick (unread file, x, number) = absurd (omega (arith, is, number))
     pick (too_long file, x, number) = absurd (omega (arith, is, number))
 
-pub fails_to_read : (asked : Option Asked) (code : ℕ) (old new : Shelved) (out_old out_new : Printed) → IsRun asked code old new out_old out_new → code ≡ 7 → (file : List ℕ) × Stops asked old new out_old out_new (unread file)
+pub fails_to_read : (asked : Option Request) (code : ℕ) (old new : Shelved) (out_old out_new : Printed) → IsRun asked code old new out_old out_new → code ≡ 7 → (file : List ℕ) × Stops asked old new out_old out_new (unread file)
 fails_to_read asked code old new out_old out_new run is = pick (stop asked code old new out_old out_new run (record { low = omega (arith, is); high = omega (arith, is); other = λ e. omega (arith, is, e) }) (λ e. omega (arith, is, e)) (λ e. omega (arith, is, e)))
   where
     pick : SomeStop asked code old new out_old out_new → (file : List ℕ) × Stops asked old new out_old out_new (unread file)
@@ -384,7 +384,7 @@ fails_to_read asked code old new out_old out_new run is = pick (stop asked code 
     pick (unread file, x, number) = (file, x)
     pick (too_long file, x, number) = absurd (omega (arith, is, number))
 
-pub is_long : (asked : Option Asked) (code : ℕ) (old new : Shelved) (out_old out_new : Printed) → IsRun asked code old new out_old out_new → code ≡ 11 → (file : List ℕ) × Stops asked old new out_old out_new (too_long file)
+pub is_long : (asked : Option Request) (code : ℕ) (old new : Shelved) (out_old out_new : Printed) → IsRun asked code old new out_old out_new → code ≡ 11 → (file : List ℕ) × Stops asked old new out_old out_new (too_long file)
 is_long asked code old new out_old out_new run is = pick (stop asked code old new out_old out_new run (record { low = omega (arith, is); high = omega (arith, is); other = λ e. omega (arith, is, e) }) (λ e. omega (arith, is, e)) (λ e. omega (arith, is, e)))
   where
     pick : SomeStop asked code old new out_old out_new → (file : List ℕ) × Stops asked old new out_old out_new (too_long file)
@@ -456,7 +456,7 @@ print_of text ending code old new shown done = ⊎_elim
     (λ part. record { failed = λ _. part.1; ten = λ e. omega (arith, part.0, e) })
     done
 
-print_by : (asked : Option Asked) (code : ℕ) (old new : Shelved) (out_old out_new : Printed) → RunsAs asked code old new out_old out_new → IsPrint code out_old out_new
+print_by : (asked : Option Request) (code : ℕ) (old new : Shelved) (out_old out_new : Printed) → RunsAs asked code old new out_old out_new → IsPrint code out_old out_new
 print_by None code old new out_old out_new (same, text, done) = print_of text NoCommand code out_old out_new (record { nine = λ e. omega (arith, e); ten = λ e. omega (arith, e) }) done
 print_by (Some version) code old new out_old out_new x = print_of version_line Done code out_old out_new (record { nine = λ e. omega (arith, e); ten = λ e. omega (arith, e) }) x.1
 print_by (Some helping) code old new out_old out_new (same, text, done) = print_of text Done code out_old out_new (record { nine = λ e. omega (arith, e); ten = λ e. omega (arith, e) }) done
@@ -469,16 +469,16 @@ print_by (Some (demonstrating seed)) code old new out_old out_new (same, text, s
 print_by (Some (upgrading m n)) code old new out_old out_new (answer, x, done) = print_of (upgrade_line answer) (upgrade_status answer) code out_old out_new (upgrade_shown answer) done
 print_by (Some (bounding m)) code old new out_old out_new (answer, x, reads, done) = print_of (bound_line answer) (bound_status answer) code out_old out_new (bound_shown answer) done
 
-pub unprinted : (asked : Option Asked) (code : ℕ) (old new : Shelved) (out_old out_new : Printed) → IsRun asked code old new out_old out_new → code ≡ 9 → Rose out_old.faults out_new.faults
+pub unprinted : (asked : Option Request) (code : ℕ) (old new : Shelved) (out_old out_new : Printed) → IsRun asked code old new out_old out_new → code ≡ 9 → Rose out_old.faults out_new.faults
 unprinted asked code old new out_old out_new (ran_out x) nine = absurd (omega (arith, x.is, nine))
 unprinted asked code old new out_old out_new (runs x) nine = (print_by asked code old new out_old out_new x).failed nine
 
-pub silent : (asked : Option Asked) (code : ℕ) (old new : Shelved) (out_old out_new : Printed) → IsRun asked code old new out_old out_new → code ≡ 10 → out_new ≡ out_old
+pub silent : (asked : Option Request) (code : ℕ) (old new : Shelved) (out_old out_new : Printed) → IsRun asked code old new out_old out_new → code ≡ 10 → out_new ≡ out_old
 silent asked code old new out_old out_new (ran_out x) ten = x.silent
 silent asked code old new out_old out_new (runs x) ten = absurd ((print_by asked code old new out_old out_new x).ten ten)
 
 -- ---- what is written and read
-leaves_reads : (asked : Option Asked) (old new : Shelved) → Leaves asked old new → OnlyReads old new
+leaves_reads : (asked : Option Request) (old new : Shelved) → Leaves asked old new → OnlyReads old new
 leaves_reads None old new x = same_reads old new x
 leaves_reads (Some version) old new x = same_reads old new x
 leaves_reads (Some helping) old new x = same_reads old new x
@@ -492,7 +492,7 @@ leaves_reads (Some (upgrading m n)) old new x = x
 leaves_reads (Some (bounding m)) old new x = x
 
 -- nothing is left changed, whatever is asked
-pub leaves_same : (asked : Option Asked) (old : Shelved) → Leaves asked old old
+pub leaves_same : (asked : Option Request) (old : Shelved) → Leaves asked old old
 leaves_same None old = refl
 leaves_same (Some version) old = refl
 leaves_same (Some helping) old = refl
@@ -505,7 +505,7 @@ leaves_same (Some (demonstrating seed)) old = refl
 leaves_same (Some (upgrading m n)) old = same_reads old old refl
 leaves_same (Some (bounding m)) old = same_reads old old refl
 
-quiet_by : (asked : Option Asked) (code : ℕ) (old new : Shelved) (out_old out_new : Printed) → EndsAs asked code old new out_old out_new → code ≢ 0 → code ≢ 1 → code ≢ 2 → code ≢ 8 → OnlyReads old new
+quiet_by : (asked : Option Request) (code : ℕ) (old new : Shelved) (out_old out_new : Printed) → EndsAs asked code old new out_old out_new → code ≢ 0 → code ≢ 1 → code ≢ 2 → code ≢ 8 → OnlyReads old new
 quiet_by None code old new out_old out_new x some one two eight = same_reads old new x.0
 quiet_by (Some version) code old new out_old out_new x some one two eight = same_reads old new x.0
 quiet_by (Some helping) code old new out_old out_new x some one two eight = same_reads old new x.0
@@ -518,7 +518,7 @@ quiet_by (Some (demonstrating seed)) code old new out_old out_new x some one two
 quiet_by (Some (upgrading m n)) code old new out_old out_new (answer, why, number, line) some one two eight = upgraded.quiet_at m n code old new answer why number some eight
 quiet_by (Some (bounding m)) code old new out_old out_new (answer, why, reads, number, line) some one two eight = reads
 
-pub quiet : (asked : Option Asked) (code : ℕ) (old new : Shelved) (out_old out_new : Printed) → IsRun asked code old new out_old out_new → code ≢ 0 → code ≢ 1 → code ≢ 2 → code ≢ 8 → code ≢ 9 → OnlyReads old new
+pub quiet : (asked : Option Request) (code : ℕ) (old new : Shelved) (out_old out_new : Printed) → IsRun asked code old new out_old out_new → code ≢ 0 → code ≢ 1 → code ≢ 2 → code ≢ 8 → code ≢ 9 → OnlyReads old new
 quiet asked code old new out_old out_new (ran_out x) some one two eight nine = leaves_reads asked old new x.left
 quiet asked code old new out_old out_new (runs x) some one two eight nine = quiet_by asked code old new out_old out_new (ends_by asked code old new out_old out_new x nine) some one two eight
 
@@ -526,52 +526,52 @@ others_by : (code : ℕ) (old new : Shelved) (out_old out_new : Printed) (m p c 
 others_by code old new out_old out_new m p c budget (ran_out x) = planned.reads_few p c old new x.left
 others_by code old new out_old out_new m p c budget (runs (answer, x, done)) = (planned.others_at p c old new m budget answer x).0
 
-pub others : (asked : Option Asked) (code : ℕ) (old new : Shelved) (out_old out_new : Printed) → IsRun asked code old new out_old out_new → (m p c : List ℕ) (budget : ℕ) → asked ≡ Some (planning m p c budget) → StartsAtMostBoth p c old new
+pub others : (asked : Option Request) (code : ℕ) (old new : Shelved) (out_old out_new : Printed) → IsRun asked code old new out_old out_new → (m p c : List ℕ) (budget : ℕ) → asked ≡ Some (planning m p c budget) → StartsAtMostBoth p c old new
 others asked code old new out_old out_new run m p c budget is = others_by code old new out_old out_new m p c budget (subst (λ a. IsRun a code old new out_old out_new) is run)
 
 new_by : (code : ℕ) (old new : Shelved) (out_old out_new : Printed) (m n : List ℕ) → IsRun (Some (upgrading m n)) code old new out_old out_new → StartsAtMost n old new
 new_by code old new out_old out_new m n (ran_out x) = planned.reads_at_most n old new x.left
 new_by code old new out_old out_new m n (runs (answer, x, done)) = (upgraded.others_at m n old new answer x).0
 
-pub upgrade_others : (asked : Option Asked) (code : ℕ) (old new : Shelved) (out_old out_new : Printed) → IsRun asked code old new out_old out_new → (m n : List ℕ) → asked ≡ Some (upgrading m n) → StartsAtMost n old new
+pub upgrade_others : (asked : Option Request) (code : ℕ) (old new : Shelved) (out_old out_new : Printed) → IsRun asked code old new out_old out_new → (m n : List ℕ) → asked ≡ Some (upgrading m n) → StartsAtMost n old new
 upgrade_others asked code old new out_old out_new run m n is = new_by code old new out_old out_new m n (subst (λ a. IsRun a code old new out_old out_new) is run)
 
 made_others_by : (code : ℕ) (old new : Shelved) (out_old out_new : Printed) (seed items periods : ℕ) (m : List ℕ) → IsRun (Some (generating seed items periods m)) code old new out_old out_new → StartsAtMost m old new
 made_others_by code old new out_old out_new seed items periods m (ran_out x) = planned.reads_at_most m old new (same_reads old new x.left)
 made_others_by code old new out_old out_new seed items periods m (runs (answer, x, done)) = (made.others_at seed items periods m code old new answer x).0
 
-pub generate_others : (asked : Option Asked) (code : ℕ) (old new : Shelved) (out_old out_new : Printed) → IsRun asked code old new out_old out_new → (seed items periods : ℕ) (m : List ℕ) → asked ≡ Some (generating seed items periods m) → StartsAtMost m old new
+pub generate_others : (asked : Option Request) (code : ℕ) (old new : Shelved) (out_old out_new : Printed) → IsRun asked code old new out_old out_new → (seed items periods : ℕ) (m : List ℕ) → asked ≡ Some (generating seed items periods m) → StartsAtMost m old new
 generate_others asked code old new out_old out_new run seed items periods m is = made_others_by code old new out_old out_new seed items periods m (subst (λ a. IsRun a code old new out_old out_new) is run)
 
 judging_by : (code : ℕ) (old new : Shelved) (out_old out_new : Printed) (m p : List ℕ) → IsRun (Some (judging m p)) code old new out_old out_new → OnlyReads old new
 judging_by code old new out_old out_new m p (ran_out x) = x.left
 judging_by code old new out_old out_new m p (runs (answer, x, reads, done)) = reads
 
-pub judge_reads : (asked : Option Asked) (code : ℕ) (old new : Shelved) (out_old out_new : Printed) → IsRun asked code old new out_old out_new → (m p : List ℕ) → asked ≡ Some (judging m p) → OnlyReads old new
+pub judge_reads : (asked : Option Request) (code : ℕ) (old new : Shelved) (out_old out_new : Printed) → IsRun asked code old new out_old out_new → (m p : List ℕ) → asked ≡ Some (judging m p) → OnlyReads old new
 judge_reads asked code old new out_old out_new run m p is = judging_by code old new out_old out_new m p (subst (λ a. IsRun a code old new out_old out_new) is run)
 
 checking_by : (code : ℕ) (old new : Shelved) (out_old out_new : Printed) (m p c : List ℕ) → IsRun (Some (checking m p c)) code old new out_old out_new → OnlyReads old new
 checking_by code old new out_old out_new m p c (ran_out x) = x.left
 checking_by code old new out_old out_new m p c (runs (answer, x, reads, done)) = reads
 
-pub check_reads : (asked : Option Asked) (code : ℕ) (old new : Shelved) (out_old out_new : Printed) → IsRun asked code old new out_old out_new → (m p c : List ℕ) → asked ≡ Some (checking m p c) → OnlyReads old new
+pub check_reads : (asked : Option Request) (code : ℕ) (old new : Shelved) (out_old out_new : Printed) → IsRun asked code old new out_old out_new → (m p c : List ℕ) → asked ≡ Some (checking m p c) → OnlyReads old new
 check_reads asked code old new out_old out_new run m p c is = checking_by code old new out_old out_new m p c (subst (λ a. IsRun a code old new out_old out_new) is run)
 
 reporting_by : (code : ℕ) (old new : Shelved) (out_old out_new : Printed) (m p : List ℕ) → IsRun (Some (reporting m p)) code old new out_old out_new → OnlyReads old new
 reporting_by code old new out_old out_new m p (ran_out x) = x.left
 reporting_by code old new out_old out_new m p (runs (answer, x, reads, done)) = reads
 
-pub report_reads : (asked : Option Asked) (code : ℕ) (old new : Shelved) (out_old out_new : Printed) → IsRun asked code old new out_old out_new → (m p : List ℕ) → asked ≡ Some (reporting m p) → OnlyReads old new
+pub report_reads : (asked : Option Request) (code : ℕ) (old new : Shelved) (out_old out_new : Printed) → IsRun asked code old new out_old out_new → (m p : List ℕ) → asked ≡ Some (reporting m p) → OnlyReads old new
 report_reads asked code old new out_old out_new run m p is = reporting_by code old new out_old out_new m p (subst (λ a. IsRun a code old new out_old out_new) is run)
 
 bounding_by : (code : ℕ) (old new : Shelved) (out_old out_new : Printed) (m : List ℕ) → IsRun (Some (bounding m)) code old new out_old out_new → OnlyReads old new
 bounding_by code old new out_old out_new m (ran_out x) = x.left
 bounding_by code old new out_old out_new m (runs (answer, x, reads, done)) = reads
 
-pub bound_reads : (asked : Option Asked) (code : ℕ) (old new : Shelved) (out_old out_new : Printed) → IsRun asked code old new out_old out_new → (m : List ℕ) → asked ≡ Some (bounding m) → OnlyReads old new
+pub bound_reads : (asked : Option Request) (code : ℕ) (old new : Shelved) (out_old out_new : Printed) → IsRun asked code old new out_old out_new → (m : List ℕ) → asked ≡ Some (bounding m) → OnlyReads old new
 bound_reads asked code old new out_old out_new run m is = bounding_by code old new out_old out_new m (subst (λ a. IsRun a code old new out_old out_new) is run)
 
-idle_by : (asked : Option Asked) (code : ℕ) (old new : Shelved) (out_old out_new : Printed) → RunsAs asked code old new out_old out_new → IsIdle asked → new ≡ old
+idle_by : (asked : Option Request) (code : ℕ) (old new : Shelved) (out_old out_new : Printed) → RunsAs asked code old new out_old out_new → IsIdle asked → new ≡ old
 idle_by None code old new out_old out_new x is = x.0
 idle_by (Some version) code old new out_old out_new x is = x.0
 idle_by (Some helping) code old new out_old out_new x is = x.0
@@ -584,7 +584,7 @@ idle_by (Some (demonstrating seed)) code old new out_old out_new x is = x.0
 idle_by (Some (upgrading m n)) code old new out_old out_new x is = absurd is
 idle_by (Some (bounding m)) code old new out_old out_new x is = absurd is
 
-idle_left : (asked : Option Asked) (old new : Shelved) → Leaves asked old new → IsIdle asked → new ≡ old
+idle_left : (asked : Option Request) (old new : Shelved) → Leaves asked old new → IsIdle asked → new ≡ old
 idle_left None old new x is = x
 idle_left (Some version) old new x is = x
 idle_left (Some helping) old new x is = x
@@ -597,11 +597,11 @@ idle_left (Some (demonstrating seed)) old new x is = x
 idle_left (Some (upgrading m n)) old new x is = absurd is
 idle_left (Some (bounding m)) old new x is = absurd is
 
-pub idle : (asked : Option Asked) (code : ℕ) (old new : Shelved) (out_old out_new : Printed) → IsRun asked code old new out_old out_new → IsIdle asked → new ≡ old
+pub idle : (asked : Option Request) (code : ℕ) (old new : Shelved) (out_old out_new : Printed) → IsRun asked code old new out_old out_new → IsIdle asked → new ≡ old
 idle asked code old new out_old out_new (ran_out x) is = idle_left asked old new x.left is
 idle asked code old new out_old out_new (runs x) is = idle_by asked code old new out_old out_new x is
 
-told_by : (asked : Option Asked) (code : ℕ) (old new : Shelved) (out_old out_new : Printed) → RunsAs asked code old new out_old out_new → new.told ≡ old.told
+told_by : (asked : Option Request) (code : ℕ) (old new : Shelved) (out_old out_new : Printed) → RunsAs asked code old new out_old out_new → new.told ≡ old.told
 told_by None code old new out_old out_new x = (same_reads old new x.0).told
 told_by (Some version) code old new out_old out_new x = (same_reads old new x.0).told
 told_by (Some helping) code old new out_old out_new x = (same_reads old new x.0).told
@@ -614,12 +614,12 @@ told_by (Some (demonstrating seed)) code old new out_old out_new x = (same_reads
 told_by (Some (upgrading m n)) code old new out_old out_new (answer, x, done) = (upgraded.others_at m n old new answer x).1
 told_by (Some (bounding m)) code old new out_old out_new (answer, x, reads, done) = reads.told
 
-pub tells : (asked : Option Asked) (code : ℕ) (old new : Shelved) (out_old out_new : Printed) → IsRun asked code old new out_old out_new → new.told ≡ old.told
+pub tells : (asked : Option Request) (code : ℕ) (old new : Shelved) (out_old out_new : Printed) → IsRun asked code old new out_old out_new → new.told ≡ old.told
 tells asked code old new out_old out_new (ran_out x) = (leaves_reads asked old new x.left).told
 tells asked code old new out_old out_new (runs x) = told_by asked code old new out_old out_new x
 
 -- ---- what is called for
-called_by : (asked : Option Asked) (code : ℕ) (old new : Shelved) (out_old out_new : Printed) → HadNoFault old new out_old out_new → IsTrue old.told → EndsAs asked code old new out_old out_new → CallFor asked old.file code
+called_by : (asked : Option Request) (code : ℕ) (old new : Shelved) (out_old out_new : Printed) → HadNoFault old new out_old out_new → IsTrue old.told → EndsAs asked code old new out_old out_new → CallFor asked old.file code
 called_by None code old new out_old out_new fine t x = x.1
 called_by (Some version) code old new out_old out_new fine t x = x.1
 called_by (Some helping) code old new out_old out_new fine t x = x.1
@@ -632,7 +632,7 @@ called_by (Some (demonstrating seed)) code old new out_old out_new fine t x = x.
 called_by (Some (upgrading m n)) code old new out_old out_new fine t (answer, x, number, line) = upgraded.called_at m n code old new out_old out_new fine t answer x number
 called_by (Some (bounding m)) code old new out_old out_new fine t (answer, x, reads, number, line) = bounded.called_at m code old new out_old out_new fine t answer x number
 
-pub called : (asked : Option Asked) (code : ℕ) (old new : Shelved) (out_old out_new : Printed) → IsRun asked code old new out_old out_new → IsTrue old.told → HadNoFault old new out_old out_new → (code ≡ 10) ⊎ CallFor asked old.file code
+pub called : (asked : Option Request) (code : ℕ) (old new : Shelved) (out_old out_new : Printed) → IsRun asked code old new out_old out_new → IsTrue old.told → HadNoFault old new out_old out_new → (code ≡ 10) ⊎ CallFor asked old.file code
 called asked code old new out_old out_new (ran_out x) t fine = inl x.is
 called asked code old new out_old out_new (runs x) t fine =
     inr (called_by asked code old new out_old out_new fine t (ends_by asked code old new out_old out_new x (λ nine. fine.put ((print_by asked code old new out_old out_new x).failed nine))))
@@ -641,13 +641,13 @@ called asked code old new out_old out_new (runs x) t fine =
 neither : (code other : ℕ) → 3 ≤ other → EndsSearch code → code ≢ other
 neither code other above done is = ⊎_elim (λ e. omega (arith, above, is, e)) (λ rest. ⊎_elim (λ e. omega (arith, above, is, e)) (λ e. omega (arith, above, is, e)) rest) done
 
-checks_by : StatusesAreOne → (asked : Option Asked) (code : ℕ) (old new : Shelved) (out_old out_new : Printed) (m p c : List ℕ) (budget : ℕ) → AreApart m p c → asked ≡ Some (planning m p c budget) → EndsAs asked code old new out_old out_new → EndsSearch code → IsTrue old.told → CallsForZero new.file m p c
+checks_by : StatusesAreOne → (asked : Option Request) (code : ℕ) (old new : Shelved) (out_old out_new : Printed) (m p c : List ℕ) (budget : ℕ) → AreApart m p c → asked ≡ Some (planning m p c budget) → EndsAs asked code old new out_old out_new → EndsSearch code → IsTrue old.told → CallsForZero new.file m p c
 checks_by one asked code old new out_old out_new m p c budget apart is x done t =
     let (answer, why, number, lines) = subst (λ a. EndsAs a code old new out_old out_new) is x in
     let (claim, all) = planned.accepted_at m p c budget code old new apart t answer why number done in
     let zero : CallFor (Some (checking m p c)) new.file 0 = checked.accepted_called m p c 0 new claim all refl in
     record { zero = zero; alone = λ status calls. ⊎_elim (λ same. same) (λ may. absurd may) (one (Some (checking m p c)) new.file status 0 calls zero) }
 
-pub checks : StatusesAreOne → (asked : Option Asked) (code : ℕ) (old new : Shelved) (out_old out_new : Printed) → ((a : Asked) → asked ≡ Some a → IsAllowed a) → IsRun asked code old new out_old out_new → (m p c : List ℕ) (budget : ℕ) → asked ≡ Some (planning m p c budget) → EndsSearch code → IsTrue old.told → CallsForZero new.file m p c
+pub checks : StatusesAreOne → (asked : Option Request) (code : ℕ) (old new : Shelved) (out_old out_new : Printed) → ((a : Request) → asked ≡ Some a → IsAllowed a) → IsRun asked code old new out_old out_new → (m p c : List ℕ) (budget : ℕ) → asked ≡ Some (planning m p c budget) → EndsSearch code → IsTrue old.told → CallsForZero new.file m p c
 checks one asked code old new out_old out_new allowed run m p c budget is done t =
     checks_by one asked code old new out_old out_new m p c budget (allowed (planning m p c budget) is).apart is (ends asked code old new out_old out_new run (neither code 10 (omega arith) done) (neither code 9 (omega arith) done)) done t

@@ -6,7 +6,7 @@ use Rattle.std.specs.declared.alloc.AllocError.{AllocError}
 use Rattle.lot_io.specs.Outside.{Files, OnlyReads, Printed, Shelved}
 use Rattle.lot_sizing.specs.Problem.{Problem}
 use Rattle.lotplan.specs.declared.said.Said.{Said}
-use Rattle.command_line.specs.Words.{Asked}
+use Rattle.command_line.specs.Words.{Request}
 use Rattle.lotplan.specs.Status.{code_of}
 use Rattle.lotplan.specs.Reading.{FileExplains, HoldsProblem, ModelExplains, OfFile, ReadAnswer, refused, missing, unread, too_long, read_line, read_status}
 use Rattle.lotplan.specs.Judging.{JudgeAnswer, feasible, no_plan, broken, stopped, judge_line, judge_status, BytesAre, BytesSay, FindsFault, FindsFeasible, JudgeCallsFor, JudgeExplains, JudgeSays, PlanCallsFor, IsJudged, PlanFileExplains, PlanFileSays}
@@ -56,7 +56,7 @@ feasible_at m p code old new out_old out_new (no_plan fault) x is line none t = 
 feasible_at m p code old new out_old out_new (broken rule) x is line none t = absurd (omega (arith, is, none))
 feasible_at m p code old new out_old out_new (stopped why) x is line none t = absurd (omega (arith, (reading why code is).low, none))
 
-pub fault_at : (asked : Option Asked) (m p : List ℕ) (code : ℕ) (old new : Shelved) (out_old out_new : Printed) (answer : JudgeAnswer) → IsJudged asked m p → JudgeExplains m p old new answer → code ≡ code_of (judge_status answer) → Gains (judge_line answer) out_old out_new → code ≡ 3 → IsTrue old.told → FindsFault asked old.file out_old out_new
+pub fault_at : (asked : Option Request) (m p : List ℕ) (code : ℕ) (old new : Shelved) (out_old out_new : Printed) (answer : JudgeAnswer) → IsJudged asked m p → JudgeExplains m p old new answer → code ≡ code_of (judge_status answer) → Gains (judge_line answer) out_old out_new → code ≡ 3 → IsTrue old.told → FindsFault asked old.file out_old out_new
 fault_at asked m p code old new out_old out_new (feasible amount) words x is line three t = absurd (omega (arith, is, three))
 fault_at asked m p code old new out_old out_new (no_plan fault) words x is line three t = record { model_file = m; plan_file = p; words = words; answer = no_plan fault; fault = tt; holds = x t; line = line }
 fault_at asked m p code old new out_old out_new (broken rule) words x is line three t = record { model_file = m; plan_file = p; words = words; answer = broken rule; fault = tt; holds = x t; line = line }

@@ -14,7 +14,7 @@ use Rattle.certificate.specs.Laws.{TextsMeanOneThing}
 use Rattle.certificate.specs.Limits.{IsTextOf}
 use Rattle.certificate.specs.Shapes.{Shape}
 use Rattle.cert_checker.specs.Laws.{CertifiedIsNotRefused}
-use Rattle.base_bound.specs.Bounds.{BaseBoundsAreOne, CellsAreOne, HasFewCells}
+use Rattle.base_bound.specs.Bounds.{BaseBoundsAreOne, CellsAreOne, HasFewCells, HasManyCells}
 use Rattle.plan_file.specs.declared.fault.PlanFault.{PlanFault}
 use Rattle.lot_sizing.specs.Problem.{Problem}
 use Rattle.lot_sizing.specs.Plan.{IsFeasible, Plan}
@@ -27,12 +27,12 @@ use Rattle.instance_reader.specs.declared.versions.TheConstants.{FIRST_VERSION, 
 use Rattle.instance_reader.proofs.Meanings.{bytes_one}
 use Rattle.plan_file.specs.Records.{IsPlanOf, records_of}
 use Rattle.plan_file.proofs.Meanings.{means_one}
-use Rattle.command_line.specs.Words.{Asked, version, helping, planning, judging, checking, reporting, generating, demonstrating, upgrading, bounding}
+use Rattle.command_line.specs.Words.{Request, version, helping, planning, judging, checking, reporting, generating, demonstrating, upgrading, bounding}
 use Rattle.lotplan.specs.Planning.{FileCallsFor, MayBeLeft, MayLeave, ProblemCallsFor}
 use Rattle.lotplan.specs.Judging.{AreBroken, AreFeasible, AreNoPlan, JudgeCallsFor, PlanCallsFor}
 use Rattle.lotplan.specs.Checking.{CheckCallsFor, ClaimCallsFor, GivenCallsFor, PlannedCallsFor, ProofCallsFor}
 use Rattle.lotplan.specs.Upgrading.{UpgradeCallsFor}
-use Rattle.lotplan.specs.Bounding.{BoundCallsFor, BoundedCallsFor, HasBaseBound, HasManyCells, HasNoPoint, MayPass, RunPasses}
+use Rattle.lotplan.specs.Bounding.{BoundCallsFor, BoundedCallsFor, HasBaseBound, HasNoPoint, MayPass, RunPasses}
 use Rattle.lotplan.specs.Laws.{MayBeUndecided}
 use Rattle.lotplan.specs.Run.{CallFor}
 use Rattle.lotplan.proofs.Certified.{IsMeant, given_call, meant, planned_call}
@@ -295,7 +295,7 @@ bound_call laws (Some bytes) s t (inr (short, inl (m, reads, calls))) (inr (also
     (λ passes. inr (m, reads, passes))
     (bounded_call laws m known s t calls (subst (λ k. BoundedCallsFor k t) (one_problem bytes n m too reads) other))
 
-pub call_one : AreLaws → (asked : Option Asked) (file : Files) (s t : ℕ) → CallFor asked file s → CallFor asked file t → (s ≡ t) ⊎ MayBeUndecided asked file
+pub call_one : AreLaws → (asked : Option Request) (file : Files) (s t : ℕ) → CallFor asked file s → CallFor asked file t → (s ≡ t) ⊎ MayBeUndecided asked file
 call_one laws None file s t a b = inl (a ∙ sym b)
 call_one laws (Some version) file s t a b = inl (a ∙ sym b)
 call_one laws (Some helping) file s t a b = inl (a ∙ sym b)

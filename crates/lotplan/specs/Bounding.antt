@@ -1,5 +1,5 @@
 -- What `bound` answers, and why.
-use Rattle.std.specs.Prelude.{◌≡◌, ◌⊎◌, ◌<◌, ◌≤◌, ◌*◌, ◌^◌, ℕ, List, ◌++◌, length, codes, decimal, IsTrue, Option, Some, None, Ok, Err, ⊤}
+use Rattle.std.specs.Prelude.{◌≡◌, ◌⊎◌, ◌<◌, ◌≤◌, ℕ, List, ◌++◌, length, codes, decimal, IsTrue, Option, Some, None, Ok, Err, ⊤}
 use Rattle.lot_sizing.specs.Problem.{Problem}
 use Rattle.lot_sizing.specs.Best.{IsFloor, IsImpossible}
 use Rattle.lot_io.specs.Outside.{Files, Printed, Shelved}
@@ -8,8 +8,8 @@ use Rattle.instance_reader.specs.Model.{BytesMean}
 use Rattle.tableau.specs.declared.outcome.Outcome.TheVariants as outcome
 use Rattle.tableau.specs.Program.{Program}
 use Rattle.tableau.specs.Stepwise.{IsEndOf}
-use Rattle.base_bound.specs.Bounds.{HasFewCells, HasNoBasePoint, IsBaseBound, IsBaseProgram, cell_count}
-use Rattle.command_line.specs.Words.{Asked, bounding}
+use Rattle.base_bound.specs.Bounds.{HasFewCells, HasManyCells, HasNoBasePoint, IsBaseBound, IsBaseProgram}
+use Rattle.command_line.specs.Words.{Request, bounding}
 use Rattle.lotplan.specs.Reading.{ModelExplains, OfModel, ReadAnswer, file_limit, read_line, read_status}
 use Rattle.lotplan.specs.Saying.{Gains, IsSaid}
 use Rattle.lotplan.specs.declared.said.Said.{Said}
@@ -56,11 +56,7 @@ pub record HasNoPoint (problem : Problem) : Type 0 where
   pub impossible : IsImpossible problem
   pub few : HasFewCells problem
 
--- the tableau of the base rows has more than two million cells
-abbrev pub HasManyCells : Problem → Type 0
-HasManyCells problem = (p : Program) × IsBaseProgram problem p × (2 * 10 ^ 6 < cell_count p)
-
--- it has fewer, and the exact run by the least-index rule comes to a number that doesn't fit 128 bits
+-- the tableau of the base rows has few cells, and the exact run by the least-index rule comes to a number that doesn't fit 128 bits
 pub record RunPasses (problem : Problem) : Type 0 where
   pub program : Program
   pub base : IsBaseProgram problem program
@@ -121,7 +117,7 @@ pub record FindsBound (before : Files) (model_file : List ℕ) (out_old out_new 
   pub line : Gains (bound_line (bound n)) out_old out_new
 
 -- they ask to bound one without a point, and the line says so
-pub record FindsNoPoint (asked : Option Asked) (before : Files) (out_old out_new : Printed) : Type 0 where
+pub record FindsNoPoint (asked : Option Request) (before : Files) (out_old out_new : Printed) : Type 0 where
   pub model_file : List ℕ
   pub words : asked ≡ Some (bounding model_file)
   pub holds : ModelIsBounded before model_file empty
@@ -136,7 +132,7 @@ IsUndecided passed = ⊤
 IsUndecided (stopped why) = ⊥
 
 -- they ask to bound one whose tableau is too large, or whose run comes to a number that doesn't fit, and the line says which
-pub record FindsNoBound (asked : Option Asked) (before : Files) (out_old out_new : Printed) : Type 0 where
+pub record FindsNoBound (asked : Option Request) (before : Files) (out_old out_new : Printed) : Type 0 where
   pub model_file : List ℕ
   pub words : asked ≡ Some (bounding model_file)
   pub answer : BoundAnswer

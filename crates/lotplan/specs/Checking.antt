@@ -26,7 +26,7 @@ use Rattle.cert_checker.specs.Checks.{IsCertified, IsCheckFault, plan_given}
 use Rattle.stream_check.specs.declared.fault.StreamFault.{StreamFault}
 use Rattle.stream_check.specs.declared.fault.StreamFault.TheVariants as stream
 use Rattle.stream_check.specs.Streams.{IsTooLong, OfBytes, OfCertificate, too_many}
-use Rattle.command_line.specs.Words.{Asked, checking}
+use Rattle.command_line.specs.Words.{Request, checking}
 use Rattle.lotplan.specs.Judging.{AreNoPlan}
 use Rattle.lotplan.specs.Reading.{FileExplains, HoldsProblem, ModelExplains, OfFile, OfModel, ReadAnswer, refused, missing, unread, too_long, file_limit, read_line, read_status}
 use Rattle.lotplan.specs.Saying.{Gains, IsSaid}
@@ -257,7 +257,7 @@ CheckCallsFor (Some bytes) plan certificate status =
 
 -- ---- what each status says
 -- the words ask to check a certificate file
-pub record IsChecked (asked : Option Asked) (model_file plan_file certificate_file : List ℕ) : Type 0 where
+pub record IsChecked (asked : Option Request) (model_file plan_file certificate_file : List ℕ) : Type 0 where
   pub is : asked ≡ Some (checking model_file plan_file certificate_file)
 
 -- the certificate is accepted, its claim is true, and the line has it
@@ -275,7 +275,7 @@ IsRefused (rejected line w) = ⊤
 IsRefused (stopped w) = ⊥
 
 -- they ask to check a certificate file that holds no certificate or a refused one, or whose plan file holds no plan, and the line names the first fault
-pub record FindsRefused (asked : Option Asked) (before : Files) (out_old out_new : Printed) : Type 0 where
+pub record FindsRefused (asked : Option Request) (before : Files) (out_old out_new : Printed) : Type 0 where
   pub model_file : List ℕ
   pub plan_file : List ℕ
   pub certificate_file : List ℕ

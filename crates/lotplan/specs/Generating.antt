@@ -5,7 +5,7 @@ use Rattle.instance_reader.specs.Document.{document_of}
 use Rattle.instance_reader.specs.Model.{BytesMean}
 use Rattle.first_plans.specs.OwnPeriod.{HasOwnPeriod}
 use Rattle.report.specs.Generated.{generated, generated_table}
-use Rattle.command_line.specs.Words.{Asked, generating}
+use Rattle.command_line.specs.Words.{Request, generating}
 use Rattle.lotplan.specs.Planning.{StartsOnly, unwritten_line}
 use Rattle.lotplan.specs.Saying.{Gains, IsSaid}
 use Rattle.lotplan.specs.Upgrading.{written_line}
@@ -59,7 +59,7 @@ pub record Generates (after : Files) (seed items periods : ℕ) (model_file : Li
   pub line : Gains (written_line model_file) out_old out_new
 
 -- they ask to generate a model, its file could not be written, and the line names it
-pub record FailsToGenerate (asked : Option Asked) (old new : Shelved) (out_old out_new : Printed) : Type 0 where
+pub record FailsToGenerate (asked : Option Request) (old new : Shelved) (out_old out_new : Printed) : Type 0 where
   pub seed : ℕ
   pub items : ℕ
   pub periods : ℕ

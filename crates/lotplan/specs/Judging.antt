@@ -13,7 +13,7 @@ use Rattle.plan_file.specs.Faults.{IsPlanFault}
 use Rattle.plan_file.specs.Texts.{plan_fault_text}
 use Rattle.plan_file.specs.declared.fault.PlanFault.{PlanFault}
 use Rattle.plan_file.specs.declared.fault.PlanFault.TheVariants.{Memory}
-use Rattle.command_line.specs.Words.{Asked, judging, reporting}
+use Rattle.command_line.specs.Words.{Request, judging, reporting}
 use Rattle.lotplan.specs.Reading.{FileExplains, HoldsProblem, ModelExplains, OfFile, OfModel, ReadAnswer, file_limit, read_line, read_status}
 use Rattle.lotplan.specs.Saying.{Gains, IsSaid}
 use Rattle.lotplan.specs.declared.said.Said.{Said}
@@ -122,7 +122,7 @@ JudgeCallsFor (Some bytes) plan status =
 
 -- ---- what each status says
 -- the words ask to judge a plan file, or to report on it
-pub record IsJudged (asked : Option Asked) (model_file plan_file : List ℕ) : Type 0 where
+pub record IsJudged (asked : Option Request) (model_file plan_file : List ℕ) : Type 0 where
   pub is : (asked ≡ Some (judging model_file plan_file)) ⊎ (asked ≡ Some (reporting model_file plan_file))
 
 -- they ask to judge a plan that is feasible, and the line has its cost
@@ -139,7 +139,7 @@ IsFault (broken rule) = ⊤
 IsFault (stopped why) = ⊥
 
 -- they ask to judge a plan file, or to report on it, that holds no plan, or one that breaks a rule, and the line names the first fault
-pub record FindsFault (asked : Option Asked) (before : Files) (out_old out_new : Printed) : Type 0 where
+pub record FindsFault (asked : Option Request) (before : Files) (out_old out_new : Printed) : Type 0 where
   pub model_file : List ℕ
   pub plan_file : List ℕ
   pub words : IsJudged asked model_file plan_file

@@ -2,12 +2,12 @@
 use Rattle.std.specs.Prelude.{◌≡◌, ◌⊎◌, ℕ, Option, Some, None, ⊤}
 use Rattle.lot_io.specs.Outside.{Files}
 use Rattle.lotplan.specs.Bounding.{MayPass}
-use Rattle.command_line.specs.Words.{Asked, version, helping, planning, judging, checking, reporting, generating, demonstrating, upgrading, bounding}
+use Rattle.command_line.specs.Words.{Request, version, helping, planning, judging, checking, reporting, generating, demonstrating, upgrading, bounding}
 use Rattle.lotplan.specs.Planning.{MayLeave}
 use Rattle.lotplan.specs.Run.{CallFor}
 
 -- the words ask to plan a model that the search may leave open, or to bound one whose run comes to a number that doesn't fit
-abbrev pub MayBeUndecided : Option Asked → Files → Type 0
+abbrev pub MayBeUndecided : Option Request → Files → Type 0
 MayBeUndecided None file = ⊥
 MayBeUndecided (Some version) file = ⊥
 MayBeUndecided (Some helping) file = ⊥
@@ -22,10 +22,10 @@ MayBeUndecided (Some (bounding m)) file = MayPass (file m)
 
 abbrev pub StatusesAreOne : Type 0
 StatusesAreOne =
-    (asked : Option Asked) (file : Files) (status other : ℕ) → CallFor asked file status → CallFor asked file other → (status ≡ other) ⊎ MayBeUndecided asked file
+    (asked : Option Request) (file : Files) (status other : ℕ) → CallFor asked file status → CallFor asked file other → (status ≡ other) ⊎ MayBeUndecided asked file
 
 -- that some status is called for is a law of these words: all but those by which a certificate is checked or a model bounded
-abbrev pub HasAnswer : Option Asked → Type 0
+abbrev pub HasAnswer : Option Request → Type 0
 HasAnswer None = ⊤
 HasAnswer (Some version) = ⊤
 HasAnswer (Some helping) = ⊤
@@ -39,4 +39,4 @@ HasAnswer (Some (upgrading m n)) = ⊤
 HasAnswer (Some (bounding m)) = ⊥
 
 abbrev pub StatusesExist : Type 0
-StatusesExist = (asked : Option Asked) (file : Files) → HasAnswer asked → (status : ℕ) × CallFor asked file status
+StatusesExist = (asked : Option Request) (file : Files) → HasAnswer asked → (status : ℕ) × CallFor asked file status

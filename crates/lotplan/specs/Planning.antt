@@ -21,7 +21,7 @@ use Rattle.branching.specs.declared.found.Found.{Found}
 use Rattle.branching.specs.declared.found.RootSays.{RootSays}
 use Rattle.branching.specs.declared.found.RootSays.TheVariants as at_root
 use Rattle.branch_and_cut.specs.Search.{HasBudgetForAll, cost_of}
-use Rattle.command_line.specs.Words.{Asked, planning}
+use Rattle.command_line.specs.Words.{Request, planning}
 use Rattle.lotplan.specs.Reading.{ModelExplains, OfModel, ReadAnswer, file_limit, read_line, read_status}
 use Rattle.lotplan.specs.Checking.{HoldsProof}
 use Rattle.lotplan.specs.Finding.{IsFound, PlanCosts}
@@ -282,7 +282,7 @@ MayLeave (Some bytes) budget = (problem : Problem) × BytesMean bytes (Ok proble
 
 -- ---- what each status says
 -- the words ask to plan a model file with a budget of nodes
-pub record IsAsked (asked : Option Asked) (model_file plan_file certificate_file : List ℕ) (budget : ℕ) : Type 0 where
+pub record IsAsked (asked : Option Request) (model_file plan_file certificate_file : List ℕ) (budget : ℕ) : Type 0 where
   pub is : asked ≡ Some (planning model_file plan_file certificate_file budget)
 
 -- the plan file holds a best plan of the problem in the model file, the certificate file proves that it is, and the lines have its cost
@@ -294,7 +294,7 @@ pub record PlansBest (before after : Files) (model_file plan_file certificate_fi
   pub lines : Gains (three_lines says nodes (optimal_line amount)) out_old out_new
 
 -- they ask to plan one of whose problem no plan is feasible, the certificate file proves it, and the lines say so
-pub record FindsNoPlan (asked : Option Asked) (before after : Files) (out_old out_new : Printed) : Type 0 where
+pub record FindsNoPlan (asked : Option Request) (before after : Files) (out_old out_new : Printed) : Type 0 where
   pub model_file : List ℕ
   pub plan_file : List ℕ
   pub certificate_file : List ℕ
@@ -315,7 +315,7 @@ IsLeftOpen before after problem p c budget (unwritten file) = ⊥
 IsLeftOpen before after problem p c budget (stopped why) = ⊥
 
 -- they ask to plan one whose best cost was left open, the certificate file proves the bound, and the lines say so
-pub record LeavesOpen (asked : Option Asked) (before after : Files) (out_old out_new : Printed) : Type 0 where
+pub record LeavesOpen (asked : Option Request) (before after : Files) (out_old out_new : Printed) : Type 0 where
   pub model_file : List ℕ
   pub plan_file : List ℕ
   pub certificate_file : List ℕ
@@ -326,7 +326,7 @@ pub record LeavesOpen (asked : Option Asked) (before after : Files) (out_old out
   pub lines : Gains (plan_line answer) out_old out_new
 
 -- they ask to plan a model, the plan file or the certificate file could not be written, and the line names it
-pub record FailsToWrite (asked : Option Asked) (old new : Shelved) (out_old out_new : Printed) : Type 0 where
+pub record FailsToWrite (asked : Option Request) (old new : Shelved) (out_old out_new : Printed) : Type 0 where
   pub model_file : List ℕ
   pub plan_file : List ℕ
   pub certificate_file : List ℕ

@@ -5,12 +5,13 @@ use Rattle.lot_io.specs.Outside.{Files, Rose, RoseBy, Shelved}
 use Rattle.lot_draft.specs.declared.fault.ModelFault.{ModelFault}
 use Rattle.lot_draft.specs.Faults.{fault_text}
 use Rattle.instance_reader.specs.Model.{BytesMean, FirstVersionMeans}
+use Rattle.plan_file.specs.declared.limits.TheConstants.{MAX_FILE}
 use Rattle.lotplan.specs.declared.status.Status.{Status}
 use Rattle.lotplan.specs.declared.status.Status.TheVariants as status
 
 -- the longest file that is read, in bytes
 abbrev pub file_limit : ℕ
-file_limit = 16777216
+file_limit = MAX_FILE
 
 -- the file holds bytes of which this holds, and no more than the limit
 abbrev pub OfFile : Files → List ℕ → (List ℕ → Type 0) → Type 0

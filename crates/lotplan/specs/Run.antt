@@ -2,7 +2,7 @@
 use Rattle.std.specs.Prelude.{◌≡◌, ◌⊎◌, ◌+◌, ◌*◌, ℕ, List, codes, Option, Some, None, ⊤}
 use Rattle.lot_io.specs.Outside.{Files, OnlyReads, Printed, Rose, Shelved, piece_size}
 use Rattle.stream_check.specs.Streams.{pass_size}
-use Rattle.command_line.specs.Words.{Asked, version, helping, planning, judging, checking, reporting, generating, demonstrating, upgrading, bounding}
+use Rattle.command_line.specs.Words.{Request, version, helping, planning, judging, checking, reporting, generating, demonstrating, upgrading, bounding}
 use Rattle.lotplan.specs.Status.{code_of}
 use Rattle.lotplan.specs.Saying.{Gains, IsSaid, Prints}
 use Rattle.lotplan.specs.Reading.{FirstExplains, ModelExplains, ReadAnswer, file_limit, read_line}
@@ -25,7 +25,7 @@ abbrev pub refused_line : List ℕ
 refused_line = codes "refused words\n"
 
 -- what is said of what the words ask for, and what it leaves; the texts of help and of words that are no command are left open
-abbrev pub SaysFor : Option Asked → Shelved → Shelved → Said → Type 0
+abbrev pub SaysFor : Option Request → Shelved → Shelved → Said → Type 0
 SaysFor None old new said = (new ≡ old) × (text : List ℕ) × IsSaid text NoCommand said
 SaysFor (Some version) old new said = (new ≡ old) × IsSaid version_line Done said
 SaysFor (Some helping) old new said = (new ≡ old) × (text : List ℕ) × IsSaid text Done said
@@ -39,7 +39,7 @@ SaysFor (Some (upgrading m n)) old new said = UpgradeSays m n old new said
 SaysFor (Some (bounding m)) old new said = BoundIsSaid m old new said × OnlyReads old new
 
 -- what is left where memory ran out
-abbrev pub Leaves : Option Asked → Shelved → Shelved → Type 0
+abbrev pub Leaves : Option Request → Shelved → Shelved → Type 0
 Leaves None old new = new ≡ old
 Leaves (Some version) old new = new ≡ old
 Leaves (Some helping) old new = new ≡ old
@@ -53,7 +53,7 @@ Leaves (Some (upgrading m n)) old new = OnlyReads old new
 Leaves (Some (bounding m)) old new = OnlyReads old new
 
 -- what a run did, printed and gave, where memory didn't run out
-abbrev pub RunsAs : Option Asked → ℕ → Shelved → Shelved → Printed → Printed → Type 0
+abbrev pub RunsAs : Option Request → ℕ → Shelved → Shelved → Printed → Printed → Type 0
 RunsAs None code old new out_old out_new = (new ≡ old) × (text : List ℕ) × Prints text NoCommand code out_old out_new
 RunsAs (Some version) code old new out_old out_new = (new ≡ old) × Prints version_line Done code out_old out_new
 RunsAs (Some helping) code old new out_old out_new = (new ≡ old) × (text : List ℕ) × Prints text Done code out_old out_new
@@ -75,18 +75,18 @@ RunsAs (Some (bounding m)) code old new out_old out_new =
     (answer : BoundAnswer) × BoundExplains m old new answer × OnlyReads old new × Prints (bound_line answer) (bound_status answer) code out_old out_new
 
 -- memory ran out before anything was written or printed
-pub record RanOut (asked : Option Asked) (code : ℕ) (old new : Shelved) (out_old out_new : Printed) : Type 0 where
+pub record RanOut (asked : Option Request) (code : ℕ) (old new : Shelved) (out_old out_new : Printed) : Type 0 where
   pub is : code ≡ code_of NoMemory
   pub left : Leaves asked old new
   pub silent : out_new ≡ out_old
 
 -- memory ran out, or the run did what the words ask for
-pub data IsRun (asked : Option Asked) (code : ℕ) (old new : Shelved) (out_old out_new : Printed) : Type 0 where
+pub data IsRun (asked : Option Request) (code : ℕ) (old new : Shelved) (out_old out_new : Printed) : Type 0 where
   ran_out : RanOut asked code old new out_old out_new → IsRun asked code old new out_old out_new
   runs : RunsAs asked code old new out_old out_new → IsRun asked code old new out_old out_new
 
 -- ---- the status that words and files call for, faults and want of memory aside
-abbrev pub CallFor : Option Asked → Files → ℕ → Type 0
+abbrev pub CallFor : Option Request → Files → ℕ → Type 0
 CallFor None file status = status ≡ 4
 CallFor (Some version) file status = status ≡ 0
 CallFor (Some helping) file status = status ≡ 0
@@ -106,7 +106,7 @@ pub record CallsForZero (after : Files) (model_file plan_file certificate_file :
 
 -- ---- how many bytes are read
 -- none for words that are no command, for the version and help, and where models are generated; two files within the limit, one where a model is bounded, and where a certificate is checked three passes over its file besides
-abbrev pub most_given : Option Asked → ℕ
+abbrev pub most_given : Option Request → ℕ
 most_given None = 0
 most_given (Some version) = 0
 most_given (Some helping) = 0
@@ -120,7 +120,7 @@ most_given (Some (upgrading m n)) = 2 * (file_limit + piece_size)
 most_given (Some (bounding m)) = file_limit + piece_size
 
 -- no file is read or written: for words that are no command, the version, help, and where models are planned in memory
-abbrev pub IsIdle : Option Asked → Type 0
+abbrev pub IsIdle : Option Request → Type 0
 IsIdle None = ⊤
 IsIdle (Some version) = ⊤
 IsIdle (Some helping) = ⊤
@@ -141,31 +141,31 @@ pub record HadNoFault (old new : Shelved) (out_old out_new : Printed) : Type 0 w
 
 -- ---- what each status says
 -- the words are no command, and some text says so
-pub record IsNoCommand (asked : Option Asked) (out_old out_new : Printed) : Type 0 where
+pub record IsNoCommand (asked : Option Request) (out_old out_new : Printed) : Type 0 where
   pub is : asked ≡ None
   pub text : List ℕ
   pub line : Gains text out_old out_new
 
 -- no plan is feasible: `plan` finds it, or `bound` does since no point meets the base rows
-abbrev pub IsInfeasible : Option Asked → Files → Files → Printed → Printed → Type 0
+abbrev pub IsInfeasible : Option Request → Files → Files → Printed → Printed → Type 0
 IsInfeasible asked before after out_old out_new = FindsNoPlan asked before after out_old out_new ⊎ FindsNoPoint asked before out_old out_new
 
 -- the best cost was left open by `plan`, or the bound was not found by `bound`
-abbrev pub LeavesUndecided : Option Asked → Files → Files → Printed → Printed → Type 0
+abbrev pub LeavesUndecided : Option Request → Files → Files → Printed → Printed → Type 0
 LeavesUndecided asked before after out_old out_new = LeavesOpen asked before after out_old out_new ⊎ FindsNoBound asked before out_old out_new
 
 -- a plan that was judged, or a certificate that was checked, has a fault, and the line names the first
-abbrev pub IsFaulty : Option Asked → Files → Printed → Printed → Type 0
+abbrev pub IsFaulty : Option Request → Files → Printed → Printed → Type 0
 IsFaulty asked before out_old out_new = FindsFault asked before out_old out_new ⊎ FindsRefused asked before out_old out_new
 
 -- the plan file, the certificate file, the new model file or the generated one could not be written, and the line names it
-abbrev pub CannotWrite : Option Asked → Shelved → Shelved → Printed → Printed → Type 0
+abbrev pub CannotWrite : Option Request → Shelved → Shelved → Printed → Printed → Type 0
 CannotWrite asked old new out_old out_new =
     FailsToWrite asked old new out_old out_new
     ⊎ (FailsToUpgrade asked old new out_old out_new ⊎ FailsToGenerate asked old new out_old out_new)
 
 -- why the files that the words name gave nothing to go on with
-abbrev pub StopsFor : Option Asked → Shelved → Shelved → ReadAnswer → Type 0
+abbrev pub StopsFor : Option Request → Shelved → Shelved → ReadAnswer → Type 0
 StopsFor None old new why = ⊥
 StopsFor (Some version) old new why = ⊥
 StopsFor (Some helping) old new why = ⊥
@@ -179,6 +179,6 @@ StopsFor (Some (upgrading m n)) old new why = FirstExplains m old new why
 StopsFor (Some (bounding m)) old new why = ModelExplains m old new why
 
 -- they did for this cause, and the line names it
-pub record Stops (asked : Option Asked) (old new : Shelved) (out_old out_new : Printed) (why : ReadAnswer) : Type 0 where
+pub record Stops (asked : Option Request) (old new : Shelved) (out_old out_new : Printed) (why : ReadAnswer) : Type 0 where
   pub cause : StopsFor asked old new why
   pub line : Gains (read_line why) out_old out_new

@@ -10,6 +10,7 @@ use Rattle.report.specs.Generated.{generated}
 use Rattle.lotplan.specs.Finding.{IsFound}
 use Rattle.lotplan.specs.Planning.{IsAnswerTo, IsWithinOwn, PlanAnswer, above, between, infeasible, optimal, plan_line, stopped, unwritten}
 use Rattle.lotplan.specs.Saying.{Gains, IsSaid}
+use Rattle.lotplan.specs.declared.commands.demo.TheConstants.{COUPLED_BUDGET, FREE_BUDGET}
 use Rattle.lotplan.specs.declared.said.Said.{Said}
 use Rattle.lotplan.specs.declared.status.Status.TheVariants.{Done}
 
@@ -18,13 +19,13 @@ abbrev pub free_problem : ℕ → Problem
 free_problem seed = generated seed 12 60 false
 
 abbrev pub free_budget : ℕ
-free_budget = 1000
+free_budget = FREE_BUDGET
 
 abbrev pub coupled_problem : ℕ → Problem
 coupled_problem seed = generated seed 3 4 true
 
 abbrev pub coupled_budget : ℕ
-coupled_budget = 40
+coupled_budget = COUPLED_BUDGET
 
 -- ---- what is shown of a model
 -- a best plan costs this

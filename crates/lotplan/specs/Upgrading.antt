@@ -5,7 +5,7 @@ use Rattle.lot_io.specs.Outside.{Files, OnlyReads, Printed, Rose, Shelved}
 use Rattle.lot_draft.specs.declared.fault.ModelFault.{ModelFault}
 use Rattle.instance_reader.specs.Model.{BytesMean, FirstVersionMeans}
 use Rattle.instance_reader.specs.Written.{IsModelText}
-use Rattle.command_line.specs.Words.{Asked, upgrading}
+use Rattle.command_line.specs.Words.{Request, upgrading}
 use Rattle.lotplan.specs.Reading.{FirstExplains, HoldsFirst, HoldsProblem, ReadAnswer, file_limit, read_line, read_status}
 use Rattle.lotplan.specs.Planning.{StartsOnly, unwritten_line}
 use Rattle.lotplan.specs.Saying.{Gains, IsSaid}
@@ -89,7 +89,7 @@ pub record Upgrades (before after : Files) (model_file new_file : List ℕ) (out
   pub line : Gains (written_line new_file) out_old out_new
 
 -- they ask to upgrade a model of the first version, the new file could not be written, and the line names it
-pub record FailsToUpgrade (asked : Option Asked) (old new : Shelved) (out_old out_new : Printed) : Type 0 where
+pub record FailsToUpgrade (asked : Option Request) (old new : Shelved) (out_old out_new : Printed) : Type 0 where
   pub model_file : List ℕ
   pub new_file : List ℕ
   pub words : asked ≡ Some (upgrading model_file new_file)

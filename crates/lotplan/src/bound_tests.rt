@@ -1,6 +1,5 @@
 use crate::check_tests::SHORT_SHOP;
-use crate::run;
-use crate::tests::{SHOP, WORKSHOP, holds, one_item, shelf_with, texts};
+use crate::tests::{SHOP, WORKSHOP, holds, one_item, shelf_with, status_of, texts};
 use lot_io::MemorySink;
 use std::alloc::{AllocError, Global};
 use std::test::Fail;
@@ -10,7 +9,7 @@ fn bounded_as(alloc: Global, model: &str, status: u8, line: &str) -> Result<bool
     let words = texts(alloc, &["bound", "m"])?;
     let mut shelf = shelf_with(alloc, model.as_bytes(), &[], &[], &[])?;
     let mut out = MemorySink::new(alloc, Vec::new(alloc));
-    let ended = run(alloc, words.as_slice(), &mut shelf, &mut out);
+    let ended = status_of(alloc, words.as_slice(), &mut shelf, &mut out);
     let said = ended == status && out.bytes.as_slice() == line.as_bytes() && out.puts == 1;
     Ok(said && shelf.files.len() == 1 && shelf.starts == 0 && holds(&shelf, "m", model))
 }
@@ -55,7 +54,10 @@ fn models_that_give_no_problem_are_not_bounded(rt: HostRuntime) -> Result<(), Fa
         let mut shelf = shelf_with(alloc, b"", fetch, &[], &[])?;
         let mut out = MemorySink::new(alloc, Vec::new(alloc));
         let words = texts(alloc, &["bound", model])?;
-        assert_eq!(rt; run(alloc, words.as_slice(), &mut shelf, &mut out), status);
+        assert_eq!(rt;
+            status_of(alloc, words.as_slice(), &mut shelf, &mut out),
+            status
+        );
         assert!(rt; out.bytes.as_slice() == line.as_bytes(), "{line}");
     }
     Ok(())

@@ -1,5 +1,6 @@
-use crate::run;
-use crate::tests::{HEADER, SHOP, WORKSHOP, holds, one_item, one_lot, put, shelf_with, texts};
+use crate::tests::{
+    HEADER, SHOP, WORKSHOP, holds, one_item, one_lot, put, shelf_with, status_of, texts,
+};
 use lot_io::{MemoryShelf, MemorySink};
 use std::alloc::{AllocError, Global};
 use std::test::Fail;
@@ -98,7 +99,7 @@ pub fn checked_as(
     let words = texts(alloc, &["check", "m", "p", "c"])?;
     let mut shelf = three_files(alloc, model, records, certificate, &[])?;
     let mut out = MemorySink::new(alloc, Vec::new(alloc));
-    let ended = run(alloc, words.as_slice(), &mut shelf, &mut out);
+    let ended = status_of(alloc, words.as_slice(), &mut shelf, &mut out);
     let said = ended == status && out.bytes.as_slice() == line.as_bytes();
     let plan = format!(in alloc; "{HEADER}{records}")?;
     let kept = shelf.files.len() == 3 && shelf.starts == 0 && holds(&shelf, "p", plan.as_str());
@@ -234,7 +235,7 @@ fn a_plan_is_read_where_an_optimal_cost_is_claimed(rt: HostRuntime) -> Result<()
         let mut shelf = three_files(alloc, SHOP, SHOP_PLAN, proof, &[])?;
         let mut out = MemorySink::new(alloc, Vec::new(alloc));
         assert_eq!(rt;
-            run(alloc, words.as_slice(), &mut shelf, &mut out),
+            status_of(alloc, words.as_slice(), &mut shelf, &mut out),
             status,
             "{line}"
         );
@@ -261,7 +262,7 @@ fn each_fetch_that_fails_is_named(rt: HostRuntime) -> Result<(), Fail> {
     for number in 1..32u64 {
         let mut shelf = three_files(alloc, SHOP, SHOP_PLAN, BY_BRANCHES, &[number])?;
         let mut out = MemorySink::new(alloc, Vec::new(alloc));
-        let status = run(alloc, words.as_slice(), &mut shelf, &mut out);
+        let status = status_of(alloc, words.as_slice(), &mut shelf, &mut out);
         if status == 0 {
             assert!(rt; number > 8 && shelf.faults == 0);
             return Ok(());
@@ -284,7 +285,10 @@ fn a_long_plan_is_refused(rt: HostRuntime) -> Result<(), Fail> {
     let mut shelf = three_files(alloc, SHOP, "", BY_BRANCHES, &[])?;
     put(alloc, &mut shelf, "p", plan.as_slice())?;
     let mut out = MemorySink::new(alloc, Vec::new(alloc));
-    assert_eq!(rt; run(alloc, words.as_slice(), &mut shelf, &mut out), 11);
+    assert_eq!(rt;
+        status_of(alloc, words.as_slice(), &mut shelf, &mut out),
+        11
+    );
     assert!(rt; out.bytes.as_slice() == b"refused long p\n".as_slice());
     Ok(())
 }

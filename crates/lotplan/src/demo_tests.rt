@@ -1,5 +1,4 @@
-use crate::run;
-use crate::tests::{TEN, TWELVE, holds, is_checked, one_item, shelf_with, texts};
+use crate::tests::{TEN, TWELVE, holds, is_checked, one_item, shelf_with, status_of, texts};
 use lot_io::{MemoryShelf, MemorySink};
 use std::alloc::{AllocError, Global};
 use std::test::Fail;
@@ -12,7 +11,7 @@ fn printed_by(
 ) -> Result<(u8, Vec<u8>), AllocError> {
     let list = texts(alloc, words)?;
     let mut out = MemorySink::new(alloc, Vec::new(alloc));
-    let ended = run(alloc, list.as_slice(), shelf, &mut out);
+    let ended = status_of(alloc, list.as_slice(), shelf, &mut out);
     Ok((ended, out.bytes))
 }
 
@@ -38,7 +37,7 @@ fn lines_that_are_not_printed_are_named(rt: HostRuntime) -> Result<(), Fail> {
     let words = texts(alloc, &["demo", "7"])?;
     let mut shelf = shelf_with(alloc, TEN.as_bytes(), &[], &[], &[])?;
     let mut out = MemorySink::new(alloc, Vec::from_slice(alloc, &[1])?);
-    assert_eq!(rt; run(alloc, words.as_slice(), &mut shelf, &mut out), 9);
+    assert_eq!(rt; status_of(alloc, words.as_slice(), &mut shelf, &mut out), 9);
     assert_eq!(rt; (out.puts, out.faults), (1, 1));
     Ok(())
 }
@@ -101,7 +100,10 @@ fn a_model_that_is_not_written_is_named(rt: HostRuntime) -> Result<(), Fail> {
         let mut shelf = shelf_with(alloc, TEN.as_bytes(), &[], start, append)?;
         let mut out = MemorySink::new(alloc, Vec::from_slice(alloc, put)?);
         let words = texts(alloc, &["gen", "7", "3", "4", "g"])?;
-        assert_eq!(rt; run(alloc, words.as_slice(), &mut shelf, &mut out), status);
+        assert_eq!(rt;
+            status_of(alloc, words.as_slice(), &mut shelf, &mut out),
+            status
+        );
         assert!(rt; out.bytes.as_slice() == printed.as_bytes(), "{printed}");
         assert!(rt; holds(&shelf, "m", TEN), "{printed}");
         assert_eq!(rt; (shelf.files.len(), out.puts), (files, 1));

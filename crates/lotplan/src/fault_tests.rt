@@ -4,8 +4,7 @@ ghost use Rattle.std.specs.Prelude.{false, None, []};
 ghost use Rattle.lot_io.specs.Outside.{Printed, Shelved};
 
 use crate::check_tests::{BY_BRANCHES, BY_LS_CUTS, SHORT_SHOP};
-use crate::run;
-use crate::tests::{SHOP, holds, is_checked, put, texts};
+use crate::tests::{SHOP, holds, is_checked, put, status_of, texts};
 use lot_io::{MemoryShelf, MemorySink, Shelf, ShelfFault, Sink, SinkFailed, WriteFailed};
 use std::alloc::{AllocError, Global};
 use std::collections::BTreeMap;
@@ -120,12 +119,12 @@ fn run_words(
 ) -> Left {
     if told {
         let (mut shelf, mut out) = (shelf, out);
-        let status = run(alloc, words, &mut shelf, &mut out);
+        let status = status_of(alloc, words, &mut shelf, &mut out);
         Left { status, shelf, out }
     } else {
         let mut shelf = Untold { files: shelf };
         let mut out = UntoldSink { out };
-        let status = run(alloc, words, &mut shelf, &mut out);
+        let status = status_of(alloc, words, &mut shelf, &mut out);
         Left {
             status,
             shelf: shelf.files,

@@ -1,5 +1,7 @@
 //! `lotplan`: plans lots in whole numbers, with proof that no plan costs less.
 //!
+//! Family: commands. It stands on the crates of all families, and nothing stands on it.
+//!
 //! `main` gives the command line, the machine's files and standard output to `run`, and ends with
 //! its status. `run` reads the words, plans, judges, checks, reports, generates, upgrades or bounds, writes and prints;
 //! what each status means is its contract.

@@ -8,10 +8,8 @@ use crate::status::Status;
 use instance_reader::{ReadModelFault, read_first_version, read_instance};
 use lot_io::{ReadFault, Shelf, read_file};
 use lot_model::{Instance, ModelFault};
+use plan_file::MAX_FILE;
 use std::alloc::{AllocError, Global};
-
-/// The longest file that is read, in bytes.
-pub const FILE_LIMIT: u64 = 16_777_216;
 
 /// Why the files of a command gave nothing to go on with, with the name of the file that it concerns.
 #[derive(Clone, Copy, Debug, PartialEq, Eq)]
@@ -73,7 +71,7 @@ pub fn read_bytes<'a, S: Shelf>(
     ensures reads { OnlyReads (S.shown shelf.old) (S.shown shelf.new) }
     ensures given { (S.shown shelf.new).given ≤ (S.shown shelf.old).given + (file_limit + piece_size) }
 {
-    match read_file(alloc, shelf, name, FILE_LIMIT) {
+    match read_file(alloc, shelf, name, MAX_FILE) {
         Ok(bytes) => Ok(bytes),
         Err(ReadFault::Missing) => Err(Stop::Answered(ReadAnswer::Missing(name))),
         Err(ReadFault::Failed) => Err(Stop::Answered(ReadAnswer::Unread(name))),

@@ -1,6 +1,5 @@
 use crate::check_tests::SHOP_PLAN;
-use crate::run;
-use crate::tests::{HEADER, SHOP, holds, put, shelf_with, texts};
+use crate::tests::{HEADER, SHOP, holds, put, shelf_with, status_of, texts};
 use lot_io::MemorySink;
 use std::alloc::{AllocError, Global};
 use std::test::Fail;
@@ -13,7 +12,7 @@ fn reported_as(alloc: Global, records: &str, status: u8, line: &str) -> Result<b
     let text = format!(in alloc; "{HEADER}{records}")?;
     put(alloc, &mut shelf, "p", text.as_bytes())?;
     let mut out = MemorySink::new(alloc, Vec::new(alloc));
-    let ended = run(alloc, words.as_slice(), &mut shelf, &mut out);
+    let ended = status_of(alloc, words.as_slice(), &mut shelf, &mut out);
     let said = ended == status && out.bytes.as_slice() == line.as_bytes() && out.puts == 1;
     let kept = shelf.files.len() == 2 && shelf.starts == 0 && holds(&shelf, "p", text.as_str());
     Ok(said && kept && holds(&shelf, "m", SHOP))
@@ -57,7 +56,10 @@ fn files_that_give_no_plan_are_named(rt: HostRuntime) -> Result<(), Fail> {
         let mut shelf = shelf_with(alloc, SHOP.as_bytes(), fetch, &[], &[])?;
         let mut out = MemorySink::new(alloc, Vec::new(alloc));
         let words = texts(alloc, &["report", model, "p"])?;
-        assert_eq!(rt; run(alloc, words.as_slice(), &mut shelf, &mut out), status);
+        assert_eq!(rt;
+            status_of(alloc, words.as_slice(), &mut shelf, &mut out),
+            status
+        );
         assert!(rt; out.bytes.as_slice() == line.as_bytes(), "{line}");
     }
     Ok(())

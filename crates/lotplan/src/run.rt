@@ -37,11 +37,11 @@ use std::alloc::{AllocError, Global};
 /// `words` are those after the program's name: none for the program's name and version,
 /// `plan MODEL PLAN CERTIFICATE` with or without `--nodes N`, `judge MODEL PLAN`, `check MODEL PLAN CERTIFICATE`,
 /// `report MODEL PLAN`, `gen SEED ITEMS PERIODS MODEL`, `demo SEED`, `upgrade MODEL NEW`, `bound MODEL`, or a call for
-/// help. N is the most nodes that the certificate's tree may have, from 1 to 1,000,000, and
-/// else 1,000. The numbers are 0 done, 1 no plan is feasible, 2 the best cost was left open, or the bound was not
+/// help. N is the most nodes that the certificate's tree may have, from 1 to `LARGEST_BUDGET`, and
+/// else `USUAL_BUDGET`. The numbers are 0 done, 1 no plan is feasible, 2 the best cost was left open, or the bound was not
 /// found, 3 the plan file holds no plan or one that breaks a rule, or the certificate is refused, 4 no command, 5 the
 /// model is refused, 6 a file is absent, 7 it could not be read, 8 it could not be written, 9 the lines could not be printed, 10 out of memory, 11 a file is
-/// longer than 16,777,216 bytes, or a certificate file than 2^63 - 1. All memory is taken before the first write. `plan`
+/// longer than `MAX_FILE` bytes, or a certificate file than 2^63 - 1. All memory is taken before the first write. `plan`
 /// writes the plan file before the certificate file, and where it found no plan the certificate file alone.
 ///
 /// What is said of counts holds over every shelf and sink, the machine's own too; what is said of

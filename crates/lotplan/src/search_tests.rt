@@ -1,7 +1,7 @@
 use crate::check_tests::{SHOP_PLAN, SHORT_SHOP};
-use crate::run;
 use crate::tests::{
-    HEADER, SHOP, WORKSHOP, holds, is_checked, one_item, put, shelf_with, texts, two_items,
+    HEADER, SHOP, WORKSHOP, holds, is_checked, one_item, put, shelf_with, status_of, texts,
+    two_items,
 };
 use lot_io::{MemoryShelf, MemorySink};
 use std::alloc::{AllocError, Global};
@@ -32,7 +32,7 @@ fn plan_model(alloc: Global, model: &str, nodes: Option<&str>) -> Result<Plannin
     let mut shelf = shelf_with(alloc, model.as_bytes(), &[], &[], &[])?;
     put(alloc, &mut shelf, "p", b"old\n")?;
     let mut out = MemorySink::new(alloc, Vec::new(alloc));
-    let status = run(alloc, words.as_slice(), &mut shelf, &mut out);
+    let status = status_of(alloc, words.as_slice(), &mut shelf, &mut out);
     Ok(Planning {
         status,
         lines: out.bytes,
@@ -177,5 +177,19 @@ fn a_large_model_is_skipped_at_the_root(rt: HostRuntime) -> Result<(), Fail> {
         "accepted bound 200\n"
     };
     assert!(rt; is_checked(alloc, &mut left.shelf, line)?);
+    Ok(())
+}
+
+// The text of `examples/furniture.toml` without what it says of itself. The README shows its lines.
+const FURNITURE: &str =
+    "version = 1\nperiods = 8\n\n[[resource]]\nname = \"saw\"\ncapacity = [80, 80, 80, 80, 60, 80, 80, 80]\n\n[[resource]]\nname = \"paint\"\ncapacity = 70\n\n[[item]]\nname = \"table\"\ndemand = [0, 8, 6, 10, 4, 12, 6, 9]\nsetup_cost = 240\nhold_cost = 9\nneeds = [{ item = \"frame\", quantity = 1 }, { item = \"top\", quantity = 1 }]\nuses = [{ resource = \"paint\", unit = 3, setup = 8 }]\n\n[[item]]\nname = \"chair\"\ndemand = [10, 0, 14, 8, 16, 6, 12, 10]\nsetup_cost = 180\nhold_cost = 4\nbacklog_cost = 15\nneeds = [{ item = \"frame\", quantity = 1 }]\nuses = [{ resource = \"paint\", unit = 1, setup = 6 }]\n\n[[item]]\nname = \"frame\"\ndemand = 0\nsetup_cost = 120\nhold_cost = 2\nopening = 20\nuses = [{ resource = \"saw\", unit = 2, setup = 5 }]\n\n[[item]]\nname = \"top\"\ndemand = [0, 2, 0, 0, 3, 0, 0, 2]\nsetup_cost = 90\nhold_cost = 3\nopening = 6\nuses = [{ resource = \"saw\", unit = 1, setup = 4 }]\n";
+
+#[test]
+fn the_furniture_maker_is_planned(rt: HostRuntime) -> Result<(), Fail> {
+    let alloc = rt.alloc();
+    let mut left = plan_model(alloc, FURNITURE, None)?;
+    assert_eq!(rt; left.status, 2);
+    assert!(rt; left.prints("root passed\nnodes 999\n", "\nundecided 2712 plan 2861\n"));
+    assert!(rt; is_checked(alloc, &mut left.shelf, "accepted bound 2712\n")?);
     Ok(())
 }

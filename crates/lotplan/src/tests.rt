@@ -1,5 +1,5 @@
 use crate::run;
-use lot_io::{MemoryShelf, MemorySink};
+use lot_io::{MemoryShelf, MemorySink, Shelf, Sink};
 use std::alloc::{AllocError, Global};
 use std::collections::BTreeMap;
 use std::test::Fail;
@@ -8,6 +8,16 @@ pub const TEN: &str =
     "version = 1\nperiods = 1\n[[item]]\nname = \"A\"\ndemand = [10]\nsetup_cost = 5\nunit_cost = 2\n";
 
 pub const HEADER: &str = "item,period,make,setup,stock,backlog\n";
+
+// The status that the words end with. No clause says so: a test has its own expectation, and is not to carry those of `run`.
+pub fn status_of<S: Shelf, K: Sink>(
+    alloc: Global,
+    words: &[String],
+    shelf: &mut S,
+    out: &mut K,
+) -> u8 {
+    run(alloc, words, shelf, out)
+}
 
 // The words as owned texts.
 pub fn texts(alloc: Global, words: &[&str]) -> Result<Vec<String>, AllocError> {
@@ -71,7 +81,7 @@ pub fn ends_in(alloc: Global, model: &str, status: u8, line: &str) -> Result<boo
     let words = texts(alloc, &["plan", "m", "p", "c"])?;
     let mut shelf = shelf_with(alloc, model.as_bytes(), &[], &[], &[])?;
     let mut out = MemorySink::new(alloc, Vec::new(alloc));
-    let ended = run(alloc, words.as_slice(), &mut shelf, &mut out);
+    let ended = status_of(alloc, words.as_slice(), &mut shelf, &mut out);
     let said = ended == status && out.bytes.as_slice() == line.as_bytes();
     Ok(said && shelf.files.len() == 1 && shelf.starts == 0 && holds(&shelf, "m", model))
 }
@@ -80,7 +90,7 @@ pub fn ends_in(alloc: Global, model: &str, status: u8, line: &str) -> Result<boo
 pub fn is_checked(alloc: Global, shelf: &mut MemoryShelf, line: &str) -> Result<bool, AllocError> {
     let words = texts(alloc, &["check", "m", "p", "c"])?;
     let mut out = MemorySink::new(alloc, Vec::new(alloc));
-    let ended = run(alloc, words.as_slice(), shelf, &mut out);
+    let ended = status_of(alloc, words.as_slice(), shelf, &mut out);
     Ok(ended == 0 && out.bytes.as_slice() == line.as_bytes())
 }
 
@@ -97,7 +107,7 @@ fn is_planned(
     let mut shelf = shelf_with(alloc, model.as_bytes(), &[], &[], &[])?;
     put(alloc, &mut shelf, "p", b"old\n")?;
     let mut out = MemorySink::new(alloc, Vec::new(alloc));
-    let ended = run(alloc, words.as_slice(), &mut shelf, &mut out);
+    let ended = status_of(alloc, words.as_slice(), &mut shelf, &mut out);
     let lines = format!(in alloc; "root uncoupled\nnodes 1\n{claim}\n")?;
     let said = ended == status && out.bytes.as_slice() == lines.as_bytes();
     let accepted = format!(in alloc; "accepted {claim}\n")?;
@@ -301,7 +311,7 @@ pub fn judged_as(
     let text = format!(in alloc; "{HEADER}{records}")?;
     put(alloc, &mut shelf, "p", text.as_bytes())?;
     let mut out = MemorySink::new(alloc, Vec::new(alloc));
-    let ended = run(alloc, words.as_slice(), &mut shelf, &mut out);
+    let ended = status_of(alloc, words.as_slice(), &mut shelf, &mut out);
     let kept = shelf.files.len() == 2 && shelf.starts == 0 && holds(&shelf, "p", text.as_str());
     Ok(
         ended == status
@@ -377,7 +387,7 @@ fn upgraded_as(
     let words = texts(alloc, &["upgrade", "m", "n"])?;
     let mut shelf = shelf_with(alloc, model.as_bytes(), &[], &[], &[])?;
     let mut out = MemorySink::new(alloc, Vec::new(alloc));
-    let ended = run(alloc, words.as_slice(), &mut shelf, &mut out);
+    let ended = status_of(alloc, words.as_slice(), &mut shelf, &mut out);
     let kept = if text.is_empty() {
         shelf.files.len() == 1 && shelf.starts == 0
     } else {
@@ -420,7 +430,7 @@ fn upgrades_name_the_faults_of_the_outside(rt: HostRuntime) -> Result<(), Fail> 
         let mut out = MemorySink::new(alloc, Vec::new(alloc));
         let words = texts(alloc, &["upgrade", model, "n"])?;
         assert_eq!(rt;
-            run(alloc, words.as_slice(), &mut shelf, &mut out),
+            status_of(alloc, words.as_slice(), &mut shelf, &mut out),
             status,
             "{line}"
         );
@@ -468,7 +478,7 @@ fn a_judgement_names_the_file_that_is_absent(rt: HostRuntime) -> Result<(), Fail
         let words = texts(alloc, &["judge", model, plan])?;
         let mut shelf = shelf_with(alloc, TEN.as_bytes(), &[], &[], &[])?;
         let mut out = MemorySink::new(alloc, Vec::new(alloc));
-        assert_eq!(rt; run(alloc, words.as_slice(), &mut shelf, &mut out), 6);
+        assert_eq!(rt; status_of(alloc, words.as_slice(), &mut shelf, &mut out), 6);
         assert!(rt; out.bytes.as_slice() == line.as_bytes());
     }
     Ok(())
@@ -494,7 +504,7 @@ fn faults_of_the_outside_are_named(rt: HostRuntime) -> Result<(), Fail> {
         let mut out = MemorySink::new(alloc, Vec::from_slice(alloc, put)?);
         let words = texts(alloc, &["plan", model, "p", "c"])?;
         assert_eq!(rt;
-            run(alloc, words.as_slice(), &mut shelf, &mut out),
+            status_of(alloc, words.as_slice(), &mut shelf, &mut out),
             status,
             "{printed}"
         );
@@ -522,7 +532,10 @@ fn a_long_model_is_refused(rt: HostRuntime) -> Result<(), Fail> {
     let model = vec![in alloc; b'\n'; 16_777_217]?;
     let mut shelf = shelf_with(alloc, model.as_slice(), &[], &[], &[])?;
     let mut out = MemorySink::new(alloc, Vec::new(alloc));
-    assert_eq!(rt; run(alloc, words.as_slice(), &mut shelf, &mut out), 11);
+    assert_eq!(rt;
+        status_of(alloc, words.as_slice(), &mut shelf, &mut out),
+        11
+    );
     assert!(rt; out.bytes.as_slice() == b"refused long m\n".as_slice());
     Ok(())
 }

@@ -1,5 +1,4 @@
-use crate::run;
-use crate::tests::{TEN, shelf_with, texts};
+use crate::tests::{TEN, shelf_with, status_of, texts};
 use lot_io::MemorySink;
 use std::alloc::{AllocError, Global};
 use std::test::Fail;
@@ -9,7 +8,7 @@ fn printed_by(alloc: Global, words: &[&str], status: u8) -> Result<Option<Vec<u8
     let mut shelf = shelf_with(alloc, TEN.as_bytes(), &[], &[], &[])?;
     let mut out = MemorySink::new(alloc, Vec::new(alloc));
     let list = texts(alloc, words)?;
-    let ended = run(alloc, list.as_slice(), &mut shelf, &mut out);
+    let ended = status_of(alloc, list.as_slice(), &mut shelf, &mut out);
     let idle = (shelf.fetches, shelf.starts, out.puts) == (0, 0, 1);
     Ok(if ended == status && idle {
         Some(out.bytes)
@@ -126,7 +125,7 @@ fn help_that_is_not_printed_is_named(rt: HostRuntime) -> Result<(), Fail> {
     let words = texts(alloc, &["--help"])?;
     let mut shelf = shelf_with(alloc, TEN.as_bytes(), &[], &[], &[])?;
     let mut out = MemorySink::new(alloc, Vec::from_slice(alloc, &[1])?);
-    assert_eq!(rt; run(alloc, words.as_slice(), &mut shelf, &mut out), 9);
+    assert_eq!(rt; status_of(alloc, words.as_slice(), &mut shelf, &mut out), 9);
     assert_eq!(rt; (out.puts, out.faults), (1, 1));
     Ok(())
 }

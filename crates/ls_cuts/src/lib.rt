@@ -28,6 +28,3 @@ pub use laws::{
 };
 pub use row::ls_row;
 pub use separation::separate;
-
-#[cfg(test)]
-mod tests;

@@ -1,5 +1,5 @@
 -- How many rows and columns the program has, and how many parts its leaf.
-use Rattle.std.proofs.Common.{◌≡◌, ◌≤◌, ◌+◌, ◌-◌, ◌*◌, ◌^◌, ◌∙◌, ⊎_elim, ℕ, zero, suc, refl, sym, ap, arith, Bool, true, false, List, [], ◌∷◌, ◌++◌, length, length-append}
+use Rattle.std.proofs.Common.{◌≡◌, ◌≤◌, ◌+◌, ◌-◌, ◌*◌, ◌∙◌, ⊎_elim, ℕ, zero, suc, refl, sym, ap, arith, Bool, true, false, List, [], ◌∷◌, ◌++◌, length, length-append}
 use Rattle.std.specs.Prelude.{if◌then◌else◌, ℤ, pos, negsuc}
 use Rattle.std.specs.List.{filter}
 use Rattle.std.proofs.lemmas.Bool.{cases_Bool}
@@ -14,6 +14,7 @@ use Rattle.lin_rows.specs.Columns.{column_count, owes, owing_count}
 use Rattle.lin_rows.specs.Rows.{LinRow}
 use Rattle.tableau.specs.Program.{Program, column_count as width_of, row_count}
 use Rattle.acceptance.specs.Named.{row_named}
+use Rattle.root_rows.specs.declared.limits.TheConstants.{MAX_ROUND_SIZE}
 use Rattle.root_rows.specs.declared.program.Side.{Side}
 use Rattle.root_rows.specs.Names.{base_names, cell_names, end_name, is_made, names_to}
 use Rattle.root_rows.specs.Sides.{all_sides, part_of, parts_of, side_inequality, sides_of}
@@ -117,7 +118,7 @@ module _ (m : Problem) (total : ℕ → ℕ) (path : List Bound) (n : ℕ) (p : 
       let row = row_named (on_path m total path) in
       omega (arith, ap length is.sides_are, sides_few row (path_names m n), length-append (base_names m) (names_to n (λ k. Path k)), base_few m within, to_count n (λ k. Path k))
 
-  pub few_all : IsWithinLimits m → n ≤ 2000 → width_of p + row_count p ≤ 3 * 10 ^ 6
+  pub few_all : IsWithinLimits m → n ≤ 2000 → width_of p + row_count p ≤ MAX_ROUND_SIZE
   few_all within few = omega (arith, is.program.costs_are.size, columns_few m within, one_side_each, few_sides within, few)
 
 -- ---- parts

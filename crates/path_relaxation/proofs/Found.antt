@@ -26,7 +26,7 @@ use Rattle.root_rows.specs.declared.rounds.RoundProgram.{RoundProgram}
 use Rattle.root_rows.specs.Names.{BaseNamesAreAll}
 use Rattle.root_rows.specs.Says.{EmptyIsSaid, LeastIsSaid, LeastSays}
 use Rattle.root_rows.specs.Sides.{parts_of}
-use Rattle.path_relaxation.specs.declared.relaxing.TheConstants.{MAX_PIVOTS}
+use Rattle.root_rows.specs.declared.limits.TheConstants.{MAX_PIVOTS}
 use Rattle.path_relaxation.specs.declared.says.Exempt.TheVariants.{Pivots, Cell, Leaf}
 use Rattle.path_relaxation.specs.declared.says.PathSays.{PathSays}
 use Rattle.path_relaxation.specs.declared.says.PathSays.TheVariants.{AtLeast, NoPoint, Exempt as ExemptFor}

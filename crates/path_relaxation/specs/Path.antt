@@ -29,7 +29,7 @@ use Rattle.root_rows.specs.declared.program.Side.{Side}
 use Rattle.root_rows.specs.Names.{base_names, names_to}
 use Rattle.root_rows.specs.Says.{IsProgramOf, sides_named}
 use Rattle.root_rows.specs.Sides.{parts_of}
-use Rattle.path_relaxation.specs.declared.relaxing.TheConstants.{MAX_PIVOTS}
+use Rattle.root_rows.specs.declared.limits.TheConstants.{MAX_PIVOTS}
 use Rattle.path_relaxation.specs.declared.says.Exempt.{Exempt}
 use Rattle.path_relaxation.specs.declared.says.Exempt.TheVariants.{Pivots, Cell, Leaf}
 use Rattle.path_relaxation.specs.declared.says.PathSays.{PathSays}

@@ -1,6 +1,6 @@
 //! The linear relaxation without cuts, on the path to a node of a search.
 //!
-//! Family: search. It stands on `root_rows`, `tableau` and `cert_checker`; the search is to stand on it.
+//! Family: search. It stands on `root_rows`, `tableau` and `cert_checker`; `branch_and_cut` stands on it.
 //!
 //! A node is reached by bounds of quantities and setups, one for each branch on its path. `path_relaxation` solves the
 //! program of all rows that the rules of plans make and of these bounds, by the least-index rule and in exact fractions.
@@ -14,8 +14,6 @@ mod program;
 mod relaxing;
 mod says;
 
-pub use relaxing::{MAX_PIVOTS, path_relaxation};
+pub use relaxing::path_relaxation;
+pub use root_rows::MAX_PIVOTS;
 pub use says::{Exempt, PathSays};
-
-#[cfg(test)]
-mod tests;

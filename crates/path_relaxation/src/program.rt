@@ -1,5 +1,5 @@
 // The program of all base rows and of the bounds of a path.
-ghost use Rattle.std.specs.Prelude.{◌≡◌, ◌≤◌, ◌<◌, ◌+◌, ◌*◌, ◌^◌, ◌++◌, ◌∷◌, [], false, length, IfOk};
+ghost use Rattle.std.specs.Prelude.{◌≡◌, ◌≤◌, ◌<◌, ◌+◌, ◌^◌, ◌++◌, ◌∷◌, [], false, length, IfOk};
 ghost use Rattle.lot_model.specs.Views.{IsInstance};
 ghost use Rattle.lin_rows.specs.declared.base.RowName.TheVariants.{Path};
 ghost use Rattle.lin_rows.specs.Bounds.{bound_row};
@@ -8,6 +8,7 @@ ghost use Rattle.cert_lines.specs.declared.limits.TheConstants.{MAX_BRANCHES};
 ghost use Rattle.tableau.specs.Program.{IsProgram, column_count as width_of, row_count, with_row};
 ghost use Rattle.split_trees.specs.Paths.{AreChoices};
 ghost use Rattle.split_trees.specs.Ranges.{IsChoice};
+ghost use Rattle.root_rows.specs.declared.limits.TheConstants.{MAX_ROUND_SIZE};
 ghost use Rattle.root_rows.specs.Sides.{side, turned_row};
 ghost use Rattle.path_relaxation.specs.Steps.{IsReady};
 
@@ -39,7 +40,7 @@ fn push_bound(
     requires choice { IsChoice instance.now bound.column }
     requires program { IsProgram program.old.lp }
     requires width { width_of program.old.lp ≡ column_count instance.now }
-    requires few { width_of program.old.lp + row_count program.old.lp ≤ 3 * 10 ^ 6 }
+    requires few { width_of program.old.lp + row_count program.old.lp ≤ MAX_ROUND_SIZE }
     ensures lp { IfOk result (λ _. program.new.lp ≡ with_row program.old.lp (turned_row instance.now false (bound_row bound))) }
     ensures sides { IfOk result (λ _. program.new.sides.items ≡ program.old.sides.items ++ (side (Path number) false ∷ [])) }
     ensures fits { IfOk result (λ _. IsProgram program.new.lp) }

@@ -11,12 +11,9 @@ use crate::{Exempt, PathSays};
 use frac128::Frac;
 use lin_rows::Bound;
 use lot_model::Instance;
-use root_rows::{RoundProgram, base_names_are_all, empty_is_said, least_is_said};
+use root_rows::{MAX_PIVOTS, RoundProgram, base_names_are_all, empty_is_said, least_is_said};
 use std::alloc::{AllocError, Global};
 use tableau::Outcome;
-
-/// The most pivots of a run.
-pub const MAX_PIVOTS: u32 = 2_000;
 
 // What is said by the multipliers of a least point.
 fn least_says(

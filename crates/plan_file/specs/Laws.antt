@@ -3,9 +3,10 @@ use Rattle.std.specs.Prelude.{◌≡◌, ◌≢◌, ◌≤◌, ℕ, List, length
 use Rattle.lot_sizing.specs.Problem.{IsWithinLimits, Problem}
 use Rattle.lot_sizing.specs.Plan.{Plan, EachCell}
 use Rattle.lot_sizing.specs.Texts.{plan_text}
+use Rattle.plan_file.specs.declared.limits.TheConstants.{MAX_FILE}
 use Rattle.plan_file.specs.Records.{IsPlanOf, Record}
 use Rattle.plan_file.specs.Faults.{IsPlanFault}
-use Rattle.plan_file.specs.Written.{FitIn64, most_bytes}
+use Rattle.plan_file.specs.Written.{FitIn64}
 use Rattle.plan_file.specs.declared.fault.PlanFault.{PlanFault}
 use Rattle.plan_file.specs.declared.fault.PlanFault.TheVariants.{Memory}
 
@@ -25,6 +26,6 @@ pub record MeanOneThing (m : Problem) (rs : List Record) : Type 0 where
 abbrev pub RecordsMeanOneThing : Type 0
 RecordsMeanOneThing = (m : Problem) (rs : List Record) → MeanOneThing m rs
 
--- within the limits, and where each number of the plan is below 2^64, its text has no more bytes than this
+-- within the limits, and where each number of the plan is below 2^64, its text has at most MAX_FILE bytes
 abbrev pub PlanTextsAreShort : Type 0
-PlanTextsAreShort = (m : Problem) (p : Plan) → IsWithinLimits m → EachCell m (FitIn64 p) → length (plan_text m p) ≤ most_bytes
+PlanTextsAreShort = (m : Problem) (p : Plan) → IsWithinLimits m → EachCell m (FitIn64 p) → length (plan_text m p) ≤ MAX_FILE

@@ -25,10 +25,6 @@ records_of_item m p i = list_to m.periods (record_of m p i)
 abbrev pub plan_records : Problem → Plan → List Record
 plan_records m p = header ∷ lists_to (item_count m) (records_of_item m p)
 
--- no plan file that is written has more bytes: 16,777,216
-abbrev pub most_bytes : ℕ
-most_bytes = 2 ^ 24
-
 -- the plan's numbers fit 64 bits here
 pub record FitIn64 (p : Plan) (i t : ℕ) : Type 0 where
   pub make : p.make i t < 2 ^ 64

@@ -7,7 +7,7 @@ pub fn records_mean_one_thing()
     ensures { RecordsMeanOneThing }
 {}
 
-/// The text of a plan has at most 2^24 bytes (16,777,216), for each problem within the limits and each plan
+/// The text of a plan has at most `MAX_FILE` bytes, for each problem within the limits and each plan
 /// whose numbers fit 64 bits.
 pub fn plan_texts_are_short()
     ensures { PlanTextsAreShort }

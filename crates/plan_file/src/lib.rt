@@ -4,19 +4,18 @@
 //! them, or the first fault in the order of the file, by name and place.
 //!
 //! Family: plans. It stands on `plan_rules`, whose `Plan` it writes and reads, and on `whole_numbers` for the
-//! numbers of a record. `lotplan` uses it.
+//! numbers of a record; `lotplan` stands on it.
 #![tactic(auto)]
 
 mod fault;
 mod laws;
+mod limits;
 mod reading;
 mod records;
 mod writing;
 
 pub use fault::PlanFault;
 pub use laws::{plan_texts_are_short, records_mean_one_thing};
+pub use limits::MAX_FILE;
 pub use reading::read_plan;
 pub use writing::write_plan;
-
-#[cfg(test)]
-mod tests;

@@ -6,7 +6,8 @@ ghost use Rattle.lot_sizing.specs.Plan.{EachCell};
 ghost use Rattle.lot_model.specs.Views.{IsInstance};
 ghost use Rattle.plan_rules.specs.Held.{plan_of, AllFit};
 ghost use Rattle.plan_file.specs.Records.{IsPlanOf, records_of};
-ghost use Rattle.plan_file.specs.Written.{FitIn64, most_bytes};
+ghost use Rattle.plan_file.specs.Written.{FitIn64};
+ghost use Rattle.plan_file.specs.declared.limits.TheConstants.{MAX_FILE};
 
 use lot_model::Instance;
 use plan_rules::Plan;
@@ -52,12 +53,12 @@ fn plan_text(alloc: Global, instance: &Instance, plan: &Plan) -> Result<String, 
     Ok(text)
 }
 
-/// The text of a plan: the header, and a record for each item and period in order, in at most 2^24 bytes
-/// (16,777,216). Read again, it is the plan. The error is want of memory.
+/// The text of a plan: the header, and a record for each item and period in order, in at most `MAX_FILE`
+/// bytes. Read again, it is the plan. The error is want of memory.
 pub fn write_plan(alloc: Global, instance: &Instance, plan: &Plan) -> Result<Vec<u8>, AllocError>
     requires { AllFit instance.now plan.now }
     ensures text { IfOk result (λ bytes. bytes.items ≡ plan_text instance.now (plan_of plan.now)) }
-    ensures short { IfOk result (λ bytes. length bytes.items ≤ most_bytes) }
+    ensures short { IfOk result (λ bytes. length bytes.items ≤ MAX_FILE) }
     ensures read { IfOk result (λ bytes. IsPlanOf instance.now (records_of bytes.items) (plan_of plan.now)) }
 {
     let text = plan_text(alloc, instance, plan)?;

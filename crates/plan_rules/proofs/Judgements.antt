@@ -5,7 +5,7 @@ use Rattle.lot_sizing.specs.Problem.{Problem, item_count, resource_count}
 use Rattle.lot_sizing.specs.Plan.{Plan, Each, IsSetup, IsBalanced, IsMadeWithSetup, IsWithinCapacity, IsEndStock, IsBacklogAllowed, IsLot, IsInHorizon, cost, time_used}
 use Rattle.plan_rules.specs.Held.{AllFit, plan_of}
 use Rattle.plan_rules.specs.Order.{IsBefore, IsFirst}
-use Rattle.plan_rules.specs.Broken.{IsFirstEnd, IsJudged, left_side, right_side}
+use Rattle.plan_rules.specs.Broken.{IsFirstEnd, IsJudged, balance_left, balance_right}
 use Rattle.plan_rules.specs.declared.broken.Broken.{Broken}
 use Rattle.plan_rules.specs.declared.broken.Broken.TheVariants.{Shape, SetupRange, Balance, SetupMissing, Capacity, EndStock, BacklogNotAllowed, Lot, Late}
 use Rattle.plan_rules.specs.declared.plan.Plan as grids
@@ -62,7 +62,7 @@ abbrev FromMade : Problem → Plan → Found → Type 0
 FromMade m p = Step (item_count m) m.periods (IsMadeWithSetup p) (λ i t. Err (SetupMissing i t)) (FromCapacity m p)
 
 abbrev FromBalance : Problem → Plan → Found → Type 0
-FromBalance m p = Step (item_count m) m.periods (IsBalanced m p) (λ i t. Err (Balance i t (left_side m p i t) (right_side m p i t))) (FromMade m p)
+FromBalance m p = Step (item_count m) m.periods (IsBalanced m p) (λ i t. Err (Balance i t (balance_left m p i t) (balance_right m p i t))) (FromMade m p)
 
 abbrev FromSetups : Problem → Plan → Found → Type 0
 FromSetups m p = Step (item_count m) m.periods (IsSetup p) (λ i t. Err (SetupRange i t)) (FromBalance m p)
@@ -76,7 +76,7 @@ from_setups_is_one m p =
     let ends = step_is_one _ _ _ (λ i t. Err (EndStock i)) (FromBacklogs m p) backlogs in
     let capacity = step_is_one _ _ _ (λ k t. Err (Capacity k t (time_used m p k t))) (FromEnds m p) ends in
     let made = step_is_one _ _ _ (λ i t. Err (SetupMissing i t)) (FromCapacity m p) capacity in
-    let balance = step_is_one _ _ _ (λ i t. Err (Balance i t (left_side m p i t) (right_side m p i t))) (FromMade m p) made in
+    let balance = step_is_one _ _ _ (λ i t. Err (Balance i t (balance_left m p i t) (balance_right m p i t))) (FromMade m p) made in
     step_is_one _ _ _ (λ i t. Err (SetupRange i t)) (FromBalance m p) balance
 
 -- the first item whose last stock is out of its bounds, in a table of one column

@@ -13,12 +13,12 @@ abbrev pub IsFirstCell : Problem → (ℕ → ℕ → Type 0) → ℕ → ℕ �
 IsFirstCell m R i t = IsFirst (item_count m) m.periods R i t
 
 -- what there is of an item in a period with the lot that arrives, less what is owed
-abbrev pub left_side : Problem → Plan → ℕ → ℕ → ℤ
-left_side m p i t = (pos (stock_after m p i (t - 1)) -ℤ pos (backlog_after p i (t - 1))) +ℤ pos (arriving m p.make i t)
+abbrev pub balance_left : Problem → Plan → ℕ → ℕ → ℤ
+balance_left m p i t = (pos (stock_after m p i (t - 1)) -ℤ pos (backlog_after p i (t - 1))) +ℤ pos (arriving m p.make i t)
 
 -- where it goes
-abbrev pub right_side : Problem → Plan → ℕ → ℕ → ℤ
-right_side m p i t = (pos (demand m i t + used_up m p.make i t + p.stock i t)) -ℤ pos (p.backlog i t)
+abbrev pub balance_right : Problem → Plan → ℕ → ℕ → ℤ
+balance_right m p i t = (pos (demand m i t + used_up m p.make i t + p.stock i t)) -ℤ pos (p.backlog i t)
 
 -- the first item whose last stock is out of its bounds
 pub record IsFirstEnd (m : Problem) (p : Plan) (i : ℕ) : Type 0 where
@@ -50,7 +50,7 @@ KeepsLots m p = KeepsBacklogs m p × EachCell m (IsLot m p)
 abbrev pub IsBroken : Problem → Plan → Broken → Type 0
 IsBroken m p Shape = ⊥
 IsBroken m p (SetupRange i t) = IsFirstCell m (IsSetup p) i t
-IsBroken m p (Balance i t left right) = EachCell m (IsSetup p) × IsFirstCell m (IsBalanced m p) i t × (left ≡ left_side m p i t) × (right ≡ right_side m p i t)
+IsBroken m p (Balance i t left right) = EachCell m (IsSetup p) × IsFirstCell m (IsBalanced m p) i t × (left ≡ balance_left m p i t) × (right ≡ balance_right m p i t)
 IsBroken m p (SetupMissing i t) = KeepsBalance m p × IsFirstCell m (IsMadeWithSetup p) i t
 IsBroken m p (Capacity k t used) = KeepsMade m p × IsFirst (resource_count m) m.periods (IsWithinCapacity m p) k t × (used ≡ time_used m p k t)
 IsBroken m p (EndStock i) = KeepsCapacity m p × IsFirstEnd m p i

@@ -25,7 +25,7 @@ impl Model for Grid {
 }
 
 // Where the number of an item and a period stands.
-fn place_of(periods: u32, item: u32, period: u32) -> usize
+fn cell_place(periods: u32, item: u32, period: u32) -> usize
     requires item_low { 1 ≤ item }
     requires period_low { 1 ≤ period }
     ensures { result ≡ place periods item period }
@@ -77,7 +77,7 @@ impl Grid {
         requires period_high { period ≤ self.now.periods }
         ensures { result ≡ table_of self.now item period }
     {
-        let place = place_of(self.periods, item, period);
+        let place = cell_place(self.periods, item, period);
         self.cells[place]
     }
 
@@ -92,7 +92,7 @@ impl Grid {
         ensures items { self.new.items ≡ self.old.items }
         ensures periods { self.new.periods ≡ self.old.periods }
     {
-        let place = place_of(self.periods, item, period);
+        let place = cell_place(self.periods, item, period);
         self.cells[place] = value;
     }
 }

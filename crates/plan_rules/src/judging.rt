@@ -200,8 +200,8 @@ pub fn judge(instance: &Instance, plan: &Plan) -> Result<u128, Broken>
         return Err(Broken::Balance {
             item,
             period,
-            left: sums::left_side(instance, plan, item, period),
-            right: sums::right_side(instance, plan, item, period),
+            left: sums::balance_left(instance, plan, item, period),
+            right: sums::balance_right(instance, plan, item, period),
         });
     }
     if let Err(Cell { item, period }) = judge_made(instance, plan) {

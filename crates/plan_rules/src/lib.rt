@@ -5,7 +5,7 @@
 //! and where. `complete` gives the stocks and backlogs that go best with quantities and setups. Contracts
 //! see a grid as its numbers by item and period, and a plan as the plan of the definitions.
 //!
-//! Family: plans. It stands on `lot_model`. `plan_file` and `uncoupled` use it.
+//! Family: plans. It stands on `lot_model`; `plan_file`, the checker and the search stand on it.
 #![tactic(auto)]
 
 mod broken;
@@ -24,6 +24,3 @@ pub use judging::judge;
 pub use laws::judgement_is_one;
 pub use plan::{Plan, Planned};
 pub use sums::{CostParts, arriving, cost_parts, time_used, used_up};
-
-#[cfg(test)]
-mod tests;

@@ -5,7 +5,7 @@ ghost use Rattle.lot_sizing.specs.Problem.{item_count, unit_cost, setup_cost, ho
 ghost use Rattle.lot_sizing.specs.Plan.{arriving, used_up, time_used, stock_after, backlog_after, IsBalanced, cost_at, cost};
 ghost use Rattle.plan_rules.specs.Cells.{Fits, table_of};
 ghost use Rattle.plan_rules.specs.Held.{AllFit, plan_of, most_used_up, most_time, most_cost_at};
-ghost use Rattle.plan_rules.specs.Broken.{left_side, right_side};
+ghost use Rattle.plan_rules.specs.Broken.{balance_left, balance_right};
 ghost use Rattle.lot_sizing.specs.declared.limits.TheConstants.{MAX_ITEMS, MAX_PERIODS};
 
 use crate::{Grid, Plan};
@@ -99,13 +99,13 @@ pub fn is_balanced(instance: &Instance, plan: &Plan, item: u32, period: u32) -> 
 }
 
 // What there is of an item in a period with the lot that arrives, less what is owed.
-pub fn left_side(instance: &Instance, plan: &Plan, item: u32, period: u32) -> i128
+pub fn balance_left(instance: &Instance, plan: &Plan, item: u32, period: u32) -> i128
     requires fits { AllFit instance.now plan.now }
     requires item_low { 1 ≤ item }
     requires item_high { item ≤ item_count instance.now }
     requires low { 1 ≤ period }
     requires high { period ≤ instance.now.periods }
-    ensures { result ≡ left_side instance.now (plan_of plan.now) item period }
+    ensures { result ≡ balance_left instance.now (plan_of plan.now) item period }
 {
     let stock = stock_before(instance, plan, item, period) as i128;
     let owed = backlog_before(instance, plan, item, period) as i128;
@@ -113,13 +113,13 @@ pub fn left_side(instance: &Instance, plan: &Plan, item: u32, period: u32) -> i1
 }
 
 // Where it goes.
-pub fn right_side(instance: &Instance, plan: &Plan, item: u32, period: u32) -> i128
+pub fn balance_right(instance: &Instance, plan: &Plan, item: u32, period: u32) -> i128
     requires fits { AllFit instance.now plan.now }
     requires item_low { 1 ≤ item }
     requires item_high { item ≤ item_count instance.now }
     requires low { 1 ≤ period }
     requires high { period ≤ instance.now.periods }
-    ensures { result ≡ right_side instance.now (plan_of plan.now) item period }
+    ensures { result ≡ balance_right instance.now (plan_of plan.now) item period }
 {
     let into = instance.demand(item, period) as u128
         + used_up(instance, &plan.make, item, period)

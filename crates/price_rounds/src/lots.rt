@@ -1,16 +1,16 @@
 // Quantities, setups, stocks and backlogs of single-item plans.
 use priced_items::numbers::{UNIT, at, less, plus, times, write};
-use priced_items::{Fixed, Grid, Held, Item, Served};
+use priced_items::{Fixed, Held, IntegerGrid, Item, Served};
 use std::alloc::{AllocError, Global};
 
-/// Averages of single-item plans, by item and period, in units of 1/4096.
+/// Averages of single-item plans, by item and period, in units of 1/`UNIT`.
 #[derive(Debug, Drop)]
 pub struct Average {
-    pub(crate) units: Grid,
-    pub(crate) setups: Grid,
+    pub(crate) units: IntegerGrid,
+    pub(crate) setups: IntegerGrid,
     // Stocks and backlogs of echelons.
-    pub(crate) stocks: Grid,
-    pub(crate) owed: Grid,
+    pub(crate) stocks: IntegerGrid,
+    pub(crate) owed: IntegerGrid,
 }
 
 // No units, and the setups that the path fixes.
@@ -73,10 +73,10 @@ impl Average {
     // Of plans without lots.
     pub(crate) fn zero(alloc: Global, items: u32, periods: u32) -> Result<Average, AllocError> {
         Ok(Average {
-            units: Grid::zero(alloc, items, periods)?,
-            setups: Grid::zero(alloc, items, periods)?,
-            stocks: Grid::zero(alloc, items, periods)?,
-            owed: Grid::zero(alloc, items, periods)?,
+            units: IntegerGrid::zero(alloc, items, periods)?,
+            setups: IntegerGrid::zero(alloc, items, periods)?,
+            stocks: IntegerGrid::zero(alloc, items, periods)?,
+            owed: IntegerGrid::zero(alloc, items, periods)?,
         })
     }
 
@@ -90,12 +90,12 @@ impl Average {
         })
     }
 
-    /// How often an item is set up in a period, in units of 1/4096: from 0 to 4096.
+    /// How often an item is set up in a period, in units of 1/`UNIT`: from 0 to `UNIT`.
     pub fn setup(&self, item: u32, period: u32) -> i128 {
         i128::from(self.setups.get(item, period))
     }
 
-    /// How many units of an item are made in a period, in units of 1/4096.
+    /// How many units of an item are made in a period, in units of 1/`UNIT`.
     pub fn made(&self, item: u32, period: u32) -> i128 {
         i128::from(self.units.get(item, period))
     }
@@ -126,7 +126,7 @@ impl Average {
         }
     }
 
-    // Other plans enter with a weight, in units of 1/4096.
+    // Other plans enter with a weight, in units of 1/`UNIT`.
     pub(crate) fn mix(&mut self, plan: &Average, weight: i64) {
         self.units.mix(&plan.units, weight);
         self.setups.mix(&plan.setups, weight);

@@ -6,7 +6,7 @@ use crate::slopes::Slopes;
 use crate::valuing::Planning;
 use lot_model::Instance;
 use priced_items::numbers::{ONE, Rate, UNIT};
-use priced_items::{Fixed, Prices, Pricing, settle};
+use priced_items::{DualPrices, Fixed, Pricing, settle};
 use std::alloc::{AllocError, Global};
 use std::marker::Model;
 
@@ -23,7 +23,7 @@ const MOST_STEP: i128 = 2_000_000;
 const LEAST_STEP: i128 = 1_000;
 
 const PATIENCE: u32 = 4;
-// The least and the largest weight of a plan in the average, in units of 1/4096.
+// The least and the largest weight of a plan in the average, in units of 1/`UNIT`.
 const LEAST_WEIGHT: i64 = 164;
 
 const MOST_WEIGHT: i64 = 1638;
@@ -45,7 +45,7 @@ pub enum Reached {
 #[derive(Debug, Drop)]
 pub struct Improved {
     /// The best prices.
-    pub prices: Prices,
+    pub prices: DualPrices,
     /// The average of the single-item plans of the rounds.
     pub average: Average,
 }
@@ -67,7 +67,7 @@ struct Given<'a> {
 /// average. Nothing is claimed of what they find: a leaf of the prices is tested by who takes it.
 #[derive(Debug, Drop)]
 pub struct Rounds {
-    best: Prices,
+    best: DualPrices,
     number: i128,
     average: Average,
     // The plans at the best prices.
@@ -79,7 +79,7 @@ pub struct Rounds {
     // Whether the best prices were tried with all costs dropped, which then refuted nothing.
     is_tried: bool,
     // Prices on trial, their plans, and directions at the average and at these plans.
-    trial: Prices,
+    trial: DualPrices,
     plan: Average,
     slopes: Slopes,
     others: Slopes,
@@ -134,7 +134,7 @@ impl Rounds {
         alloc: Global,
         instance: &Instance,
         pricing: &Pricing,
-        prices: Prices,
+        prices: DualPrices,
         average: Option<Average>,
         fixed: &Fixed,
     ) -> Result<Rounds, AllocError> {
@@ -303,7 +303,7 @@ impl Rounds {
     }
 
     /// The best prices.
-    pub fn prices(&self) -> &Prices
+    pub fn prices(&self) -> &DualPrices
         ensures { result.now ≡ self.now.prices }
     {
         &self.best

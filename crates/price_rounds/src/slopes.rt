@@ -5,15 +5,15 @@ ghost use Rattle.lot_sizing.specs.Problem.{item_count};
 use crate::lots::Average;
 use lot_model::Instance;
 use priced_items::numbers::{Rate, UNIT, less, of_amount, times};
-use priced_items::{Grid, Prices, Pricing, clear};
+use priced_items::{DualPrices, IntegerGrid, Pricing, clear};
 use std::alloc::{AllocError, Global};
 
 // By how much what the leaf says changes with each price, at plans of the items.
 #[derive(Debug, Drop)]
 pub(crate) struct Slopes {
-    capacity: Grid,
-    stock: Grid,
-    back: Grid,
+    capacity: IntegerGrid,
+    stock: IntegerGrid,
+    back: IntegerGrid,
 }
 
 // What there is of a resource, below 0.
@@ -45,9 +45,9 @@ impl Slopes {
     pub(crate) fn zero(alloc: Global, instance: &Instance) -> Result<Slopes, AllocError> {
         let periods = instance.periods();
         Ok(Slopes {
-            capacity: Grid::zero(alloc, instance.resources(), periods)?,
-            stock: Grid::zero(alloc, instance.items(), periods)?,
-            back: Grid::zero(alloc, instance.items(), periods)?,
+            capacity: IntegerGrid::zero(alloc, instance.resources(), periods)?,
+            stock: IntegerGrid::zero(alloc, instance.items(), periods)?,
+            back: IntegerGrid::zero(alloc, instance.items(), periods)?,
         })
     }
 
@@ -75,7 +75,7 @@ impl Slopes {
     }
 
     // By how much the plans use more than there is of each resource.
-    fn write_capacity(&mut self, instance: &Instance, prices: &Prices, plan: &Average) {
+    fn write_capacity(&mut self, instance: &Instance, prices: &DualPrices, plan: &Average) {
         for resource in 1..instance.resources() + 1 {
             if let Some(line) = self.capacity.line_mut(resource) {
                 write_room(line, instance.capacities(resource));
@@ -104,7 +104,7 @@ impl Slopes {
     }
 
     // A direction of a price of stock is 0 where the price can't be changed, or not in that direction.
-    fn keep_stock(&mut self, instance: &Instance, pricing: &Pricing, prices: &Prices, item: u32)
+    fn keep_stock(&mut self, instance: &Instance, pricing: &Pricing, prices: &DualPrices, item: u32)
         requires low { 1 ≤ item }
         requires high { item ≤ item_count instance.now }
     {
@@ -129,7 +129,7 @@ impl Slopes {
         &mut self,
         instance: &Instance,
         pricing: &Pricing,
-        prices: &Prices,
+        prices: &DualPrices,
         plan: &Average,
     ) {
         self.stock.take_from(&plan.stocks);
@@ -153,7 +153,7 @@ impl Slopes {
     }
 
     // A direction of a price of backlog is 0 where it can't be changed, as of an end product, which keeps what is left.
-    fn keep_back(&mut self, instance: &Instance, pricing: &Pricing, prices: &Prices, item: u32)
+    fn keep_back(&mut self, instance: &Instance, pricing: &Pricing, prices: &DualPrices, item: u32)
         requires low { 1 ≤ item }
         requires high { item ≤ item_count instance.now }
     {
@@ -172,7 +172,7 @@ impl Slopes {
         &mut self,
         instance: &Instance,
         pricing: &Pricing,
-        prices: &Prices,
+        prices: &DualPrices,
         plan: &Average,
     ) {
         self.back.take_from(&plan.owed);
@@ -191,7 +191,7 @@ impl Slopes {
         &mut self,
         instance: &Instance,
         pricing: &Pricing,
-        prices: &Prices,
+        prices: &DualPrices,
         plan: &Average,
     ) {
         self.write_capacity(instance, prices, plan);
@@ -202,7 +202,7 @@ impl Slopes {
     }
 
     // Other prices: some further, by so much of these directions.
-    pub(crate) fn go(&self, from: &Prices, to: &mut Prices, rate: Rate) {
+    pub(crate) fn go(&self, from: &DualPrices, to: &mut DualPrices, rate: Rate) {
         to.capacity.go(&from.capacity, &self.capacity, rate);
         to.stock.go(&from.stock, &self.stock, rate);
         to.back.go(&from.back, &self.back, rate);

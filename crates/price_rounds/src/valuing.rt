@@ -5,7 +5,7 @@ ghost use Rattle.lot_sizing.specs.Problem.{item_count};
 use crate::lots::Average;
 use lot_model::Instance;
 use priced_items::numbers::{at, dot, dot_amounts, wide};
-use priced_items::{Costs, Fixed, Held, Item, Prices, Pricing, Serving};
+use priced_items::{Costs, DualPrices, Fixed, Held, Item, Pricing, Serving};
 use std::alloc::{AllocError, Global};
 
 // The lists in which single items are planned, one after the other.
@@ -27,7 +27,7 @@ fn fixed_value(fees: &[i64], held: &[Held]) -> i128 {
 }
 
 // The right sides of all capacities.
-fn capacity_value(instance: &Instance, prices: &Prices) -> i128 {
+fn capacity_value(instance: &Instance, prices: &DualPrices) -> i128 {
     let mut sum = 0i128;
     for resource in 1..instance.resources() + 1 {
         let line = prices.capacity.line(resource);
@@ -65,7 +65,7 @@ impl Planning {
         &mut self,
         instance: &Instance,
         pricing: &Pricing,
-        prices: &Prices,
+        prices: &DualPrices,
         fixed: &Fixed,
         number: u32,
         plan: &mut Average,
@@ -91,7 +91,7 @@ impl Planning {
         &mut self,
         instance: &Instance,
         pricing: &Pricing,
-        prices: &Prices,
+        prices: &DualPrices,
         fixed: &Fixed,
         plan: &mut Average,
     ) -> Result<i128, AllocError> {

@@ -7,7 +7,7 @@ use crate::grid::clear;
 use crate::numbers::{
     add_times, are_positive, less, of_amount, plus, refill, refill_scaled, times,
 };
-use crate::prices::Prices;
+use crate::prices::DualPrices;
 use crate::pricing::Item;
 use echelon_rows::limits::MAX_PRICE;
 use lot_model::{Instance, Usage};
@@ -33,7 +33,7 @@ pub struct Costs {
 }
 
 // The time that units or setups take is added, by what it costs.
-fn add_time(list: &mut [i64], uses: &[Usage], prices: &Prices, is_setup: bool) {
+fn add_time(list: &mut [i64], uses: &[Usage], prices: &DualPrices, is_setup: bool) {
     for usage in uses {
         let time = if is_setup { usage.setup } else { usage.unit };
         if time > 0 {
@@ -85,7 +85,7 @@ impl Costs {
     pub fn write_fees(
         &mut self,
         instance: &Instance,
-        prices: &Prices,
+        prices: &DualPrices,
         item: u32,
     ) -> Result<(), AllocError>
         requires low { 1 ≤ item }
@@ -110,7 +110,7 @@ impl Costs {
     fn write_stocks(
         &mut self,
         instance: &Instance,
-        prices: &Prices,
+        prices: &DualPrices,
         item: u32,
     ) -> Result<(), AllocError>
         requires low { 1 ≤ item }
@@ -156,7 +156,7 @@ impl Costs {
         &mut self,
         instance: &Instance,
         item: &Item,
-        prices: &Prices,
+        prices: &DualPrices,
         fixed: &Fixed,
     ) -> Result<(), AllocError> {
         let number = item.number;

@@ -4,29 +4,29 @@ use std::alloc::{AllocError, Global};
 
 /// Numbers by line and period, both counted from 1: a line is an item or a resource. Outside all numbers are 0.
 #[derive(Debug, Drop)]
-pub struct Grid {
+pub struct IntegerGrid {
     lines: Vec<Vec<i64>>,
 }
 
-impl Grid {
+impl IntegerGrid {
     /// A grid of so many lines and periods, all 0.
-    pub fn zero(alloc: Global, lines: u32, periods: u32) -> Result<Grid, AllocError> {
+    pub fn zero(alloc: Global, lines: u32, periods: u32) -> Result<IntegerGrid, AllocError> {
         let mut all = Vec::with_capacity(alloc, lines as usize)?;
         for _ in 0..lines {
             let mut line = Vec::new(alloc);
             line.resize(periods as usize, 0)?;
             all.push(line)?;
         }
-        Ok(Grid { lines: all })
+        Ok(IntegerGrid { lines: all })
     }
 
     /// The same numbers once more.
-    pub fn copy(&self, alloc: Global) -> Result<Grid, AllocError> {
+    pub fn copy(&self, alloc: Global) -> Result<IntegerGrid, AllocError> {
         let mut all = Vec::with_capacity(alloc, self.lines.len())?;
         for line in self.lines.iter() {
             all.push(line.as_slice().to_vec(alloc)?)?;
         }
-        Ok(Grid { lines: all })
+        Ok(IntegerGrid { lines: all })
     }
 
     /// The numbers of a line, by period.
@@ -65,21 +65,21 @@ impl Grid {
     }
 
     /// All numbers are those of another grid of as many lines and periods.
-    pub fn take_from(&mut self, other: &Grid) {
+    pub fn take_from(&mut self, other: &IntegerGrid) {
         for (line, from) in self.lines.iter_mut().zip(other.lines.iter()) {
             copy_line(line.as_mut_slice(), from.as_slice());
         }
     }
 
-    /// Each number goes towards that of another grid, so much of the way in units of 1/4096.
-    pub fn mix(&mut self, other: &Grid, weight: i64) {
+    /// Each number goes towards that of another grid, so much of the way in units of 1/`UNIT`.
+    pub fn mix(&mut self, other: &IntegerGrid, weight: i64) {
         for (line, with) in self.lines.iter_mut().zip(other.lines.iter()) {
             mix_line(line.as_mut_slice(), with.as_slice(), weight);
         }
     }
 
     /// Each number is that of another grid, and so much of that of a third one.
-    pub fn go(&mut self, from: &Grid, slopes: &Grid, rate: Rate) {
+    pub fn go(&mut self, from: &IntegerGrid, slopes: &IntegerGrid, rate: Rate) {
         self.take_from(from);
         for (line, by) in self.lines.iter_mut().zip(slopes.lines.iter()) {
             go_line(line.as_mut_slice(), by.as_slice(), rate);
@@ -94,7 +94,7 @@ impl Grid {
     }
 
     /// The sum of the products of numbers that stand at the same places.
-    pub fn dot(&self, other: &Grid) -> i128 {
+    pub fn dot(&self, other: &IntegerGrid) -> i128 {
         let mut sum = 0i128;
         for (a, b) in self.lines.iter().zip(other.lines.iter()) {
             sum = sum.saturating_add(dot(a.as_slice(), b.as_slice()));

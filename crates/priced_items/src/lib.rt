@@ -26,8 +26,8 @@ mod splitting;
 
 pub use costs::Costs;
 pub use fixed::{Fixed, Held, fixed_setups};
-pub use grid::{Grid, clear};
-pub use prices::Prices;
+pub use grid::{IntegerGrid, clear};
+pub use prices::DualPrices;
 pub use pricing::{Item, Pricing};
 pub use recursion::{Served, Serving};
 pub use settling::settle;

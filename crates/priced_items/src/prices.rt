@@ -1,5 +1,5 @@
 // Prices of capacity, of stock and of backlog.
-use crate::grid::Grid;
+use crate::grid::IntegerGrid;
 use crate::numbers::{less, of_amount, times};
 use crate::pricing::Pricing;
 use crate::settling::settle;
@@ -12,36 +12,36 @@ use std::alloc::{AllocError, Global};
 /// of backlog, in place of the capacities and of what items take of each other: any such prices bound the cost of all
 /// plans from below (Lagrangean relaxation; Trigeiro, Thomas and McClain 1989).
 #[derive(Debug, Drop)]
-pub struct Prices {
+pub struct DualPrices {
     /// By how much prices are larger than money.
     pub scale: u64,
     /// A unit of time, by resource and period: at least 0.
-    pub capacity: Grid,
+    pub capacity: IntegerGrid,
     /// A unit of an item in stock at the end of a period, by item: at most the scale times its holding cost.
-    pub stock: Grid,
+    pub stock: IntegerGrid,
     /// A unit of an item's echelon owed at the end of a period, by item: at least 0.
-    pub back: Grid,
+    pub back: IntegerGrid,
 }
 
-impl Prices {
+impl DualPrices {
     // Prices of 0.
     pub(crate) fn zero(
         alloc: Global,
         instance: &Instance,
         scale: u64,
-    ) -> Result<Prices, AllocError> {
+    ) -> Result<DualPrices, AllocError> {
         let periods = instance.periods();
-        Ok(Prices {
+        Ok(DualPrices {
             scale,
-            capacity: Grid::zero(alloc, instance.resources(), periods)?,
-            stock: Grid::zero(alloc, instance.items(), periods)?,
-            back: Grid::zero(alloc, instance.items(), periods)?,
+            capacity: IntegerGrid::zero(alloc, instance.resources(), periods)?,
+            stock: IntegerGrid::zero(alloc, instance.items(), periods)?,
+            back: IntegerGrid::zero(alloc, instance.items(), periods)?,
         })
     }
 
     /// The same prices once more. The error is want of memory.
-    pub fn copy(&self, alloc: Global) -> Result<Prices, AllocError> {
-        Ok(Prices {
+    pub fn copy(&self, alloc: Global) -> Result<DualPrices, AllocError> {
+        Ok(DualPrices {
             scale: self.scale,
             capacity: self.capacity.copy(alloc)?,
             stock: self.stock.copy(alloc)?,
@@ -65,7 +65,7 @@ impl Prices {
     }
 
     /// These prices are those of another list, of the same problem.
-    pub fn take_from(&mut self, other: &Prices) {
+    pub fn take_from(&mut self, other: &DualPrices) {
         self.capacity.take_from(&other.capacity);
         self.stock.take_from(&other.stock);
         self.back.take_from(&other.back);
@@ -78,8 +78,8 @@ impl Prices {
         alloc: Global,
         instance: &Instance,
         pricing: &Pricing,
-    ) -> Result<Prices, AllocError> {
-        let mut found = Prices::zero(alloc, instance, 0)?;
+    ) -> Result<DualPrices, AllocError> {
+        let mut found = DualPrices::zero(alloc, instance, 0)?;
         found.capacity.take_from(&self.capacity);
         found.stock.take_from(&self.stock);
         let scale = of_amount(self.scale);

@@ -2,9 +2,9 @@
 ghost use Rattle.std.specs.Prelude.{◌≤◌};
 ghost use Rattle.lot_sizing.specs.Problem.{item_count};
 
-use crate::grid::{Grid, clear, cut_line};
+use crate::grid::{IntegerGrid, clear, cut_line};
 use crate::numbers::{less, of_amount, over, plus, share, times};
-use crate::prices::Prices;
+use crate::prices::DualPrices;
 use crate::pricing::Pricing;
 use lot_model::{Instance, Need};
 
@@ -17,7 +17,7 @@ fn bound_above(line: &mut [i64], costs: &[u64], scale: i64) {
 
 // Prices of stock of an item are at most its holding costs, 0 where the item isn't lead-free, and at least 0 where they
 // can't be moved.
-fn bound_stock(instance: &Instance, pricing: &Pricing, prices: &mut Prices, item: u32)
+fn bound_stock(instance: &Instance, pricing: &Pricing, prices: &mut DualPrices, item: u32)
     requires low { 1 ≤ item }
     requires high { item ≤ item_count instance.now }
 {
@@ -36,7 +36,7 @@ fn bound_stock(instance: &Instance, pricing: &Pricing, prices: &mut Prices, item
 }
 
 // The price of an item's stock, less those of the components in it.
-fn echelon_price(stock: &Grid, needs: &[Need], item: u32, period: u32) -> i64 {
+fn echelon_price(stock: &IntegerGrid, needs: &[Need], item: u32, period: u32) -> i64 {
     let mut price = stock.get(item, period);
     for need in needs {
         let units = of_amount(need.quantity);
@@ -46,7 +46,7 @@ fn echelon_price(stock: &Grid, needs: &[Need], item: u32, period: u32) -> i64 {
 }
 
 // What the components of an item cost in stock, those with a price above 0.
-fn components_price(prices: &Prices, needs: &[Need], period: u32) -> i64 {
+fn components_price(prices: &DualPrices, needs: &[Need], period: u32) -> i64 {
     let mut sum = 0;
     for need in needs {
         let price = prices.stock.get(need.item, period).max(0);
@@ -56,7 +56,7 @@ fn components_price(prices: &Prices, needs: &[Need], period: u32) -> i64 {
 }
 
 // Prices of components are lowered in proportion, so that they cost no more than the item.
-fn lower_components(prices: &mut Prices, needs: &[Need], item: u32, period: u32) {
+fn lower_components(prices: &mut DualPrices, needs: &[Need], item: u32, period: u32) {
     if echelon_price(&prices.stock, needs, item, period) >= 0 {
         return;
     }
@@ -73,7 +73,7 @@ fn lower_components(prices: &mut Prices, needs: &[Need], item: u32, period: u32)
 }
 
 // The same in each period.
-fn lower_all(instance: &Instance, prices: &mut Prices, item: u32) {
+fn lower_all(instance: &Instance, prices: &mut DualPrices, item: u32) {
     if item < 1 || item > instance.items() {
         return;
     }
@@ -84,7 +84,7 @@ fn lower_all(instance: &Instance, prices: &mut Prices, item: u32) {
 }
 
 // Echelons whose prices can't be moved to units have none below 0.
-fn order_stocks(instance: &Instance, pricing: &Pricing, prices: &mut Prices) {
+fn order_stocks(instance: &Instance, pricing: &Pricing, prices: &mut DualPrices) {
     for item in pricing.order() {
         if pricing.get(*item).is_some() && !pricing.is_movable(*item) {
             lower_all(instance, prices, *item);
@@ -96,7 +96,7 @@ fn order_stocks(instance: &Instance, pricing: &Pricing, prices: &mut Prices) {
 fn owed_price(
     instance: &Instance,
     pricing: &Pricing,
-    prices: &Prices,
+    prices: &DualPrices,
     end: u32,
     period: u32,
 ) -> i64 {
@@ -114,7 +114,7 @@ fn owed_price(
 fn lower_owed(
     instance: &Instance,
     pricing: &Pricing,
-    prices: &mut Prices,
+    prices: &mut DualPrices,
     end: u32,
     period: u32,
     most: i64,
@@ -135,7 +135,7 @@ fn lower_owed(
 fn owed_cost(
     instance: &Instance,
     pricing: &Pricing,
-    prices: &Prices,
+    prices: &DualPrices,
     item: u32,
     period: u32,
 ) -> i64 {
@@ -152,7 +152,7 @@ fn owed_cost(
 }
 
 // Prices of backlog are at least 0, and 0 where nothing may be owed.
-fn bound_backs(instance: &Instance, pricing: &Pricing, prices: &mut Prices) {
+fn bound_backs(instance: &Instance, pricing: &Pricing, prices: &mut DualPrices) {
     for item in 1..instance.items() + 1 {
         for period in 1..instance.periods() + 1 {
             let price = prices.back.get(item, period).max(0);
@@ -163,7 +163,7 @@ fn bound_backs(instance: &Instance, pricing: &Pricing, prices: &mut Prices) {
 }
 
 // Components leave something of what an end product costs that is owed.
-fn lower_backs(instance: &Instance, pricing: &Pricing, prices: &mut Prices, end: u32) {
+fn lower_backs(instance: &Instance, pricing: &Pricing, prices: &mut DualPrices, end: u32) {
     for period in 1..instance.periods() + 1 {
         let most = owed_cost(instance, pricing, prices, end, period);
         lower_owed(instance, pricing, prices, end, period, most);
@@ -171,7 +171,7 @@ fn lower_backs(instance: &Instance, pricing: &Pricing, prices: &mut Prices, end:
 }
 
 // An end product keeps what its components leave.
-fn keep_rest(instance: &Instance, pricing: &Pricing, prices: &mut Prices, end: u32) {
+fn keep_rest(instance: &Instance, pricing: &Pricing, prices: &mut DualPrices, end: u32) {
     for period in 1..instance.periods() + 1 {
         let most = owed_cost(instance, pricing, prices, end, period);
         let rest = less(most, owed_price(instance, pricing, prices, end, period));
@@ -180,7 +180,7 @@ fn keep_rest(instance: &Instance, pricing: &Pricing, prices: &mut Prices, end: u
 }
 
 // Prices of backlog are kept within the backlog costs of the end products.
-fn order_backs(instance: &Instance, pricing: &Pricing, prices: &mut Prices) {
+fn order_backs(instance: &Instance, pricing: &Pricing, prices: &mut DualPrices) {
     for end in 1..instance.items() + 1 {
         if instance.has_backlog_cost(end) {
             lower_backs(instance, pricing, prices, end);
@@ -194,7 +194,7 @@ fn order_backs(instance: &Instance, pricing: &Pricing, prices: &mut Prices) {
 }
 
 /// All prices are kept within their bounds.
-pub fn settle(instance: &Instance, pricing: &Pricing, prices: &mut Prices) {
+pub fn settle(instance: &Instance, pricing: &Pricing, prices: &mut DualPrices) {
     for item in 1..instance.items() + 1 {
         bound_stock(instance, pricing, prices, item);
     }
@@ -217,7 +217,13 @@ fn echelons_with(instance: &Instance, pricing: &Pricing, end: u32) -> i64 {
 }
 
 // A component gets a part of what an end product costs that is owed, or keeps a smaller one of another end product.
-fn split_back(instance: &Instance, pricing: &Pricing, prices: &mut Prices, item: u32, end: u32) {
+fn split_back(
+    instance: &Instance,
+    pricing: &Pricing,
+    prices: &mut DualPrices,
+    item: u32,
+    end: u32,
+) {
     let parts = times(
         echelons_with(instance, pricing, end),
         pricing.weight(item, end),
@@ -232,7 +238,7 @@ fn split_back(instance: &Instance, pricing: &Pricing, prices: &mut Prices, item:
 }
 
 // Each echelon that an end product is in gets the same part of what it costs that is owed.
-pub(crate) fn split_backs(instance: &Instance, pricing: &Pricing, prices: &mut Prices) {
+pub(crate) fn split_backs(instance: &Instance, pricing: &Pricing, prices: &mut DualPrices) {
     for end in 1..instance.items() + 1 {
         if instance.has_backlog_cost(end) {
             for item in 1..instance.items() + 1 {

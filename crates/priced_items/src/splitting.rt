@@ -1,7 +1,7 @@
 // The costs of items, split among the echelons.
-use crate::grid::Grid;
+use crate::grid::IntegerGrid;
 use crate::numbers::{less, of_amount, over, plus, times};
-use crate::prices::Prices;
+use crate::prices::DualPrices;
 use crate::pricing::Pricing;
 use crate::settling::{settle, split_backs};
 use lot_model::Instance;
@@ -48,7 +48,7 @@ fn scale_for(cost: u64) -> u64 {
 }
 
 // What is left of the price of stock of an item, for each of another one in it.
-fn share_of(left: &Grid, pricing: &Pricing, item: u32, count: u32, period: u32) -> i64 {
+fn share_of(left: &IntegerGrid, pricing: &Pricing, item: u32, count: u32, period: u32) -> i64 {
     let mut least = i64::MAX;
     if let Some(found) = pricing.get(item) {
         for place in 0..count {
@@ -64,8 +64,8 @@ fn share_of(left: &Grid, pricing: &Pricing, item: u32, count: u32, period: u32) 
 
 // The echelon of an item takes its share of the price of stock of each item in it.
 fn take_share(
-    left: &mut Grid,
-    stock: &mut Grid,
+    left: &mut IntegerGrid,
+    stock: &mut IntegerGrid,
     pricing: &Pricing,
     item: u32,
     count: u32,
@@ -83,8 +83,8 @@ fn take_share(
 }
 
 // Holding costs, times the scale.
-fn scaled_costs(alloc: Global, instance: &Instance, scale: u64) -> Result<Grid, AllocError> {
-    let mut grid = Grid::zero(alloc, instance.items(), instance.periods())?;
+fn scaled_costs(alloc: Global, instance: &Instance, scale: u64) -> Result<IntegerGrid, AllocError> {
+    let mut grid = IntegerGrid::zero(alloc, instance.items(), instance.periods())?;
     for item in 1..instance.items() + 1 {
         let mut period = 0u32;
         for cost in instance.hold_costs(item) {
@@ -100,7 +100,7 @@ fn split_stocks(
     alloc: Global,
     instance: &Instance,
     pricing: &Pricing,
-    prices: &mut Prices,
+    prices: &mut DualPrices,
 ) -> Result<(), AllocError> {
     let mut left = scaled_costs(alloc, instance, prices.scale)?;
     let count = instance.items();
@@ -115,16 +115,16 @@ fn split_stocks(
 
 /// Prices by which capacity costs nothing, and the holding and backlog costs of items are split among the echelons that
 /// they are in: from the raw components up each echelon holds stock at all that the items in it leave to it. The scale is
-/// the largest power of two up to 4096 by which no cost gets past 10^8, or 1.
+/// the largest power of two up to `MOST_SCALE` by which no cost gets past `MOST_SCALED`, or 1.
 ///
 /// The error is want of memory. It takes time in the square of the number of items times that of the periods.
 pub fn split_prices(
     alloc: Global,
     instance: &Instance,
     pricing: &Pricing,
-) -> Result<Prices, AllocError> {
+) -> Result<DualPrices, AllocError> {
     let scale = scale_for(largest_cost(instance));
-    let mut prices = Prices::zero(alloc, instance, scale)?;
+    let mut prices = DualPrices::zero(alloc, instance, scale)?;
     split_stocks(alloc, instance, pricing, &mut prices)?;
     split_backs(instance, pricing, &mut prices);
     settle(instance, pricing, &mut prices);

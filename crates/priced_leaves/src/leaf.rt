@@ -9,7 +9,7 @@ use cert_lines::{Cut, Part};
 use lin_rows::RowName;
 use lot_model::Instance;
 use priced_items::numbers::{at, less, of_amount, times};
-use priced_items::{Costs, Fixed, Grid, Held, Item, Prices, Pricing, Serving};
+use priced_items::{Costs, DualPrices, Fixed, Held, IntegerGrid, Item, Pricing, Serving};
 use std::alloc::{AllocError, Global};
 
 /// Block cuts, and the parts of a leaf that takes each of them once.
@@ -29,8 +29,8 @@ struct Making {
     cuts: Vec<Cut>,
     parts: Vec<Part>,
     // How often the balance of each item and period is taken, and the largest end stock of each item.
-    balances: Grid,
-    ends: Grid,
+    balances: IntegerGrid,
+    ends: IntegerGrid,
     // Whether all cuts could be made.
     is_whole: bool,
 }
@@ -40,8 +40,8 @@ impl Making {
         Ok(Making {
             cuts: Vec::new(alloc),
             parts: Vec::new(alloc),
-            balances: Grid::zero(alloc, instance.items(), instance.periods())?,
-            ends: Grid::zero(alloc, instance.items(), 1)?,
+            balances: IntegerGrid::zero(alloc, instance.items(), instance.periods())?,
+            ends: IntegerGrid::zero(alloc, instance.items(), 1)?,
             is_whole: true,
         })
     }
@@ -110,7 +110,7 @@ impl Making {
     }
 
     // The rows that are taken for all items together.
-    fn put_rows(&mut self, instance: &Instance, prices: &Prices) -> Result<(), AllocError> {
+    fn put_rows(&mut self, instance: &Instance, prices: &DualPrices) -> Result<(), AllocError> {
         for resource in 1..instance.resources() + 1 {
             for period in 1..instance.periods() + 1 {
                 let price = prices.capacity.get(resource, period);
@@ -141,7 +141,7 @@ struct Planning {
 struct Given<'a> {
     instance: &'a Instance,
     pricing: &'a Pricing,
-    prices: &'a Prices,
+    prices: &'a DualPrices,
     fixed: &'a Fixed,
 }
 
@@ -215,7 +215,7 @@ pub fn priced_leaf(
     alloc: Global,
     instance: &Instance,
     pricing: &Pricing,
-    prices: &Prices,
+    prices: &DualPrices,
     fixed: &Fixed,
     first_cut: u32,
 ) -> Result<Option<Priced>, AllocError>
@@ -237,7 +237,7 @@ pub fn dropped_leaf(
     alloc: Global,
     instance: &Instance,
     pricing: &Pricing,
-    prices: &Prices,
+    prices: &DualPrices,
     fixed: &Fixed,
     first_cut: u32,
 ) -> Result<Option<Priced>, AllocError>

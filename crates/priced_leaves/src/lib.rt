@@ -1,7 +1,7 @@
 //! Strong proposals for leaves, from prices of capacity and of stock.
 //!
 //! Family: search. It stands on `price_rounds`, which finds the prices, and on `cert_lines`, whose cuts and parts it makes;
-//! the search is to stand on it.
+//! `branch_and_cut` stands on it.
 //!
 //! With a price for time and a price for stock each item is planned by itself, and what the items then cost, less what the
 //! time is worth, bounds the cost of every plan (Lagrangean relaxation; Trigeiro, Thomas and McClain 1989). A block cut of
@@ -21,7 +21,4 @@ mod writable;
 pub use leaf::{Priced, dropped_leaf, priced_leaf};
 pub use price_rounds::{Average, Improved, Reached, Rounds};
 pub use priced_items::numbers::ONE;
-pub use priced_items::{Fixed, Held, Prices, Pricing, fixed_setups, split_prices};
-
-#[cfg(test)]
-mod tests;
+pub use priced_items::{DualPrices, Fixed, Held, Pricing, fixed_setups, split_prices};

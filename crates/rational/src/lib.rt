@@ -1,5 +1,8 @@
 //! Exact fractions of any size, for proofs.
 //!
+//! Family: numbers. It stands on `algebra`; `frac128`, `tableau` and all contracts that speak of fractions stand
+//! on it.
+//!
 //! A rational number is a record of a numerator, a denominator above 0 and the proof that they are
 //! in lowest terms, so equal numbers are one value and contracts write `≡` between them. They are an
 //! ordered field: `rational_ring` and `rational_ordered` of `proofs/Rationals` give them to the

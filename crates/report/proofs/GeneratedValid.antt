@@ -7,7 +7,7 @@ use Rattle.lot_sizing.specs.Sums.{sum_to}
 use Rattle.lot_sizing.specs.Problem.{Problem, demand, item_at, per_unit}
 use Rattle.lot_sizing.specs.Bill.{AreTotals, AreWeights, bill_of, one_if_same}
 use Rattle.lot_sizing.specs.Totals.{AreLargestTotals, IsRanking}
-use Rattle.lot_model.specs.Meaning.{asked_of, there_of}
+use Rattle.lot_model.specs.Meaning.{most_asked, there_of}
 use Rattle.lot_model.specs.Views.{IsInstance}
 use Rattle.report.specs.Generated.{IsModelSize, has_next}
 use Rattle.report.proofs.GeneratedBill.{chain, into_previous, off, one_if}
@@ -63,7 +63,7 @@ totals_are coupled items periods p g i low high =
       no_opening coupled items periods p g i low few,
     )
 
-total_small : (coupled : Bool) (items periods : ℕ) (p : Problem) → IsGenerated coupled items periods p → periods ≤ 60 → (total : ℕ → ℕ) → AreTotals (bill_of p) (asked_of p) (there_of p) total → (i : ℕ) → 1 ≤ i → i ≤ items → total i ≤ i * 5940
+total_small : (coupled : Bool) (items periods : ℕ) (p : Problem) → IsGenerated coupled items periods p → periods ≤ 60 → (total : ℕ → ℕ) → AreTotals (bill_of p) (most_asked p) (there_of p) total → (i : ℕ) → 1 ≤ i → i ≤ items → total i ≤ i * 5940
 total_small coupled items periods p g few total are = chain coupled items 5940 total (λ i low high.
     omega (
       arith,

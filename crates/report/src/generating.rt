@@ -15,7 +15,7 @@ use thiserror::Error;
 /// Why no model was generated.
 #[derive(Clone, Copy, Debug, PartialEq, Eq, Error)]
 pub enum GenFault {
-    /// There are no items, more than 40 items, no periods or more than 60 periods.
+    /// There are no items, more than `MAX_ITEMS`, no periods or more than `FIRST_VERSION_PERIODS`.
     #[error("not from 1 to 40 items and 1 to 60 periods")]
     Range,
     /// Memory ran out.
@@ -50,8 +50,8 @@ fn is_model_size(items: u32, periods: u32) -> bool
 /// all take time on one resource, 1 for a unit and 5 for a setup, with 80 for each item in each period.
 ///
 /// The text is a valid model, whose own-period plan is feasible. `Range` comes exactly where there aren't
-/// from 1 to 40 items and from 1 to 60 periods. It takes time and memory in the number of items times that of
-/// periods.
+/// from 1 to `MAX_ITEMS` items and from 1 to `FIRST_VERSION_PERIODS` periods. It takes time and memory in the
+/// number of items times that of periods.
 pub fn generate(
     alloc: Global,
     seed: u64,

@@ -6,7 +6,7 @@
 //! `generate` gives the text of a model whose numbers are drawn from a seed.
 //!
 //! Family: commands. It stands on `plan_rules`, `instance_reader` and `first_plans`, by whose definitions the text is a
-//! valid model with a feasible plan. `lotplan` uses it.
+//! valid model with a feasible plan; `lotplan` stands on it.
 #![tactic(auto)]
 
 mod generating;
@@ -16,8 +16,3 @@ mod summing;
 
 pub use generating::{GenFault, generate};
 pub use summing::{parts_add_up, summary};
-
-#[cfg(test)]
-mod generating_tests;
-#[cfg(test)]
-mod summing_tests;

@@ -19,7 +19,8 @@ use Rattle.acceptance.specs.Named.{row_named}
 use Rattle.root_rows.specs.Names.{base_names, cell_names, cut_names, end_name, is_made, made_names, names_to, round_names}
 use Rattle.root_rows.specs.Rounds.{at_root, round_sides}
 use Rattle.root_rows.specs.Sides.{all_sides, sides_of}
-use Rattle.root_rounds.specs.declared.at_root.TheConstants.{MAX_CELLS, MAX_ROUNDS}
+use Rattle.root_rows.specs.declared.limits.TheConstants.{MAX_CELLS}
+use Rattle.root_rounds.specs.declared.at_root.TheConstants.{MAX_ROUNDS}
 use Rattle.root_rounds.specs.Root.{first_cells}
 use Rattle.root_rounds.specs.Rounds.{AreCutsAfter, AreCutsAt, AreCutsFound, AreCutsOf, AreJoined, AtLeastPoint, PassesFirst}
 

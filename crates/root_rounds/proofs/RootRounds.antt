@@ -1,5 +1,5 @@
 -- What a round of the root leaves: the cuts and the program of the next one, or what is said in the end.
-use Rattle.std.proofs.Common.{◌≡◌, ◌≤◌, ◌<◌, ◌+◌, ◌-◌, ◌*◌, ◌^◌, ◌∙◌, ◌⊎◌, ⊎_elim, inl, inr, ℕ, zero, suc, refl, sym, ap, subst, arith, List, [], ◌∷◌, ◌++◌, append-nil, length, length-append, slice_index_or, take}
+use Rattle.std.proofs.Common.{◌≡◌, ◌≤◌, ◌<◌, ◌+◌, ◌-◌, ◌*◌, ◌∙◌, ◌⊎◌, ⊎_elim, inl, inr, ℕ, zero, suc, refl, sym, ap, subst, arith, List, [], ◌∷◌, ◌++◌, append-nil, length, length-append, slice_index_or, take}
 use Rattle.std.specs.Prelude.{false, ℤ, pos, Option, IsNone}
 use Rattle.std.specs.List.{All}
 use Rattle.std.proofs.lemmas.Bool.{cases_lt}
@@ -38,7 +38,8 @@ use Rattle.root_rows.specs.declared.rounds.RoundProgram.{RoundProgram}
 use Rattle.root_rows.specs.Laws.{RoundsAreFew}
 use Rattle.root_rows.specs.Rounds.{AreRead, IsRootRound, IsRound, NoneIsViolated, RoundsClose, RoundsRefute, at_root, round_sides}
 use Rattle.root_rows.specs.Sides.{parts_of, side_inequality, turned_row}
-use Rattle.root_rounds.specs.declared.at_root.TheConstants.{MAX_PIVOTS, MAX_ROUNDS}
+use Rattle.root_rows.specs.declared.limits.TheConstants.{MAX_PIVOTS, MAX_ROUND_CUTS, MAX_ROUND_SIZE}
+use Rattle.root_rounds.specs.declared.at_root.TheConstants.{MAX_ROUNDS}
 use Rattle.branching.specs.declared.found.PassedAt.TheVariants as passed
 use Rattle.branching.specs.declared.found.RootSays.{RootSays}
 use Rattle.branching.specs.declared.found.RootSays.TheVariants as root
@@ -101,7 +102,7 @@ module _ (m : Problem) (rows : List LinRow) (index : ℕ) (r : LinRow) (less : i
   so_long : length (take index rows) ≡ index
   so_long = length-take-le index rows (omega (arith, less))
 
-  pub program_few : RoundsAreFew → IsInstance m → length rows ≤ 10 ^ 6 → width_of program.lp + row_count program.lp ≤ 3 * 10 ^ 6
+  pub program_few : RoundsAreFew → IsInstance m → length rows ≤ MAX_ROUND_CUTS → width_of program.lp + row_count program.lp ≤ MAX_ROUND_SIZE
   program_few few instance all =
       let (total, totals, small) = instance.totals in
       (few m total (take index rows) program.lp program.sides.items instance.limits (omega (arith, so_long, less, all)) (ready.round total totals)).few
@@ -190,7 +191,7 @@ module _ (m : Problem) (round : ℕ) (low : 1 ≤ round) (high : round ≤ MAX_R
         }
 
     -- how many rows there are then
-    pub few_rows : IsWithinLimits m → HasFigures m → Puts m (λ s. WithWeights m (λ weight. AreCutsFound m weight read s)) state.list list → length list.rows.items ≤ 10 ^ 6
+    pub few_rows : IsWithinLimits m → HasFigures m → Puts m (λ s. WithWeights m (λ weight. AreCutsFound m weight read s)) state.list list → length list.rows.items ≤ MAX_ROUND_CUTS
     few_rows limits figures puts =
         let (total, weight, totals, weights) = figures in
         let many = root_many m (shapes list) list.rows.items (put_all m _ state.list list are.cuts puts) in

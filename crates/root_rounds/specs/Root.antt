@@ -33,7 +33,8 @@ use Rattle.branching.specs.declared.found.PassedAt.TheVariants as passed
 use Rattle.branching.specs.declared.found.RootSays.{RootSays}
 use Rattle.branching.specs.declared.found.RootSays.TheVariants as root
 use Rattle.root_rounds.specs.declared.round_leaf.Root.{Root}
-use Rattle.root_rounds.specs.declared.at_root.TheConstants.{MAX_CELLS, MAX_PIVOTS, MAX_ROUNDS}
+use Rattle.root_rows.specs.declared.limits.TheConstants.{MAX_CELLS, MAX_PIVOTS}
+use Rattle.root_rounds.specs.declared.at_root.TheConstants.{MAX_ROUNDS}
 use Rattle.root_rounds.specs.Rounds.{AreCutsAfter, AreCutsFound, AtLeastPoint, EndsRun, PassesFirst}
 
 -- ---- the size of the first program

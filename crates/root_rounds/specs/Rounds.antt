@@ -14,7 +14,7 @@ use Rattle.tableau.specs.Outcomes.{IsOutcome, number_at}
 use Rattle.tableau.specs.Program.{Program}
 use Rattle.acceptance.specs.CutRows.{AreCutRows, HasEchelon}
 use Rattle.root_rows.specs.Rounds.{AreRead, IsRoundProgram}
-use Rattle.root_rounds.specs.declared.at_root.TheConstants.{MAX_PIVOTS}
+use Rattle.root_rows.specs.declared.limits.TheConstants.{MAX_PIVOTS}
 
 -- ---- separation
 -- what it finds of an echelon for an l, at fractions of the columns: nothing, or the cut of the set whose row they violate most

@@ -13,15 +13,11 @@ use branching::RootSays;
 use echelon::Explosion;
 use lot_model::{Instance, is_uncoupled};
 use relaxation::{closed_values_are_floors, empty_is_impossible};
-use root_rows::{RoundProgram, base_program};
+use root_rows::{MAX_CELLS, RoundProgram, base_program};
 use std::alloc::{AllocError, Global};
 
-/// The most pivots of a round's run.
-pub const MAX_PIVOTS: u32 = 2_000;
 /// The most rounds.
 pub const MAX_ROUNDS: u32 = 30;
-/// The most cells of the first round's tableau.
-pub const MAX_CELLS: u64 = 2_000_000;
 
 // What is said without a round.
 fn without_cuts(alloc: Global, says: RootSays) -> Root

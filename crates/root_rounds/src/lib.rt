@@ -2,7 +2,7 @@
 //!
 //! Family: search. It stands on `tableau`, `ls_cuts`, `relaxation` and `root_rows` for the rounds, on
 //! `cert_checker`, which says what a leaf says, on `certificate`, whose text cuts and leaf go into, and
-//! on `branching` for the words of what is said; the search is to stand on it.
+//! on `branching` for the words of what is said; `branch_and_cut` stands on it.
 //!
 //! `root` says to what the linear relaxation with all (l,S) inequalities closes. A round solves the
 //! program of all rows and of the cuts so far, and looks at its least point for the most violated
@@ -18,9 +18,7 @@ mod round;
 mod round_leaf;
 mod separation;
 
-pub use at_root::{MAX_CELLS, MAX_PIVOTS, MAX_ROUNDS, root};
+pub use at_root::{MAX_ROUNDS, root};
 pub use branching::{PassedAt, RootSays};
+pub use root_rows::{MAX_CELLS, MAX_PIVOTS};
 pub use round_leaf::Root;
-
-#[cfg(test)]
-mod tests;

@@ -1,9 +1,10 @@
 // One round of the root.
-ghost use Rattle.std.specs.Prelude.{◌≡◌, ◌≤◌, ◌+◌, ◌-◌, ◌*◌, ◌^◌, ◌++◌, ◌∷◌, [], false, List, IfOk, IfSome, IsNone, length, take};
+ghost use Rattle.std.specs.Prelude.{◌≡◌, ◌≤◌, ◌+◌, ◌-◌, ◌++◌, ◌∷◌, [], false, List, IfOk, IfSome, IsNone, length, take};
 ghost use Rattle.std.specs.List.{All};
 ghost use Rattle.lin_rows.specs.declared.base.RowName.TheVariants.{Cut};
 ghost use Rattle.lin_rows.specs.Columns.{IsColumn, column_count};
 ghost use Rattle.tableau.specs.Program.{IsProgram, column_count as width_of, row_count, with_row};
+ghost use Rattle.root_rows.specs.declared.limits.TheConstants.{MAX_PIVOTS, MAX_ROUND_CUTS, MAX_ROUND_SIZE};
 ghost use Rattle.root_rows.specs.Laws.{HasSmallNumbers};
 ghost use Rattle.root_rows.specs.Sides.{side, turned_row};
 ghost use Rattle.rational.specs.Rational.{ℚ};
@@ -16,7 +17,6 @@ ghost use Rattle.branching.specs.declared.found.PassedAt.TheVariants.{Cell, Sepa
 ghost use Rattle.branching.specs.declared.found.RootSays.TheVariants.{Passed};
 ghost use Rattle.root_rounds.specs.RootSteps.{AreRootCuts, AreRounds, EndsRounds, GrowsRound, IsReady, shapes};
 
-use crate::at_root::MAX_PIVOTS;
 use crate::round_leaf::{Verdict, farkas_leaf, linear_leaf, without_leaf};
 use crate::separation::{Place, RootCuts, separate_all};
 use branching::{PassedAt, RootSays};
@@ -25,7 +25,9 @@ use frac128::Frac;
 use lin_rows::{Point, Row, RowName};
 use lot_model::Instance;
 use ls_cuts::lesser_separates;
-use root_rows::{RoundProgram, push_row, rounds_are_few, rounds_close, rounds_grow, rounds_refute};
+use root_rows::{
+    MAX_PIVOTS, RoundProgram, push_row, rounds_are_few, rounds_close, rounds_grow, rounds_refute,
+};
 use std::alloc::{AllocError, Global};
 use tableau::Outcome;
 
@@ -50,7 +52,7 @@ fn push_cut(
     requires unequal { cut.now.equal ≡ false }
     requires program { IsProgram round.old.lp }
     requires width { width_of round.old.lp ≡ column_count instance.now }
-    requires few { width_of round.old.lp + row_count round.old.lp ≤ 3 * 10 ^ 6 }
+    requires few { width_of round.old.lp + row_count round.old.lp ≤ MAX_ROUND_SIZE }
     ensures lp { IfOk result (λ _. round.new.lp ≡ with_row round.old.lp (turned_row instance.now false cut.now)) }
     ensures sides { IfOk result (λ _. round.new.sides.items ≡ round.old.sides.items ++ (side (Cut number) false ∷ [])) }
     ensures fits { IfOk result (λ _. IsProgram round.new.lp) }
@@ -70,7 +72,7 @@ fn push_rows(
     program: &mut RoundProgram,
 ) -> Result<(), AllocError>
     requires rows { (cuts : List CutShape) × AreRootCuts instance.now cuts rows.now }
-    requires few { length rows.now ≤ 10 ^ 6 }
+    requires few { length rows.now ≤ MAX_ROUND_CUTS }
     requires from { from ≤ length rows.now }
     requires ready { IsReady instance.now (take from rows.now) program.old }
     ensures ready { IfOk result (λ _. IsReady instance.now rows.now program.new) }

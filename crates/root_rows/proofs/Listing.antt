@@ -1,5 +1,5 @@
 -- Names put after others, and how many there are.
-use Rattle.std.proofs.Common.{◌≡◌, ◌≤◌, ◌+◌, ◌-◌, ◌*◌, ◌^◌, ◌∙◌, ⊎_elim, ℕ, zero, suc, refl, sym, ap, subst, arith, Bool, true, false, List, [], ◌∷◌, ◌++◌, length, append_assoc, append-nil, length-append}
+use Rattle.std.proofs.Common.{◌≡◌, ◌≤◌, ◌+◌, ◌-◌, ◌*◌, ◌∙◌, ⊎_elim, ℕ, zero, suc, refl, sym, ap, subst, arith, Bool, true, false, List, [], ◌∷◌, ◌++◌, length, append_assoc, append-nil, length-append}
 use Rattle.std.specs.Prelude.{if◌then◌else◌}
 use Rattle.std.specs.List.{filter}
 use Rattle.std.proofs.lemmas.Bool.{cases_Bool}
@@ -12,6 +12,7 @@ use Rattle.lin_rows.specs.declared.base.RowName.TheVariants.{Cut}
 use Rattle.lin_rows.specs.Columns.{column_count, owes, owing_count}
 use Rattle.lin_rows.specs.Rows.{LinRow}
 use Rattle.acceptance.specs.Named.{row_named}
+use Rattle.root_rows.specs.declared.limits.TheConstants.{MAX_ROUND_CUTS, MAX_ROUND_SIZE}
 use Rattle.root_rows.specs.declared.names.Kind.TheVariants as kind
 use Rattle.root_rows.specs.Laws.{RoundsAreFew}
 use Rattle.root_rows.specs.Names.{PutNames, base_names, cell_names, cut_names, end_name, is_made, kind_names, made_names, name_in, names_to, round_names}
@@ -168,7 +169,7 @@ module _ (m : Problem) (within : IsWithinLimits m) where
   base_few : length (base_names m) ≤ 30000
   base_few = omega (arith, filter_few (is_made m) (all m), all_few)
 
-  round_few : (total : ℕ → ℕ) (rows : List LinRow) → length rows ≤ 10 ^ 6 → column_count m + length (round_sides m total rows) ≤ 3 * 10 ^ 6
+  round_few : (total : ℕ → ℕ) (rows : List LinRow) → length rows ≤ MAX_ROUND_CUTS → column_count m + length (round_sides m total rows) ≤ MAX_ROUND_SIZE
   round_few total rows few =
       let k = length rows in
       omega (arith, columns_few, sides_few (row_named (at_root m total rows)) (round_names m k), length-append (base_names m) (cut_names k), to_count k (λ j. Cut j), base_few, few)

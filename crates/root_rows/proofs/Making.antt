@@ -1,5 +1,5 @@
 -- How costs, parts and programs are made, one after the other.
-use Rattle.std.proofs.Common.{◌≡◌, ◌≤◌, ◌<◌, ◌+◌, ◌-◌, ◌*◌, ◌^◌, ◌∙◌, ⊎_elim, ℕ, zero, suc, sym, ap, subst, arith, Bool, List, [], ◌∷◌, ◌++◌, length, slice_index_or, take, append_assoc, append-nil}
+use Rattle.std.proofs.Common.{◌≡◌, ◌≤◌, ◌<◌, ◌+◌, ◌-◌, ◌∙◌, ⊎_elim, ℕ, zero, suc, sym, ap, subst, arith, Bool, List, [], ◌∷◌, ◌++◌, length, slice_index_or, take, append_assoc, append-nil}
 use Rattle.std.specs.Prelude.{map, ℤ}
 use Rattle.std.specs.List.{All}
 use Rattle.std.proofs.lemmas.Bool.{cases_lt}
@@ -17,6 +17,7 @@ use Rattle.tableau.specs.declared.program.LpTerm.{LpTerm}
 use Rattle.tableau.specs.Program.{AreRows, Inequality, IsProgram, IsRow, Program, column_count as width_of, row_count, with_row}
 use Rattle.acceptance.specs.Named.{row_named}
 use Rattle.cert_lines.specs.declared.parts.Part.{Part}
+use Rattle.root_rows.specs.declared.limits.TheConstants.{MAX_ROUND_SIZE}
 use Rattle.root_rows.specs.declared.program.Side.{Side}
 use Rattle.root_rows.specs.Costs.{AreCosts, AreFirstCosts, IsCostAt}
 use Rattle.root_rows.specs.Laws.{IsSized}
@@ -79,7 +80,7 @@ rows_push n [] r are is = (is, tt)
 rows_push n (a ∷ rows) r are is = (are.0, rows_push n rows r are.1 is)
 
 -- a program with one row more
-pub pushed_fits : (p : Program) (r : Inequality) → IsProgram p → IsRow (width_of p) r → width_of p + row_count p ≤ 3 * 10 ^ 6 → IsProgram (with_row p r)
+pub pushed_fits : (p : Program) (r : Inequality) → IsProgram p → IsRow (width_of p) r → width_of p + row_count p ≤ MAX_ROUND_SIZE → IsProgram (with_row p r)
 pushed_fits p r is fits few = record { few = omega (arith, few, length_push p.rows r); rows = rows_push (width_of p) p.rows r is.rows fits }
 
 pub same_inequality : (m : Problem) (turned : Bool) (r : LinRow) (terms : List LpTerm) (right : ℤ) → terms ≡ map (lp_term m turned) r.terms → right ≡ turn turned r.right → inequality_with terms right ≡ turned_row m turned r

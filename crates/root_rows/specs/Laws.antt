@@ -1,5 +1,5 @@
 -- How rounds grow, and that their rows and numbers are those of a program.
-use Rattle.std.specs.Prelude.{◌≡◌, ℕ, ◌+◌, ◌*◌, ◌^◌, ◌≤◌, Bool, false, List, [], ◌∷◌, ◌++◌, length}
+use Rattle.std.specs.Prelude.{◌≡◌, ℕ, ◌+◌, ◌≤◌, Bool, false, List, [], ◌∷◌, ◌++◌, length}
 use Rattle.std.specs.List.{All}
 use Rattle.frac128.specs.Limits.{IsSmall}
 use Rattle.lot_sizing.specs.Problem.{IsWithinLimits, Problem}
@@ -11,6 +11,7 @@ use Rattle.lin_rows.specs.Rows.{AreTerms, IsSmallRow, LinRow}
 use Rattle.echelon_rows.specs.Rows.{echelon_in}
 use Rattle.ls_cuts.specs.Rows.{Periods, ls_row}
 use Rattle.tableau.specs.Program.{IsRow, Program, column_count as width_of, row_count, with_row}
+use Rattle.root_rows.specs.declared.limits.TheConstants.{MAX_ROUND_CUTS, MAX_ROUND_SIZE}
 use Rattle.root_rows.specs.declared.program.Side.{Side}
 use Rattle.root_rows.specs.Rounds.{IsRound}
 use Rattle.root_rows.specs.Sides.{side, turned_row}
@@ -41,12 +42,12 @@ SidesAreRows =
     (m : Problem) (turned : Bool) (r : LinRow) → IsWithinLimits m → AreTerms 0 r.terms → All (λ a. IsColumn m a.column) r.terms → HasSmallNumbers r
     → IsRow (column_count m) (turned_row m turned r)
 
--- the program of a round has one side for each row and, with up to a million cuts, at most three million columns and rows
+-- the program of a round has one side for each row and, with up to MAX_ROUND_CUTS cuts, at most MAX_ROUND_SIZE columns and rows
 pub record IsSized (p : Program) (list : List Side) : Type 0 where
   pub sides : length list ≡ row_count p
-  pub few : width_of p + row_count p ≤ 3 * 10 ^ 6
+  pub few : width_of p + row_count p ≤ MAX_ROUND_SIZE
 
 abbrev pub RoundsAreFew : Type 0
 RoundsAreFew =
     (m : Problem) (total : ℕ → ℕ) (rows : List LinRow) (p : Program) (list : List Side)
-    → IsWithinLimits m → length rows ≤ 10 ^ 6 → IsRound m total rows p list → IsSized p list
+    → IsWithinLimits m → length rows ≤ MAX_ROUND_CUTS → IsRound m total rows p list → IsSized p list

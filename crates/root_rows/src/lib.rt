@@ -19,6 +19,7 @@
 mod costs;
 mod laws;
 mod leaf;
+mod limits;
 mod names;
 mod program;
 mod rounds;
@@ -29,9 +30,7 @@ pub use laws::{
     rounds_refute, rows_are_small, sides_are_rows,
 };
 pub use leaf::leaf_parts;
+pub use limits::{MAX_CELLS, MAX_PIVOTS, MAX_ROUND_CUTS, MAX_ROUND_SIZE};
 pub use names::base_names;
 pub use program::Side;
 pub use rounds::{RoundProgram, base_program, push_row};
-
-#[cfg(test)]
-mod tests;

@@ -1,10 +1,11 @@
 // The program of a round: all rows that the rules of plans make, and then cuts.
-ghost use Rattle.std.specs.Prelude.{◌≡◌, ◌≤◌, ◌+◌, ◌*◌, ◌^◌, ◌++◌, ◌∷◌, [], false, IfOk};
+ghost use Rattle.std.specs.Prelude.{◌≡◌, ◌≤◌, ◌+◌, ◌++◌, ◌∷◌, [], false, IfOk};
 ghost use Rattle.std.specs.List.{All};
 ghost use Rattle.lot_model.specs.Views.{IsInstance};
 ghost use Rattle.lin_rows.specs.Base.{HasRow};
 ghost use Rattle.lin_rows.specs.Columns.{IsColumn, column_count};
 ghost use Rattle.tableau.specs.Program.{IsProgram, column_count as width_of, row_count, with_row};
+ghost use Rattle.root_rows.specs.declared.limits.TheConstants.{MAX_ROUND_SIZE};
 ghost use Rattle.root_rows.specs.Laws.{HasSmallNumbers, IsSized};
 ghost use Rattle.root_rows.specs.Made.{AreRowsFor, AreSidesFor, FitProgram, IsRowFor};
 ghost use Rattle.root_rows.specs.Rounds.{IsFirstRound};
@@ -96,9 +97,9 @@ pub fn base_program(alloc: Global, instance: &Instance) -> Result<RoundProgram, 
     })
 }
 
-/// Adds a row that isn't equal after the others, as a cut. The program, which can be given to `Lp::new`, has at most three
-/// million columns and rows so far. With the name of the next cut it is that of the next round, as `rounds_grow` says.
-/// The error is want of memory; the round is no further use then.
+/// Adds a row that isn't equal after the others, as a cut. The program, which can be given to `Lp::new`, has at most
+/// `MAX_ROUND_SIZE` columns and rows so far. With the name of the next cut it is that of the next round, as `rounds_grow`
+/// says. The error is want of memory; the round is no further use then.
 pub fn push_row(
     alloc: Global,
     instance: &Instance,
@@ -111,7 +112,7 @@ pub fn push_row(
     requires unequal { row.now.equal ≡ false }
     requires program { IsProgram round.old.lp }
     requires width { width_of round.old.lp ≡ column_count instance.now }
-    requires few { width_of round.old.lp + row_count round.old.lp ≤ 3 * 10 ^ 6 }
+    requires few { width_of round.old.lp + row_count round.old.lp ≤ MAX_ROUND_SIZE }
     ensures lp { IfOk result (λ _. round.new.lp ≡ with_row round.old.lp (turned_row instance.now false row.now)) }
     ensures sides { IfOk result (λ _. round.new.sides.items ≡ round.old.sides.items ++ (side name false ∷ [])) }
     ensures fits { IfOk result (λ _. IsProgram round.new.lp) }

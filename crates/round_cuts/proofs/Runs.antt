@@ -15,7 +15,7 @@ use Rattle.lin_rows.specs.declared.row.Term.{Term}
 use Rattle.lin_rows.specs.declared.total.Total.{Total}
 use Rattle.lin_rows.specs.Base.{term}
 use Rattle.lin_rows.specs.Columns.{order_of}
-use Rattle.lin_rows.specs.Sums.{HasRoom, IsTotal, coefficient, no_total, same_column, with_more}
+use Rattle.lin_rows.specs.Sums.{HasRoomToAdd, IsTotal, coefficient, no_total, same_column, with_more}
 use Rattle.lin_rows.proofs.Below.{coefficient_append, one_by_parts}
 use Rattle.lin_rows.proofs.Cells.{same_self}
 use Rattle.lin_rows.proofs.Terms.{RiseTo, all_none, all_one, rise_append}
@@ -23,7 +23,7 @@ use Rattle.lin_rows.specs.Rows.{LinRow}
 use Rattle.round_cuts.specs.Rounding.{column_amount}
 use Rattle.round_cuts.specs.Merging.{AreProducts, AreSums, IsMerged, IsSmallTerm, TakesTerm, amount_in, run_term, run_with, weight_in}
 use Rattle.round_cuts.proofs.Pairs.{weight_append}
-use Rattle.round_cuts.specs.declared.merging.Run.{Run}
+use Rattle.round_cuts.specs.declared.merging.Stretch.{Stretch}
 
 -- ---- another order of the terms
 above : ℤ → ℕ
@@ -118,7 +118,7 @@ amount_past high (a ∷ ts) c each past =
     (cases_Bool (same_column a.column c))
 
 -- the first terms are done but for those of the run
-pub record IsRunOf (front done : List Term) (run : Run) : Type 0 where
+pub record IsStretchOf (front done : List Term) (run : Stretch) : Type 0 where
   pub sums : (c : Column) → coefficient (done ++ run_term run ∷ []) c ≡ coefficient front c
   pub rising : RiseTo 0 done (order_of run.column)
   pub upto : AreUpTo (order_of run.column) front
@@ -134,7 +134,7 @@ none_added c d = same_none (same_column c d)
     same_none true = refl
     same_none false = refl
 
-pub run_first : (c : Column) → IsRunOf [] [] (run_with c no_total)
+pub run_first : (c : Column) → IsStretchOf [] [] (run_with c no_total)
 run_first c = record {
   sums = λ d. none_added c d;
   rising = omega arith;
@@ -146,7 +146,7 @@ run_first c = record {
 }
 
 -- a term of the run's column
-same_step : (front done : List Term) (run : Run) (a : Term) → IsRunOf front done run → same_column run.column a.column ≡ true → IsTotal (with_more run.total a.times) → IsRunOf (front ++ a ∷ []) done (run_with run.column (with_more run.total a.times))
+same_step : (front done : List Term) (run : Stretch) (a : Term) → IsStretchOf front done run → same_column run.column a.column ≡ true → IsTotal (with_more run.total a.times) → IsStretchOf (front ++ a ∷ []) done (run_with run.column (with_more run.total a.times))
 same_step front done run a so_far same is_total =
     let e : run.column ≡ a.column = one_by_parts run.column a.column same in
     let own : term run.column a.times ≡ a = ap (λ c. term c a.times) e in
@@ -172,7 +172,7 @@ same_step front done run a so_far same is_total =
     }
 
 -- a term of a later column
-next_step : (front done : List Term) (run : Run) (a : Term) → IsRunOf front done run → order_of run.column < order_of a.column → IsSmallTerm a → IsTotal (with_more no_total a.times) → IsRunOf (front ++ a ∷ []) (done ++ run_term run ∷ []) (run_with a.column (with_more no_total a.times))
+next_step : (front done : List Term) (run : Stretch) (a : Term) → IsStretchOf front done run → order_of run.column < order_of a.column → IsSmallTerm a → IsTotal (with_more no_total a.times) → IsStretchOf (front ++ a ∷ []) (done ++ run_term run ∷ []) (run_with a.column (with_more no_total a.times))
 next_step front done run a so_far later here is_total =
     let none : amount_in front a.column ≡ 0 = amount_past (order_of run.column) front a.column so_far.upto later in
     let own : term a.column (pos 0 +ℤ a.times) ≡ a = ap (term a.column) (zero_add a.times) in
@@ -193,20 +193,20 @@ next_step front done run a so_far later here is_total =
       small = All-append IsSmallTerm done (run_term run ∷ []) so_far.small (all_one IsSmallTerm (run_term run) (omega (arith, so_far.is_total.most, so_far.is_total.small)));
     }
 
-pub run_step : (front done new : List Term) (run next : Run) (a : Term) → IsRunOf front done run → order_of run.column ≤ order_of a.column → IsSmallTerm a → TakesTerm done run a new next → IsTotal next.total → IsRunOf (front ++ a ∷ []) new next
+pub run_step : (front done new : List Term) (run next : Stretch) (a : Term) → IsStretchOf front done run → order_of run.column ≤ order_of a.column → IsSmallTerm a → TakesTerm done run a new next → IsTotal next.total → IsStretchOf (front ++ a ∷ []) new next
 run_step front done new run next a so_far order here takes is_total =
     ⊎_elim
     (λ (same : (same_column run.column a.column ≡ true) × (new ≡ done) × (next ≡ run_with run.column (with_more run.total a.times))).
-    subst (λ ts. IsRunOf (front ++ a ∷ []) ts next) (sym same.1) (subst (IsRunOf (front ++ a ∷ []) done) (sym same.2) (same_step front done run a so_far same.0 (subst (λ r. IsTotal r.total) same.2 is_total))))
+    subst (λ ts. IsStretchOf (front ++ a ∷ []) ts next) (sym same.1) (subst (IsStretchOf (front ++ a ∷ []) done) (sym same.2) (same_step front done run a so_far same.0 (subst (λ r. IsTotal r.total) same.2 is_total))))
     (λ (other : (order_of run.column ≢ order_of a.column) × (new ≡ done ++ run_term run ∷ []) × (next ≡ run_with a.column (with_more no_total a.times))).
-    subst (λ ts. IsRunOf (front ++ a ∷ []) ts next) (sym other.1) (subst (IsRunOf (front ++ a ∷ []) (done ++ run_term run ∷ [])) (sym other.2) (next_step front done run a so_far (after (order_of run.column) (order_of a.column) order other.0) here (subst (λ r. IsTotal r.total) other.2 is_total))))
+    subst (λ ts. IsStretchOf (front ++ a ∷ []) ts next) (sym other.1) (subst (IsStretchOf (front ++ a ∷ []) (done ++ run_term run ∷ [])) (sym other.2) (next_step front done run a so_far (after (order_of run.column) (order_of a.column) order other.0) here (subst (λ r. IsTotal r.total) other.2 is_total))))
     takes
   where
     after : (m n : ℕ) → m ≤ n → m ≢ n → m < n
     after m n h apart = grind (arith, h, apart)
 
 -- at the end the run's term is put after the others
-pub run_last : (ts done : List Term) (run : Run) → IsRunOf ts done run → IsMerged ts (done ++ run_term run ∷ [])
+pub run_last : (ts done : List Term) (run : Stretch) → IsStretchOf ts done run → IsMerged ts (done ++ run_term run ∷ [])
 run_last ts done run all = record {
   high = order_of run.column + 1;
   rising = rise_append done (run_term run ∷ []) 0 (order_of run.column) (order_of run.column + 1) all.rising (omega arith, omega arith);
@@ -220,7 +220,7 @@ amount_take [] (suc k) c = omega arith
 amount_take (a ∷ ts) (suc k) c = omega (arith, amount_take ts k c)
 
 -- where the run has no room, the column's amount is too large
-pub run_large : (ts front done : List Term) (run : Run) (a : Term) (k : ℕ) → IsRunOf front done run → front ++ a ∷ [] ≡ take k ts → same_column run.column a.column ≡ true → (HasRoom run.total a.times → ⊥) → 2 ^ 127 ≤ amount_in ts run.column
+pub run_large : (ts front done : List Term) (run : Stretch) (a : Term) (k : ℕ) → IsStretchOf front done run → front ++ a ∷ [] ≡ take k ts → same_column run.column a.column ≡ true → (HasRoomToAdd run.total a.times → ⊥) → 2 ^ 127 ≤ amount_in ts run.column
 run_large ts front done run a k so_far front_is same full =
     let e : run.column ≡ a.column = one_by_parts run.column a.column same in
     let weight : weighs a run.column ≡ unsigned_abs a.times = weighs_own a run.column (ap (λ c. same_column c run.column) (sym e) ∙ same_self run.column) in
@@ -230,7 +230,7 @@ run_large ts front done run a k so_far front_is same full =
     not_below m n h = grind (arith, h)
 
 -- the run after a term is of the term's column
-pub next_order : (done new : List Term) (run next : Run) (a : Term) → TakesTerm done run a new next → order_of next.column ≡ order_of a.column
+pub next_order : (done new : List Term) (run next : Stretch) (a : Term) → TakesTerm done run a new next → order_of next.column ≡ order_of a.column
 next_order done new run next a takes =
     ⊎_elim
     (λ (same : (same_column run.column a.column ≡ true) × (new ≡ done) × (next ≡ run_with run.column (with_more run.total a.times))).
@@ -251,17 +251,17 @@ pub record IsAt (ts : List Term) (k : ℕ) (a : Term) : Type 0 where
   pub less : k < length ts
   pub term : a ≡ slice_index_or ts k a
 
-pub run_next : (ts done new : List Term) (run next : Run) (k : ℕ) (a : Term) → IsAt ts k a → IsRunOf (take k ts) done run → ((j : ℕ) (d : Term) → k ≤ j → j < length ts → order_of run.column ≤ order_of (slice_index_or ts j d).column) → All IsSmallTerm ts → TakesTerm done run a new next → IsTotal next.total → IsRunOf (take (k + 1) ts) new next
+pub run_next : (ts done new : List Term) (run next : Stretch) (k : ℕ) (a : Term) → IsAt ts k a → IsStretchOf (take k ts) done run → ((j : ℕ) (d : Term) → k ≤ j → j < length ts → order_of run.column ≤ order_of (slice_index_or ts j d).column) → All IsSmallTerm ts → TakesTerm done run a new next → IsTotal next.total → IsStretchOf (take (k + 1) ts) new next
 run_next ts done new run next k a at so_far later small takes is_total =
-    subst (λ front. IsRunOf front new next) (next_front ts k a at.less at.term)
+    subst (λ front. IsStretchOf front new next) (next_front ts k a at.less at.term)
     (run_step (take k ts) done new run next a so_far (omega (arith, later k a (omega arith) at.less, ap (λ b. order_of b.column) at.term)) (subst IsSmallTerm (sym at.term) (small k a at.less)) takes is_total)
 
-pub run_later : (ts done new : List Term) (run next : Run) (k : ℕ) (a : Term) → IsAt ts k a → AreOrdered ts → TakesTerm done run a new next → (j : ℕ) (d : Term) → k + 1 ≤ j → j < length ts → order_of next.column ≤ order_of (slice_index_or ts j d).column
+pub run_later : (ts done new : List Term) (run next : Stretch) (k : ℕ) (a : Term) → IsAt ts k a → AreOrdered ts → TakesTerm done run a new next → (j : ℕ) (d : Term) → k + 1 ≤ j → j < length ts → order_of next.column ≤ order_of (slice_index_or ts j d).column
 run_later ts done new run next k a at ordered takes j d high less =
     let here : slice_index_or ts k d ≡ a = sym (at.term ∙ get_or_default ts k a d at.less) in
     omega (arith, next_order done new run next a takes, ap (λ b. order_of b.column) here, ordered k j d (omega (arith, high)) less)
 
-pub run_full : (ts done : List Term) (run : Run) (k : ℕ) (a : Term) → IsAt ts k a → IsRunOf (take k ts) done run → same_column run.column a.column ≡ true → (HasRoom run.total a.times → ⊥) → 2 ^ 127 ≤ amount_in ts run.column
+pub run_full : (ts done : List Term) (run : Stretch) (k : ℕ) (a : Term) → IsAt ts k a → IsStretchOf (take k ts) done run → same_column run.column a.column ≡ true → (HasRoomToAdd run.total a.times → ⊥) → 2 ^ 127 ≤ amount_in ts run.column
 run_full ts done run k a at so_far same full = run_large ts (take k ts) done run a (k + 1) so_far (next_front ts k a at.less at.term) same full
 
 -- ---- from the products of rows to their sums

@@ -9,7 +9,7 @@ use Rattle.lin_rows.specs.declared.column.Column.{Column}
 use Rattle.lin_rows.specs.declared.column.Column.TheVariants.{X, Y, S, R}
 use Rattle.lin_rows.specs.declared.row.Term.{Term}
 use Rattle.lin_rows.specs.Base.{term}
-use Rattle.lin_rows.specs.Columns.{order_of, place_of}
+use Rattle.lin_rows.specs.Columns.{order_of, order_at}
 use Rattle.lin_rows.specs.Rows.{AreTerms, LinRow}
 use Rattle.lin_rows.specs.Sums.{coefficient, item_of, kind_of, period_of, same_column}
 use Rattle.lin_rows.proofs.Below.{one_by_parts}
@@ -18,7 +18,7 @@ use Rattle.round_cuts.specs.Rounding.{HasShortColumns, IsRounded}
 use Rattle.round_cuts.proofs.Ceilings.{ceilings_are_one}
 
 -- short columns with the same place in the order are one
-by_parts : (k l i j t s : ℕ) → i < 2 ^ 32 → t < 2 ^ 32 → j < 2 ^ 32 → s < 2 ^ 32 → place_of k i t ≡ place_of l j s → ((k == l) && ((i == j) && (t == s))) ≡ true
+by_parts : (k l i j t s : ℕ) → i < 2 ^ 32 → t < 2 ^ 32 → j < 2 ^ 32 → s < 2 ^ 32 → order_at k i t ≡ order_at l j s → ((k == l) && ((i == j) && (t == s))) ≡ true
 by_parts k l i j t s i_small t_small j_small s_small same =
     let kinds : k ≡ l = omega (arith, i_small, t_small, j_small, s_small, same) in
     let items : i ≡ j = omega (arith, kinds, i_small, t_small, j_small, s_small, same) in
@@ -28,7 +28,7 @@ by_parts k l i j t s i_small t_small j_small s_small same =
     all_same : (k l i j t s : ℕ) → k ≡ l → i ≡ j → t ≡ s → ((k == l) && ((i == j) && (t == s))) ≡ true
     all_same k l i j t s a b c = grind (arith, a, b, c)
 
-order_by : (c : Column) → order_of c ≡ place_of (kind_of c) (item_of c) (period_of c)
+order_by : (c : Column) → order_of c ≡ order_at (kind_of c) (item_of c) (period_of c)
 order_by (X i t) = refl
 order_by (Y i t) = refl
 order_by (S i t) = refl

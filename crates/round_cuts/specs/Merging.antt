@@ -14,7 +14,7 @@ use Rattle.lin_rows.specs.Sums.{IsTotal, coefficient, no_total, same_column, wit
 use Rattle.lin_rows.proofs.Terms.{RiseTo}
 use Rattle.lin_rows.specs.Combining.{column_sum}
 use Rattle.round_cuts.specs.Rounding.{column_amount}
-use Rattle.round_cuts.specs.declared.merging.Run.{Run}
+use Rattle.round_cuts.specs.declared.merging.Stretch.{Stretch}
 
 -- each term taken so many times
 abbrev pub products : ℤ → List Term → List Term
@@ -54,14 +54,14 @@ pub record AreSums (rows : List LinRow) (times : List ℤ) (merged : List Term) 
   pub small : All IsSmallTerm merged
 
 -- a run as the one term that it becomes
-abbrev pub run_term : Run → Term
+abbrev pub run_term : Stretch → Term
 run_term run = term run.column run.total.sum
 
-abbrev pub run_with : Column → Total → Run
+abbrev pub run_with : Column → Total → Stretch
 run_with c total = record { column = c; total = total }
 
 -- a term goes into the run of its column, or ends it and begins the next
-abbrev pub TakesTerm : List Term → Run → Term → List Term → Run → Type 0
+abbrev pub TakesTerm : List Term → Stretch → Term → List Term → Stretch → Type 0
 TakesTerm old run a new next =
     ((same_column run.column a.column ≡ true) × (new ≡ old) × (next ≡ run_with run.column (with_more run.total a.times)))
     ⊎ ((order_of run.column ≢ order_of a.column) × (new ≡ old ++ run_term run ∷ []) × (next ≡ run_with a.column (with_more no_total a.times)))

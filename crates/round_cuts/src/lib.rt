@@ -17,6 +17,3 @@ mod products;
 mod rounding;
 
 pub use rounding::{MAX_DIVISOR, round_row};
-
-#[cfg(test)]
-mod tests;

@@ -5,7 +5,7 @@ ghost use Rattle.std.specs.List.Sorted.{IsNonDecreasingBy, IsPermutation};
 ghost use Rattle.lin_rows.specs.declared.column.Column.{Column};
 ghost use Rattle.lin_rows.specs.declared.fault.CutFault.TheVariants.{TooLarge};
 ghost use Rattle.lin_rows.specs.Columns.{order_of};
-ghost use Rattle.lin_rows.specs.Sums.{HasRoom, IsTotal, item_of, period_of, same_column};
+ghost use Rattle.lin_rows.specs.Sums.{HasRoomToAdd, IsTotal, item_of, period_of, same_column};
 ghost use Rattle.round_cuts.specs.Merging.{IsMerged, IsOfSum, IsSmallTerm, TakesTerm, amount_in, run_term};
 
 use lin_rows::{Column, CutFault, Term, Total};
@@ -48,12 +48,12 @@ pub(crate) fn sort(terms: &mut Vec<Term>)
 
 // What has been added up of the terms of a column.
 #[derive(Clone, Copy, Debug, PartialEq, Eq)]
-pub(crate) struct Run {
+pub(crate) struct Stretch {
     pub(crate) column: Column,
     pub(crate) total: Total,
 }
 
-impl Run {
+impl Stretch {
     // The one term that the run becomes.
     fn term(self) -> Term
         ensures { result ≡ run_term self }
@@ -74,26 +74,26 @@ pub(crate) fn push(terms: &mut Vec<Term>, term: Term) -> Result<(), AllocError>
 }
 
 // The run with one more term of its column; or the run is done, and the term begins the next.
-fn take_term(done: &mut Vec<Term>, run: Run, term: Term) -> Result<Run, CutFault>
+fn take_term(done: &mut Vec<Term>, run: Stretch, term: Term) -> Result<Stretch, CutFault>
     requires total { IsTotal run.total }
     requires small { IsSmallTerm term }
     ensures takes { IfOk result (λ next. TakesTerm done.old.items run term done.new.items next) }
     ensures total { IfOk result (λ next. IsTotal next.total) }
     ensures fault { IfErr result IsOfSum }
     ensures same { result ≡ Err TooLarge → same_column run.column term.column ≡ true }
-    ensures large { result ≡ Err TooLarge → HasRoom run.total term.times → ⊥ }
+    ensures large { result ≡ Err TooLarge → HasRoomToAdd run.total term.times → ⊥ }
 {
     if is_same(run.column, term.column) {
         if !run.total.has_room(1, term.times) {
             return Err(CutFault::TooLarge);
         }
-        return Ok(Run {
+        return Ok(Stretch {
             column: run.column,
             total: run.total.with_more(1, term.times),
         });
     }
     push(done, run.term())?;
-    Ok(Run {
+    Ok(Stretch {
         column: term.column,
         total: Total::none().with_more(1, term.times),
     })
@@ -112,7 +112,7 @@ pub(crate) fn merged(alloc: Global, terms: &[Term]) -> Result<Vec<Term>, CutFaul
     if terms.is_empty() {
         return Ok(done);
     }
-    let mut run = Run {
+    let mut run = Stretch {
         column: terms[0].column,
         total: Total::none(),
     };

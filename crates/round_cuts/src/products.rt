@@ -6,7 +6,7 @@ ghost use Rattle.lin_rows.specs.declared.fault.CutFault.TheVariants.{TooLarge};
 ghost use Rattle.lin_rows.specs.Base.{term};
 ghost use Rattle.lin_rows.specs.Combining.{AreSigned, right_sum};
 ghost use Rattle.lin_rows.specs.Rows.{AreTerms};
-ghost use Rattle.lin_rows.specs.Sums.{HasRoom, IsTotal, coefficient, with_more};
+ghost use Rattle.lin_rows.specs.Sums.{HasRoomToAdd, IsTotal, coefficient, with_more};
 ghost use Rattle.round_cuts.specs.Merging.{AreProducts, IsOfSum, IsSmallTerm, products};
 ghost use Rattle.round_cuts.specs.Rounding.{column_amount, right_amount};
 
@@ -90,7 +90,7 @@ fn with_right(total: Total, row: &Row, times: i128) -> Option<Total>
     requires { IsTotal total }
     ensures sum { IfSome result (λ next. next ≡ with_more total (times *ℤ row.now.right)) }
     ensures total { IfSome result IsTotal }
-    ensures large { IsNone result → HasRoom total (times *ℤ row.now.right) → ⊥ }
+    ensures large { IsNone result → HasRoomToAdd total (times *ℤ row.now.right) → ⊥ }
 {
     if !total.has_room(times, row.right()) {
         return None;

@@ -1,7 +1,7 @@
 //! Split trees: branches of a certificate's tree, and the ranges that they leave.
 //!
 //! Family: proofs. It stands on `lin_rows`, whose `Bound` is one side of a branch, and on `certificate`,
-//! whose trees it speaks of; the checker of certificates, their stream and the search are to stand on it.
+//! whose trees it speaks of; the checker of certificates, their stream and the search stand on it.
 //!
 //! A branch splits the range of a quantity or a setup in two: its low side has the column at most a
 //! number, and its high side at least the next one. The bounds on the way from the root to a node are its
@@ -22,6 +22,3 @@ pub use laws::{
     ranges_are_left, trees_are_odd,
 };
 pub use ranges::{branch_range, is_split};
-
-#[cfg(test)]
-mod tests;

@@ -1,7 +1,7 @@
 //! Certificates in files: what one claims, and whether it is accepted, line by line.
 //!
 //! Family: proofs. It stands on `cert_stream`, which reads a certificate's file line by line, and on `cert_checker`,
-//! which says what one cut and one leaf mean.
+//! which says what one cut and one leaf mean; `lotplan` stands on it.
 #![tactic(auto)]
 
 mod fault;
@@ -13,6 +13,3 @@ mod units;
 
 pub use fault::StreamFault;
 pub use streams::{check_stream, read_claim};
-
-#[cfg(test)]
-mod tests;

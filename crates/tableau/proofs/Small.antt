@@ -15,11 +15,11 @@ use Rattle.tableau.specs.Outcomes.{IsRefused}
 use Rattle.tableau.specs.Laws.{HasSmallCells, IsTiny}
 
 -- numerator and denominator below bounds
-record IsWithin (x : ℚ) (a b : ℕ) : Type 0 where
+record IsBetween (x : ℚ) (a b : ℕ) : Type 0 where
   num : unsigned_abs x.num < a
   den : unsigned_abs x.den < b
 
-make_within : (n d : ℤ) (a b : ℕ) → unsigned_abs n < a → unsigned_abs d < b → 2 ≤ b → IsWithin (make n d) a b
+make_within : (n d : ℤ) (a b : ℕ) → unsigned_abs n < a → unsigned_abs d < b → 2 ≤ b → IsBetween (make n d) a b
 unfolding make
 make_within n (pos (suc k)) a b num den two =
     let g = (euclid (unsigned_abs n) (suc k)).0 in
@@ -30,26 +30,26 @@ make_within n (pos (suc k)) a b num den two =
 make_within n (pos zero) a b num den two = record { num = omega (arith, num); den = omega (arith, two) }
 make_within n (negsuc k) a b num den two = record { num = omega (arith, num); den = omega (arith, two) }
 
-times_within : (x y : ℚ) (a b c d : ℕ) → IsWithin x a b → IsWithin y c d → 2 ≤ b * d → IsWithin (x *ℚ y) (a * c) (b * d)
+times_within : (x y : ℚ) (a b c d : ℕ) → IsBetween x a b → IsBetween y c d → 2 ≤ b * d → IsBetween (x *ℚ y) (a * c) (b * d)
 unfolding R.◌*ℚ◌
 times_within x y a b c d p q two =
     make_within (x.num *ℤ y.num) (x.den *ℤ y.den) (a * c) (b * d)
     (subst (λ k. k < a * c) (sym (unsigned_abs-mul x.num y.num)) (mul-lt (unsigned_abs x.num) (unsigned_abs y.num) a c p.num q.num))
     (subst (λ k. k < b * d) (sym (unsigned_abs-mul x.den y.den)) (mul-lt (unsigned_abs x.den) (unsigned_abs y.den) b d p.den q.den)) two
 
-upside_within : (n d : ℤ) (a b : ℕ) → unsigned_abs n < a → unsigned_abs d < b → 2 ≤ a → IsWithin (upside_down n d) b a
+upside_within : (n d : ℤ) (a b : ℕ) → unsigned_abs n < a → unsigned_abs d < b → 2 ≤ a → IsBetween (upside_down n d) b a
 upside_within (pos n) d a b num den two = make_within d (pos n) b a den num two
 upside_within (negsuc n) d a b num den two = make_within (neg_ℤ d) (pos (suc n)) b a (omega (arith, ints, den)) (omega (arith, num)) two
 
-inv_within : (x : ℚ) (a b : ℕ) → IsWithin x a b → 2 ≤ a → IsWithin (inv_ℚ x) b a
+inv_within : (x : ℚ) (a b : ℕ) → IsBetween x a b → 2 ≤ a → IsBetween (inv_ℚ x) b a
 unfolding R.inv_ℚ
 inv_within x a b p two = upside_within x.num x.den a b p.num p.den two
 
-neg_within : (x : ℚ) (a b : ℕ) → IsWithin x a b → 2 ≤ b → IsWithin (neg_ℚ x) a b
+neg_within : (x : ℚ) (a b : ℕ) → IsBetween x a b → 2 ≤ b → IsBetween (neg_ℚ x) a b
 unfolding R.neg_ℚ
 neg_within x a b p two = make_within (neg_ℤ x.num) x.den a b (omega (arith, ints, p.num)) p.den two
 
-fits_within : (x : ℚ) (a b : ℕ) → IsWithin x a b → a ≤ 2 ^ 127 → b ≤ 2 ^ 127 → Fits x
+fits_within : (x : ℚ) (a b : ℕ) → IsBetween x a b → a ≤ 2 ^ 127 → b ≤ 2 ^ 127 → Fits x
 fits_within x a b p num den = record { num = omega (arith, p.num, num); den = omega (arith, p.den, den) }
 
 own_within : (b d : ℤ) (n : ℕ) → unsigned_abs b < n → unsigned_abs (own_part b d) < n
@@ -63,7 +63,7 @@ step_within u v w a b left right = subst (λ k. k < a * b) (sym (unsigned_abs-mu
 difference_within : (u v : ℤ) → unsigned_abs u < 2 ^ 124 → unsigned_abs v < 2 ^ 124 → IsSmall (u -ℤ v)
 difference_within u v a b = omega (arith, ints, a, b)
 
-difference_fits : (x y : ℚ) → IsWithin x (2 ^ 31) (2 ^ 31) → IsWithin y (2 ^ 93) (2 ^ 93) → SumFits ◌-ℤ◌ x y
+difference_fits : (x y : ℚ) → IsBetween x (2 ^ 31) (2 ^ 31) → IsBetween y (2 ^ 93) (2 ^ 93) → SumFits ◌-ℤ◌ x y
 difference_fits x y p q =
     let left : unsigned_abs (x.num *ℤ own_part y.den x.den) < 2 ^ 124 = step_within x.num y.den x.den (2 ^ 31) (2 ^ 93) p.num q.den in
     let right : unsigned_abs (y.num *ℤ own_part x.den y.den) < 2 ^ 124 = step_within y.num x.den y.den (2 ^ 93) (2 ^ 31) q.num p.den in
@@ -73,10 +73,10 @@ difference_fits x y p q =
       total = difference_within (x.num *ℤ own_part y.den x.den) (y.num *ℤ own_part x.den y.den) left right;
     }
 
-tiny_within : (x : ℚ) → IsTiny x → IsWithin x (2 ^ 31) (2 ^ 31)
+tiny_within : (x : ℚ) → IsTiny x → IsBetween x (2 ^ 31) (2 ^ 31)
 tiny_within x tiny = record { num = tiny.num; den = tiny.den }
 
-quotient_within : (x y : ℚ) → IsTiny x → IsTiny y → IsWithin (divided_ℚ x y) (2 ^ 62) (2 ^ 62)
+quotient_within : (x y : ℚ) → IsTiny x → IsTiny y → IsBetween (divided_ℚ x y) (2 ^ 62) (2 ^ 62)
 quotient_within x y a b = times_within x (inv_ℚ y) (2 ^ 31) (2 ^ 31) (2 ^ 31) (2 ^ 31) (tiny_within x a) (inv_within y (2 ^ 31) (2 ^ 31) (tiny_within y b) (omega arith)) (omega arith)
 
 module _ (d : Dictionary) (small : HasSmallCells d) where

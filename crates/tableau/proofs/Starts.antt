@@ -12,7 +12,7 @@ use Rattle.tableau.specs.declared.program.LpTerm.{LpTerm}
 use Rattle.tableau.specs.Program.{AreRows, AreTerms, Inequality, IsRow, Program, column_count, cost_at, empty_row, entry_at, right_at, row_at, row_count, times_of, zero_ℚ}
 use Rattle.tableau.specs.Dictionary.{Dictionary, IsStart, cell, height, width}
 use Rattle.tableau.specs.Steps.{IsSet}
-use Rattle.tableau.specs.Starts.{HasCosts, HasRow, IsBlank}
+use Rattle.tableau.specs.Starts.{HasCosts, GainsRow, IsBlank}
 use Rattle.tableau.proofs.Cells.{names_then, same_sizes}
 use Rattle.tableau.proofs.Loops.{HasTermsTo, IsStartTo}
 
@@ -99,7 +99,7 @@ terms_next row i to d e f term x high is_row less is so_far set =
       others = λ h t apart h_high t_high. set.others h t (omega (arith, h_high, sizes.0)) (omega (arith, t_high, sizes.1)) (inl apart) ∙ so_far.others h t apart h_high t_high;
     }
 
-pub terms_end : (row : Inequality) (i to : ℕ) (d e : Dictionary) → length row.terms ≤ to → HasTermsTo row i to d e → HasRow row i d e
+pub terms_end : (row : Inequality) (i to : ℕ) (d e : Dictionary) → length row.terms ≤ to → HasTermsTo row i to d e → GainsRow row i d e
 terms_end row i to d e all so_far = record {
   names = so_far.names;
   constant = so_far.constant;
@@ -150,7 +150,7 @@ start_none p d e to all blank costs =
       zero = λ k t low less high. costs.others (k + 1) t (λ e. omega (arith, e)) (omega (arith, less, blank.rows)) (omega (arith, high, sizes.1)) ∙ blank.zero (k + 1) t (omega (arith, less, blank.rows)) (omega (arith, high, sizes.1));
     }
 
-pub start_next : (p : Program) (k : ℕ) (d e : Dictionary) → k < row_count p → IsStartTo p k d → HasRow (row_at p k) (k + 1) d e → IsStartTo p (k + 1) e
+pub start_next : (p : Program) (k : ℕ) (d e : Dictionary) → k < row_count p → IsStartTo p k d → GainsRow (row_at p k) (k + 1) d e → IsStartTo p (k + 1) e
 start_next p k d e less so_far row =
     let sizes = same_sizes d e row.names in
     record {

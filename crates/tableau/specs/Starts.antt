@@ -28,7 +28,7 @@ pub record HasCosts (p : Program) (to : ℕ) (d e : Dictionary) : Type 0 where
   pub others : (i t : ℕ) → i ≢ 0 → i < height d → t < width d → cell e i t ≡ cell d i t
 
 -- a row has been put in
-pub record HasRow (row : Inequality) (i : ℕ) (d e : Dictionary) : Type 0 where
+pub record GainsRow (row : Inequality) (i : ℕ) (d e : Dictionary) : Type 0 where
   pub names : HasSameNames d e
   pub constant : cell e i 0 ≡ neg_ℚ (whole row.right)
   pub entries : (t : ℕ) → 1 ≤ t → t < width d → cell e i t ≡ whole (times_of row.terms t)

@@ -1,5 +1,8 @@
 //! The dual simplex over exact fractions: linear programs, and outcomes that multipliers prove.
 //!
+//! Family: numbers. It stands on `algebra`, `rational` and `frac128`; `least_index` and the crates of the search that
+//! solve a relaxation stand on it.
+//!
 //! A program asks for numbers of at least 0, one for each column, that meet every row, "the sum of the terms is at
 //! least the right side", and cost least; costs are at least 0. Rows are made of `LpTerm`s and `LpRow`s. `is_program`
 //! is exactly whether costs and rows can be given to `Lp::new`, `Lp::cells` says how large its dictionary is, and
@@ -41,6 +44,3 @@ pub use laws::{
 pub use outcome::Outcome;
 pub use program::{Lp, LpRow, LpTerm, is_program};
 pub use run::{Run, StepSays};
-
-#[cfg(test)]
-mod tests;

@@ -2,7 +2,7 @@
 ghost use Rattle.std.specs.Prelude.{◌≡◌, ◌≤◌, ◌<◌, ◌+◌, ◌-◌, ℕ, IfOk, length};
 ghost use Rattle.tableau.specs.Program.{IsRow, column_count, zero_ℚ};
 ghost use Rattle.tableau.specs.Dictionary.{IsStart, cell, height, width};
-ghost use Rattle.tableau.specs.Starts.{AreVariables, HasCosts, HasRow, IsBlank};
+ghost use Rattle.tableau.specs.Starts.{AreVariables, HasCosts, GainsRow, IsBlank};
 ghost use Rattle.tableau.specs.Held.{inequality_of};
 ghost use Rattle.tableau.specs.Outcomes.{number_at};
 
@@ -73,7 +73,7 @@ impl Tableau {
         requires columns { 1 ≤ width self.old }
         requires terms { IsRow (width self.old - 1) (inequality_of source.now) }
         requires zero { (t : ℕ) → t < width self.old → cell self.old row t ≡ zero_ℚ }
-        ensures { HasRow (inequality_of source.now) row self.old self.new }
+        ensures { GainsRow (inequality_of source.now) row self.old self.new }
     {
         self.set(row, 0, opposite(whole(source.right)));
         for place in 0..source.terms.len() {

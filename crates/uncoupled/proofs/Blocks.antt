@@ -10,7 +10,7 @@ use Rattle.lot_sizing.specs.declared.limits.TheConstants.{MAX_TOTAL}
 use Rattle.lot_sizing.specs.Sums.{sum_from}
 use Rattle.lot_sizing.specs.Single.{Cover, CoverFrom, IsBlock, IsWithinBounds, Single, block_lot, lot_in, net_demand, period_count, period_of, position_count, setup_in}
 use Rattle.lot_sizing.proofs.Sums.{sum_to_at, sum_to-front}
-use Rattle.uncoupled.specs.Rows.{HasRow, IsEmptyRow, IsPut, IsRowSoFar, IsSetUpSoFar}
+use Rattle.uncoupled.specs.Rows.{HasItemCells, IsEmptyRow, IsPut, IsRowSoFar, IsSetUpSoFar}
 use Rattle.plan_rules.specs.Cells.{Cells, table_of}
 use Rattle.plan_rules.specs.Rows.{OtherRowsSame}
 
@@ -87,7 +87,7 @@ lot_more s first place t read lot low same is so_far =
 other_rows : (a b c : Cells) (item : ℕ) → b.items ≡ a.items → b.periods ≡ a.periods → OtherRowsSame a b item → OtherRowsSame b c item → OtherRowsSame a c item
 other_rows a b c item items periods one two j u j_low j_high u_low u_high apart = two j u j_low (omega (arith, j_high, items)) u_low (omega (arith, u_high, periods)) apart ∙ one j u j_low j_high u_low u_high apart
 
-pub row_start : (s : Single) (blocks : List Block) (item : ℕ) (make setup : Cells) → Cover s blocks → HasRow (period_count s) item make → HasRow (period_count s) item setup → IsEmptyRow make item → IsEmptyRow setup item → IsRowSoFar s blocks 0 item make setup make setup
+pub row_start : (s : Single) (blocks : List Block) (item : ℕ) (make setup : Cells) → Cover s blocks → HasItemCells (period_count s) item make → HasItemCells (period_count s) item setup → IsEmptyRow make item → IsEmptyRow setup item → IsRowSoFar s blocks 0 item make setup make setup
 row_start s blocks item make setup cover has_make has_setup no_make no_setup = record {
   make_items = refl;
   make_periods = refl;

@@ -10,7 +10,7 @@ use Rattle.plan_rules.specs.Rows.{OtherRowsSame}
 use Rattle.echelon.specs.Views.{single_in}
 
 -- the grid has a row for the item with so many periods
-pub record HasRow (periods item : ℕ) (g : Cells) : Type 0 where
+pub record HasItemCells (periods item : ℕ) (g : Cells) : Type 0 where
   pub low : 1 ≤ item
   pub high : item ≤ g.items
   pub size : g.periods ≡ periods

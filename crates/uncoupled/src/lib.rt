@@ -12,7 +12,7 @@
 //! by themselves that the plan is best (`specs/Items`). The laws of `lot_sizing` say that no plan costs
 //! less, and that there is a plan exactly where all items have room.
 //!
-//! Family: search. It stands on `plan_rules` and `backlog_dp`. `branching` uses it.
+//! Family: search. It stands on `plan_rules` and `backlog_dp`; `branching` stands on it.
 #![tactic(auto)]
 
 mod lots;
@@ -22,6 +22,3 @@ mod room;
 pub use lin_rows::Potentials;
 pub use plan_rules::Plan;
 pub use planning::{ItemPlans, PlannedItems, plan_items};
-
-#[cfg(test)]
-mod tests;

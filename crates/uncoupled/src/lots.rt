@@ -5,7 +5,7 @@ ghost use Rattle.lot_sizing.specs.Single.{Cover, IsBlock, IsWithinBounds, block_
 ghost use Rattle.echelon.specs.Views.{single_of_item};
 ghost use Rattle.plan_rules.specs.Cells.{table_of};
 ghost use Rattle.plan_rules.specs.Rows.{OtherRowsSame};
-ghost use Rattle.uncoupled.specs.Rows.{HasRow, IsEmptyRow, IsPut};
+ghost use Rattle.uncoupled.specs.Rows.{HasItemCells, IsEmptyRow, IsPut};
 
 use echelon::{Block, SingleItem};
 use plan_rules::Grid;
@@ -38,8 +38,8 @@ fn set_block(
     requires within { IsWithinBounds (single_of_item single.now) }
     requires needed { needed.now ≡ positions (single_of_item single.now) }
     requires block { IsBlock (single_of_item single.now) block }
-    requires make { HasRow (period_count (single_of_item single.now)) item make.old }
-    requires setup { HasRow (period_count (single_of_item single.now)) item setup.old }
+    requires make { HasItemCells (period_count (single_of_item single.now)) item make.old }
+    requires setup { HasItemCells (period_count (single_of_item single.now)) item setup.old }
     requires small { table_of make.old item block.server ≤ MAX_PERIODS * (MAX_PERIODS * MAX_TOTAL) }
     ensures { IsPut (single_of_item single.now) block item make.old setup.old make.new setup.new }
 {
@@ -61,8 +61,8 @@ pub fn set_lots(
     requires within { IsWithinBounds (single_of_item single.now) }
     requires needed { needed.now ≡ positions (single_of_item single.now) }
     requires blocks { Cover (single_of_item single.now) blocks.now }
-    requires make { HasRow (period_count (single_of_item single.now)) item make.old }
-    requires setup { HasRow (period_count (single_of_item single.now)) item setup.old }
+    requires make { HasItemCells (period_count (single_of_item single.now)) item make.old }
+    requires setup { HasItemCells (period_count (single_of_item single.now)) item setup.old }
     requires no_make { IsEmptyRow make.old item }
     requires no_setup { IsEmptyRow setup.old item }
     ensures make { (t : ℕ) → 1 ≤ t → t ≤ period_count (single_of_item single.now) → table_of make.new item t ≡ lot_in (single_of_item single.now) blocks.now t }

@@ -11,8 +11,8 @@ use Rattle.lot_sizing.specs.Single.{Single, IsWithinBounds, IsServer, period_cou
 use Rattle.lot_sizing.proofs.Sums.{sum_to_at, sum_to-front}
 use Rattle.lot_sizing.proofs.Positions.{count, count_idle, count_next, place}
 use Rattle.lot_sizing.proofs.Blocks.{periods_rise}
-use Rattle.wagner_whitin.specs.declared.runs.Run.{Run}
-use Rattle.wagner_whitin.specs.Tables.{IsRun, IsClosed, IsRunOrNone, AreRuns, most_for_one, run_of}
+use Rattle.wagner_whitin.specs.declared.runs.ServerBlock.{ServerBlock}
+use Rattle.wagner_whitin.specs.Tables.{IsServerBlock, IsClosed, IsServerBlockOrNone, AreServerBlocks, most_for_one, run_of}
 use Rattle.wagner_whitin.proofs.Sums.{IsRead, read_is, entry_small}
 
 abbrev block : ℕ → ℕ → ℕ → Block
@@ -30,11 +30,11 @@ block_none : (s : Single) (p u : ℕ) → block_cost s (block (suc p) p u) ≡ e
 block_none s p u = let e : suc p - suc p ≡ 0 = omega arith in omega (arith, ap (λ k. sum_from (suc p) k (serving_cost s u)) e)
 
 -- a block that began earlier costs no less up to the last position
-earlier_dearer : (s : Single) (g : List ℕ) (u p a x : ℕ) (old : Option Run) → IsRunOrNone s g u p old → IfSome old (λ run. x ≤ run.cost) → 1 ≤ a → a ≤ p → IsServer s u (period_of s a) → x ≤ potential g (a - 1) + block_cost s (block a p u)
+earlier_dearer : (s : Single) (g : List ℕ) (u p a x : ℕ) (old : Option ServerBlock) → IsServerBlockOrNone s g u p old → IfSome old (λ run. x ≤ run.cost) → 1 ≤ a → a ≤ p → IsServer s u (period_of s a) → x ≤ potential g (a - 1) + block_cost s (block a p u)
 earlier_dearer s g u p a x None closed dearer low high may = absurd (closed a low high may)
 earlier_dearer s g u p a x (Some run) ran dearer low high may = omega (arith, dearer, ran.least a low high may)
 
-begins : (s : Single) (g : List ℕ) (u p cost : ℕ) (old : Option Run) → IsServer s u (period_of s (suc p)) → IsRunOrNone s g u p old → IfSome old (λ run. potential g p + entry s.setup u ≤ run.cost) → cost ≡ potential g p + entry s.setup u + serving_cost s u (suc p) → cost ≤ suc p * most_for_one → IsRun s g u (suc p) (record { cost = cost; first = suc p; server = u })
+begins : (s : Single) (g : List ℕ) (u p cost : ℕ) (old : Option ServerBlock) → IsServer s u (period_of s (suc p)) → IsServerBlockOrNone s g u p old → IfSome old (λ run. potential g p + entry s.setup u ≤ run.cost) → cost ≡ potential g p + entry s.setup u + serving_cost s u (suc p) → cost ≤ suc p * most_for_one → IsServerBlock s g u (suc p) (record { cost = cost; first = suc p; server = u })
 begins s g u p cost old server before dearer is small =
     let d : suc p - 1 ≡ p = omega arith in
     record {
@@ -50,7 +50,7 @@ begins s g u p cost old server before dearer is small =
       small = small;
     }
 
-goes_on : (s : Single) (g : List ℕ) (u p cost : ℕ) (run : Run) → IsServer s u (period_of s (suc p)) → IsRun s g u p run → run.cost ≤ potential g p + entry s.setup u → cost ≡ run.cost + serving_cost s u (suc p) → cost ≤ suc p * most_for_one → IsRun s g u (suc p) (record { cost = cost; first = run.first; server = u })
+goes_on : (s : Single) (g : List ℕ) (u p cost : ℕ) (run : ServerBlock) → IsServer s u (period_of s (suc p)) → IsServerBlock s g u p run → run.cost ≤ potential g p + entry s.setup u → cost ≡ run.cost + serving_cost s u (suc p) → cost ≤ suc p * most_for_one → IsServerBlock s g u (suc p) (record { cost = cost; first = run.first; server = u })
 goes_on s g u p cost run server ran cheaper is small =
     let d : suc p - 1 ≡ p = omega arith in
     record {
@@ -101,7 +101,7 @@ serving_is s u p t serving same value =
     let e : p + 1 ≡ suc p = omega arith in
     value ∙ ap (λ k. net_demand s k * unit_price s u k) (same ∙ ap (period_of s) e)
 
-pub fresh_run : (s : Single) (g : List ℕ) (u t : ℕ) (old : Option Run) (before setup serving : ℕ) → IsWithinBounds s → length g < 120 → t ≡ period_of s (length g + 1) → IsServer s u t → IsRunOrNone s g u (length g) old → potential g (length g) ≤ length g * most_for_one → before ≡ potential g (length g) → IsRead s.setup (u - 1) setup → serving ≡ net_demand s t * unit_price s u t → serving ≤ 121 * 10 ^ 21 → IfSome old (λ run. before + setup ≤ run.cost) → IsRun s g u (length g + 1) (record { cost = before + setup + serving; first = length g + 1; server = u })
+pub fresh_run : (s : Single) (g : List ℕ) (u t : ℕ) (old : Option ServerBlock) (before setup serving : ℕ) → IsWithinBounds s → length g < 120 → t ≡ period_of s (length g + 1) → IsServer s u t → IsServerBlockOrNone s g u (length g) old → potential g (length g) ≤ length g * most_for_one → before ≡ potential g (length g) → IsRead s.setup (u - 1) setup → serving ≡ net_demand s t * unit_price s u t → serving ≤ 121 * 10 ^ 21 → IfSome old (λ run. before + setup ≤ run.cost) → IsServerBlock s g u (length g + 1) (record { cost = before + setup + serving; first = length g + 1; server = u })
 fresh_run s g u t old before setup serving within count same server had small is read value few dearer =
     let p = length g in
     let e : suc p ≡ p + 1 = omega arith in
@@ -110,24 +110,24 @@ fresh_run s g u t old before setup serving within count same server had small is
     let here : IsServer s u (period_of s (suc p)) = subst (IsServer s u) (same ∙ ap (period_of s) (sym e)) server in
     let starts : before + setup ≡ potential g p + entry s.setup u = omega (arith, is, setup_is) in
     let cost_small : before + setup + serving ≤ suc p * most_for_one = omega (arith, small, is, setup_is, setup_small, few) in
-    subst (λ q. IsRun s g u q (record { cost = before + setup + serving; first = q; server = u })) e (begins s g u p (before + setup + serving) old here had (subst (λ k. IfSome old (λ run. k ≤ run.cost)) starts dearer) (omega (arith, is, setup_is, serving_is s u p t serving same value)) cost_small)
+    subst (λ q. IsServerBlock s g u q (record { cost = before + setup + serving; first = q; server = u })) e (begins s g u p (before + setup + serving) old here had (subst (λ k. IfSome old (λ run. k ≤ run.cost)) starts dearer) (omega (arith, is, setup_is, serving_is s u p t serving same value)) cost_small)
 
-pub kept_run : (s : Single) (g : List ℕ) (u t : ℕ) (run : Run) (before setup serving : ℕ) → IsWithinBounds s → t ≡ period_of s (length g + 1) → IsServer s u t → IsRun s g u (length g) run → before ≡ potential g (length g) → IsRead s.setup (u - 1) setup → serving ≡ net_demand s t * unit_price s u t → serving ≤ 121 * 10 ^ 21 → run.cost ≤ before + setup → IsRun s g u (length g + 1) (record { cost = run.cost + serving; first = run.first; server = u })
+pub kept_run : (s : Single) (g : List ℕ) (u t : ℕ) (run : ServerBlock) (before setup serving : ℕ) → IsWithinBounds s → t ≡ period_of s (length g + 1) → IsServer s u t → IsServerBlock s g u (length g) run → before ≡ potential g (length g) → IsRead s.setup (u - 1) setup → serving ≡ net_demand s t * unit_price s u t → serving ≤ 121 * 10 ^ 21 → run.cost ≤ before + setup → IsServerBlock s g u (length g + 1) (record { cost = run.cost + serving; first = run.first; server = u })
 kept_run s g u t run before setup serving within same server ran is read value few cheaper =
     let p = length g in
     let e : suc p ≡ p + 1 = omega arith in
     let setup_is = read_is s.setup (u - 1) setup (omega (arith, within.setup.size, server.low, server.high)) read in
     let here : IsServer s u (period_of s (suc p)) = subst (IsServer s u) (same ∙ ap (period_of s) (sym e)) server in
-    subst (λ q. IsRun s g u q (record { cost = run.cost + serving; first = run.first; server = u })) e (goes_on s g u p (run.cost + serving) run here ran (omega (arith, cheaper, is, setup_is)) (omega (arith, serving_is s u p t serving same value)) (omega (arith, ran.small, few)))
+    subst (λ q. IsServerBlock s g u q (record { cost = run.cost + serving; first = run.first; server = u })) e (goes_on s g u p (run.cost + serving) run here ran (omega (arith, cheaper, is, setup_is)) (omega (arith, serving_is s u p t serving same value)) (omega (arith, ran.small, few)))
 
 -- a list of runs with one set anew
-pub run_here : (runs : List (Option Run)) (v : ℕ) (x : Option Run) → 1 ≤ v → v ≤ length runs → run_of (slice_set runs (v - 1) x) v ≡ x
+pub run_here : (runs : List (Option ServerBlock)) (v : ℕ) (x : Option ServerBlock) → 1 ≤ v → v ≤ length runs → run_of (slice_set runs (v - 1) x) v ≡ x
 run_here runs v x low high = get_or-set_same runs (v - 1) x None (omega (arith, low, high))
 
-pub run_other : (runs : List (Option Run)) (v u : ℕ) (x : Option Run) → 1 ≤ v → 1 ≤ u → (u ≡ v → ⊥) → run_of (slice_set runs (v - 1) x) u ≡ run_of runs u
+pub run_other : (runs : List (Option ServerBlock)) (v u : ℕ) (x : Option ServerBlock) → 1 ≤ v → 1 ≤ u → (u ≡ v → ⊥) → run_of (slice_set runs (v - 1) x) u ≡ run_of runs u
 run_other runs v u x low u_low apart = get_or-set_other runs (v - 1) (u - 1) x None (λ same. apart (omega (arith, same, low, u_low)))
 
-pub set_length : (runs : List (Option Run)) (i : ℕ) (x : Option Run) → length (slice_set runs i x) ≡ length runs
+pub set_length : (runs : List (Option ServerBlock)) (i : ℕ) (x : Option ServerBlock) → length (slice_set runs i x) ≡ length runs
 set_length runs i x = length-set runs i x
 
 -- a server that may not serve a position may serve no earlier one
@@ -136,12 +136,12 @@ still_closed s t u p some same closed a low high may =
     let rise = periods_rise s a (p + 1) low high (omega (arith, some)) in
     closed (record { low = may.low; high = may.high; in_time = λ none. omega (arith, may.in_time none, rise, same) })
 
-closed_run : (s : Single) (g : List ℕ) (t u p : ℕ) (old : Option Run) → p < position_count s → t ≡ period_of s (p + 1) → (IsServer s u t → ⊥) → IsRunOrNone s g u p old → IsRunOrNone s g u (p + 1) old
+closed_run : (s : Single) (g : List ℕ) (t u p : ℕ) (old : Option ServerBlock) → p < position_count s → t ≡ period_of s (p + 1) → (IsServer s u t → ⊥) → IsServerBlockOrNone s g u p old → IsServerBlockOrNone s g u (p + 1) old
 closed_run s g t u p None some same closed before = still_closed s t u p some same closed
 closed_run s g t u p (Some run) some same closed ran = absurd (still_closed s t u p some same closed run.first ran.low (omega (arith, ran.high)) ran.server)
 
 -- servers past the limit have no run, and the others have one
-pub closed_runs : (s : Single) (g : List ℕ) (t limit v : ℕ) (runs : List (Option Run)) → length g < position_count s → t ≡ period_of s (length g + 1) → ((u : ℕ) → 1 ≤ u → (IsServer s u t ↔ (u ≤ limit))) → limit < v → length runs ≡ period_count s → ((u : ℕ) → 1 ≤ u → u < v → IsRunOrNone s g u (length g + 1) (run_of runs u)) → ((u : ℕ) → v ≤ u → u ≤ period_count s → IsRunOrNone s g u (length g) (run_of runs u)) → AreRuns s g (length g + 1) runs
+pub closed_runs : (s : Single) (g : List ℕ) (t limit v : ℕ) (runs : List (Option ServerBlock)) → length g < position_count s → t ≡ period_of s (length g + 1) → ((u : ℕ) → 1 ≤ u → (IsServer s u t ↔ (u ≤ limit))) → limit < v → length runs ≡ period_count s → ((u : ℕ) → 1 ≤ u → u < v → IsServerBlockOrNone s g u (length g + 1) (run_of runs u)) → ((u : ℕ) → v ≤ u → u ≤ period_count s → IsServerBlockOrNone s g u (length g) (run_of runs u)) → AreServerBlocks s g (length g + 1) runs
 closed_runs s g t limit v runs some same servers past size done rest = record {
   size = size;
   each = λ u low high. ⊎_elim

@@ -6,8 +6,8 @@ use Rattle.std.proofs.lemmas.Grind.{get_or_default_zero}
 use Rattle.lot_sizing.specs.Sums.{sum_to, sum_from}
 use Rattle.lot_sizing.specs.Problem.{entry, backlog_price, IsSeries}
 use Rattle.lot_sizing.specs.Single.{Single, IsWithinBounds, IsServer, period_count, unit_price}
-use Rattle.wagner_whitin.specs.declared.prices.Prices.{Prices}
-use Rattle.wagner_whitin.specs.Tables.{AreSums, ArePrices}
+use Rattle.wagner_whitin.specs.declared.prices.CostSums.{CostSums}
+use Rattle.wagner_whitin.specs.Tables.{AreSums, AreCostSums}
 
 -- a table of sums takes the next one
 pub sums_more : (n x : ℕ) (f : ℕ → ℕ) (sums : List ℕ) → AreSums n f sums → x ≡ sum_to (suc n) f → AreSums (suc n) f (sums ++ x ∷ [])
@@ -63,7 +63,7 @@ pub record IsUnit (s : Single) (u t low high : ℕ) : Type 0 where
   pub value : entry s.unit u + (high - low) ≡ unit_price s u t
   pub small : entry s.unit u + (high - low) ≤ 121 * 10 ^ 9
 
-pub kept_unit : (s : Single) (prices : Prices) (u t : ℕ) → IsWithinBounds s → ArePrices s prices → 1 ≤ u → u ≤ t → t ≤ period_count s → IsUnit s u t (slice_index_or prices.held.items (u - 1) 0) (slice_index_or prices.held.items (t - 1) 0)
+pub kept_unit : (s : Single) (prices : CostSums) (u t : ℕ) → IsWithinBounds s → AreCostSums s prices → 1 ≤ u → u ≤ t → t ≤ period_count s → IsUnit s u t (slice_index_or prices.held.items (u - 1) 0) (slice_index_or prices.held.items (t - 1) 0)
 kept_unit s prices u t within table low order high =
     let part = between (period_count s) (entry s.hold) prices.held.items u t table.held (entry_small (period_count s) s.hold within.hold) low order high in
     let none : u - t ≡ 0 = omega (arith, order) in
@@ -77,7 +77,7 @@ owed_sums : (n : ℕ) (back : Option (List ℕ)) (sums : List ℕ) → (IsNone b
 owed_sums n None sums some table = absurd (some refl)
 owed_sums n (Some costs) sums some table = table
 
-pub owed_unit : (s : Single) (prices : Prices) (u t : ℕ) → IsWithinBounds s → ArePrices s prices → IsServer s u t → 1 ≤ t → t < u → u ≤ period_count s → IsUnit s u t (slice_index_or prices.owed.items (t - 1) 0) (slice_index_or prices.owed.items (u - 1) 0)
+pub owed_unit : (s : Single) (prices : CostSums) (u t : ℕ) → IsWithinBounds s → AreCostSums s prices → IsServer s u t → 1 ≤ t → t < u → u ≤ period_count s → IsUnit s u t (slice_index_or prices.owed.items (t - 1) 0) (slice_index_or prices.owed.items (u - 1) 0)
 owed_unit s prices u t within table server low order high =
     let sums = owed_sums (period_count s) s.back prices.owed.items (λ none. omega (arith, server.in_time none, order)) table.owed in
     let part = between (period_count s) (backlog_price s.back) prices.owed.items t u sums (back_small (period_count s) s.back within.back) low (omega (arith, order)) high in
@@ -101,7 +101,7 @@ pub record IsPrice (s : Single) (u t unit low high : ℕ) : Type 0 where
   pub value : unit + (high - low) ≡ unit_price s u t
   pub small : unit + (high - low) ≤ 121 * 10 ^ 9
 
-pub kept_price : (s : Single) (prices : Prices) (u t unit low high : ℕ) → IsWithinBounds s → ArePrices s prices → IsServer s u t → u ≤ t → t ≤ period_count s → IsRead s.unit (u - 1) unit → IsRead prices.held.items (u - 1) low → IsRead prices.held.items (t - 1) high → IsPrice s u t unit low high
+pub kept_price : (s : Single) (prices : CostSums) (u t unit low high : ℕ) → IsWithinBounds s → AreCostSums s prices → IsServer s u t → u ≤ t → t ≤ period_count s → IsRead s.unit (u - 1) unit → IsRead prices.held.items (u - 1) low → IsRead prices.held.items (t - 1) high → IsPrice s u t unit low high
 kept_price s prices u t unit low high within table server order t_high read_unit read_low read_high =
     let is_unit = kept_unit s prices u t within table server.low order t_high in
     let a = read_is s.unit (u - 1) unit (omega (arith, within.unit.size, server.low, server.high)) read_unit in
@@ -109,7 +109,7 @@ kept_price s prices u t unit low high within table server order t_high read_unit
     let d = read_is prices.held.items (t - 1) high (omega (arith, table.held.size, t_high)) read_high in
     record { order = omega (arith, is_unit.order, b, d); value = omega (arith, is_unit.value, a, b, d); small = omega (arith, is_unit.small, a, b, d) }
 
-pub owed_price : (s : Single) (prices : Prices) (u t unit low high : ℕ) → IsWithinBounds s → ArePrices s prices → IsServer s u t → 1 ≤ t → t < u → IsRead s.unit (u - 1) unit → IsRead prices.owed.items (t - 1) low → IsRead prices.owed.items (u - 1) high → IsPrice s u t unit low high
+pub owed_price : (s : Single) (prices : CostSums) (u t unit low high : ℕ) → IsWithinBounds s → AreCostSums s prices → IsServer s u t → 1 ≤ t → t < u → IsRead s.unit (u - 1) unit → IsRead prices.owed.items (t - 1) low → IsRead prices.owed.items (u - 1) high → IsPrice s u t unit low high
 owed_price s prices u t unit low high within table server t_low order read_unit read_low read_high =
     let sums = owed_sums (period_count s) s.back prices.owed.items (λ none. omega (arith, server.in_time none, order)) table.owed in
     let is_unit = owed_unit s prices u t within table server t_low order server.high in

@@ -9,10 +9,10 @@ use Rattle.lot_sizing.specs.Laws.{BlocksServe, LastPotentialIsFloor}
 use Rattle.lot_sizing.specs.Single.{Single, IsWithinBounds, IsServer, ArePotentials, Cover, IsLeastNetCost, blocks_plan, blocks_cost, period_count, position_count, positions, period_of, block_cost, potential}
 use Rattle.lot_sizing.proofs.Blocks.{periods_rise}
 use Rattle.wagner_whitin.specs.declared.plain.Candidate.{Candidate}
-use Rattle.wagner_whitin.specs.declared.runs.Run.{Run}
-use Rattle.wagner_whitin.specs.Solution.{IsSolution, most_cost}
+use Rattle.wagner_whitin.specs.declared.runs.ServerBlock.{ServerBlock}
+use Rattle.wagner_whitin.specs.Solution.{IsSolution}
 use Rattle.echelon.specs.declared.single.Blocks.{Blocks}
-use Rattle.wagner_whitin.specs.Tables.{IsCheapestLast, IsRun, IsRunOrNone, AreRuns, RunsAtMost, IsTable, IsLastBlock, most_for_one, last_block, no_block, run_of}
+use Rattle.wagner_whitin.specs.Tables.{IsCheapestLast, IsServerBlock, IsServerBlockOrNone, AreServerBlocks, BlockCostsAtMost, IsTable, IsLastBlock, most_for_one, last_block, most_cost, no_block, run_of}
 use Rattle.wagner_whitin.proofs.Sums.{IsRead, read_is}
 use Rattle.wagner_whitin.proofs.Serving.{period_in, positions_small}
 
@@ -24,7 +24,7 @@ potential_kept g x (suc k) h = get_or_append_left g (x ∷ []) 0 (suc k - 1) (om
 pub potential_new : (g : List ℕ) (x : ℕ) → potential (g ++ x ∷ []) (suc (length g)) ≡ x
 potential_new g x = get_or_push g x 0 (suc (length g) - 1) (omega arith)
 
-run_kept : (s : Single) (g : List ℕ) (x u p : ℕ) (run : Run) → p ≤ suc (length g) → IsRun s g u p run → IsRun s (g ++ x ∷ []) u p run
+run_kept : (s : Single) (g : List ℕ) (x u p : ℕ) (run : ServerBlock) → p ≤ suc (length g) → IsServerBlock s g u p run → IsServerBlock s (g ++ x ∷ []) u p run
 run_kept s g x u p run h ran = record {
   own = ran.own;
   low = ran.low;
@@ -35,34 +35,34 @@ run_kept s g x u p run h ran = record {
   small = ran.small;
 }
 
-run_or_none_kept : (s : Single) (g : List ℕ) (x u p : ℕ) (old : Option Run) → p ≤ suc (length g) → IsRunOrNone s g u p old → IsRunOrNone s (g ++ x ∷ []) u p old
+run_or_none_kept : (s : Single) (g : List ℕ) (x u p : ℕ) (old : Option ServerBlock) → p ≤ suc (length g) → IsServerBlockOrNone s g u p old → IsServerBlockOrNone s (g ++ x ∷ []) u p old
 run_or_none_kept s g x u p None h closed = closed
 run_or_none_kept s g x u p (Some run) h ran = run_kept s g x u p run h ran
 
-pub runs_kept : (s : Single) (g : List ℕ) (x p : ℕ) (runs : List (Option Run)) → p ≤ suc (length g) → AreRuns s g p runs → AreRuns s (g ++ x ∷ []) p runs
+pub runs_kept : (s : Single) (g : List ℕ) (x p : ℕ) (runs : List (Option ServerBlock)) → p ≤ suc (length g) → AreServerBlocks s g p runs → AreServerBlocks s (g ++ x ∷ []) p runs
 runs_kept s g x p runs h are = record {
   size = are.size;
   each = λ u low high. run_or_none_kept s g x u p (run_of runs u) h (are.each u low high);
 }
 
 -- the run of a server that may serve the position
-ran_at : (s : Single) (g : List ℕ) (p u : ℕ) (old : Option Run) → IsRunOrNone s g u p old → 1 ≤ p → IsServer s u (period_of s p) → (run : Run) × (old ≡ Some run) × IsRun s g u p run
+ran_at : (s : Single) (g : List ℕ) (p u : ℕ) (old : Option ServerBlock) → IsServerBlockOrNone s g u p old → 1 ≤ p → IsServer s u (period_of s p) → (run : ServerBlock) × (old ≡ Some run) × IsServerBlock s g u p run
 ran_at s g p u None closed low may = absurd (closed p low (omega arith) may)
 ran_at s g p u (Some run) ran low may = (run, refl, ran)
 
 -- some server has a run
-pub some_run : (s : Single) (g : List ℕ) (p u : ℕ) (runs : List (Option Run)) → AreRuns s g p runs → 1 ≤ p → IsServer s u (period_of s p) → (x : ℕ) × RunsAtMost (run_of runs u) x
+pub some_run : (s : Single) (g : List ℕ) (p u : ℕ) (runs : List (Option ServerBlock)) → AreServerBlocks s g p runs → 1 ≤ p → IsServer s u (period_of s p) → (x : ℕ) × BlockCostsAtMost (run_of runs u) x
 some_run s g p u runs are low may =
     let ran = ran_at s g p u (run_of runs u) (are.each u may.low may.high) low may in
-    (ran.0.cost, subst (λ o. RunsAtMost o ran.0.cost) (sym ran.1) (omega arith))
+    (ran.0.cost, subst (λ o. BlockCostsAtMost o ran.0.cost) (sym ran.1) (omega arith))
 
 -- the cheapest run makes the next potential
-pub table_more : (s : Single) (p : ℕ) (g : List ℕ) (lasts : List Block) (runs : List (Option Run)) (t limit u : ℕ) (run : Run) → IsTable s p g lasts → p < position_count s → t ≡ period_of s (p + 1) → ((v : ℕ) → 1 ≤ v → (IsServer s v t ↔ (v ≤ limit))) → AreRuns s g (p + 1) runs → 1 ≤ u → u ≤ limit → run_of runs u ≡ Some run → ((v x : ℕ) → 1 ≤ v → v ≤ limit → RunsAtMost (run_of runs v) x → run.cost ≤ x) → IsTable s (p + 1) (g ++ run.cost ∷ []) (lasts ++ record { first = run.first; last = p + 1; server = run.server } ∷ [])
+pub table_more : (s : Single) (p : ℕ) (g : List ℕ) (lasts : List Block) (runs : List (Option ServerBlock)) (t limit u : ℕ) (run : ServerBlock) → IsTable s p g lasts → p < position_count s → t ≡ period_of s (p + 1) → ((v : ℕ) → 1 ≤ v → (IsServer s v t ↔ (v ≤ limit))) → AreServerBlocks s g (p + 1) runs → 1 ≤ u → u ≤ limit → run_of runs u ≡ Some run → ((v x : ℕ) → 1 ≤ v → v ≤ limit → BlockCostsAtMost (run_of runs v) x → run.cost ≤ x) → IsTable s (p + 1) (g ++ run.cost ∷ []) (lasts ++ record { first = run.first; last = p + 1; server = run.server } ∷ [])
 table_more s p g lasts runs t limit u run table some same servers are low high kept least =
     let x = run.cost in
     let b : Block = record { first = run.first; last = p + 1; server = run.server } in
     let at = λ (v : ℕ) (v_low : 1 ≤ v) (v_high : v ≤ limit). subst (IsServer s v) same ((servers v v_low).1 v_high) in
-    let ran : IsRun s g u (p + 1) run = subst (IsRunOrNone s g u (p + 1)) kept (are.each u low (at u low high).high) in
+    let ran : IsServerBlock s g u (p + 1) run = subst (IsServerBlockOrNone s g u (p + 1)) kept (are.each u low (at u low high).high) in
     let own_cost : block_cost s b ≡ block_cost s (record { first = run.first; last = p + 1; server = u }) = ap (λ k. block_cost s (record { first = run.first; last = p + 1; server = k })) ran.own in
     let e : suc (length g) ≡ p + 1 = omega (arith, table.size) in
     let new : potential (g ++ x ∷ []) (p + 1) ≡ x = ap (potential (g ++ x ∷ [])) (sym e) ∙ potential_new g x in
@@ -82,7 +82,7 @@ table_more s p g lasts runs t limit u run table some same servers are low high k
             arith,
             ap (potential (g ++ x ∷ [])) last,
             new,
-            least v ran_v.0.cost is_block.server.low v_high (subst (λ o. RunsAtMost o ran_v.0.cost) (sym ran_v.1) (omega arith)),
+            least v ran_v.0.cost is_block.server.low v_high (subst (λ o. BlockCostsAtMost o ran_v.0.cost) (sym ran_v.1) (omega arith)),
             ran_v.2.least c.first is_block.low (omega (arith, is_block.order, last)) is_block.server,
             potential_kept g x (c.first - 1) (omega (arith, is_block.order, last, table.size)),
             ap (λ k. block_cost s (record { first = c.first; last = k; server = v })) last,

@@ -4,7 +4,7 @@ use Rattle.lot_sizing.specs.Sums.{sum_to, sum_from}
 use Rattle.lot_sizing.specs.Problem.{entry}
 use Rattle.lot_sizing.specs.Single.{Single, IsServer, period_count, net_demand, positions_to, position_count, period_of, serving_cost, potential, ArePotentials}
 use Rattle.lot_sizing.specs.declared.Block.{Block}
-use Rattle.wagner_whitin.specs.Tables.{AreSums, most_for_one, last_block}
+use Rattle.wagner_whitin.specs.Tables.{AreSums, most_cost, most_for_one, last_block}
 use Rattle.wagner_whitin.specs.declared.lines.Line.{Line}
 use Rattle.wagner_whitin.specs.declared.lines.LineSums.{LineSums}
 
@@ -17,7 +17,7 @@ pub record IsLine (s : Single) (from : ℕ) (l : Line) : Type 0 where
   pub low : 1 ≤ l.first
   pub begun : l.first ≤ from
   pub server : IsServer s l.server (period_of s l.first)
-  pub small : l.before ≤ 121 * most_for_one
+  pub small : l.before ≤ most_cost + most_for_one
 
 -- the net demand of a position
 abbrev pub net_at : Single → ℕ → ℕ

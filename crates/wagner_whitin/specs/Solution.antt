@@ -3,11 +3,7 @@ use Rattle.std.specs.Prelude.{◌≡◌, ℕ, ◌*◌, ◌≤◌}
 use Rattle.lot_sizing.specs.Problem.{AllAtMost}
 use Rattle.lot_sizing.specs.Single.{Single, ArePotentials, Cover, IsLeastNetCost, blocks_cost, position_count, potential}
 use Rattle.echelon.specs.declared.single.Blocks.{Blocks}
-use Rattle.wagner_whitin.specs.Tables.{most_for_one}
-
--- no item within bounds costs more
-abbrev pub most_cost : ℕ
-most_cost = 120 * most_for_one
+use Rattle.wagner_whitin.specs.Tables.{most_cost}
 
 -- a cheapest way to serve an item, and potentials that show that no net plan costs less
 pub record IsSolution (s : Single) (found : Blocks) : Type 0 where

@@ -1,28 +1,41 @@
 -- What the tables of the recursion hold.
-use Rattle.std.specs.Prelude.{◌≡◌, ℕ, ◌+◌, ◌-◌, ◌*◌, ◌^◌, ◌≤◌, List, length, Option, None, Some, IfSome, slice_index_or}
+use Rattle.std.specs.Prelude.{◌≡◌, ℕ, ◌+◌, ◌-◌, ◌*◌, ◌≤◌, List, length, Option, None, Some, IfSome, slice_index_or}
 use Rattle.lot_sizing.specs.Sums.{sum_to}
 use Rattle.lot_sizing.specs.Problem.{entry}
 use Rattle.lot_sizing.specs.declared.Block.{Block}
+use Rattle.lot_sizing.specs.declared.limits.TheConstants.{MAX_AMOUNT, MAX_PERIODS, MAX_TOTAL}
 use Rattle.lot_sizing.specs.Single.{Single, IsServer, IsBlock, period_count, period_of, block_cost, potential}
-use Rattle.wagner_whitin.specs.declared.prices.Prices.{Prices}
+use Rattle.wagner_whitin.specs.declared.prices.CostSums.{CostSums}
 use Rattle.wagner_whitin.specs.declared.plain.Candidate.{Candidate}
-use Rattle.wagner_whitin.specs.declared.runs.Run.{Run}
+use Rattle.wagner_whitin.specs.declared.runs.ServerBlock.{ServerBlock}
 
 -- the sums of the first numbers, that of none first
 pub record AreSums (n : ℕ) (f : ℕ → ℕ) (sums : List ℕ) : Type 0 where
   pub size : length sums ≡ n + 1
   pub each : (k : ℕ) → k ≤ n → slice_index_or sums k 0 ≡ sum_to k f
 
-pub record ArePrices (s : Single) (prices : Prices) : Type 0 where
+pub record AreCostSums (s : Single) (prices : CostSums) : Type 0 where
   pub held : AreSums (period_count s) (entry s.hold) prices.held.items
   pub owed : IfSome s.back (λ costs. AreSums (period_count s) (entry costs) prices.owed.items)
 
--- more than a setup and all units at the highest price cost
+-- the highest price of a unit: it is made, and held or owed in every period
+abbrev pub most_price : ℕ
+most_price = (MAX_PERIODS + 1) * MAX_AMOUNT
+
+-- all units at the highest price
+abbrev pub most_serving : ℕ
+most_serving = MAX_TOTAL * most_price
+
+-- a setup and all units at the highest price
 abbrev pub most_for_one : ℕ
-most_for_one = 2 * 10 ^ 23
+most_for_one = MAX_AMOUNT + most_serving
+
+-- no item within bounds costs more
+abbrev pub most_cost : ℕ
+most_cost = MAX_PERIODS * most_for_one
 
 -- the cheapest last block of a server that ends with position p, and what all up to it costs
-pub record IsRun (s : Single) (g : List ℕ) (u p : ℕ) (run : Run) : Type 0 where
+pub record IsServerBlock (s : Single) (g : List ℕ) (u p : ℕ) (run : ServerBlock) : Type 0 where
   pub own : run.server ≡ u
   pub low : 1 ≤ run.first
   pub high : run.first ≤ p
@@ -36,22 +49,22 @@ abbrev pub IsClosed : Single → ℕ → ℕ → Type 0
 IsClosed s u p = (a : ℕ) → 1 ≤ a → a ≤ p → IsServer s u (period_of s a) → ⊥
 
 -- the server's run, and none where it may serve no position up to p
-abbrev pub IsRunOrNone : Single → List ℕ → ℕ → ℕ → Option Run → Type 0
-IsRunOrNone s g u p None = IsClosed s u p
-IsRunOrNone s g u p (Some run) = IsRun s g u p run
+abbrev pub IsServerBlockOrNone : Single → List ℕ → ℕ → ℕ → Option ServerBlock → Type 0
+IsServerBlockOrNone s g u p None = IsClosed s u p
+IsServerBlockOrNone s g u p (Some run) = IsServerBlock s g u p run
 
-abbrev pub run_of : List (Option Run) → ℕ → Option Run
+abbrev pub run_of : List (Option ServerBlock) → ℕ → Option ServerBlock
 run_of runs u = slice_index_or runs (u - 1) None
 
 -- there is a run that costs at most so much
-abbrev pub RunsAtMost : Option Run → ℕ → Type 0
-RunsAtMost None x = ⊥
-RunsAtMost (Some run) x = run.cost ≤ x
+abbrev pub BlockCostsAtMost : Option ServerBlock → ℕ → Type 0
+BlockCostsAtMost None x = ⊥
+BlockCostsAtMost (Some run) x = run.cost ≤ x
 
 -- each server has its run
-pub record AreRuns (s : Single) (g : List ℕ) (p : ℕ) (runs : List (Option Run)) : Type 0 where
+pub record AreServerBlocks (s : Single) (g : List ℕ) (p : ℕ) (runs : List (Option ServerBlock)) : Type 0 where
   pub size : length runs ≡ period_count s
-  pub each : (u : ℕ) → 1 ≤ u → u ≤ period_count s → IsRunOrNone s g u p (run_of runs u)
+  pub each : (u : ℕ) → 1 ≤ u → u ≤ period_count s → IsServerBlockOrNone s g u p (run_of runs u)
 
 abbrev pub no_block : Block
 no_block = record { first = 0; last = 0; server = 0 }

@@ -1,6 +1,9 @@
 //! The least cost of an item by itself: which period serves which net demands, and the potentials that
 //! show that no net plan costs less.
 //!
+//! Family: single items. It stands on `lot_sizing` and `echelon`; `backlog_dp`, `uncoupled`, `apart` and
+//! `first_plans` stand on it.
+//!
 //! `solve` is for items without backlog, the problem of Wagner and Whitin (1958). For each position, a
 //! period with a net demand, it takes the least of lines, one for each period that may serve it
 //! (Wagelmans, Van Hoesel and Kolen 1992). `solve_counted` is the same with its comparisons counted.
@@ -28,6 +31,3 @@ pub use echelon::{Block, Blocks, SingleItem};
 pub use plain::plain_least_cost;
 pub use prices::needed;
 pub use solving::{solve, solve_counted, solve_over_servers};
-
-#[cfg(test)]
-mod tests;

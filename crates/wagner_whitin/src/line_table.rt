@@ -2,7 +2,7 @@
 ghost use Rattle.std.specs.Prelude.{◌≡◌, ◌+◌, ◌-◌, ◌*◌, ◌^◌, ◌<◌, ◌≤◌, ℕ, length, IfOk, IsNone};
 ghost use Rattle.lot_sizing.specs.Single.{IsWithinBounds, period_count, period_of, position_count, positions, potential};
 ghost use Rattle.echelon.specs.Views.{single_of_item};
-ghost use Rattle.wagner_whitin.specs.Tables.{IsTable, most_for_one};
+ghost use Rattle.wagner_whitin.specs.Tables.{IsTable, most_cost};
 ghost use Rattle.wagner_whitin.specs.Lines.{AreLineSums, IsCheapest, IsHull, entry_of, line_cost};
 
 use crate::counting::Steps;
@@ -29,7 +29,7 @@ fn enter<L: Ledger>(
     requires no_backlog { IsNone (single_of_item single.now).back }
     requires sums { AreLineSums (single_of_item single.now) sums.now }
     requires some { length potentials.now < position_count (single_of_item single.now) }
-    requires small { potential potentials.now (length potentials.now) ≤ 120 * most_for_one }
+    requires small { potential potentials.now (length potentials.now) ≤ most_cost }
     requires order { entered ≤ last }
     requires high { last ≤ period_count (single_of_item single.now) }
     requires entries { (u : ℕ) → entered < u → u ≤ last → entry_of (single_of_item single.now) u ≡ length potentials.now + 1 }

@@ -3,18 +3,18 @@ ghost use Rattle.std.specs.Prelude.{◌≡◌, ◌≤◌, ◌<◌, ◌⊎◌, �
 ghost use Rattle.lot_sizing.specs.declared.Block.{Block};
 ghost use Rattle.lot_sizing.specs.Single.{IsBlock, IsLeastNetCost, IsServer, IsWithinBounds, block_cost, period_count, period_of, position_count, positions, potential};
 ghost use Rattle.echelon.specs.Views.{single_of_item};
-ghost use Rattle.wagner_whitin.specs.Tables.{ArePrices, IsCandidate, IsCheapestLast, IsTable, most_for_one};
+ghost use Rattle.wagner_whitin.specs.Tables.{AreCostSums, IsCandidate, IsCheapestLast, IsTable, most_cost, most_for_one};
 
-use crate::prices::{self, Prices};
+use crate::prices::{self, CostSums};
 use crate::runs::{last_potential, last_server, serving_cost};
 use crate::table::{self, LeastCosts};
 use echelon::{Block, SingleItem};
 use std::alloc::{AllocError, Global};
 
 // What a block costs, added up position by position.
-fn block_cost(single: &SingleItem, prices: &Prices, needed: &[u32], block: Block) -> u128
+fn block_cost(single: &SingleItem, prices: &CostSums, needed: &[u32], block: Block) -> u128
     requires within { IsWithinBounds (single_of_item single.now) }
-    requires prices { ArePrices (single_of_item single.now) prices.now }
+    requires prices { AreCostSums (single_of_item single.now) prices.now }
     requires needed { needed.now ≡ positions (single_of_item single.now) }
     requires block { IsBlock (single_of_item single.now) block }
     ensures value { result ≡ block_cost (single_of_item single.now) block }
@@ -46,19 +46,19 @@ fn cheaper(one: Candidate, other: Candidate) -> Candidate
 // The cheapest block that serves these positions, after the potential of those before.
 fn cheapest_server(
     single: &SingleItem,
-    prices: &Prices,
+    prices: &CostSums,
     needed: &[u32],
     before: u128,
     first: u32,
     last: u32,
 ) -> Candidate
     requires within { IsWithinBounds (single_of_item single.now) }
-    requires prices { ArePrices (single_of_item single.now) prices.now }
+    requires prices { AreCostSums (single_of_item single.now) prices.now }
     requires needed { needed.now ≡ positions (single_of_item single.now) }
     requires low { 1 ≤ first }
     requires order { first ≤ last }
     requires high { last ≤ position_count (single_of_item single.now) }
-    requires before { before ≤ 120 * most_for_one }
+    requires before { before ≤ most_cost }
     ensures candidate { IsCandidate (single_of_item single.now) before first last result }
 {
     let period = needed[(first - 1) as usize];
@@ -98,12 +98,12 @@ fn potential_before(potentials: &[u128], position: u32) -> u128
 // The cheapest block that ends with the position after those of the potentials.
 fn cheapest_last(
     single: &SingleItem,
-    prices: &Prices,
+    prices: &CostSums,
     needed: &[u32],
     potentials: &[u128],
 ) -> Candidate
     requires within { IsWithinBounds (single_of_item single.now) }
-    requires prices { ArePrices (single_of_item single.now) prices.now }
+    requires prices { AreCostSums (single_of_item single.now) prices.now }
     requires needed { needed.now ≡ positions (single_of_item single.now) }
     requires some { length potentials.now < position_count (single_of_item single.now) }
     requires small { (k : ℕ) → k ≤ length potentials.now → potential potentials.now k ≤ k * most_for_one }
@@ -134,7 +134,7 @@ fn plain_costs(alloc: Global, single: &SingleItem) -> Result<LeastCosts, AllocEr
     ensures { IfOk result (λ table. IsTable (single_of_item single.now) (position_count (single_of_item single.now)) table.potentials.items table.lasts.items) }
 {
     let needed = prices::needed(alloc, single)?;
-    let prices = Prices::of(alloc, single)?;
+    let prices = CostSums::of(alloc, single)?;
     let mut potentials = Vec::with_capacity(alloc, needed.len())?;
     let mut lasts = Vec::with_capacity(alloc, needed.len())?;
     for _ in 0..needed.len() {

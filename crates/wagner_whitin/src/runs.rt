@@ -1,15 +1,16 @@
 // The cheapest last block of each server.
-ghost use Rattle.std.specs.Prelude.{◌≡◌, ◌≤◌, ◌<◌, ◌+◌, ◌*◌, ◌^◌, ◌↔◌, ◌⊎◌, ℕ, length, Option, Some, IfSome};
+ghost use Rattle.std.specs.Prelude.{◌≡◌, ◌≤◌, ◌<◌, ◌+◌, ◌*◌, ◌↔◌, ◌⊎◌, ℕ, length, Option, Some, IfSome};
+ghost use Rattle.lot_sizing.specs.declared.limits.TheConstants.{MAX_PERIODS};
 ghost use Rattle.lot_sizing.specs.Single.{IsWithinBounds, IsServer, net_demand, period_count, period_of, position_count, potential, unit_price};
 ghost use Rattle.echelon.specs.Views.{single_of_item};
-ghost use Rattle.wagner_whitin.specs.Tables.{ArePrices, AreRuns, RunsAtMost, IsRun, IsRunOrNone, most_for_one, run_of};
+ghost use Rattle.wagner_whitin.specs.Tables.{AreCostSums, AreServerBlocks, BlockCostsAtMost, IsServerBlock, IsServerBlockOrNone, most_for_one, most_serving, run_of};
 
-use crate::prices::Prices;
+use crate::prices::CostSums;
 use echelon::SingleItem;
 
 /// The cheapest last block of a server that ends with a position, and what all up to it costs.
 #[derive(Clone, Copy)]
-pub struct Run {
+pub struct ServerBlock {
     pub cost: u128,
     pub first: u32,
     pub server: u32,
@@ -26,14 +27,14 @@ pub fn last_potential(potentials: &[u128]) -> u128
 }
 
 /// What it costs that a server serves a period, its setup aside.
-pub fn serving_cost(single: &SingleItem, prices: &Prices, server: u32, period: u32) -> u128
+pub fn serving_cost(single: &SingleItem, prices: &CostSums, server: u32, period: u32) -> u128
     requires within { IsWithinBounds (single_of_item single.now) }
-    requires prices { ArePrices (single_of_item single.now) prices.now }
+    requires prices { AreCostSums (single_of_item single.now) prices.now }
     requires low { 1 ≤ period }
     requires high { period ≤ period_count (single_of_item single.now) }
     requires server { IsServer (single_of_item single.now) server period }
     ensures value { result ≡ net_demand (single_of_item single.now) period * unit_price (single_of_item single.now) server period }
-    ensures small { result ≤ 121 * 10 ^ 21 }
+    ensures small { result ≤ most_serving }
 {
     let net = single.net[(period - 1) as usize];
     let price = prices.of_unit(single, server, period);
@@ -41,7 +42,7 @@ pub fn serving_cost(single: &SingleItem, prices: &Prices, server: u32, period: u
 }
 
 // A run that goes on, or a fresh one where that costs less.
-fn cheaper_start(run: Option<Run>, fresh: Run) -> Run
+fn cheaper_start(run: Option<ServerBlock>, fresh: ServerBlock) -> ServerBlock
     ensures no_more { result.cost ≤ fresh.cost }
     ensures start { ((result ≡ fresh) × IfSome run (λ old. fresh.cost ≤ old.cost)) ⊎ ((run ≡ Some result) × (result.cost ≤ fresh.cost)) }
 {
@@ -54,32 +55,32 @@ fn cheaper_start(run: Option<Run>, fresh: Run) -> Run
 // A server's run with one position more: the run goes on, or begins with the position.
 fn extended(
     single: &SingleItem,
-    prices: &Prices,
+    prices: &CostSums,
     potentials: &[u128],
     server: u32,
     period: u32,
-    run: Option<Run>,
-) -> Run
+    run: Option<ServerBlock>,
+) -> ServerBlock
     requires within { IsWithinBounds (single_of_item single.now) }
-    requires prices { ArePrices (single_of_item single.now) prices.now }
-    requires count { length potentials.now < 120 }
+    requires prices { AreCostSums (single_of_item single.now) prices.now }
+    requires count { length potentials.now < MAX_PERIODS }
     requires period { period ≡ period_of (single_of_item single.now) (length potentials.now + 1) }
     requires low { 1 ≤ period }
     requires high { period ≤ period_count (single_of_item single.now) }
     requires server { IsServer (single_of_item single.now) server period }
     requires small { potential potentials.now (length potentials.now) ≤ length potentials.now * most_for_one }
-    requires run { IsRunOrNone (single_of_item single.now) potentials.now server (length potentials.now) run }
-    ensures { IsRun (single_of_item single.now) potentials.now server (length potentials.now + 1) result }
+    requires run { IsServerBlockOrNone (single_of_item single.now) potentials.now server (length potentials.now) run }
+    ensures { IsServerBlock (single_of_item single.now) potentials.now server (length potentials.now + 1) result }
 {
     let serving = serving_cost(single, prices, server, period);
     let setup = single.setup[(server - 1) as usize];
-    let fresh = Run {
+    let fresh = ServerBlock {
         cost: last_potential(potentials) + setup as u128,
         first: potentials.len() as u32 + 1,
         server,
     };
     let start = cheaper_start(run, fresh);
-    Run {
+    ServerBlock {
         cost: start.cost + serving,
         first: start.first,
         server,
@@ -104,15 +105,15 @@ pub fn last_server(single: &SingleItem, period: u32) -> u32
 /// One position more, of the period, in the run of each server that may serve it.
 pub fn serve(
     single: &SingleItem,
-    prices: &Prices,
+    prices: &CostSums,
     potentials: &[u128],
     period: u32,
     limit: u32,
-    runs: &mut [Option<Run>],
+    runs: &mut [Option<ServerBlock>],
 )
     requires within { IsWithinBounds (single_of_item single.now) }
-    requires prices { ArePrices (single_of_item single.now) prices.now }
-    requires count { length potentials.now < 120 }
+    requires prices { AreCostSums (single_of_item single.now) prices.now }
+    requires count { length potentials.now < MAX_PERIODS }
     requires some { length potentials.now < position_count (single_of_item single.now) }
     requires period { period ≡ period_of (single_of_item single.now) (length potentials.now + 1) }
     requires low { 1 ≤ period }
@@ -120,8 +121,8 @@ pub fn serve(
     requires small { potential potentials.now (length potentials.now) ≤ length potentials.now * most_for_one }
     requires limit { limit ≤ period_count (single_of_item single.now) }
     requires servers { (server : ℕ) → 1 ≤ server → (IsServer (single_of_item single.now) server period ↔ (server ≤ limit)) }
-    requires runs { AreRuns (single_of_item single.now) potentials.now (length potentials.now) runs.now }
-    ensures { AreRuns (single_of_item single.now) potentials.now (length potentials.now + 1) runs.new }
+    requires runs { AreServerBlocks (single_of_item single.now) potentials.now (length potentials.now) runs.now }
+    ensures { AreServerBlocks (single_of_item single.now) potentials.now (length potentials.now + 1) runs.new }
 {
     for server in 1..limit + 1 {
         let run = runs[(server - 1) as usize];
@@ -132,10 +133,10 @@ pub fn serve(
 }
 
 // The cheaper of two runs, where there are both.
-fn cheaper(one: Option<Run>, other: Option<Run>) -> Option<Run>
+fn cheaper(one: Option<ServerBlock>, other: Option<ServerBlock>) -> Option<ServerBlock>
     ensures either { (result ≡ one) ⊎ (result ≡ other) }
-    ensures least { (x : ℕ) → RunsAtMost one x → RunsAtMost result x }
-    ensures least_other { (x : ℕ) → RunsAtMost other x → RunsAtMost result x }
+    ensures least { (x : ℕ) → BlockCostsAtMost one x → BlockCostsAtMost result x }
+    ensures least_other { (x : ℕ) → BlockCostsAtMost other x → BlockCostsAtMost result x }
 {
     let Some(left) = one else {
         return other;
@@ -147,11 +148,11 @@ fn cheaper(one: Option<Run>, other: Option<Run>) -> Option<Run>
 }
 
 /// The cheapest run of the first servers, if one of them has a run.
-pub fn cheapest(runs: &[Option<Run>], limit: u32) -> Option<Run>
+pub fn cheapest(runs: &[Option<ServerBlock>], limit: u32) -> Option<ServerBlock>
     requires high { limit ≤ length runs.now }
-    requires count { length runs.now ≤ 120 }
+    requires count { length runs.now ≤ MAX_PERIODS }
     ensures kept { IfSome result (λ run. (server : ℕ) × (1 ≤ server) × (server ≤ limit) × (run_of runs.now server ≡ Some run)) }
-    ensures least { (server x : ℕ) → 1 ≤ server → server ≤ limit → RunsAtMost (run_of runs.now server) x → RunsAtMost result x }
+    ensures least { (server x : ℕ) → 1 ≤ server → server ≤ limit → BlockCostsAtMost (run_of runs.now server) x → BlockCostsAtMost result x }
 {
     let mut best = None;
     for server in 1..limit + 1 {

@@ -3,9 +3,9 @@ ghost use Rattle.std.specs.Prelude.{◌≡◌, ℕ, length, IfOk};
 ghost use Rattle.lot_sizing.specs.Single.{IsWithinBounds, position_count, positions, potential, CoverFrom, blocks_cost};
 ghost use Rattle.echelon.specs.Views.{single_of_item};
 ghost use Rattle.wagner_whitin.specs.Solution.{IsSolution};
-ghost use Rattle.wagner_whitin.specs.Tables.{ArePrices, AreRuns, IsTable};
+ghost use Rattle.wagner_whitin.specs.Tables.{AreCostSums, AreServerBlocks, IsTable};
 
-use crate::prices::{self, Prices};
+use crate::prices::{self, CostSums};
 use crate::runs;
 use echelon::{Block, Blocks, SingleItem};
 use std::alloc::{AllocError, Global};
@@ -23,7 +23,7 @@ pub fn least_costs(alloc: Global, single: &SingleItem) -> Result<LeastCosts, All
     ensures { IfOk result (λ table. IsTable (single_of_item single.now) (position_count (single_of_item single.now)) table.potentials.items table.lasts.items) }
 {
     let needed = prices::needed(alloc, single)?;
-    let prices = Prices::of(alloc, single)?;
+    let prices = CostSums::of(alloc, single)?;
     let mut runs = vec![in alloc; None; single.net.len()]?;
     let mut potentials = Vec::with_capacity(alloc, needed.len())?;
     let mut lasts = Vec::with_capacity(alloc, needed.len())?;

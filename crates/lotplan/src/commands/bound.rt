@@ -21,7 +21,7 @@ pub enum BoundAnswer<'a> {
     Bound(u128),
     /// No point meets all base rows.
     Empty,
-    /// The tableau has more than 2,000,000 cells.
+    /// The tableau has more than `MAX_CELLS` cells.
     Skipped,
     /// A number of the run doesn't fit 128 bits.
     Passed,

@@ -15,10 +15,11 @@ use lot_model::Instance;
 use report::{GenFault, generate};
 use std::alloc::{AllocError, Global};
 
-// The most nodes that the tree of the certificate of the uncoupled model may have, and of that of the coupled one.
-const FREE_BUDGET: u64 = 1000;
+/// The most nodes that the tree of the certificate of the uncoupled model may have.
+pub const FREE_BUDGET: u64 = 1_000;
 
-const COUPLED_BUDGET: u64 = 40;
+/// The most nodes that the tree of the certificate of the coupled model may have.
+pub const COUPLED_BUDGET: u64 = 40;
 
 // The instance that a text means.
 fn meant_instance(alloc: Global, text: &[u8]) -> Result<Instance, AllocError>

@@ -1,7 +1,7 @@
-use Rattle.std.proofs.Common.{◌≤◌, ◌*◌, arith}
-use Rattle.std.specs.Prelude.{◌^◌}
+use Rattle.std.proofs.Common.{◌≤◌, arith}
 use Rattle.std.proofs.lemmas.Result.{IfOk-weaker}
 use Rattle.lot_sizing.specs.Best.{IsFloor, IsImpossible}
+use Rattle.root_rows.specs.declared.limits.TheConstants.{MAX_CELLS}
 use Rattle.base_bound.specs.Bounds.{HasNoBasePoint, IfBound, IfEmpty, IsBaseBound, PassesAsRun, SkipsExactly, cell_count}
 use Rattle.base_bound.specs.Solved.{IsSolved}
 use Rattle.base_bound.proofs.Points.{bounds, none}
@@ -44,7 +44,7 @@ pub returns-clause-skipped : goal.returns-clause-skipped
 returns-clause-skipped c =
     let m = c.args.instance.now in
     let p = c.in_ok-round.round.lp in
-    let low : cell_count p ≤ 2 * 10 ^ 6 = omega (arith, c.if-cells-gt-MAX_CELLS.false, c.cells-cells.ensures) in
+    let low : cell_count p ≤ MAX_CELLS = omega (arith, c.if-cells-gt-MAX_CELLS.false, c.cells-cells.ensures) in
     IfOk-weaker c.solved.result (IsSolved p) (SkipsExactly m)
     (few m p (λ total totals. (c.in_ok-round.ensures.round total totals).program) low) c.solved.ensures
 

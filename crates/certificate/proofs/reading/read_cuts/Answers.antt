@@ -1,12 +1,12 @@
 use Rattle.std.proofs.Common.{List, ◌++◌, rules, arith}
 use Rattle.std.specs.Prelude.{replicate}
-use Rattle.certificate.specs.Needs.{IsFaultFrom, Need, a_cut}
+use Rattle.certificate.specs.Needs.{IsFaultFrom, Due, a_cut}
 use Rattle.certificate.proofs.Needed.{cut_fault, read_cut_more}
 use Rattle.certificate.proofs.reading.read_cuts.Goals as goal
 
 pub returns-in_err-read_cut-clause-refused : goal.returns-in_err-read_cut-clause-refused
 returns-in_err-read_cut-clause-refused c =
-    let why : (later : List Need) → IsFaultFrom c.args.version (replicate c.args.count a_cut ++ later) c.args.rest.now.text.now c.args.rest.now.line c.in_err-read_cut.field-0.0 = cut_fault c.args.rest.now c.loop.rest c.loop.cuts.items c.args.count c.in_err-read_cut.field-0.0 c.loop.invariant.0 (omega (arith, c.loop.invariant.1, c.loop-test.true)) c.in_err-read_cut.ensures.refused in
+    let why : (later : List Due) → IsFaultFrom c.args.version (replicate c.args.count a_cut ++ later) c.args.rest.now.text.now c.args.rest.now.line c.in_err-read_cut.field-0.0 = cut_fault c.args.rest.now c.loop.rest c.loop.cuts.items c.args.count c.in_err-read_cut.field-0.0 c.loop.invariant.0 (omega (arith, c.loop.invariant.1, c.loop-test.true)) c.in_err-read_cut.ensures.refused in
     search (rules, why)
 
 pub loop-preserved : goal.loop-preserved

@@ -1,13 +1,13 @@
 use Rattle.std.proofs.Common.{refl, subst}
 use Rattle.std.proofs.lemmas.List.{take_all}
-use Rattle.lin_rows.specs.Sums.{AreWithin, IsWithin}
+use Rattle.lin_rows.specs.Sums.{AreWithin, IsColumnWithin}
 use Rattle.lin_rows.proofs.Coefficients.{all_more}
 use Rattle.lin_rows.proofs.adding.has_columns.Goals as goal
 
 pub loop-place-preserved : goal.loop-place-preserved
 loop-place-preserved c =
     let s = c.args.sums.now in
-    all_more (λ a. IsWithin s.items s.periods a.column) c.args.terms.now c.loop-place.place c.loop-place-test.true c.loop-place.invariant (c.if-not-has_column.ensures.0 refl)
+    all_more (λ a. IsColumnWithin s.items s.periods a.column) c.args.terms.now c.loop-place.place c.loop-place-test.true c.loop-place.invariant (c.if-not-has_column.ensures.0 refl)
 
 pub returns : goal.returns
 returns c =

@@ -3,7 +3,7 @@ use Rattle.std.proofs.lemmas.List.{take_all}
 use mir.Facts.{to_z-of_z}
 use mir.Val.{to_z, of_z}
 use mir.Syntax.{w128}
-use Rattle.lin_rows.specs.Sums.{EachHasRoom, HasRoom, total_of}
+use Rattle.lin_rows.specs.Sums.{EachHasRoom, HasRoomToAdd, total_of}
 use Rattle.std.specs.Prelude.{◌*ℤ◌}
 use Rattle.lin_rows.proofs.Coefficients.{all_more}
 use Rattle.lin_rows.proofs.adding.has_room.Goals as goal
@@ -12,7 +12,7 @@ pub loop-place-preserved : goal.loop-place-preserved
 loop-place-preserved c =
     let ts = c.args.terms.now in
     let k = c.loop-place.place in
-    all_more (λ a. HasRoom (total_of c.args.sums.now a.column) (to_z w128 (of_z w128 c.args.times) *ℤ a.times)) ts k c.loop-place-test.true c.loop-place.invariant (c.if-not-has_room_for_term.ensures.0 refl)
+    all_more (λ a. HasRoomToAdd (total_of c.args.sums.now a.column) (to_z w128 (of_z w128 c.args.times) *ℤ a.times)) ts k c.loop-place-test.true c.loop-place.invariant (c.if-not-has_room_for_term.ensures.0 refl)
 
 pub returns-clause-all : goal.returns-clause-all
 returns-clause-all c = λ _.

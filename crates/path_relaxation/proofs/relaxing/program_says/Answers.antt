@@ -1,7 +1,7 @@
 use Rattle.std.proofs.Common.{refl, subst, sym}
 use Rattle.tableau.specs.declared.outcome.Outcome.TheVariants as outcome
 use Rattle.tableau.specs.Outcomes.{IsCertain, IsOutcome, number_at}
-use Rattle.path_relaxation.specs.declared.relaxing.TheConstants.{MAX_PIVOTS}
+use Rattle.root_rows.specs.declared.limits.TheConstants.{MAX_PIVOTS}
 use Rattle.path_relaxation.specs.Steps.{EndsEmpty, EndsLeast}
 use Rattle.path_relaxation.proofs.relaxing.program_says.Goals as goal
 

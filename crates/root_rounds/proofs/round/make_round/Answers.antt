@@ -1,6 +1,6 @@
 use Rattle.std.proofs.Common.{refl, subst}
 use Rattle.tableau.specs.Outcomes.{IsCertain, IsOutcome}
-use Rattle.root_rounds.specs.declared.at_root.TheConstants.{MAX_PIVOTS}
+use Rattle.root_rows.specs.declared.limits.TheConstants.{MAX_PIVOTS}
 use Rattle.root_rounds.proofs.RootRounds.{cell_passes, figured, stops}
 use Rattle.root_rounds.proofs.round.make_round.Goals as goal
 

@@ -2,7 +2,7 @@ use Rattle.std.proofs.Common.{◌≡◌, ◌≤◌, ◌∙◌, ◌++◌, ◌∷�
 use Rattle.std.proofs.lemmas.List.{get_or_default, take_all}
 use Rattle.lin_rows.proofs.Coefficients.{no_term, term_read}
 use Rattle.round_cuts.specs.Merging.{IsMerged, run_term}
-use Rattle.round_cuts.proofs.Runs.{IsRunOf, run_first, run_full, run_last, run_later, run_next}
+use Rattle.round_cuts.proofs.Runs.{IsStretchOf, run_first, run_full, run_last, run_later, run_next}
 use Rattle.round_cuts.proofs.merging.merged.Goals as goal
 
 pub loop-place-preserved : goal.loop-place-preserved
@@ -21,7 +21,7 @@ returns-clause-merged c =
     let ts = c.args.terms.now in
     let all : take c.loop-place.place ts ≡ ts = take_all c.loop-place.place ts c.loop-place-test.false in
     let put : c.push.new.terms.items ≡ c.loop-place.done.items ++ run_term c.loop-place.run ∷ [] = c.in_ok-push.ensures ∙ ap (λ t. c.loop-place.done.items ++ t ∷ []) c.term.ensures in
-    subst (IsMerged ts) (sym put) (run_last ts c.loop-place.done.items c.loop-place.run (subst (λ front. IsRunOf front c.loop-place.done.items c.loop-place.run) all c.loop-place.invariant.run))
+    subst (IsMerged ts) (sym put) (run_last ts c.loop-place.done.items c.loop-place.run (subst (λ front. IsStretchOf front c.loop-place.done.items c.loop-place.run) all c.loop-place.invariant.run))
 
 pub returns-in_err-run-clause-large : goal.returns-in_err-run-clause-large
 returns-in_err-run-clause-large c large =

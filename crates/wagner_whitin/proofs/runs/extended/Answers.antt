@@ -1,7 +1,7 @@
 use Rattle.std.proofs.Common.{◌+◌, ⊎_elim, subst, sym, length}
 use Rattle.echelon.specs.Views.{single_of_item}
-use Rattle.wagner_whitin.specs.declared.runs.Run.{Run}
-use Rattle.wagner_whitin.specs.Tables.{IsRun, IsRunOrNone}
+use Rattle.wagner_whitin.specs.declared.runs.ServerBlock.{ServerBlock}
+use Rattle.wagner_whitin.specs.Tables.{IsServerBlock, IsServerBlockOrNone}
 use Rattle.wagner_whitin.proofs.Serving.{fresh_run, kept_run}
 use Rattle.wagner_whitin.proofs.runs.extended.Goals as goal
 
@@ -12,6 +12,6 @@ returns c =
     let u = c.args.server in
     let serving = c.serving_cost-serving.result in
     ⊎_elim
-    (λ fresh. subst (λ (k : Run). IsRun s g u (length g + 1) (record { cost = k.cost + serving; first = k.first; server = u })) (sym fresh.0) (fresh_run s g u c.args.period c.args.run c.last_potential.result c.index-setup.result.now serving c.requires.within c.requires.count c.requires.period c.requires.server c.requires.run c.requires.small c.last_potential.ensures c.index-setup.ensures c.serving_cost-serving.ensures.value c.serving_cost-serving.ensures.small fresh.1))
-    (λ kept. kept_run s g u c.args.period c.cheaper_start-start.result c.last_potential.result c.index-setup.result.now serving c.requires.within c.requires.period c.requires.server (subst (IsRunOrNone s g u (length g)) kept.0 c.requires.run) c.last_potential.ensures c.index-setup.ensures c.serving_cost-serving.ensures.value c.serving_cost-serving.ensures.small kept.1)
+    (λ fresh. subst (λ (k : ServerBlock). IsServerBlock s g u (length g + 1) (record { cost = k.cost + serving; first = k.first; server = u })) (sym fresh.0) (fresh_run s g u c.args.period c.args.run c.last_potential.result c.index-setup.result.now serving c.requires.within c.requires.count c.requires.period c.requires.server c.requires.run c.requires.small c.last_potential.ensures c.index-setup.ensures c.serving_cost-serving.ensures.value c.serving_cost-serving.ensures.small fresh.1))
+    (λ kept. kept_run s g u c.args.period c.cheaper_start-start.result c.last_potential.result c.index-setup.result.now serving c.requires.within c.requires.period c.requires.server (subst (IsServerBlockOrNone s g u (length g)) kept.0 c.requires.run) c.last_potential.ensures c.index-setup.ensures c.serving_cost-serving.ensures.value c.serving_cost-serving.ensures.small kept.1)
     c.cheaper_start-start.ensures.start

@@ -1,7 +1,7 @@
 use Rattle.std.proofs.Common.{◌≡◌, ◌+◌, ◌-◌, ⊎_elim, subst, sym, arith, length, slice_set, Some}
 use Rattle.std.proofs.lemmas.Bool.{cases_lt}
 use Rattle.echelon.specs.Views.{single_of_item}
-use Rattle.wagner_whitin.specs.Tables.{IsRunOrNone, run_of}
+use Rattle.wagner_whitin.specs.Tables.{IsServerBlockOrNone, run_of}
 use Rattle.wagner_whitin.proofs.Serving.{closed_runs, run_here, run_other, set_length}
 use Rattle.wagner_whitin.proofs.runs.serve.Goals as goal
 
@@ -19,10 +19,10 @@ loop-server-preserved c =
     record {
       size = omega (arith, set_length runs (v - 1) (Some c.extended.result), inv.size);
       done = λ u low high. ⊎_elim
-          (λ before. subst (IsRunOrNone s g u (length g + 1)) (sym (run_other runs v u (Some c.extended.result) c.loop-server.auto.server low (λ same. omega (arith, same, before)))) (inv.done u low before))
-          (λ no. let e : u ≡ v = omega (arith, no, high) in subst (λ k. IsRunOrNone s g k (length g + 1) (run_of next k)) (sym e) (subst (IsRunOrNone s g v (length g + 1)) (sym (run_here runs v (Some c.extended.result) c.loop-server.auto.server (omega (arith, inv.size)))) c.extended.ensures))
+          (λ before. subst (IsServerBlockOrNone s g u (length g + 1)) (sym (run_other runs v u (Some c.extended.result) c.loop-server.auto.server low (λ same. omega (arith, same, before)))) (inv.done u low before))
+          (λ no. let e : u ≡ v = omega (arith, no, high) in subst (λ k. IsServerBlockOrNone s g k (length g + 1) (run_of next k)) (sym e) (subst (IsServerBlockOrNone s g v (length g + 1)) (sym (run_here runs v (Some c.extended.result) c.loop-server.auto.server (omega (arith, inv.size)))) c.extended.ensures))
           (cases_lt u v);
-      rest = λ u low high. subst (IsRunOrNone s g u (length g)) (sym (run_other runs v u (Some c.extended.result) c.loop-server.auto.server (omega (arith, low)) (λ same. omega (arith, same, low)))) (inv.rest u (omega (arith, low)) high);
+      rest = λ u low high. subst (IsServerBlockOrNone s g u (length g)) (sym (run_other runs v u (Some c.extended.result) c.loop-server.auto.server (omega (arith, low)) (λ same. omega (arith, same, low)))) (inv.rest u (omega (arith, low)) high);
     }
 
 pub returns : goal.returns

@@ -1,7 +1,7 @@
 use Rattle.std.proofs.Common.{◌≤◌}
 use Rattle.lot_sizing.specs.Single.{position_count}
 use Rattle.echelon.specs.Views.{single_of_item}
-use Rattle.wagner_whitin.specs.Tables.{AreRuns, IsTable}
+use Rattle.wagner_whitin.specs.Tables.{AreServerBlocks, IsTable}
 use Rattle.wagner_whitin.proofs.table.least_costs.Given as goal
 
 abbrev pub invariant-loop-place : goal.invariant-loop-place
@@ -10,5 +10,5 @@ invariant-loop-place l =
     record {
       high : l.place ≤ position_count s;
       table : IsTable s l.place l.potentials.items l.lasts.items;
-      runs : AreRuns s l.potentials.items l.place l.runs.items;
+      runs : AreServerBlocks s l.potentials.items l.place l.runs.items;
     }

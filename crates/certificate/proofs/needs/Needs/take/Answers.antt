@@ -2,7 +2,7 @@ use Rattle.std.proofs.Common.{◌≡◌, ◌∷◌, ◌∙◌, ◌+◌, ◌++◌
 use Rattle.std.specs.Prelude.{IsErrOf, OnOk}
 use Rattle.cert_lines.specs.Shapes.{line_shape}
 use Rattle.certificate.specs.declared.needs.Misfit.TheVariants.{Deep, Unwanted}
-use Rattle.certificate.specs.Needs.{IsDeep, IsTooDeep, IsUnwanted, Runs, Takes, a_tree, after}
+use Rattle.certificate.specs.Needs.{IsDeep, IsTooDeep, IsUnwanted, TakesAll, Takes, a_tree, after}
 use Rattle.certificate.specs.Stacks.{needs_in}
 use Rattle.certificate.proofs.Piles.{needs_of, tree_first}
 use Rattle.certificate.proofs.needs.Needs.take.Goals as goal
@@ -11,7 +11,7 @@ pub returns-in-Some-clause-taken : goal.returns-in-Some-clause-taken
 returns-in-Some-clause-taken c =
     let s = c.args.self.now in
     let first : needs_in s ≡ a_tree c.in-Some.above ∷ needs_of s.parts s.cuts c.pop.new.self.items s.end = tree_first s.parts s.cuts c.pop.new.self.items s.trees.items c.in-Some.above s.end (omega (arith, c.if-self-gt0.false)) (omega (arith, c.if-self-gt0-2.false)) c.in-Some.ensures.items in
-    subst (λ ns. OnOk c.take_tree.result (Runs ns (line_shape c.args.line.now ∷ []) (needs_in c.take_tree.new.self))) (sym first) c.take_tree.ensures.taken
+    subst (λ ns. OnOk c.take_tree.result (TakesAll ns (line_shape c.args.line.now ∷ []) (needs_in c.take_tree.new.self))) (sym first) c.take_tree.ensures.taken
 
 pub returns-in-Some-clause-unwanted : goal.returns-in-Some-clause-unwanted
 returns-in-Some-clause-unwanted c =

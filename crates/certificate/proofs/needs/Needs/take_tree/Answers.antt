@@ -2,7 +2,7 @@ use Rattle.std.proofs.Common.{◌≡◌, ◌∷◌, ◌∙◌, ◌+◌, ◌++◌
 use Rattle.std.specs.Prelude.{IsErrOf, OnOk}
 use Rattle.cert_lines.specs.Shapes.{line_shape}
 use Rattle.certificate.specs.declared.needs.Misfit.TheVariants.{Deep, Unwanted}
-use Rattle.certificate.specs.Needs.{IsDeep, IsTooDeep, IsUnwanted, Runs, Takes, a_tree, after}
+use Rattle.certificate.specs.Needs.{IsDeep, IsTooDeep, IsUnwanted, TakesAll, Takes, a_tree, after}
 use Rattle.certificate.specs.Stacks.{needs_in}
 use Rattle.certificate.proofs.Piles.{needs_of, tree_first}
 use Rattle.certificate.proofs.needs.Needs.take_tree.Goals as goal

@@ -6,14 +6,14 @@ use Rattle.std.specs.Vec.{with_item}
 use mir.Facts.{to_z-of_z}
 use mir.Val.{SFits}
 use mir.Syntax.{w128}
-use Rattle.lin_rows.specs.Sums.{AddsTerm, IsTotal, IsWithin, cell_of, sums_in, total_of, with_more}
+use Rattle.lin_rows.specs.Sums.{AddsTerm, IsTotal, IsColumnWithin, cell_of, sums_in, total_of, with_more}
 use Rattle.lin_rows.proofs.Cells.{adds_term, place_small}
 use Rattle.lin_rows.proofs.sums.Sums.add_term.Goals as goal
 
 pub index_mut-requires : goal.index_mut-requires
 index_mut-requires c =
     let a = c.self.inside in
-    let within : IsWithin a.items a.periods c.args.term.column = subst (λ s. IsWithin s.items s.periods c.args.term.column) (sym c.self.view_is) c.requires.within in
+    let within : IsColumnWithin a.items a.periods c.args.term.column = subst (λ s. IsColumnWithin s.items s.periods c.args.term.column) (sym c.self.view_is) c.requires.within in
     let place = c.cell-place.ensures.value ∙ ap (λ s. cell_of s.items s.periods c.args.term.column) (sym c.self.view_is) in
     place_small (sums_in a) a.cells.len a.cells.items c.args.term.column c.cell-place.result c.self.invariant.size within place a.cells.ok.0
 
@@ -33,7 +33,7 @@ returns-clause-adds c =
     let a = c.self.inside in
     let times_fit : SFits w128 c.args.times = search rules in
     let term_fits : SFits w128 c.args.term.times = search rules in
-    let within : IsWithin a.items a.periods c.args.term.column = subst (λ s. IsWithin s.items s.periods c.args.term.column) (sym c.self.view_is) c.requires.within in
+    let within : IsColumnWithin a.items a.periods c.args.term.column = subst (λ s. IsColumnWithin s.items s.periods c.args.term.column) (sym c.self.view_is) c.requires.within in
     let place = c.cell-place.ensures.value ∙ ap (λ s. cell_of s.items s.periods c.args.term.column) (sym c.self.view_is) in
     let value : c.with_more-more.result ≡ with_more (total_of (sums_in a) c.args.term.column) (c.args.times *ℤ c.args.term.times) =
     simp (to_z-of_z times_fit, to_z-of_z term_fits) at c.with_more-more.ensures.value ∙ ap (λ t. with_more t (c.args.times *ℤ c.args.term.times)) (c.total.ensures.value ∙ ap (λ s. total_of s c.args.term.column) (sym c.self.view_is)) in

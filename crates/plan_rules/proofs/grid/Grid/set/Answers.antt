@@ -7,5 +7,5 @@ pub returns-clause-others : goal.returns-clause-others
 returns-clause-others c = λ j u j_low j_high u_low u_high apart.
     let w : c.self.inside.periods ≡ c.args.self.now.periods = ap (λ g. g.periods) c.self.view_is in
     let ne = places_apart c.self.inside.periods j u c.args.item c.args.period j_low c.requires.item_low u_low (omega arith) c.requires.period_low (omega arith) apart in
-    let here : place c.self.inside.periods j u ≢ c.place_of-place.result = rw c.place_of-place.ensures ne in
-    get_or-set_other c.self.inside.cells.items c.place_of-place.result (place c.self.inside.periods j u) c.args.value 0 here ∙ ap (λ g. table_of g j u) c.self.view_is
+    let here : place c.self.inside.periods j u ≢ c.cell_place-place.result = rw c.cell_place-place.ensures ne in
+    get_or-set_other c.self.inside.cells.items c.cell_place-place.result (place c.self.inside.periods j u) c.args.value 0 here ∙ ap (λ g. table_of g j u) c.self.view_is

@@ -1,0 +1,18 @@
+//! Tests of the crates of plans: the judge, plan files, summaries and generated models.
+//!
+//! Family: tests. It stands on `plan_rules`, `plan_file` and `report`, and calls them as any other crate does;
+//! nothing stands on it.
+//!
+//! Each crate that is tested has files of its own. `fixtures` has what they make their instances of.
+#![tactic(auto)]
+
+#[cfg(test)]
+mod fixtures;
+#[cfg(test)]
+mod plan_file_tests;
+#[cfg(test)]
+mod plan_rules_tests;
+#[cfg(test)]
+mod report_generating_tests;
+#[cfg(test)]
+mod report_summing_tests;

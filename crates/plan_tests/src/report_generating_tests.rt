@@ -1,0 +1,85 @@
+use first_plans::own_period_plan;
+use instance_reader::read_instance;
+use lot_model::Instance;
+use report::{GenFault, generate};
+use std::alloc::Global;
+use std::test::Fail;
+
+// The instance of a model that is drawn from seed 7.
+fn drawn(alloc: Global, items: u32, periods: u32, coupled: bool) -> Result<Instance, Fail> {
+    let text = generate(alloc, 7, items, periods, coupled)
+        .ok()
+        .ok_or("not generated")?;
+    Ok(read_instance(alloc, &text).ok().ok_or("not read")?)
+}
+
+// The numbers and lines of each item.
+fn told(alloc: Global, instance: &Instance) -> Result<String, Fail> {
+    let mut text = String::new(alloc);
+    for item in 1..instance.items() + 1 {
+        let name = instance.item_name(item);
+        let demand = instance.demands(item);
+        let setup_cost = instance.setup_costs(item);
+        let hold_cost = instance.hold_costs(item);
+        let back = instance.backlog_costs(item);
+        write!(
+            &mut text,
+            "{name} {demand:?} {setup_cost:?} {hold_cost:?} {back:?}\n"
+        )?;
+        let needs = instance.needs(item);
+        let uses = instance.uses(item);
+        write!(&mut text, "{needs:?} {uses:?}\n")?;
+    }
+    Ok(text)
+}
+
+// The words of the generator of seed 7 and stream 54 were worked out by another program.
+#[test]
+fn numbers_are_drawn_item_by_item(rt: HostRuntime) -> Result<(), Fail> {
+    let alloc = rt.alloc();
+    let free = drawn(alloc, 2, 3, false)?;
+    assert_eq!(rt;
+        told(alloc, &free)?.as_str(),
+        "i1 [3, 28, 33] [230, 180, 299] [3, 3, 3] Some([5, 5, 5])\n[] []\n\
+         i2 [35, 79, 68] [106, 234, 154] [3, 3, 3] None\n[] []\n"
+    );
+    assert_eq!(rt; free.resources(), 0);
+    let coupled = drawn(alloc, 3, 4, true)?;
+    let usage = "[Usage { resource: 1, unit: 1, setup: 5 }]";
+    assert_eq!(rt;
+        told(alloc, &coupled)?.as_str(),
+        format!(in alloc;
+            "i1 [3, 28, 33, 30] [180, 299, 106, 113] [2, 2, 2, 2] None\n\
+             [Need {{ item: 2, quantity: 1 }}] {usage}\n\
+             i2 [9, 8, 6, 4] [154, 130, 165, 237] [1, 1, 1, 1] None\n\
+             [Need {{ item: 3, quantity: 1 }}] {usage}\n\
+             i3 [6, 9, 9, 0] [286, 246, 273, 185] [1, 1, 1, 1] None\n\
+             [] {usage}\n"
+        )?
+        .as_str()
+    );
+    assert_eq!(rt; coupled.resources(), 1);
+    Ok(())
+}
+
+#[test]
+fn the_largest_model_has_its_own_period_plan(rt: HostRuntime) -> Result<(), Fail> {
+    let alloc = rt.alloc();
+    let instance = drawn(alloc, 40, 60, true)?;
+    assert_eq!(rt; (instance.items(), instance.periods()), (40, 60));
+    let plan = own_period_plan(alloc, &instance).ok().ok_or("memory")?;
+    assert!(rt; plan.is_some());
+    Ok(())
+}
+
+#[test]
+fn sizes_out_of_range_are_refused(rt: HostRuntime) -> Result<(), Fail> {
+    let alloc = rt.alloc();
+    for (items, periods) in [(0, 1), (41, 4), (1, 0), (3, 61)] {
+        assert_eq!(rt;
+            generate(alloc, 1, items, periods, true).err(),
+            Some(GenFault::Range)
+        );
+    }
+    Ok(())
+}

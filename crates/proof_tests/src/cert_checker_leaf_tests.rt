@@ -1,0 +1,148 @@
+ghost use Rattle.std.specs.Prelude.{IfOk};
+ghost use Rattle.split_trees.specs.Ranges.{IsChoice};
+
+use crate::fixtures::{instance_of, plain_item, resource, usage};
+use acceptance::LeafSays;
+use cert_checker::{CheckFault, Rejected, Why, leaf_bound};
+use certificate::{Leaf, Part};
+use lin_rows::{Bound, Column, RowName};
+use lot_model::{DraftItem, Instance};
+use split_trees::branch_range;
+use std::alloc::{AllocError, Global};
+use std::test::Fail;
+
+// An item with demands of 2 and 8. A setup costs 10 and takes an hour, as each unit does; a unit in stock costs 1.
+fn item(alloc: Global) -> Result<DraftItem, AllocError> {
+    let usage = usage(alloc, "m", 1, 1)?;
+    let mut made = plain_item(alloc, "A", &[2, 8], &[0, 0], &[10, 10], &[1, 1])?;
+    made.end_max = Some(0);
+    made.uses = vec![in alloc; usage]?;
+    Ok(made)
+}
+
+// The item alone, on a resource of 6 hours in each period: the best plan makes 5 and 5, and costs 23.
+fn shop(alloc: Global) -> Result<Instance, Fail> {
+    let resource = resource(alloc, "m", &[6, 6])?;
+    instance_of(
+        alloc,
+        2,
+        vec![in alloc; resource]?,
+        vec![in alloc; item(alloc)?]?,
+    )
+}
+
+// A bound on a quantity or a setup of the instance.
+fn bound(instance: &Instance, column: Column, most: bool, number: u64) -> Result<Bound, Fail>
+    ensures { IfOk result (λ bound. IsChoice instance.now bound.column) }
+{
+    branch_range(instance, &[], column).ok_or("no such column")?;
+    Ok(Bound {
+        column,
+        most,
+        number,
+    })
+}
+
+fn made(period: u32) -> Column {
+    Column::X { item: 1, period }
+}
+
+fn setup(period: u32) -> Column {
+    Column::Y { item: 1, period }
+}
+
+fn part(row: RowName, times: i128) -> Part {
+    Part { row, times }
+}
+
+fn refused(line: u64, why: Why) -> Result<LeafSays, CheckFault> {
+    Err(CheckFault::Rejected(Rejected { line, why }))
+}
+
+#[test]
+fn no_plan_without_the_first_setup(rt: HostRuntime) -> Result<(), Fail> {
+    let alloc = rt.alloc();
+    let instance = shop(alloc)?;
+    let path = [bound(&instance, setup(1), true, 0)?];
+    let parts = vec![in alloc;
+        part(RowName::Link(1, 1), 1),
+        part(RowName::Path(1), 10),
+        part(RowName::Balance(1, 1), 1),
+    ]?;
+    let leaf = Leaf::Farkas { parts };
+    let says = leaf_bound(alloc, &instance, &[], &path, &leaf, 4);
+    assert_eq!(rt; says, Ok(LeafSays::NoPlan));
+    Ok(())
+}
+
+#[test]
+fn a_cost_with_both_setups(rt: HostRuntime) -> Result<(), Fail> {
+    let alloc = rt.alloc();
+    let instance = shop(alloc)?;
+    let path = [
+        bound(&instance, setup(1), false, 1)?,
+        bound(&instance, setup(2), false, 1)?,
+    ];
+    for (times, says) in [
+        (11, Ok(LeafSays::AtLeast(23))),
+        (12, refused(4, Why::Column(setup(2)))),
+    ] {
+        let parts = vec![in alloc;
+            part(RowName::Balance(1, 2), 1),
+            part(RowName::Capacity(1, 2), 1),
+            part(RowName::Path(1), 10),
+            part(RowName::Path(2), times),
+        ]?;
+        let leaf = Leaf::Linear { den: 1, parts };
+        let found = leaf_bound(alloc, &instance, &[], &path, &leaf, 4);
+        assert_eq!(rt; found, says);
+    }
+    Ok(())
+}
+
+#[test]
+fn parts_are_refused_on_their_lines(rt: HostRuntime) -> Result<(), Fail> {
+    let alloc = rt.alloc();
+    let instance = shop(alloc)?;
+    for (row, times, says) in [
+        (RowName::Capacity(1, 2), -1, refused(6, Why::Sign)),
+        (RowName::Link(1, 3), 1, refused(6, Why::Range)),
+        (RowName::Path(1), -1, refused(6, Why::Range)),
+        (RowName::Balance(1, 2), i128::MAX, refused(4, Why::TooLarge)),
+        (RowName::Top(1, 1), 1, refused(4, Why::Short { says: 0 })),
+    ] {
+        let parts = vec![in alloc; part(RowName::Balance(1, 2), 0), part(row, times)]?;
+        let leaf = Leaf::Farkas { parts };
+        let found = leaf_bound(alloc, &instance, &[], &[], &leaf, 4);
+        assert_eq!(rt; found, says);
+    }
+    Ok(())
+}
+
+#[test]
+fn a_point_has_the_least_cost_of_its_plans(rt: HostRuntime) -> Result<(), Fail> {
+    let alloc = rt.alloc();
+    let instance = shop(alloc)?;
+    for (first, second, says) in [(5, 5, LeafSays::AtLeast(23)), (6, 4, LeafSays::NoPlan)] {
+        let path = [
+            bound(&instance, made(1), false, first)?,
+            bound(&instance, made(1), true, first)?,
+            bound(&instance, made(2), false, second)?,
+            bound(&instance, made(2), true, second)?,
+            bound(&instance, setup(1), false, 1)?,
+            bound(&instance, setup(2), false, 1)?,
+        ];
+        let found = leaf_bound(alloc, &instance, &[], &path, &Leaf::Point, 4);
+        assert_eq!(rt; found, Ok(says));
+    }
+    Ok(())
+}
+
+#[test]
+fn a_point_has_one_value_each(rt: HostRuntime) -> Result<(), Fail> {
+    let alloc = rt.alloc();
+    let instance = shop(alloc)?;
+    let found = leaf_bound(alloc, &instance, &[], &[], &Leaf::Point, 4);
+    assert_eq!(rt; found, refused(4, Why::NotPoint));
+    Ok(())
+}

@@ -1,0 +1,208 @@
+use cert_lines::{CertLine, Claim, Cut, HeadLine, LineFault, Part, read_head, read_line};
+use lin_rows::{Column, RowName};
+use std::alloc::Global;
+use std::test::Fail;
+
+fn part(row: RowName, times: i128) -> Part {
+    Part { row, times }
+}
+
+#[test]
+fn first_lines(rt: HostRuntime) -> Result<(), Fail> {
+    let most = u128::MAX / 2;
+    for (place, line, head) in [
+        (1u32, "lotcert 1", Some(HeadLine::Mark(1))),
+        (1, "lotcert 2", Some(HeadLine::Mark(2))),
+        (1, "lotcert 3", None),
+        (1, "lotcert 0", None),
+        (1, "lotcert 1 ", None),
+        (1, "claim infeasible", None),
+        (
+            2,
+            "claim infeasible",
+            Some(HeadLine::Claim(Claim::Infeasible)),
+        ),
+        (
+            2,
+            "claim optimal 23",
+            Some(HeadLine::Claim(Claim::Optimal(23))),
+        ),
+        (2, "claim bound 0", Some(HeadLine::Claim(Claim::Bound(0)))),
+        (
+            2,
+            "claim bound 170141183460469231731687303715884105727",
+            Some(HeadLine::Claim(Claim::Bound(most))),
+        ),
+        (
+            2,
+            "claim bound 170141183460469231731687303715884105728",
+            None,
+        ),
+        (2, "claim optimal 023", None),
+        (2, "claim optimal ", None),
+        (2, "claim optimal -1", None),
+        (2, "claim  optimal 1", None),
+        (2, "", None),
+        (3, "cuts 0", Some(HeadLine::Cuts(0))),
+        (3, "cuts 20000", Some(HeadLine::Cuts(20_000))),
+        (3, "cuts 20001", None),
+        (3, "cuts 1 ", None),
+    ] {
+        if place < 1 || place > 3 {
+            return Err("no such line".into());
+        }
+        assert!(rt; read_head(place, line.as_bytes()) == head);
+    }
+    Ok(())
+}
+
+// The part of a line.
+fn part_of(alloc: Global, text: &str) -> Option<Part> {
+    match read_line(alloc, text.as_bytes(), 1) {
+        Ok(CertLine::Part(part)) => Some(part),
+        _ => None,
+    }
+}
+
+#[test]
+fn parts_with_their_signs(rt: HostRuntime) -> Result<(), Fail> {
+    let alloc = rt.alloc();
+    assert!(rt; part_of(alloc, "part balance 2 3 -17") == Some(part(RowName::Balance(2, 3), -17)));
+    assert!(rt; part_of(alloc, "part endmin 2 5") == Some(part(RowName::EndMin(2), 5)));
+    assert!(rt;
+        part_of(alloc, "part cut 4294967295 0") == Some(part(RowName::Cut(4_294_967_295), 0))
+    );
+    for text in [
+        "part cut 4294967296 0",
+        "part endmin 2 -0",
+        "part endmin 2 +5",
+        "part endmin 02 5",
+        "part endmin 2  5",
+        "part endmin 2 5 ",
+        "part balance 2 5",
+        "part floor 2 5",
+        "part endmin 2 170141183460469231731687303715884105728",
+    ] {
+        assert!(rt; part_of(alloc, text) == None);
+    }
+    Ok(())
+}
+
+// Whether a line of lists has these costs of stock.
+fn has_hold(alloc: Global, text: &str, hold: &[u64]) -> bool {
+    match read_line(alloc, text.as_bytes(), 1) {
+        Ok(CertLine::Cut(Cut::Price { item: 2, prices })) => {
+            let read: &[u64] = &prices.hold;
+            read == hold
+        }
+        Ok(
+            CertLine::Cut(
+                Cut::Block {
+                    item: 2,
+                    potentials,
+                },
+            ),
+        ) => {
+            let read: &[u64] = &potentials.hold;
+            read == hold
+        }
+        _ => false,
+    }
+}
+
+#[test]
+fn lists_with_and_without_numbers(rt: HostRuntime) -> Result<(), Fail> {
+    let alloc = rt.alloc();
+    assert!(rt; has_hold(alloc, "price 2 w 1 g 2 3 h 4 5 b", [4u64, 5].as_slice()));
+    assert!(rt; has_hold(alloc, "price 2 w g h b", [].as_slice()));
+    assert!(rt;
+        has_hold(
+            alloc,
+            "block 2 f 1 g h 18446744073709551615 b 4 p 0",
+            [18_446_744_073_709_551_615u64].as_slice()
+        )
+    );
+    for text in [
+        "price 2 w 1 g 2 3 h b 4 5",
+        "price 2 w 1 g 2 3 h 4 5 b p",
+        "price 2 w 1 g 2 3 b h 4 5",
+        "price 2 w 1 h 4 5 g b",
+        "price 2 f 1 g 2 3 h 4 5 b",
+        "block 2 f 1 g h 4 5 b 4",
+        "price 2 w 18446744073709551616 g h 4 5 b",
+    ] {
+        assert!(rt; !has_hold(alloc, text, [4u64, 5].as_slice()));
+    }
+    Ok(())
+}
+
+// The form of a line, and two of its numbers.
+fn form_of(alloc: Global, text: &str) -> (u32, u64, u32) {
+    match read_line(alloc, text.as_bytes(), 1) {
+        Ok(CertLine::Round { divisor, parts }) => (1, divisor, parts),
+        Ok(
+            CertLine::Branch {
+                column: Column::Y { item, period: _ },
+                at,
+            },
+        ) => (2, at, item),
+        Ok(CertLine::Linear { den: _, parts }) => (3, 0, parts),
+        Ok(CertLine::Farkas { parts }) => (4, 0, parts),
+        Ok(CertLine::Point) => (5, 0, 0),
+        Ok(CertLine::End) => (6, 0, 0),
+        Ok(CertLine::Cut(Cut::Ls { item, last, chosen })) => (
+            7,
+            chosen.len() as u64 + last as u64,
+            item,
+        ),
+        Ok(_) => (8, 0, 0),
+        Err(LineFault::NoForm) => (0, 0, 0),
+        Err(LineFault::Memory) => (9, 0, 0),
+    }
+}
+
+#[test]
+fn lines_and_their_limits(rt: HostRuntime) -> Result<(), Fail> {
+    let alloc = rt.alloc();
+    for (text, form) in [
+        (
+            "round 1000000000000000000 1000",
+            (1u32, 1_000_000_000_000_000_000u64, 1000u32),
+        ),
+        ("round 0 2", (0, 0, 0)),
+        ("round 3 1001", (0, 0, 0)),
+        ("branch y 3 2 0", (2, 0, 3)),
+        ("branch z 3 2 0", (0, 0, 0)),
+        ("linear 2 100000", (3, 0, 100_000)),
+        ("linear 0 2", (0, 0, 0)),
+        ("linear -2 2", (0, 0, 0)),
+        ("farkas 5", (4, 0, 5)),
+        ("point", (5, 0, 0)),
+        ("points", (0, 0, 0)),
+        ("end", (6, 0, 0)),
+        ("end ", (0, 0, 0)),
+        ("", (0, 0, 0)),
+        ("ls 2 3 101", (7, 6, 2)),
+        ("ls 2 3 1010", (0, 0, 0)),
+        ("ls 2 3 102", (0, 0, 0)),
+        ("ls 2 0 ", (0, 0, 0)),
+    ] {
+        assert!(rt; form_of(alloc, text) == form);
+    }
+    Ok(())
+}
+
+#[test]
+fn lines_of_the_longest_length(rt: HostRuntime) -> Result<(), Fail> {
+    let alloc = rt.alloc();
+    let mut text = String::from_str(alloc, "block 2 f g h b p")?;
+    for _ in 0..8183 {
+        write!(text, " 7")?;
+    }
+    assert!(rt; form_of(alloc, &text) == (8, 0, 0));
+    write!(text, "7")?;
+    assert!(rt; form_of(alloc, &text) == (8, 0, 0));
+    write!(text, "7")?;
+    assert!(rt; form_of(alloc, &text) == (0, 0, 0));
+    Ok(())
+}

@@ -1,0 +1,140 @@
+use crate::fixtures::{instance_of, plain_item, resource, usage};
+use cert_checker::{CheckFault, Rejected, Why, check, lines_are_bytes};
+use certificate::{CertTextFault, Claim, read_certificate};
+use lot_io::MemoryShelf;
+use lot_model::Instance;
+use plan_rules::{Grid, Plan};
+use std::alloc::{AllocError, Global};
+use std::collections::BTreeMap;
+use std::test::Fail;
+use stream_check::{StreamFault, check_stream, read_claim};
+
+// No plan without a setup in the first period, none without one in the second, and with both none costs less
+// than 23.
+const BRANCHES: &str = "lotcert 1\nclaim optimal 23\ncuts 0\nbranch y 1 1 0\nfarkas 3\n\
+    part link 1 1 1\npart path 1 10\npart balance 1 1 1\nbranch y 1 2 0\nfarkas 5\n\
+    part link 1 2 1\npart path 2 10\npart balance 1 2 1\npart capacity 1 1 1\n\
+    part balance 1 1 1\nlinear 1 4\npart balance 1 2 1\npart capacity 1 2 1\n\
+    part path 1 10\npart path 2 11\nend\n";
+
+// A bound of 20 by two (l,S) rows, and the claim of one more.
+const BOUND: &str = "lotcert 1\nclaim bound 20\ncuts 2\nls 1 1 1\nls 1 2 01\nlinear 8 4\n\
+    part balance 1 1 -8\npart capacity 1 1 2\npart cut 1 41\npart cut 2 10\nend\n";
+
+const TOO_HIGH: &str = "lotcert 1\nclaim bound 21\ncuts 2\nls 1 1 1\nls 1 2 01\nlinear 8 4\n\
+    part balance 1 1 -8\npart capacity 1 1 2\npart cut 1 41\npart cut 2 10\nend\n";
+
+// The second branch leaves nothing to its high side; and a line after it is wrong.
+const EMPTY_SIDE: &str = "lotcert 1\nclaim bound 0\ncuts 0\nbranch y 1 1 0\nlinear 1 0\n\
+    branch y 1 1 1\nlinear 1 0\nlinear 1 0\nend\n";
+
+const NO_END: &str = "lotcert 1\nclaim bound 0\ncuts 0\nbranch y 1 1 0\nlinear 1 0\n\
+    branch y 1 1 1\nlinear 1 0\nlinear 1 0\nlinear 1 0\n";
+
+// An item over two periods, in stock at a cost of 1, which takes a unit of time for each unit and each setup, on a
+// resource with 6 in each period.
+fn shop(alloc: Global) -> Result<Instance, Fail> {
+    let mut item = plain_item(alloc, "A", &[2, 8], &[0, 0], &[10, 10], &[1, 1])?;
+    item.uses.push(usage(alloc, "m", 1, 1)?)?;
+    let resource = resource(alloc, "m", &[6, 6])?;
+    instance_of(alloc, 2, vec![in alloc; resource]?, vec![in alloc; item]?)
+}
+
+// A number for each of the two periods.
+fn grid(alloc: Global, first: u64, second: u64) -> Result<Grid, AllocError> {
+    let mut grid = Grid::filled(alloc, 1, 2, first)?;
+    grid.set(1, 2, second);
+    Ok(grid)
+}
+
+// Five units in each period.
+fn plan(alloc: Global) -> Result<Plan, AllocError> {
+    Ok(Plan {
+        make: grid(alloc, 5, 5)?,
+        setup: grid(alloc, 1, 1)?,
+        stock: grid(alloc, 3, 0)?,
+        backlog: grid(alloc, 0, 0)?,
+    })
+}
+
+// A shelf with one file.
+fn shelf_with(alloc: Global, text: &str) -> Result<MemoryShelf, AllocError> {
+    let mut files = BTreeMap::new(alloc);
+    files.insert(
+        String::from_str(alloc, "c")?,
+        Vec::from_slice(alloc, text.as_bytes())?,
+    )?;
+    Ok(MemoryShelf::new(
+        alloc,
+        files,
+        Vec::new(alloc),
+        Vec::new(alloc),
+        Vec::new(alloc),
+    ))
+}
+
+// What is found of a text that is read as a whole; one of more than 1,000 bytes isn't tried.
+fn whole(
+    alloc: Global,
+    instance: &Instance,
+    text: &str,
+    plan: Option<&Plan>,
+) -> Result<Claim, StreamFault> {
+    lines_are_bytes();
+    let bytes = text.as_bytes();
+    if bytes.len() > 1000 {
+        return Err(StreamFault::TooLong);
+    }
+    match read_certificate(alloc, bytes) {
+        Ok(certificate) => match check(alloc, instance, &certificate, plan) {
+            Ok(()) => Ok(certificate.claim),
+            Err(CheckFault::Rejected(rejected)) => Err(StreamFault::Rejected(rejected)),
+            Err(CheckFault::Memory) => Err(StreamFault::Memory),
+        },
+        Err(fault) => Err(StreamFault::Text(fault)),
+    }
+}
+
+// A refusal.
+fn refusal(line: u64, why: Why) -> Result<Claim, StreamFault> {
+    Err(StreamFault::Rejected(Rejected { line, why }))
+}
+
+#[test]
+fn answers_are_those_of_the_whole(rt: HostRuntime) -> Result<(), Fail> {
+    let alloc = rt.alloc();
+    let instance = shop(alloc)?;
+    let plan = plan(alloc)?;
+    for (text, want) in [
+        (BRANCHES, Ok(Claim::Optimal(23))),
+        (BOUND, Ok(Claim::Bound(20))),
+        (TOO_HIGH, refusal(6, Why::Short { says: 20 })),
+        (EMPTY_SIDE, refusal(6, Why::Range)),
+        (NO_END, Err(StreamFault::Text(CertTextFault::Shape(9)))),
+    ] {
+        let mut shelf = shelf_with(alloc, text)?;
+        let found = check_stream(alloc, &instance, &mut shelf, "c", Some(&plan));
+        assert_eq!(rt; found, want);
+        assert_eq!(rt; found, whole(alloc, &instance, text, Some(&plan)));
+    }
+    Ok(())
+}
+
+// Each pass fetches each byte once.
+#[test]
+fn a_file_is_fetched_twice(rt: HostRuntime) -> Result<(), Fail> {
+    let alloc = rt.alloc();
+    let instance = shop(alloc)?;
+    let mut shelf = shelf_with(alloc, BOUND)?;
+    let size = BOUND.len() as u64;
+    assert_eq!(rt; read_claim(alloc, &mut shelf, "c"), Ok(Claim::Bound(20)));
+    assert_eq!(rt; shelf.given, size);
+    let found = check_stream(alloc, &instance, &mut shelf, "c", None);
+    assert_eq!(rt; found, Ok(Claim::Bound(20)));
+    assert_eq!(rt; shelf.given, 3 * size);
+    assert_eq!(rt;
+        check_stream(alloc, &instance, &mut shelf, "d", None),
+        Err(StreamFault::Missing)
+    );
+    Ok(())
+}

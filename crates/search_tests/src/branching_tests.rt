@@ -1,0 +1,134 @@
+use crate::fixtures::{plain_item, steady_item};
+use branching::{Found, RootSays, plan_uncoupled};
+use cert_checker::check;
+use certificate::{Claim, is_writable, read_certificate, write_certificate};
+use lot_model::{Draft, DraftItem, Instance, is_uncoupled};
+use lot_sizing::limits::{MAX_ITEMS, MAX_PERIODS};
+use std::alloc::{AllocError, Global};
+use std::test::Fail;
+
+// All of A is made in the first period, and all of B in the second.
+const BEST: &str = "lotcert 1\nclaim optimal 134\ncuts 2\n\
+    block 1 f 100 20 g 0 0 h 1 1 b 0 0 p 100 106\n\
+    block 2 f 100 20 g 0 0 h 1 1 b 2 2 p 28 28\n\
+    linear 1 2\npart cut 1 1\npart cut 2 1\nend\n";
+
+// The largest demand and cost.
+const MOST: i64 = 1_000_000_000;
+
+// Of 16 units 10 are asked for, and 5 may be left.
+const FULL: &str = "lotcert 1\nclaim infeasible\ncuts 0\nfarkas 3\n\
+    part balance 2 1 -1\npart balance 2 2 -1\npart endmax 2 1\nend\n";
+
+// An item that is asked for 4 and 6, with setup costs 100 and 20 and hold cost 1.
+fn item(alloc: Global, name: &str, opening: i64) -> Result<DraftItem, AllocError> {
+    let mut made = plain_item(alloc, name, &[4, 6], &[0, 0], &[100, 20], &[1, 1])?;
+    made.opening = opening;
+    Ok(made)
+}
+
+// An item with the same demand and the same costs of a unit and a setup in each period.
+fn steady(
+    alloc: Global,
+    number: u32,
+    periods: usize,
+    amounts: [i64; 3],
+) -> Result<DraftItem, AllocError> {
+    let [demand, unit_cost, setup_cost] = amounts;
+    let name = number.to_string(alloc)?;
+    steady_item(
+        alloc,
+        name.as_str(),
+        periods,
+        [demand, unit_cost, setup_cost, 0],
+    )
+}
+
+// What is found of items, once the checker accepts it.
+fn accepted(alloc: Global, periods: u32, items: Vec<DraftItem>) -> Result<Found, Fail> {
+    let draft = Draft {
+        periods: i64::from(periods),
+        resources: Vec::new(alloc),
+        items,
+    };
+    let instance = Instance::from_draft(alloc, draft).ok().ok_or("refused")?;
+    if !is_uncoupled(&instance) {
+        return Err("coupled".into());
+    }
+    let found = plan_uncoupled(alloc, &instance)?;
+    if check(alloc, &instance, &found.certificate, found.plan.as_ref()).is_err() {
+        return Err("not accepted".into());
+    }
+    Ok(found)
+}
+
+// The text of what is found, once it is read back.
+fn text(alloc: Global, found: &Found) -> Result<Vec<u8>, Fail> {
+    let bytes = write_certificate(alloc, &found.certificate)?;
+    let read = read_certificate(alloc, &bytes).ok().ok_or("not read")?;
+    let again = write_certificate(alloc, &read)?;
+    if again.as_slice() != bytes.as_slice() {
+        return Err("another certificate".into());
+    }
+    Ok(bytes)
+}
+
+#[test]
+fn a_best_plan_is_proved(rt: HostRuntime) -> Result<(), Fail> {
+    let alloc = rt.alloc();
+    let mut owed = item(alloc, "B", 0)?;
+    owed.backlog_cost = Some(vec![in alloc; 2i64, 2i64]?);
+    let found = accepted(alloc, 2, vec![in alloc; item(alloc, "A", 0)?, owed]?)?;
+    assert_eq!(rt; found.certificate.claim, Claim::Optimal(134));
+    assert_eq!(rt; found.certificate.cuts.len(), 2);
+    assert_eq!(rt; (found.root, found.nodes), (RootSays::Uncoupled, 1));
+    assert!(rt; text(alloc, &found)?.as_slice() == BEST.as_bytes());
+    let plan = found.plan.ok_or("no plan")?;
+    assert_eq!(rt; (plan.make.items(), plan.make.periods()), (2, 2));
+    assert_eq!(rt; (plan.make.get(1, 1), plan.make.get(2, 2)), (10, 10));
+    Ok(())
+}
+
+#[test]
+fn that_there_is_no_room_is_proved(rt: HostRuntime) -> Result<(), Fail> {
+    let alloc = rt.alloc();
+    let mut full = item(alloc, "B", 16)?;
+    full.end_max = Some(5);
+    let found = accepted(alloc, 2, vec![in alloc; item(alloc, "A", 0)?, full]?)?;
+    assert_eq!(rt; found.certificate.claim, Claim::Infeasible);
+    assert!(rt; found.plan.is_none());
+    assert_eq!(rt; (found.root, found.nodes), (RootSays::Uncoupled, 1));
+    assert!(rt; text(alloc, &found)?.as_slice() == FULL.as_bytes());
+    Ok(())
+}
+
+#[test]
+fn the_largest_amounts_are_proved(rt: HostRuntime) -> Result<(), Fail> {
+    let alloc = rt.alloc();
+    let found = accepted(
+        alloc,
+        1,
+        vec![in alloc; steady(alloc, 1, 1, [MOST, MOST, MOST])?]?,
+    )?;
+    assert_eq!(rt;
+        found.certificate.claim,
+        Claim::Optimal(1_000_000_001_000_000_000)
+    );
+    Ok(())
+}
+
+#[test]
+fn the_most_items_are_proved(rt: HostRuntime) -> Result<(), Fail> {
+    let alloc = rt.alloc();
+    let mut items = Vec::new(alloc);
+    for number in 1u32..=MAX_ITEMS {
+        items.push(steady(alloc, number, MAX_PERIODS as usize, [1, 0, 5])?)?;
+    }
+    let found = accepted(alloc, MAX_PERIODS, items)?;
+    // One setup of each item, in the first period.
+    assert_eq!(rt; found.certificate.claim, Claim::Optimal(200));
+    assert_eq!(rt; found.certificate.cuts.len(), 40);
+    assert!(rt; is_writable(&found.certificate));
+    text(alloc, &found)?;
+    Ok(())
+}
