@@ -1,4 +1,4 @@
 mod Denominators
-mod Points
+pub mod Points
 mod Plans
 mod Saying

@@ -50,24 +50,24 @@ fn optional_naturals(
     }
 }
 
-// A line of components.
+// A line of components. A model is refused where no item has the name.
 fn need_of(items: &[DraftItem], need: &DraftNeed) -> Need
     requires few { length items.now ≤ MAX_ITEMS }
     ensures { result ≡ need_of (item_names (map raw_item items.now)) (raw_need need.now) }
 {
     Need {
-        item: item_place(items, &need.item),
+        item: item_place(items, &need.item).unwrap_or(0),
         quantity: natural(need.quantity),
     }
 }
 
-// A line of resources.
+// A line of resources. A model is refused where no resource has the name.
 fn use_of(resources: &[DraftResource], usage: &DraftUse) -> Usage
     requires few { length resources.now ≤ MAX_RESOURCES }
     ensures { result ≡ use_of (resource_names (map raw_resource resources.now)) (raw_use usage.now) }
 {
     Usage {
-        resource: resource_place(resources, &usage.resource),
+        resource: resource_place(resources, &usage.resource).unwrap_or(0),
         unit: natural(usage.unit),
         setup: natural(usage.setup),
     }

@@ -68,10 +68,10 @@ fn names_have_places(rt: HostRuntime) -> Result<(), Fail> {
     let alloc = rt.alloc();
     let draft = draft(alloc, item(alloc, "A")?, item(alloc, "B")?)?;
     assert!(rt; draft.items.len() <= 40 && draft.resources.len() <= 20);
-    assert_eq!(rt; item_place(&draft.items, "B"), 2);
-    assert_eq!(rt; item_place(&draft.items, "m"), 0);
-    assert_eq!(rt; resource_place(&draft.resources, "m"), 1);
-    assert_eq!(rt; resource_place(&draft.resources, "A"), 0);
+    assert_eq!(rt; item_place(&draft.items, "B"), Some(2));
+    assert_eq!(rt; item_place(&draft.items, "m"), None);
+    assert_eq!(rt; resource_place(&draft.resources, "m"), Some(1));
+    assert_eq!(rt; resource_place(&draft.resources, "A"), None);
     Ok(())
 }
 

@@ -1,4 +1,4 @@
-mod Numbering
+pub mod Numbering
 mod Entries
 mod Combining
 mod Common
@@ -7,9 +7,9 @@ mod Priced
 mod Parts
 mod Saying
 mod Naming
-mod Growing
+pub mod Growing
 mod Rising
 mod Smallness
 mod Closing
 mod Listing
-mod Making
+pub mod Making

@@ -5,8 +5,8 @@ use Rattle.lot_draft.proofs.Members.{name_count, name_read, not_met}
 use Rattle.lot_draft.proofs.PlaceOf.{place_met, place_none}
 use Rattle.lot_draft.proofs.places.resource_place.Goals as goal
 
-pub returns-then-eq : goal.returns-then-eq
-returns-then-eq c =
+pub returns-then-eq-clause-place : goal.returns-then-eq-clause-place
+returns-then-eq-clause-place c =
     let names = resource_names (map raw_resource c.args.resources.now) in
     let read = name_read raw_resource (λ a. a.name) c.args.resources.now c.loop-at.at c.index-resources-at.result (omega arith) c.index-resources-at.is ∙ sym c.as_str.ensures.value in
     let met = place_met names c.loop-at.at c.args.name.now c.as_str.result.now (omega (arith, name_count raw_resource (λ a. a.name) c.args.resources.now)) read (sym c.eq.ensures ∙ c.if-eq.true) c.loop-at.invariant in
@@ -18,7 +18,7 @@ loop-at-preserved c =
     let read = name_read raw_resource (λ a. a.name) c.args.resources.now c.loop-at.at c.index-resources-at.result (omega arith) c.index-resources-at.is ∙ sym c.as_str.ensures.value in
     not_met names c.loop-at.at c.args.name.now c.as_str.result.now (omega (arith, name_count raw_resource (λ a. a.name) c.args.resources.now)) read (sym c.eq.ensures ∙ c.if-eq.false) c.loop-at.invariant
 
-pub returns : goal.returns
-returns c =
+pub returns-clause-place : goal.returns-clause-place
+returns-clause-place c =
     let names = resource_names (map raw_resource c.args.resources.now) in
     sym (place_none names c.loop-at.at c.args.name.now (omega (arith, name_count raw_resource (λ a. a.name) c.args.resources.now)) c.loop-at.invariant)
