@@ -3,7 +3,7 @@ use Rattle.std.proofs.Common.{◌≡◌, ◌≢◌, ◌⊎◌, ◌≤◌, ◌<�
 use Rattle.std.proofs.lemmas.Bool.{cases_eq, cases_lt}
 use Rattle.std.proofs.lemmas.List.{get_or-set_same}
 use Rattle.std.proofs.lemmas.Nat.{mul-add-lt, same_from_place}
-use Rattle.std.specs.Prelude.{pos, slice_index_or, slice_set, ◌-ℤ◌}
+use Rattle.std.specs.Prelude.{pos, slice_index_or, slice_set, ◌-ℤ◌, Option, Some, None, IfSome}
 use Rattle.std.specs.declared.cmp.Ordering.{Ordering}
 use Rattle.std.specs.declared.cmp.Ordering.TheVariants.{Less, Equal, Greater}
 use Rattle.rational.specs.Rational.{ℚ, whole, inv_ℚ, neg_ℚ, ◌*ℚ◌, ◌-ℚ◌, ◌≤ℚ◌, cmp_ℚ, IsOrder}
@@ -14,10 +14,10 @@ use Rattle.rational.proofs.Orders.{order_of}
 use Rattle.algebra.proofs.Rings.{con, ◌⊖◌, ◌⊗◌, ◌⊜◌, ring1, ring2}
 use Rattle.tableau.proofs.Numbers.{inv_opposite, not_opposite_zero, whole_fits}
 use Rattle.tableau.specs.Program.{zero_ℚ}
-use Rattle.tableau.specs.Dictionary.{Dictionary, IsPivoted, basic_at, cell, factor_at, height, nonbasic_at, width}
-use Rattle.tableau.specs.Run.{IsCandidate, IsEntering, IsNegative, OtherFits, RatioFits, RowFits, ratio_at}
-use Rattle.tableau.specs.Steps.{AreExchanged, CellFits, GoesBefore, HasNoneTo, HasSameNames, IsBetter, IsDivided, IsLower, IsRowUpdated, IsSet, RatiosFitTo, UpdatesFit}
-use Rattle.tableau.proofs.Loops.{AreRowsTo, HasNoNegativeTo, IsBestOrNone, IsBestTo, IsDividedTo, IsLowestOrNone, IsLowestTo, IsRowTo}
+use Rattle.tableau.specs.Dictionary.{Dictionary, IsPivoted, cell, factor_at, height, nonbasic_at, width}
+use Rattle.tableau.specs.Run.{IsCandidate, IsEntering, OtherFits, RatioFits, RowFits, ratio_at}
+use Rattle.tableau.specs.Steps.{AreExchanged, CellFits, GoesBefore, HasSameNames, IsBetter, IsDivided, IsRowUpdated, IsSet, RatiosFitTo, UpdatesFit}
+use Rattle.tableau.proofs.Loops.{AreRowsTo, IsBestOrNone, IsBestTo, IsDividedTo, IsRowTo}
 
 -- ---- a cell that is set
 pub set_is : (b n : List ℕ) (cs : List ℚ) (i t : ℕ) (x : ℚ) → i < length b → t < length n → length cs ≡ length b * length n → IsSet (record { basic = b; nonbasic = n; cells = cs }) i t x (record { basic = b; nonbasic = n; cells = slice_set cs (i * length n + t) x })
@@ -32,37 +32,6 @@ set_is b n cs i t x i_high t_high size = record {
     turned : (a c : ℕ) → a * c ≡ c * a
     turned a c = omega arith
 
--- ---- the leaving row
-pub lowest_none : (d : Dictionary) → IsLowestOrNone d 1 0
-lowest_none d = inl (refl, λ i low less. absurd (omega (arith, low, less)))
-
-pub lowest_next : (d : Dictionary) (i best k : ℕ) → 1 ≤ i → i < height d → IsLowestOrNone d i best → IsLower d best i k → IsLowestOrNone d (i + 1) k
-lowest_next d i best k low high so_far step = ⊎_elim taken kept step
-  where
-    taken : (k ≡ i) × IsNegative (cell d i 0) × (best ≢ 0 → basic_at d i ≤ basic_at d best) → IsLowestOrNone d (i + 1) k
-    taken (is, negative, lower) = inr (subst (IsLowestTo d (i + 1)) (sym is) (record { low = low; high = high; negative = negative; least = least }))
-      where
-        least : (h : ℕ) → 1 ≤ h → h < i + 1 → IsNegative (cell d h 0) → basic_at d i ≤ basic_at d h
-        least h h_low h_high h_negative =
-            ⊎_elim (λ same. omega (arith, ap (basic_at d) same))
-            (λ apart. ⊎_elim (λ none. absurd (h_negative (none.1 h h_low (omega (arith, h_high, apart))))) (λ old. omega (arith, lower (λ e. omega (arith, e, old.low)), old.least h h_low (omega (arith, h_high, apart)) h_negative)) so_far)
-            (cases_eq h i)
-
-    kept : (k ≡ best) × (IsNegative (cell d i 0) → (best ≢ 0) × (basic_at d best ≤ basic_at d i)) × (best ≡ 0 → zero_ℚ ≤ℚ cell d i 0) → IsLowestOrNone d (i + 1) k
-    kept (is, lower, nonnegative) = subst (IsLowestOrNone d (i + 1)) (sym is) (⊎_elim none some so_far)
-      where
-        none : (best ≡ 0) × HasNoNegativeTo d i → IsLowestOrNone d (i + 1) best
-        none (zero_best, before) = inl (zero_best, λ h h_low h_high. ⊎_elim (λ same. subst (λ j. zero_ℚ ≤ℚ cell d j 0) (sym same) (nonnegative zero_best)) (λ apart. before h h_low (omega (arith, h_high, apart))) (cases_eq h i))
-
-        some : IsLowestTo d i best → IsLowestOrNone d (i + 1) best
-        some old = inr (record {
-          low = old.low;
-          high = old.high;
-          negative = old.negative;
-          least = λ h h_low h_high h_negative. ⊎_elim (λ same. omega (arith, ap (basic_at d) same, (lower (subst (λ j. IsNegative (cell d j 0)) same h_negative)).1)) (λ apart. old.least h h_low (omega (arith, h_high, apart)) h_negative) (cases_eq h i);
-        })
-
--- ---- the entering column
 le_or_not : (y x : ℚ) → (y ≤ℚ x) ⊎ (y ≤ℚ x → ⊥)
 le_or_not y x = by (cmp_ℚ x y) (order_of x y)
   where
@@ -71,90 +40,57 @@ le_or_not y x = by (cmp_ℚ x y) (order_of x y)
     by Equal is = inl (subst (λ z. z ≤ℚ x) is (Q.le_refl x))
     by Greater is = inl (⊎_elim (λ le. absurd (is le)) (λ ge. ge) (Q.le_total x y))
 
-pub best_none : (d : Dictionary) (k : ℕ) (y : ℚ) → IsBestOrNone d k 1 0 y
-best_none d k y = inl (refl, λ t less candidate. omega (arith, less, candidate.low))
-
-pub fit_none : (d : Dictionary) (k : ℕ) → RatiosFitTo d k 1
-fit_none d k t less candidate = absurd (omega (arith, less, candidate.low))
-
-module _ (d : Dictionary) (k j t : ℕ) (y : ℚ) (so_far : IsBestOrNone d k t j y) where
+-- ---- the entering column
+module _ (d : Dictionary) (k t : ℕ) where
   -- a candidate that goes before
-  before_all : IsCandidate d k t → GoesBefore d t (ratio_at d k t) j y → IsBestTo d k (t + 1) t (ratio_at d k t)
-  before_all candidate goes = record { candidate = candidate; ratio = refl; least = least; ties = ties }
+  before_all : (best : Option (ℕ × ℚ)) → IsBestOrNone d k t best → IsCandidate d k t → GoesBefore d t (ratio_at d k t) best → IsBestTo d k (t + 1) t (ratio_at d k t)
+  before_all None before candidate goes = record {
+    candidate = candidate;
+    ratio = refl;
+    least = λ h high other. ⊎_elim (λ same. subst (λ u. ratio_at d k t ≤ℚ ratio_at d k u) (sym same) (Q.le_refl (ratio_at d k t))) (λ apart. absurd (before h (omega (arith, high, apart)) other)) (cases_eq h t);
+    ties = λ h high other same_ratio. ⊎_elim (λ same. omega (arith, ap (nonbasic_at d) same)) (λ apart. absurd (before h (omega (arith, high, apart)) other)) (cases_eq h t);
+  }
+  before_all (Some (j, y)) old candidate goes = record { candidate = candidate; ratio = refl; least = least; ties = ties }
     where
-      no_greater : IsBestTo d k t j y → ratio_at d k t ≤ℚ y
-      no_greater old = ⊎_elim (λ none. absurd (omega (arith, none, old.candidate.low))) (λ rest. ⊎_elim (λ less. ⊎_elim (λ le. le) (λ ge. absurd (less ge)) (Q.le_total (ratio_at d k t) y)) (λ tie. subst (λ z. ratio_at d k t ≤ℚ z) tie.0 (Q.le_refl (ratio_at d k t))) rest) goes
+      no_greater : ratio_at d k t ≤ℚ y
+      no_greater = ⊎_elim (λ less. ⊎_elim (λ le. le) (λ ge. absurd (less ge)) (Q.le_total (ratio_at d k t) y)) (λ tie. subst (λ z. ratio_at d k t ≤ℚ z) tie.0 (Q.le_refl (ratio_at d k t))) goes
 
       least : (h : ℕ) → h < t + 1 → IsCandidate d k h → ratio_at d k t ≤ℚ ratio_at d k h
       least h high other =
           ⊎_elim (λ same. subst (λ u. ratio_at d k t ≤ℚ ratio_at d k u) (sym same) (Q.le_refl (ratio_at d k t)))
-          (λ apart. ⊎_elim (λ none. absurd (none.1 h (omega (arith, high, apart)) other)) (λ old. Q.le_trans (ratio_at d k t) y (ratio_at d k h) (no_greater old) (old.least h (omega (arith, high, apart)) other)) so_far)
+          (λ apart. Q.le_trans (ratio_at d k t) y (ratio_at d k h) no_greater (old.least h (omega (arith, high, apart)) other))
           (cases_eq h t)
 
       ties : (h : ℕ) → h < t + 1 → IsCandidate d k h → ratio_at d k t ≡ ratio_at d k h → nonbasic_at d t ≤ nonbasic_at d h
       ties h high other same_ratio =
           ⊎_elim (λ same. omega (arith, ap (nonbasic_at d) same))
-          (λ apart. ⊎_elim (λ none. absurd (none.1 h (omega (arith, high, apart)) other)) (λ old.
+          (λ apart.
           let le : y ≤ℚ ratio_at d k t = subst (λ z. y ≤ℚ z) (sym same_ratio) (old.least h (omega (arith, high, apart)) other) in
-          ⊎_elim (λ none. absurd (omega (arith, none, old.candidate.low))) (λ rest. ⊎_elim (λ less. absurd (less le)) (λ tie. omega (arith, tie.1, old.ties h (omega (arith, high, apart)) other (sym tie.0 ∙ same_ratio))) rest) goes) so_far)
+          ⊎_elim (λ less. absurd (less le)) (λ tie. omega (arith, tie.1, old.ties h (omega (arith, high, apart)) other (sym tie.0 ∙ same_ratio))) goes)
           (cases_eq h t)
 
   -- one that doesn't
-  after_best : (IsCandidate d k t → GoesBefore d t (ratio_at d k t) j y → ⊥) → IsBestOrNone d k (t + 1) j y
-  after_best other = ⊎_elim none some so_far
-    where
-      none : (j ≡ 0) × HasNoneTo d k t → IsBestOrNone d k (t + 1) j y
-      none (zero_best, before) = inl (zero_best, λ h high candidate. ⊎_elim (λ same. other (subst (IsCandidate d k) same candidate) (inl zero_best)) (λ apart. before h (omega (arith, high, apart)) candidate) (cases_eq h t))
+  after_best : (best : Option (ℕ × ℚ)) → IsBestOrNone d k t best → (IsCandidate d k t → GoesBefore d t (ratio_at d k t) best → ⊥) → IsBestOrNone d k (t + 1) best
+  after_best None before other = λ h high candidate. ⊎_elim (λ same. other (subst (IsCandidate d k) same candidate) tt) (λ apart. before h (omega (arith, high, apart)) candidate) (cases_eq h t)
+  after_best (Some (j, y)) old other = record {
+    candidate = old.candidate;
+    ratio = old.ratio;
+    least = λ h high candidate. ⊎_elim (λ same. subst (λ u. y ≤ℚ ratio_at d k u) (sym same) (⊎_elim (λ le. le) (λ less. absurd (other (subst (IsCandidate d k) same candidate) (inl less))) (le_or_not y (ratio_at d k t)))) (λ apart. old.least h (omega (arith, high, apart)) candidate) (cases_eq h t);
+    ties = λ h high candidate same_ratio. ⊎_elim (λ same. subst (λ u. nonbasic_at d j ≤ nonbasic_at d u) (sym same) (⊎_elim (λ less. absurd (other (subst (IsCandidate d k) same candidate) (inr (sym (same_ratio ∙ ap (ratio_at d k) same), less)))) (λ le. le) (cases_lt (nonbasic_at d t) (nonbasic_at d j)))) (λ apart. old.ties h (omega (arith, high, apart)) candidate same_ratio) (cases_eq h t);
+  }
 
-      some : IsBestTo d k t j y → IsBestOrNone d k (t + 1) j y
-      some old = inr (record {
-        candidate = old.candidate;
-        ratio = old.ratio;
-        least = λ h high candidate. ⊎_elim (λ same. subst (λ u. y ≤ℚ ratio_at d k u) (sym same) (⊎_elim (λ le. le) (λ less. absurd (other (subst (IsCandidate d k) same candidate) (inr (inl less)))) (le_or_not y (ratio_at d k t)))) (λ apart. old.least h (omega (arith, high, apart)) candidate) (cases_eq h t);
-        ties = λ h high candidate same_ratio. ⊎_elim (λ same. subst (λ u. nonbasic_at d j ≤ nonbasic_at d u) (sym same) (⊎_elim (λ less. absurd (other (subst (IsCandidate d k) same candidate) (inr (inr (sym (same_ratio ∙ ap (ratio_at d k) same), less))))) (λ le. le) (cases_lt (nonbasic_at d t) (nonbasic_at d j)))) (λ apart. old.ties h (omega (arith, high, apart)) candidate same_ratio) (cases_eq h t);
-      })
-
-  pub best_next : (u : ℕ) (z : ℚ) → IsBetter d k j y t u z → IsBestOrNone d k (t + 1) u z
-  best_next u z step =
+  pub best_next : (best next : Option (ℕ × ℚ)) → IsBestOrNone d k t best → IsBetter d k best t next → IsBestOrNone d k (t + 1) next
+  best_next best next so_far step =
       ⊎_elim
-      (λ skipped. subst (λ w. IsBestOrNone d k (t + 1) w z) (sym skipped.0) (subst (IsBestOrNone d k (t + 1) j) (sym skipped.1) (after_best (λ candidate goes. skipped.2 candidate))))
+      (λ skipped. subst (IsBestOrNone d k (t + 1)) (sym skipped.0) (after_best best so_far (λ candidate goes. skipped.1 candidate)))
       (λ seen. ⊎_elim
-      (λ taken. inr (subst (λ w. IsBestTo d k (t + 1) w z) (sym taken.0) (subst (IsBestTo d k (t + 1) t) (sym taken.1) (before_all seen.0 taken.2))))
-      (λ kept. subst (λ w. IsBestOrNone d k (t + 1) w z) (sym kept.0) (subst (IsBestOrNone d k (t + 1) j) (sym kept.1) (after_best (λ candidate goes. kept.2 goes)))) seen.2)
+      (λ taken. subst (IsBestOrNone d k (t + 1)) (sym taken.0) (before_all best so_far seen.0 taken.1))
+      (λ kept. subst (IsBestOrNone d k (t + 1)) (sym kept.0) (after_best best so_far (λ candidate goes. kept.1 goes))) seen.2)
       step
 
-pub fit_next : (d : Dictionary) (k j t u : ℕ) (y z : ℚ) → RatiosFitTo d k t → IsBetter d k j y t u z → RatiosFitTo d k (t + 1)
-fit_next d k j t u y z so_far step h high candidate =
-    ⊎_elim (λ same. subst (RatioFits d k) (sym same) (⊎_elim (λ skipped. absurd (skipped.2 (subst (IsCandidate d k) same candidate))) (λ seen. seen.1) step)) (λ apart. so_far h (omega (arith, high, apart)) candidate) (cases_eq h t)
-
-pub lower_high : (d : Dictionary) (best i k : ℕ) → best < height d → i < height d → IsLower d best i k → k < height d
-lower_high d best i k best_high high step = ⊎_elim (λ taken. omega (arith, taken.0, high)) (λ kept. omega (arith, kept.0, best_high)) step
-
--- the answers of a look at one row
-pub lower_kept : (d : Dictionary) (best i : ℕ) → zero_ℚ ≤ℚ cell d i 0 → IsLower d best i best
-lower_kept d best i le = inr (refl, (λ negative. absurd (negative le)), λ zero_best. le)
-
-pub lower_taken : (d : Dictionary) (best i : ℕ) → IsNegative (cell d i 0) → (best ≢ 0 → basic_at d i ≤ basic_at d best) → IsLower d best i i
-lower_taken d best i negative lower = inl (refl, negative, lower)
-
-pub lower_stays : (d : Dictionary) (best i : ℕ) → best ≢ 0 → basic_at d best ≤ basic_at d i → IsLower d best i best
-lower_stays d best i some lower = inr (refl, (λ negative. (some, lower)), λ zero_best. absurd (some zero_best))
-
--- ---- the answers of a look at one column
-pub better_skip : (d : Dictionary) (k j t : ℕ) (y : ℚ) → cell d k t ≤ℚ zero_ℚ → IsBetter d k j y t j y
-better_skip d k j t y le = inl (refl, refl, λ candidate. candidate.positive le)
-
-pub better_constant : (d : Dictionary) (k j t : ℕ) (y : ℚ) → t ≡ 0 → IsBetter d k j y t j y
-better_constant d k j t y is = inl (refl, refl, λ candidate. omega (arith, is, candidate.low))
-
-pub same_ratio : (d : Dictionary) (k t : ℕ) (a b : ℚ) → a ≡ cell d 0 t → b ≡ cell d k t → divided_ℚ a b ≡ ratio_at d k t
-same_ratio d k t a b top bottom = ap (λ x. divided_ℚ x b) top ∙ ap (divided_ℚ (cell d 0 t)) bottom
-
-pub better_take : (d : Dictionary) (k j t : ℕ) (y x : ℚ) → IsCandidate d k t → x ≡ ratio_at d k t → Fits x → GoesBefore d t x j y → IsBetter d k j y t t x
-better_take d k j t y x candidate is fits goes = inr (candidate, subst Fits is fits, inl (refl, is, subst (λ z. GoesBefore d t z j y) is goes))
-
-pub better_keep : (d : Dictionary) (k j t : ℕ) (y x : ℚ) → IsCandidate d k t → x ≡ ratio_at d k t → Fits x → (GoesBefore d t x j y → ⊥) → IsBetter d k j y t j y
-better_keep d k j t y x candidate is fits stays = inr (candidate, subst Fits is fits, inr (refl, refl, λ goes. stays (subst (λ z. GoesBefore d t z j y) (sym is) goes)))
+  pub fit_next : (best next : Option (ℕ × ℚ)) → RatiosFitTo d k t → IsBetter d k best t next → RatiosFitTo d k (t + 1)
+  fit_next best next so_far step h high candidate =
+      ⊎_elim (λ same. subst (RatioFits d k) (sym same) (⊎_elim (λ skipped. absurd (skipped.1 (subst (IsCandidate d k) same candidate))) (λ seen. seen.1) step)) (λ apart. so_far h (omega (arith, high, apart)) candidate) (cases_eq h t)
 
 -- ---- a cell of a row that is updated
 pub row_start : (d : Dictionary) (k j i : ℕ) (factor : ℚ) → IsRowTo d k j i factor 0 d
@@ -245,12 +181,13 @@ reduced_zero c f r zero = ring2 rational_ring (λ c f. c ⊜ c ⊖ f ⊗ con (po
 pub times_zero : (c f : ℚ) → c ≡ zero_ℚ → c ≡ c *ℚ f
 times_zero c f zero = zero ∙ ring1 rational_ring (λ f. con (pos 0) ⊜ con (pos 0) ⊗ f) refl f ∙ ap (λ x. x *ℚ f) (sym zero)
 
-pub best_enters : (d : Dictionary) (k j to : ℕ) (x : ℚ) → width d ≤ to → j ≢ 0 → IsBestOrNone d k to j x → IsEntering d k j
-best_enters d k j to x all some best = ⊎_elim (λ none. absurd (some none.0)) (λ b. record {
-  candidate = b.candidate;
-  least = λ t other. subst (λ y. y ≤ℚ ratio_at d k t) b.ratio (b.least t (omega (arith, all, other.high)) other);
-  ties = λ t other same. b.ties t (omega (arith, all, other.high)) other (b.ratio ∙ same);
-}) best
+pub best_enters : (d : Dictionary) (k to : ℕ) (best : Option (ℕ × ℚ)) → width d ≤ to → IsBestOrNone d k to best → IfSome best (λ p. IsEntering d k p.0)
+best_enters d k to None all before = tt
+best_enters d k to (Some (j, x)) all old = record {
+  candidate = old.candidate;
+  least = λ t other. subst (λ y. y ≤ℚ ratio_at d k t) old.ratio (old.least t (omega (arith, all, other.high)) other);
+  ties = λ t other same. old.ties t (omega (arith, all, other.high)) other (old.ratio ∙ same);
+}
 
 -- what a cell that doesn't fit says of the row
 pub row_refused : (d e : Dictionary) (k j i t : ℕ) (factor : ℚ) → k < height d → t < width d → i ≢ k → t ≢ j → factor ≡ factor_at d k j i → cell d i j ≢ zero_ℚ → cell e k t ≢ zero_ℚ → IsRowTo d k j i factor t e → OtherFits d k j i t → CellFits e k i t factor

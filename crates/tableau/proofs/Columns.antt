@@ -1,15 +1,15 @@
 -- The columns of a row that aren't 0.
-use Rattle.std.proofs.Common.{◌≡◌, ◌≢◌, ◌≤◌, ◌<◌, ◌+◌, ◌∙◌, ⊎_elim, ℕ, zero, suc, refl, sym, ap, subst, arith, inl, inr, List, length, slice_index_or, take, get_or-set_other}
+use Rattle.std.proofs.Common.{◌≡◌, ◌≢◌, ◌≤◌, ◌<◌, ◌+◌, ◌∙◌, ⊎_elim, ℕ, zero, suc, refl, sym, ap, subst, arith, List, length, slice_index_or, take, get_or-set_other}
 use Rattle.std.proofs.lemmas.Bool.{cases_eq, cases_lt}
 use Rattle.std.proofs.lemmas.List.{get_or-set_same, get_or-take}
-use Rattle.std.specs.Prelude.{slice_set}
+use Rattle.std.specs.Prelude.{slice_set, Option, Some, None}
 use Rattle.rational.specs.Rational.{ℚ, ◌*ℚ◌, ◌-ℚ◌, ◌≤ℚ◌}
 use Rattle.rational.proofs.Rationals as Q
 use Rattle.frac128.specs.Limits.{Fits}
 use Rattle.tableau.specs.Program.{zero_ℚ}
 use Rattle.tableau.specs.Dictionary.{Dictionary, cell, height, width}
 use Rattle.tableau.specs.Run.{IsCandidate}
-use Rattle.tableau.specs.Steps.{AreColumns, AreListed, CellFits, HasNoneTo, IsBetter, IsSet, IsSkip, RatiosFitTo, from_place}
+use Rattle.tableau.specs.Steps.{AreColumns, AreListed, CellFits, IsBetter, IsSet, IsSkip, RatiosFitTo, from_place}
 use Rattle.tableau.proofs.Cells.{best_next, divided_next, divided_skip, fit_next, reduced_zero, row_next, row_skip, times_zero}
 use Rattle.tableau.proofs.Loops.{AreRowsTo, IsBestOrNone, IsDividedTo, IsRowTo}
 
@@ -146,39 +146,27 @@ module _ (d e : Dictionary) (k j index : ℕ) (factor : ℚ) (list : List ℕ) (
 no_candidate : (d : Dictionary) (k a b t : ℕ) → IsSkip d k a b → a ≤ t → t < b → IsCandidate d k t → ⊥
 no_candidate d k a b t skip low less candidate = candidate.positive (subst (λ x. x ≤ℚ zero_ℚ) (sym (skip.zero t low less candidate.high)) (Q.le_refl zero_ℚ))
 
-pub best_start : (d : Dictionary) (k : ℕ) (y : ℚ) → IsBestOrNone d k 0 0 y
-best_start d k y = inl (refl, λ t less candidate. omega (arith, less))
-
-pub fit_start : (d : Dictionary) (k : ℕ) → RatiosFitTo d k 0
-fit_start d k t less candidate = absurd (omega (arith, less))
-
-best_gap : (d : Dictionary) (k a b j : ℕ) (y : ℚ) → IsBestOrNone d k a j y → IsSkip d k a b → IsBestOrNone d k b j y
-best_gap d k a b j y so_far skip =
-    ⊎_elim
-    (λ none. inl (none.0, λ t less candidate. ⊎_elim (λ seen. none.1 t seen candidate) (λ low. no_candidate d k a b t skip low less candidate) (cases_lt t a)))
-    (λ old. inr (record {
-      candidate = old.candidate;
-      ratio = old.ratio;
-      least = λ t less candidate. ⊎_elim (λ seen. old.least t seen candidate) (λ low. absurd (no_candidate d k a b t skip low less candidate)) (cases_lt t a);
-      ties = λ t less candidate. ⊎_elim (λ seen. old.ties t seen candidate) (λ low. absurd (no_candidate d k a b t skip low less candidate)) (cases_lt t a);
-    }))
-    so_far
+best_gap : (d : Dictionary) (k a b : ℕ) (best : Option (ℕ × ℚ)) → IsBestOrNone d k a best → IsSkip d k a b → IsBestOrNone d k b best
+best_gap d k a b None before skip = λ t less candidate. ⊎_elim (λ seen. before t seen candidate) (λ low. no_candidate d k a b t skip low less candidate) (cases_lt t a)
+best_gap d k a b (Some (j, y)) old skip = record {
+  candidate = old.candidate;
+  ratio = old.ratio;
+  least = λ t less candidate. ⊎_elim (λ seen. old.least t seen candidate) (λ low. absurd (no_candidate d k a b t skip low less candidate)) (cases_lt t a);
+  ties = λ t less candidate. ⊎_elim (λ seen. old.ties t seen candidate) (λ low. absurd (no_candidate d k a b t skip low less candidate)) (cases_lt t a);
+}
 
 fit_gap : (d : Dictionary) (k a b : ℕ) → RatiosFitTo d k a → IsSkip d k a b → RatiosFitTo d k b
 fit_gap d k a b so_far skip t less candidate = ⊎_elim (λ seen. so_far t seen candidate) (λ low. absurd (no_candidate d k a b t skip low less candidate)) (cases_lt t a)
 
 module _ (d : Dictionary) (k index : ℕ) (list : List ℕ) (columns : AreColumns d k list) where
-  pub best_more : (j u : ℕ) (y z : ℚ) → index < length list → IsBestOrNone d k (from_place list index) j y → IsBetter d k j y (slice_index_or list index 0) u z → IsBestOrNone d k (from_place list (index + 1)) u z
-  best_more j u y z less so_far step = subst (λ to. IsBestOrNone d k to u z) (sym (from_next list index)) (best_next d k j (slice_index_or list index 0) y (best_gap d k (from_place list index) (slice_index_or list index 0) j y so_far (columns.between index less)) u z step)
+  pub best_more : (best next : Option (ℕ × ℚ)) → index < length list → IsBestOrNone d k (from_place list index) best → IsBetter d k best (slice_index_or list index 0) next → IsBestOrNone d k (from_place list (index + 1)) next
+  best_more best next less so_far step = subst (λ to. IsBestOrNone d k to next) (sym (from_next list index)) (best_next d k (slice_index_or list index 0) best next (best_gap d k (from_place list index) (slice_index_or list index 0) best so_far (columns.between index less)) step)
 
-  pub fit_more : (j u : ℕ) (y z : ℚ) → index < length list → RatiosFitTo d k (from_place list index) → IsBetter d k j y (slice_index_or list index 0) u z → RatiosFitTo d k (from_place list (index + 1))
-  fit_more j u y z less so_far step = subst (RatiosFitTo d k) (sym (from_next list index)) (fit_next d k j (slice_index_or list index 0) u y z (fit_gap d k (from_place list index) (slice_index_or list index 0) so_far (columns.between index less)) step)
+  pub fit_more : (best next : Option (ℕ × ℚ)) → index < length list → RatiosFitTo d k (from_place list index) → IsBetter d k best (slice_index_or list index 0) next → RatiosFitTo d k (from_place list (index + 1))
+  fit_more best next less so_far step = subst (RatiosFitTo d k) (sym (from_next list index)) (fit_next d k (slice_index_or list index 0) best next (fit_gap d k (from_place list index) (slice_index_or list index 0) so_far (columns.between index less)) step)
 
-  pub best_all : (j : ℕ) (y : ℚ) → index ≡ length list → IsBestOrNone d k (from_place list index) j y → IsBestOrNone d k (width d) j y
-  best_all j y end so_far = best_gap d k (from_place list index) (width d) j y so_far (subst (λ n. IsSkip d k (from_place list n) (width d)) (sym end) columns.last)
-
-  pub none_all : (j : ℕ) (y : ℚ) → j ≡ 0 → index ≡ length list → IsBestOrNone d k (from_place list index) j y → HasNoneTo d k (width d)
-  none_all j y is end so_far = ⊎_elim (λ none. none.1) (λ old. absurd (omega (arith, is, old.candidate.low))) (best_all j y end so_far)
+  pub best_all : (best : Option (ℕ × ℚ)) → index ≡ length list → IsBestOrNone d k (from_place list index) best → IsBestOrNone d k (width d) best
+  best_all best end so_far = best_gap d k (from_place list index) (width d) best so_far (subst (λ n. IsSkip d k (from_place list n) (width d)) (sym end) columns.last)
 
   pub fit_all : index ≡ length list → RatiosFitTo d k (from_place list index) → RatiosFitTo d k (width d)
   fit_all end so_far = fit_gap d k (from_place list index) (width d) so_far (subst (λ n. IsSkip d k (from_place list n) (width d)) (sym end) columns.last)

@@ -1,5 +1,5 @@
 -- What loops have done so far.
-use Rattle.std.specs.Prelude.{◌≡◌, ◌≢◌, ◌⊎◌, ◌≤◌, ◌<◌, ◌+◌, ℕ, List, length, take, if◌then◌else◌, ◌==◌}
+use Rattle.std.specs.Prelude.{◌≡◌, ◌≢◌, ◌≤◌, ◌<◌, ◌+◌, ℕ, List, length, take, if◌then◌else◌, ◌==◌, Option, Some, None}
 use Rattle.rational.specs.Rational.{ℚ, whole, neg_ℚ, ◌*ℚ◌, ◌-ℚ◌, ◌≤ℚ◌}
 use Rattle.frac128.specs.Limits.{Fits}
 use Rattle.tableau.specs.Program.{Inequality, Program, column_count, cost_at, entry_at, right_at, row_count, sum_ℚ, times_of, zero_ℚ}
@@ -9,7 +9,7 @@ use Rattle.tableau.specs.Meaning.{coefficient_at}
 use Rattle.tableau.specs.Steps.{CellFits, HasNoneTo, HasSameNames}
 use Rattle.tableau.specs.Outcomes.{number_at}
 
--- ---- the searches, before a row or a column; 0 stands for none
+-- ---- the searches, before a row or a column
 abbrev pub HasNoNegativeTo : Dictionary → ℕ → Type 0
 HasNoNegativeTo d to = (i : ℕ) → 1 ≤ i → i < to → zero_ℚ ≤ℚ cell d i 0
 
@@ -25,11 +25,13 @@ pub record IsBestTo (d : Dictionary) (k to j : ℕ) (x : ℚ) : Type 0 where
   pub least : (t : ℕ) → t < to → IsCandidate d k t → x ≤ℚ ratio_at d k t
   pub ties : (t : ℕ) → t < to → IsCandidate d k t → x ≡ ratio_at d k t → nonbasic_at d j ≤ nonbasic_at d t
 
-abbrev pub IsLowestOrNone : Dictionary → ℕ → ℕ → Type 0
-IsLowestOrNone d to k = ((k ≡ 0) × HasNoNegativeTo d to) ⊎ IsLowestTo d to k
+abbrev pub IsLowestOrNone : Dictionary → ℕ → Option ℕ → Type 0
+IsLowestOrNone d to None = HasNoNegativeTo d to
+IsLowestOrNone d to (Some k) = IsLowestTo d to k
 
-abbrev pub IsBestOrNone : Dictionary → ℕ → ℕ → ℕ → ℚ → Type 0
-IsBestOrNone d k to j x = ((j ≡ 0) × HasNoneTo d k to) ⊎ IsBestTo d k to j x
+abbrev pub IsBestOrNone : Dictionary → ℕ → ℕ → Option (ℕ × ℚ) → Type 0
+IsBestOrNone d k to None = HasNoneTo d k to
+IsBestOrNone d k to (Some (j, x)) = IsBestTo d k to j x
 
 -- ---- the lists, the first dictionary and the pivot
 -- the constant of a row

@@ -1,34 +1,40 @@
 -- The steps by which a dictionary is searched and changed.
-use Rattle.std.specs.Prelude.{◌≡◌, ◌≢◌, ◌⊎◌, ◌≤◌, ◌<◌, ◌+◌, ◌-ℤ◌, ℕ, zero, suc, List, length, slice_index_or}
+use Rattle.std.specs.Prelude.{◌≡◌, ◌≢◌, ◌⊎◌, ◌≤◌, ◌<◌, ◌+◌, ◌-ℤ◌, ℕ, zero, suc, List, length, slice_index_or, Option, Some, None, ⊤}
 use Rattle.rational.specs.Rational.{ℚ, inv_ℚ, neg_ℚ, ◌*ℚ◌, ◌-ℚ◌, ◌≤ℚ◌}
 use Rattle.frac128.specs.Limits.{divided_ℚ, Fits, SumFits}
 use Rattle.tableau.specs.Program.{zero_ℚ}
 use Rattle.tableau.specs.Dictionary.{Dictionary, basic_at, cell, factor_at, height, nonbasic_at, width}
 use Rattle.tableau.specs.Run.{IsCandidate, IsNegative, OtherFits, RatioFits, RowFits, UpdateFits, ratio_at}
 
--- ---- the search for the leaving row; 0 stands for none
--- of a row and the best before it the one that leaves
-abbrev pub IsLower : Dictionary → ℕ → ℕ → ℕ → Type 0
-IsLower d best i k =
-    ((k ≡ i) × IsNegative (cell d i 0) × (best ≢ 0 → basic_at d i ≤ basic_at d best))
-    ⊎ ((k ≡ best) × (IsNegative (cell d i 0) → (best ≢ 0) × (basic_at d best ≤ basic_at d i)) × (best ≡ 0 → zero_ℚ ≤ℚ cell d i 0))
+-- ---- the search for the leaving row
+-- a row has a lower number than the best so far, if there is one
+abbrev pub IsNumberedLower : Dictionary → ℕ → Option ℕ → Type 0
+IsNumberedLower d i None = ⊤
+IsNumberedLower d i (Some best) = basic_at d i < basic_at d best
 
--- ---- the search for the entering column; 0 stands for none
+-- of a row and the best before it the one that leaves
+abbrev pub IsLower : Dictionary → Option ℕ → ℕ → Option ℕ → Type 0
+IsLower d best i next =
+    ((next ≡ Some i) × IsNegative (cell d i 0) × IsNumberedLower d i best)
+    ⊎ ((next ≡ best) × (IsNegative (cell d i 0) → IsNumberedLower d i best → ⊥))
+
+-- ---- the search for the entering column
 abbrev pub HasNoneTo : Dictionary → ℕ → ℕ → Type 0
 HasNoneTo d k to = (t : ℕ) → t < to → IsCandidate d k t → ⊥
 
 abbrev pub RatiosFitTo : Dictionary → ℕ → ℕ → Type 0
 RatiosFitTo d k to = (t : ℕ) → t < to → IsCandidate d k t → RatioFits d k t
 
--- a column of this ratio goes before the best so far
-abbrev pub GoesBefore : Dictionary → ℕ → ℚ → ℕ → ℚ → Type 0
-GoesBefore d t x j y = (j ≡ 0) ⊎ ((y ≤ℚ x → ⊥) ⊎ ((x ≡ y) × (nonbasic_at d t < nonbasic_at d j)))
+-- a column of this ratio goes before the best so far, if there is one, with its own ratio
+abbrev pub GoesBefore : Dictionary → ℕ → ℚ → Option (ℕ × ℚ) → Type 0
+GoesBefore d t x None = ⊤
+GoesBefore d t x (Some (j, y)) = (y ≤ℚ x → ⊥) ⊎ ((x ≡ y) × (nonbasic_at d t < nonbasic_at d j))
 
--- of a column and the best before it the one that enters
-abbrev pub IsBetter : Dictionary → ℕ → ℕ → ℚ → ℕ → ℕ → ℚ → Type 0
-IsBetter d k j y t u z =
-    ((u ≡ j) × (z ≡ y) × (IsCandidate d k t → ⊥))
-    ⊎ (IsCandidate d k t × RatioFits d k t × (((u ≡ t) × (z ≡ ratio_at d k t) × GoesBefore d t (ratio_at d k t) j y) ⊎ ((u ≡ j) × (z ≡ y) × (GoesBefore d t (ratio_at d k t) j y → ⊥))))
+-- of a column and the best before it the one that enters, with its ratio
+abbrev pub IsBetter : Dictionary → ℕ → Option (ℕ × ℚ) → ℕ → Option (ℕ × ℚ) → Type 0
+IsBetter d k best t next =
+    ((next ≡ best) × (IsCandidate d k t → ⊥))
+    ⊎ (IsCandidate d k t × RatioFits d k t × (((next ≡ Some (t, ratio_at d k t)) × GoesBefore d t (ratio_at d k t) best) ⊎ ((next ≡ best) × (GoesBefore d t (ratio_at d k t) best → ⊥))))
 
 -- a candidate whose ratio doesn't fit
 pub record IsRefusedRatio (d : Dictionary) (k t : ℕ) : Type 0 where

@@ -163,18 +163,20 @@ impl Tableau {
         }
     }
 
-    // Of a row and the best before it, 0 standing for none, the one of the least-numbered variable of those with
-    // a negative value.
-    fn lower(&self, best: usize, row: usize) -> usize
-        requires best { best < height self.now }
+    // Of a row and the best before it the one of the least-numbered variable of those with a negative value.
+    fn lower(&self, best: Option<usize>, row: usize) -> Option<usize>
+        requires best { IfSome best (λ k. k < height self.now) }
         requires row { row < height self.now }
         ensures { IsLower self.now best row result }
     {
         if !is_negative(self.constant(row)) {
             return best;
         }
-        if best == 0 || self.basic(row) < self.basic(best) {
-            return row;
+        let Some(lowest) = best else {
+            return Some(row);
+        };
+        if self.basic(row) < self.basic(lowest) {
+            return Some(row);
         }
         best
     }
@@ -184,11 +186,11 @@ impl Tableau {
         ensures some { IfSome result (IsLeaving self.now) }
         ensures none { IsNone result → IsLast self.now }
     {
-        let mut best = 0;
+        let mut best = None;
         for row in 1..self.height() {
             best = self.lower(best, row);
         }
-        if best == 0 { None } else { Some(best) }
+        best
     }
 
     // Whether a variable has a positive coefficient in a row.
@@ -205,46 +207,49 @@ impl Tableau {
         false
     }
 
-    // Whether a column goes before the best so far, 0 standing for none: by its ratio, and then by number.
-    fn goes_before(&self, column: usize, ratio: &Ratio, best: usize, least: &Ratio) -> bool
+    // Whether a column of this ratio goes before the best so far, if there is one: by ratio, and then by number.
+    fn goes_before(&self, column: usize, ratio: &Ratio, best: &Option<(usize, Ratio)>) -> bool
         requires column { column < width self.now }
-        requires best { best < width self.now }
-        ensures { IsTrue result ↔ GoesBefore self.now column ratio.now best least.now }
+        requires best { IfSome best.now (λ p. p.0 < width self.now) }
+        ensures { IsTrue result ↔ GoesBefore self.now column ratio.now best.now }
     {
-        if best == 0 {
+        let Some((other, least)) = best else {
             return true;
-        }
+        };
         match ratio.compare(least) {
             Ordering::Less => true,
-            Ordering::Equal => self.nonbasic(column) < self.nonbasic(best),
+            Ordering::Equal => self.nonbasic(column) < self.nonbasic(*other),
             Ordering::Greater => false,
         }
     }
 
-    // Of a column and the best before it, 0 standing for none, the one that enters, with its ratio; None where the
-    // column's ratio doesn't fit.
-    fn better(&self, row: usize, best: usize, least: Ratio, column: usize) -> Option<(usize, Ratio)>
+    // Of a column and the best before it the one that enters, with its ratio; or the column, where its ratio doesn't fit.
+    fn better(
+        &self,
+        row: usize,
+        best: Option<(usize, Ratio)>,
+        column: usize,
+    ) -> Result<Option<(usize, Ratio)>, usize>
         requires row { row < height self.now }
-        requires best { best < width self.now }
+        requires best { IfSome best (λ p. p.0 < width self.now) }
         requires column { column < width self.now }
-        ensures some { IfSome result (λ p. IsBetter self.now row best least column p.0 p.1) }
-        ensures high { IfSome result (λ p. p.0 < width self.now) }
-        ensures none { IsNone result → IsRefusedRatio self.now row column }
+        ensures better { IfOk result (IsBetter self.now row best column) }
+        ensures refused { IfErr result (IsRefusedRatio self.now row) }
     {
         if column == 0 {
-            return Some((best, least));
+            return Ok(best);
         }
         let coefficient = self.cell(row, column);
         if !is_positive(coefficient) {
-            return Some((best, least));
+            return Ok(best);
         }
         let Some(ratio) = self.cell(0, column).ratio(coefficient) else {
-            return None;
+            return Err(column);
         };
-        if self.goes_before(column, &ratio, best, &least) {
-            return Some((column, ratio));
+        if self.goes_before(column, &ratio, &best) {
+            return Ok(Some((column, ratio)));
         }
-        Some((best, least))
+        Ok(best)
     }
 
     // The column of least ratio of reduced cost to coefficient among the candidates of a row, by number where
@@ -257,18 +262,14 @@ impl Tableau {
         ensures none { IfOk result (λ found. IsNone found → HasNoneTo self.now row (width self.now)) }
         ensures refused { IfErr result (IsRefusedRatio self.now row) }
     {
-        let mut best = 0;
-        let mut least = Ratio::from(whole(0));
+        let mut best = None;
         for place in 0..columns.len() {
-            match self.better(row, best, least, columns[place]) {
-                Some(found) => {
-                    best = found.0;
-                    least = found.1;
-                }
-                None => return Err(columns[place]),
-            }
+            best = self.better(row, best, columns[place])?;
         }
-        if best == 0 { Ok(None) } else { Ok(Some(best)) }
+        match best {
+            Some((column, _)) => Ok(Some(column)),
+            None => Ok(None),
+        }
     }
 
     // Lists the columns of a row that don't have 0, in order, and says how many they are.

@@ -1,8 +1,6 @@
-use Rattle.std.proofs.Common.{◌<◌}
-use Rattle.tableau.specs.Dictionary.{width}
 use Rattle.tableau.specs.Steps.{RatiosFitTo, from_place}
 use Rattle.tableau.proofs.Loops.{IsBestOrNone}
 use Rattle.tableau.proofs.tableau.Tableau.entering.Given as goal
 
 abbrev pub invariant-loop-place : goal.invariant-loop-place
-invariant-loop-place l = IsBestOrNone l.self l.row (from_place l.columns l.place) l.best l.least × RatiosFitTo l.self l.row (from_place l.columns l.place) × (0 < width l.self → l.best < width l.self)
+invariant-loop-place l = IsBestOrNone l.self l.row (from_place l.columns l.place) l.best × RatiosFitTo l.self l.row (from_place l.columns l.place)

@@ -1,7 +1,5 @@
-use Rattle.std.proofs.Common.{◌<◌}
-use Rattle.tableau.specs.Dictionary.{height}
 use Rattle.tableau.proofs.tableau.Tableau.leaving.Given as goal
 use Rattle.tableau.proofs.Loops.{IsLowestOrNone}
 
 abbrev pub invariant-loop-row : goal.invariant-loop-row
-invariant-loop-row l = IsLowestOrNone l.self l.row l.best × (l.best < height l.self)
+invariant-loop-row l = IsLowestOrNone l.self l.row l.best

@@ -1,8 +1,6 @@
-use Rattle.std.proofs.Common.{◌<◌}
-use Rattle.tableau.specs.Dictionary.{width}
 use Rattle.tableau.specs.Steps.{RatiosFitTo}
 use Rattle.tableau.proofs.plain.tableau.Tableau.entering.Given as goal
 use Rattle.tableau.proofs.Loops.{IsBestOrNone}
 
 abbrev pub invariant-loop-column : goal.invariant-loop-column
-invariant-loop-column l = IsBestOrNone l.self l.row l.column l.best l.least × RatiosFitTo l.self l.row l.column × (l.best < width l.self)
+invariant-loop-column l = IsBestOrNone l.self l.row l.column l.best × RatiosFitTo l.self l.row l.column
