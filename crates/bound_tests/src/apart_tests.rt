@@ -1,6 +1,6 @@
-use crate::fixtures::{need, plain_item};
 use apart::{apart, apart_is_one, apart_leaf};
 use certificate::{Certificate, Claim, Tree, write_certificate};
+use fixtures::{need, plain_item};
 use lot_model::{Draft, DraftItem, Instance};
 use std::alloc::{AllocError, Global};
 use std::test::Fail;

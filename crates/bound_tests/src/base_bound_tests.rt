@@ -1,5 +1,5 @@
-use crate::fixtures::{resource, usage};
 use base_bound::{BoundSays, base_bound};
+use fixtures::{resource, usage};
 use lot_model::{Draft, DraftItem, Instance};
 use std::alloc::Global;
 use std::test::Fail;

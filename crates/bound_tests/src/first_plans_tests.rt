@@ -1,9 +1,9 @@
 ghost use Rattle.std.specs.Prelude.{◌≡◌};
 
-use crate::fixtures::{instance_of, need, plain_item, resource, usage};
 use first_plans::{
     built_plan, candidates, improved, improved_by_families, own_period_is_one, own_period_plan,
 };
+use fixtures::{instance_of, need, plain_item, resource, usage};
 use lot_model::{DraftItem, Instance};
 use plan_rules::Grid;
 use std::alloc::{AllocError, Global};

@@ -3,7 +3,7 @@
 //! Family: tests. It stands on `apart`, `uncoupled`, `path_relaxation`, `base_bound`, `root_rows` and
 //! `first_plans`, and calls them as any other crate does; nothing stands on it.
 //!
-//! Each crate that is tested has files of its own. `fixtures` has what they make their instances of.
+//! Each crate that is tested has files of its own. The crate `fixtures` has what they make their instances of.
 #![tactic(auto)]
 
 #[cfg(test)]
@@ -12,8 +12,6 @@ mod apart_tests;
 mod base_bound_tests;
 #[cfg(test)]
 mod first_plans_tests;
-#[cfg(test)]
-mod fixtures;
 #[cfg(test)]
 mod path_relaxation_tests;
 #[cfg(test)]

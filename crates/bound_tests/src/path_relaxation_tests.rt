@@ -1,4 +1,4 @@
-use crate::fixtures::{instance_of, plain_item, resource, usage};
+use fixtures::{instance_of, plain_item, resource, usage};
 use lin_rows::{Bound, Column};
 use lot_model::Instance;
 use path_relaxation::{PathSays, path_relaxation};

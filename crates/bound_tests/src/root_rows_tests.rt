@@ -1,5 +1,5 @@
-use crate::fixtures::{instance_of, plain_item, resource, usage};
 use cert_lines::Part;
+use fixtures::{instance_of, plain_item, resource, usage};
 use lin_rows::{RowName, base_row};
 use lot_model::Instance;
 use root_rows::{

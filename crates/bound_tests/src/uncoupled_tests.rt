@@ -1,4 +1,4 @@
-use crate::fixtures::{instance_of, plain_item, steady_item};
+use fixtures::{instance_of, plain_item, steady_item};
 use lot_model::{Draft, DraftItem, Instance, is_uncoupled};
 use lot_sizing::limits::MAX_ITEMS;
 use std::alloc::{AllocError, Global};

@@ -3,7 +3,7 @@
 //! Family: tests. It stands on `round_cuts`, `echelon_rows`, `ls_cuts`, `facility_form` and `backlog_dp`, and calls
 //! them as any other crate does; nothing stands on it.
 //!
-//! Each crate that is tested has files of its own. `fixtures` has what they make their instances of.
+//! Each crate that is tested has files of its own. The crate `fixtures` has what they make their instances of.
 #![tactic(auto)]
 
 #[cfg(test)]
@@ -12,8 +12,6 @@ mod backlog_dp_tests;
 mod echelon_rows_tests;
 #[cfg(test)]
 mod facility_form_tests;
-#[cfg(test)]
-mod fixtures;
 #[cfg(test)]
 mod ls_cuts_tests;
 #[cfg(test)]

@@ -1,5 +1,5 @@
-use crate::fixtures::{instance_of, plain_item};
 use echelon::{EchelonItem, is_echelon_within_bounds};
+use fixtures::{instance_of, plain_item};
 use frac128::Frac;
 use lin_rows::{Column, Point, Row, RowFault, Term, column_count};
 use lot_model::Instance;

@@ -1,4 +1,4 @@
-use crate::fixtures::{instance_of, plain_item, resource, usage};
+use fixtures::{instance_of, plain_item, resource, usage};
 use lin_rows::{Column, CutFault, Row, RowName, Term, base_row};
 use lot_model::{DraftItem, Instance};
 use round_cuts::round_row;

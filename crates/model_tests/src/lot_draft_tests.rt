@@ -1,4 +1,4 @@
-use crate::fixtures::{plain_item, resource, usage};
+use fixtures::{plain_item, resource, usage};
 use lot_draft::{
     Draft, DraftItem, DraftNeed, Key, ModelCode, ModelFault, Place, item_place, later_fault,
     plain_fault, resource_place,

@@ -1,4 +1,4 @@
-use crate::fixtures::{need, plain_item, resource, usage};
+use fixtures::{need, plain_item, resource, usage};
 use lot_model::{Draft, DraftItem, DraftRefusal, DraftResource, Instance, is_uncoupled};
 use lot_sizing::limits::{MAX_BILL_LINES, MAX_ITEMS, MAX_RESOURCES};
 use std::alloc::{AllocError, Global};

@@ -3,11 +3,9 @@
 //! Family: tests. It stands on `plan_rules`, `plan_file` and `report`, and calls them as any other crate does;
 //! nothing stands on it.
 //!
-//! Each crate that is tested has files of its own. `fixtures` has what they make their instances of.
+//! Each crate that is tested has files of its own. The crate `fixtures` has what they make their instances of.
 #![tactic(auto)]
 
-#[cfg(test)]
-mod fixtures;
 #[cfg(test)]
 mod plan_file_tests;
 #[cfg(test)]

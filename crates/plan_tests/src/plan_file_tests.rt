@@ -1,4 +1,4 @@
-use crate::fixtures::{instance_of, plain_item, steady_item};
+use fixtures::{instance_of, plain_item, steady_item};
 use lot_model::{DraftItem, Instance};
 use plan_file::{PlanFault, read_plan, write_plan};
 use plan_rules::{Grid, Plan};

@@ -1,4 +1,4 @@
-use crate::fixtures::{instance_of, need, resource, steady_item, times, usage};
+use fixtures::{instance_of, need, resource, steady_item, times, usage};
 use lot_model::{DraftItem, DraftResource, DraftUse, Instance};
 use lot_sizing::limits::{MAX_ITEMS, MAX_PERIODS, MAX_RESOURCES};
 use plan_rules::{

@@ -1,4 +1,4 @@
-use crate::fixtures::{instance_of, need, plain_item, usage};
+use fixtures::{instance_of, need, plain_item, usage};
 use lot_model::{DraftItem, DraftResource, Instance};
 use plan_rules::{Grid, Plan, judge};
 use report::{parts_add_up, summary};

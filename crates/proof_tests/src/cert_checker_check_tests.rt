@@ -1,6 +1,6 @@
-use crate::fixtures::{instance_of, plain_item, resource, usage};
 use cert_checker::{CheckFault, Rejected, Why, check, lines_are_bytes};
 use certificate::read_certificate;
+use fixtures::{instance_of, plain_item, resource, usage};
 use lot_model::{DraftItem, Instance};
 use plan_rules::{Broken, Grid, Plan};
 use std::alloc::{AllocError, Global};

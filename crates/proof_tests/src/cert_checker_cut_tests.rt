@@ -1,6 +1,6 @@
-use crate::fixtures::{instance_of, plain_item, resource, usage};
 use cert_checker::{CheckFault, Rejected, Why, cut_row};
 use certificate::{Cut, Part};
+use fixtures::{instance_of, plain_item, resource, usage};
 use lin_rows::{Column, Potentials, Prices, Row, RowName, Term};
 use lot_model::{DraftItem, Instance};
 use std::alloc::{AllocError, Global};

@@ -1,10 +1,10 @@
 ghost use Rattle.std.specs.Prelude.{IfOk};
 ghost use Rattle.split_trees.specs.Ranges.{IsChoice};
 
-use crate::fixtures::{instance_of, plain_item, resource, usage};
 use acceptance::LeafSays;
 use cert_checker::{CheckFault, Rejected, Why, leaf_bound};
 use certificate::{Leaf, Part};
+use fixtures::{instance_of, plain_item, resource, usage};
 use lin_rows::{Bound, Column, RowName};
 use lot_model::{DraftItem, Instance};
 use split_trees::branch_range;

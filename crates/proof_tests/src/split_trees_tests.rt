@@ -1,4 +1,4 @@
-use crate::fixtures::{instance_of, plain_item};
+use fixtures::{instance_of, plain_item};
 use lin_rows::{Bound, Column};
 use lot_model::Instance;
 use split_trees::{branch_range, is_split};

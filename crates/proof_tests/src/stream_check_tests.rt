@@ -1,6 +1,6 @@
-use crate::fixtures::{instance_of, plain_item, resource, usage};
 use cert_checker::{CheckFault, Rejected, Why, check, lines_are_bytes};
 use certificate::{CertTextFault, Claim, read_certificate};
+use fixtures::{instance_of, plain_item, resource, usage};
 use lot_io::MemoryShelf;
 use lot_model::Instance;
 use plan_rules::{Grid, Plan};

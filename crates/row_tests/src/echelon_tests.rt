@@ -1,8 +1,8 @@
-use crate::fixtures::{instance_of, need, plain_item, times};
 use echelon::{
     EchelonItem, Explosion, MAX_ASKED, SingleItem, echelon_of, explosions_are_one,
     is_echelon_within_bounds, is_within_bounds, lead_free, net_of, positions, single_of,
 };
+use fixtures::{instance_of, need, plain_item, times};
 use lot_model::{Draft, DraftItem, DraftNeed, Instance, is_uncoupled};
 use std::alloc::{AllocError, Global};
 use std::test::Fail;

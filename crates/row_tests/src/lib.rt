@@ -4,13 +4,11 @@
 //! Family: tests. It stands on `lin_rows`, `echelon` and `wagner_whitin`, and calls them as any other crate does;
 //! nothing stands on it.
 //!
-//! Each crate that is tested has files of its own. `fixtures` has what they make their instances of.
+//! Each crate that is tested has files of its own. The crate `fixtures` has what they make their instances of.
 #![tactic(auto)]
 
 #[cfg(test)]
 mod echelon_tests;
-#[cfg(test)]
-mod fixtures;
 #[cfg(test)]
 mod lin_rows_tests;
 #[cfg(test)]

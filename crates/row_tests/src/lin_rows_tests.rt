@@ -1,4 +1,4 @@
-use crate::fixtures::{instance_of, need, resource, times, usage};
+use fixtures::{instance_of, need, resource, times, usage};
 use frac128::Frac;
 use lin_rows::{
     Bound, Column, CutFault, Point, Row, RowFault, RowName, SumFault, Sums, Term, base_row,

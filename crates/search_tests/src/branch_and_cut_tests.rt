@@ -1,9 +1,9 @@
 ghost use Rattle.std.specs.Prelude.{◌≤◌};
 
-use crate::fixtures::{instance_of, plain_item, usage};
 use branch_and_cut::{Found, Ranges, RootSays, search, search_all};
 use cert_checker::check;
 use certificate::{Claim, is_writable};
+use fixtures::{instance_of, plain_item, usage};
 use lot_model::{DraftItem, DraftResource, DraftUse, Instance};
 use std::alloc::{AllocError, Global};
 use std::test::Fail;

@@ -1,7 +1,7 @@
-use crate::fixtures::{plain_item, steady_item};
 use branching::{Found, RootSays, plan_uncoupled};
 use cert_checker::check;
 use certificate::{Claim, is_writable, read_certificate, write_certificate};
+use fixtures::{plain_item, steady_item};
 use lot_model::{Draft, DraftItem, Instance, is_uncoupled};
 use lot_sizing::limits::{MAX_ITEMS, MAX_PERIODS};
 use std::alloc::{AllocError, Global};

@@ -4,7 +4,7 @@
 //! Family: tests. It stands on `branch_and_bound`, `priced_leaves`, `branching`, `root_rounds` and
 //! `branch_and_cut`, and calls them as any other crate does; nothing stands on it.
 //!
-//! Each crate that is tested has files of its own. `fixtures` has what they make their instances of. `weak` is a
+//! Each crate that is tested has files of its own. The crate `fixtures` has what they make their instances of. `weak` is a
 //! guide of `branch_and_bound` that shows nothing before a point is reached.
 #![tactic(auto)]
 
@@ -14,8 +14,6 @@ mod branch_and_bound_tests;
 mod branch_and_cut_tests;
 #[cfg(test)]
 mod branching_tests;
-#[cfg(test)]
-mod fixtures;
 #[cfg(test)]
 mod priced_leaves_tests;
 #[cfg(test)]

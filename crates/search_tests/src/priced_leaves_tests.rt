@@ -1,8 +1,8 @@
-use crate::fixtures::{need, plain_item, resource, times, usage};
 use cert_checker::{check, lines_are_bytes};
 use cert_lines::{Claim, Cut, Leaf, Part};
 use certificate::{Certificate, Tree, read_certificate, write_certificate};
 use echelon::Explosion;
+use fixtures::{need, plain_item, resource, times, usage};
 use lin_rows::{Bound, Column, RowName};
 use lot_model::{Draft, DraftItem, Instance};
 use priced_leaves::{

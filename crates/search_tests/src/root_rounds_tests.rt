@@ -1,6 +1,6 @@
-use crate::fixtures::{instance_of, need, resource, times, usage};
 use cert_checker::{check, lines_are_bytes};
 use certificate::{Certificate, Claim, Leaf, Tree, read_certificate, write_certificate};
+use fixtures::{instance_of, need, resource, times, usage};
 use lot_model::{Draft, DraftItem, DraftUse, Instance};
 use root_rounds::{Root, RootSays, root};
 use std::alloc::{AllocError, Global};
