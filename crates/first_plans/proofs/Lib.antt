@@ -1,5 +1,1 @@
-pub mod Asked
-pub mod Own
-pub mod Rows
 pub mod Lists
-pub mod Covers

@@ -1,6 +1,4 @@
-pub mod OwnPeriod
+pub use Rattle.built_plans.specs.OwnPeriod
 pub mod Made
-pub mod Rows
-pub mod Construction
-pub mod Relief
+pub mod Families
 pub mod Trials

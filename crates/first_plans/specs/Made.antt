@@ -1,21 +1,11 @@
--- What holds of plans that were made without a search.
-use Rattle.std.specs.Prelude.{◌≡◌, ◌^◌, ◌≤◌, ◌<◌, List, [], ◌∷◌, ◌++◌, Any, Option, Some, None}
+-- What holds of lists of plans that were made without a search.
+use Rattle.std.specs.Prelude.{◌≡◌, ◌≤◌, List, [], ◌∷◌, ◌++◌, Any, Option, Some, None}
 use Rattle.lot_sizing.specs.Problem.{Problem, IsPlain}
 use Rattle.lot_sizing.specs.Plan.{Plan, IsFeasible, cost}
-use Rattle.plan_rules.specs.Held.{AllFit, plan_of}
+use Rattle.plan_rules.specs.Held.{plan_of}
 use Rattle.plan_rules.specs.declared.plan.Planned.{Planned}
-use Rattle.first_plans.specs.OwnPeriod.{IsOwnPeriod}
-
--- a feasible plan with an entry for each item and period, and what it costs
-pub record IsMade (m : Problem) (made : Planned) : Type 0 where
-  pub fits : AllFit m made.plan
-  pub feasible : IsFeasible m (plan_of made.plan)
-  pub cost : made.cost ≡ cost m (plan_of made.plan)
-  pub small : made.cost < 2 ^ 127
-
--- it costs what each own-period plan costs, of which there is one
-abbrev pub CostsAsOwn : Problem → Planned → Type 0
-CostsAsOwn m made = (q : Plan) → IsOwnPeriod m q → made.cost ≡ cost m q
+use Rattle.built_plans.specs.OwnPeriod.{IsOwnPeriod}
+pub use Rattle.built_plans.specs.Made.{IsMade, CostsAsOwn}
 
 -- the own-period plan, which costs no more than any plan that has its numbers
 pub record IsOwnMade (m : Problem) (q : Plan) (made : Planned) : Type 0 where

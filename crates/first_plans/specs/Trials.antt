@@ -19,3 +19,8 @@ pub record IsTrial (m : Problem) (a : Trial) : Type 0 where
 pub record IsImproving (m : Problem) (state : Improving) : Type 0 where
   pub wanted : Fits m state.wanted
   pub best : IsMade m state.best
+
+-- and costs no more than the one before
+pub record IsImproved (m : Problem) (old new : Improving) : Type 0 where
+  pub state : IsImproving m new
+  pub cheap : new.best.cost ≤ old.best.cost

@@ -1,13 +1,14 @@
 // Plans that are improved by one family of items after the other.
 ghost use Rattle.std.specs.Prelude.{◌≤◌, IfOk, IfSome, OnOk};
-ghost use Rattle.plan_rules.specs.Cells.{Fits};
 ghost use Rattle.plan_rules.specs.Rows.{IfFound};
+ghost use Rattle.item_lots.specs.Improved.{IsNoDearer};
+ghost use Rattle.first_plans.specs.Families.{AreLots};
 ghost use Rattle.first_plans.specs.Made.{IsMade};
 
 use crate::families::{Families, Lots, family_alone, give_rows, take_rows};
 use crate::improving::{Improving, improved_so};
 use crate::kicks::kicked;
-use crate::trials::copy;
+use item_lots::copy_grid;
 use lot_model::Instance;
 use plan_rules::{Grid, Planned, complete_at_cost};
 use std::alloc::{AllocError, Global};
@@ -69,14 +70,13 @@ fn plan_with(
     lots: Lots<'_>,
     own: Lots<'_>,
 ) -> Result<Option<Planned>, AllocError>
-    requires make { Fits instance.now lots.make.now }
-    requires setup { Fits instance.now lots.setup.now }
+    requires lots { AreLots instance.now lots }
     ensures { IfFound result (IsMade instance.now) }
 {
     let mut make = Grid::filled(alloc, instance.items(), instance.periods(), 0)?;
     let mut setup = Grid::filled(alloc, instance.items(), instance.periods(), 0)?;
-    copy(instance, lots.make, &mut make);
-    copy(instance, lots.setup, &mut setup);
+    copy_grid(instance, lots.make, &mut make);
+    copy_grid(instance, lots.setup, &mut setup);
     give_rows(instance, families, family, own.make, &mut make);
     give_rows(instance, families, family, own.setup, &mut setup);
     complete_at_cost(alloc, instance, make, setup)
@@ -98,8 +98,7 @@ fn try_family(
     lots: Lots<'_>,
     work: u64,
 ) -> Result<Tried, AllocError>
-    requires make { Fits instance.now lots.make.now }
-    requires setup { Fits instance.now lots.setup.now }
+    requires lots { AreLots instance.now lots }
     ensures { IfOk result (λ tried. IfSome tried.found (IsMade instance.now)) }
 {
     let none = Tried { found: None, work };
@@ -137,8 +136,7 @@ fn improve_family(
     work: u64,
 ) -> Result<u64, AllocError>
     requires made { IsMade instance.now best.old }
-    ensures made { OnOk result (IsMade instance.now best.new) }
-    ensures cheap { OnOk result (best.new.cost ≤ best.old.cost) }
+    ensures { OnOk result (IsNoDearer instance.now best.old best.new) }
 {
     let lots = Lots {
         make: &best.plan.make,
@@ -162,8 +160,7 @@ fn improve_all(
     work: u64,
 ) -> Result<u64, AllocError>
     requires made { IsMade instance.now best.old }
-    ensures made { OnOk result (IsMade instance.now best.new) }
-    ensures cheap { OnOk result (best.new.cost ≤ best.old.cost) }
+    ensures { OnOk result (IsNoDearer instance.now best.old best.new) }
 {
     let mut left = work;
     for family in 1..instance.items() + 1 {

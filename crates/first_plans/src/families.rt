@@ -1,7 +1,7 @@
 // Items that lines of components tie together, as a model of their own under the time that the others leave.
 ghost use Rattle.std.specs.Prelude.{◌≡◌, ◌≤◌, IfOk};
 ghost use Rattle.lot_sizing.specs.Problem.{item_count, resource_count};
-ghost use Rattle.plan_rules.specs.Cells.{Fits};
+ghost use Rattle.first_plans.specs.Families.{AreLots};
 
 use lot_model::{Draft, DraftItem, DraftNeed, DraftRefusal, DraftResource, DraftUse, Instance};
 use plan_rules::Grid;
@@ -197,8 +197,7 @@ fn time_left(
     resource: u32,
     period: u32,
 ) -> u64
-    requires make { Fits instance.now lots.make.now }
-    requires setup { Fits instance.now lots.setup.now }
+    requires lots { AreLots instance.now lots }
     requires resource_low { 1 ≤ resource }
     requires resource_high { resource ≤ resource_count instance.now }
     requires low { 1 ≤ period }
@@ -226,8 +225,7 @@ fn resource_of(
     lots: Lots<'_>,
     resource: u32,
 ) -> Result<DraftResource, AllocError>
-    requires make { Fits instance.now lots.make.now }
-    requires setup { Fits instance.now lots.setup.now }
+    requires lots { AreLots instance.now lots }
     requires low { 1 ≤ resource }
     requires high { resource ≤ resource_count instance.now }
 {
@@ -250,8 +248,7 @@ fn resources_of(
     family: u32,
     lots: Lots<'_>,
 ) -> Result<Vec<DraftResource>, AllocError>
-    requires make { Fits instance.now lots.make.now }
-    requires setup { Fits instance.now lots.setup.now }
+    requires lots { AreLots instance.now lots }
 {
     let mut list = Vec::new(alloc);
     for resource in 1..instance.resources() + 1 {
@@ -269,8 +266,7 @@ pub(crate) fn family_alone(
     family: u32,
     lots: Lots<'_>,
 ) -> Result<Option<Instance>, AllocError>
-    requires make { Fits instance.now lots.make.now }
-    requires setup { Fits instance.now lots.setup.now }
+    requires lots { AreLots instance.now lots }
 {
     let draft = Draft {
         periods: i64::from(instance.periods()),

@@ -3,11 +3,11 @@ ghost use Rattle.std.specs.Prelude.{◌≡◌, ◌≤◌, IfOk, IfSome, OnOk};
 ghost use Rattle.lot_sizing.specs.Problem.{item_count};
 ghost use Rattle.plan_rules.specs.Cells.{Fits};
 ghost use Rattle.first_plans.specs.Made.{IsMade};
-ghost use Rattle.first_plans.specs.Trials.{IsImproving, IsTrial};
+ghost use Rattle.first_plans.specs.Trials.{IsImproved, IsImproving, IsTrial};
 
-use crate::building::built_plan;
-use crate::by_items::improve_by_items;
-use crate::trials::{Trial, change, copy, is_worth_trying};
+use crate::trials::{Trial, change, is_worth_trying};
+use built_plans::built_plan;
+use item_lots::{copy_grid, improve_by_items};
 use lot_model::Instance;
 use plan_rules::{Grid, Planned};
 use std::alloc::{AllocError, Global};
@@ -30,8 +30,7 @@ pub struct Improving {
 fn keep_cheaper(instance: &Instance, state: &mut Improving, found: Option<Planned>)
     requires state { IsImproving instance.now state.old }
     requires found { IfSome found (IsMade instance.now) }
-    ensures state { IsImproving instance.now state.new }
-    ensures cheap { state.new.best.cost ≤ state.old.best.cost }
+    ensures { IsImproved instance.now state.old state.new }
 {
     let _of = instance;
     if let Some(planned) = found {
@@ -50,8 +49,7 @@ fn try_change(
 ) -> Result<(), AllocError>
     requires trial { IsTrial instance.now trial }
     requires state { IsImproving instance.now state.old }
-    ensures state { OnOk result (IsImproving instance.now state.new) }
-    ensures cheap { OnOk result (state.new.best.cost ≤ state.old.best.cost) }
+    ensures { OnOk result (IsImproved instance.now state.old state.new) }
 {
     if state.tries == 0 || !is_worth_trying(instance, &state.wanted, trial) {
         return Ok(());
@@ -60,7 +58,7 @@ fn try_change(
     change(instance, &mut state.wanted, trial);
     let found = built_plan(alloc, instance, &state.wanted)?;
     keep_cheaper(instance, state, found);
-    copy(instance, &state.best.plan.setup, &mut state.wanted);
+    copy_grid(instance, &state.best.plan.setup, &mut state.wanted);
     Ok(())
 }
 
@@ -78,8 +76,7 @@ fn try_period(
     requires low { 1 ≤ period }
     requires high { period ≤ instance.now.periods }
     requires state { IsImproving instance.now state.old }
-    ensures state { OnOk result (IsImproving instance.now state.new) }
-    ensures cheap { OnOk result (state.new.best.cost ≤ state.old.best.cost) }
+    ensures { OnOk result (IsImproved instance.now state.old state.new) }
 {
     let first = if period > 1 { period - 1 } else { period };
     let last = if period < instance.periods() {
@@ -109,8 +106,7 @@ fn try_item(
     requires item_low { 1 ≤ item }
     requires item_high { item ≤ item_count instance.now }
     requires state { IsImproving instance.now state.old }
-    ensures state { OnOk result (IsImproving instance.now state.new) }
-    ensures cheap { OnOk result (state.new.best.cost ≤ state.old.best.cost) }
+    ensures { OnOk result (IsImproved instance.now state.old state.new) }
 {
     for period in 1..instance.periods() + 1 {
         try_period(alloc, instance, state, item, period, false)?;
@@ -122,8 +118,7 @@ fn try_item(
 // Tries all changes once.
 fn sweep(alloc: Global, instance: &Instance, state: &mut Improving) -> Result<(), AllocError>
     requires state { IsImproving instance.now state.old }
-    ensures state { OnOk result (IsImproving instance.now state.new) }
-    ensures cheap { OnOk result (state.new.best.cost ≤ state.old.best.cost) }
+    ensures { OnOk result (IsImproved instance.now state.old state.new) }
 {
     for item in 1..instance.items() + 1 {
         try_item(alloc, instance, state, item)?;
@@ -134,8 +129,7 @@ fn sweep(alloc: Global, instance: &Instance, state: &mut Improving) -> Result<()
 // Tries all changes again, as long as that brings something.
 fn sweeps(alloc: Global, instance: &Instance, state: &mut Improving) -> Result<(), AllocError>
     requires state { IsImproving instance.now state.old }
-    ensures state { OnOk result (IsImproving instance.now state.new) }
-    ensures cheap { OnOk result (state.new.best.cost ≤ state.old.best.cost) }
+    ensures { OnOk result (IsImproved instance.now state.old state.new) }
 {
     for _sweep in 0..SWEEPS {
         let before = state.best.cost;
@@ -162,7 +156,7 @@ pub fn improved_so(
     let mut best = planned;
     improve_by_items(alloc, instance, &mut best)?;
     let mut wanted = Grid::filled(alloc, instance.items(), instance.periods(), 0)?;
-    copy(instance, &best.plan.setup, &mut wanted);
+    copy_grid(instance, &best.plan.setup, &mut wanted);
     let mut state = Improving {
         wanted,
         best,

@@ -2,12 +2,14 @@
 ghost use Rattle.std.specs.Prelude.{◌≡◌, ◌≤◌, IfOk, IfSome, OnOk};
 ghost use Rattle.lot_sizing.specs.Problem.{item_count};
 ghost use Rattle.plan_rules.specs.Cells.{Fits};
+ghost use Rattle.item_lots.specs.Improved.{IsNoDearer};
 ghost use Rattle.first_plans.specs.Made.{IsMade};
 ghost use Rattle.first_plans.specs.Trials.{IsTrial};
 
-use crate::building::built_plan;
 use crate::improving::{Improving, improved_so};
-use crate::trials::{Trial, change, copy};
+use crate::trials::{Trial, change};
+use built_plans::built_plan;
+use item_lots::copy_grid;
 use lot_model::Instance;
 use plan_rules::{Grid, Planned};
 use rand_core::utils::NextWord;
@@ -87,7 +89,7 @@ fn try_kick(
     ensures { IfOk result (λ kicked. IfSome kicked.found (IsMade instance.now)) }
 {
     let mut wanted = Grid::filled(alloc, instance.items(), instance.periods(), 0)?;
-    copy(instance, &best.plan.setup, &mut wanted);
+    copy_grid(instance, &best.plan.setup, &mut wanted);
     kick(instance, &mut wanted, words);
     let Some(start) = built_plan(alloc, instance, &wanted)? else {
         return Ok(Attempt { found: None, tries });
@@ -114,8 +116,7 @@ fn kick_once(
     requires items { 1 ≤ item_count instance.now }
     requires periods { 1 ≤ instance.now.periods }
     requires made { IsMade instance.now best.old }
-    ensures made { OnOk result (IsMade instance.now best.new) }
-    ensures cheap { OnOk result (best.new.cost ≤ best.old.cost) }
+    ensures { OnOk result (IsNoDearer instance.now best.old best.new) }
 {
     let Attempt { found, tries } = try_kick(alloc, instance, best, words, tries)?;
     if let Some(planned) = found {

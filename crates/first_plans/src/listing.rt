@@ -4,12 +4,10 @@ ghost use Rattle.plan_rules.specs.Cells.{Fits};
 ghost use Rattle.plan_rules.specs.Rows.{IfFound};
 ghost use Rattle.first_plans.specs.Made.{HasOwn, IsEmptyUnlessPlain, IsMade, IsLonger, those};
 
-use crate::building::built_plan;
 use crate::by_families::{improved_by_families, tries_within};
 use crate::improving::improved;
 use crate::kicks::kicked;
-use crate::own_period::own_period_plan;
-use crate::patterns::{wanted_apart, wanted_spread};
+use built_plans::{built_plan, own_period_plan, wanted_apart, wanted_spread};
 use lot_model::{Instance, is_plain};
 use plan_rules::{Grid, Planned};
 use std::alloc::{AllocError, Global};

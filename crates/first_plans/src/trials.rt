@@ -75,27 +75,3 @@ pub fn change(instance: &Instance, wanted: &mut Grid, trial: Trial)
         change_item(instance, wanted, trial.item, trial, setup);
     }
 }
-
-// Copies the row of an item.
-fn copy_row(instance: &Instance, from: &Grid, to: &mut Grid, item: u32)
-    requires from { Fits instance.now from.now }
-    requires to { Fits instance.now to.old }
-    requires low { 1 ≤ item }
-    requires high { item ≤ item_count instance.now }
-    ensures { Fits instance.now to.new }
-{
-    for period in 1..instance.periods() + 1 {
-        to.set(item, period, from.get(item, period));
-    }
-}
-
-/// Copies a grid into another one.
-pub fn copy(instance: &Instance, from: &Grid, to: &mut Grid)
-    requires from { Fits instance.now from.now }
-    requires to { Fits instance.now to.old }
-    ensures { Fits instance.now to.new }
-{
-    for item in 1..instance.items() + 1 {
-        copy_row(instance, from, to, item);
-    }
-}

@@ -1,9 +1,5 @@
-use Rattle.std.proofs.Common.{◌≤◌}
-use Rattle.first_plans.specs.Made.{IsMade}
+use Rattle.item_lots.specs.Improved.{IsNoDearer}
 use Rattle.first_plans.proofs.by_families.improve_all.Given as goal
 
 abbrev pub invariant-loop-family : goal.invariant-loop-family
-invariant-loop-family l = record {
-  made : IsMade l.instance l.best;
-  cheap : l.best.cost ≤ l.fn.best.cost;
-}
+invariant-loop-family l = IsNoDearer l.instance l.fn.best l.best

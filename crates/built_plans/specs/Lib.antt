@@ -1,0 +1,5 @@
+pub mod OwnPeriod
+pub mod Made
+pub mod Rows
+pub mod Construction
+pub mod Relief

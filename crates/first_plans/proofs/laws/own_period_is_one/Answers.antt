@@ -1,5 +1,0 @@
-use Rattle.first_plans.proofs.Own.{own_is_one}
-use Rattle.first_plans.proofs.laws.own_period_is_one.Goals as goal
-
-pub returns : goal.returns
-returns c = own_is_one

@@ -1,0 +1,3 @@
+pub mod Copied
+pub mod Improved
+pub use Rattle.built_plans.specs.Made
