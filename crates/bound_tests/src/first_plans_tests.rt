@@ -146,17 +146,6 @@ fn what_may_be_late_is_made_late(rt: HostRuntime) -> Result<(), Fail> {
     Ok(())
 }
 
-// Items that a saw makes, a minute each, with so many minutes in each period.
-fn sawn(alloc: Global, items: Vec<DraftItem>, minutes: i64) -> Result<Instance, Fail> {
-    let mut list = Vec::new(alloc);
-    for mut item in items {
-        item.uses.push(usage(alloc, "saw", 1, 0)?)?;
-        list.push(item)?;
-    }
-    let saw = resource(alloc, "saw", &[minutes, minutes, minutes])?;
-    instance_of(alloc, 3, vec![in alloc; saw]?, list)
-}
-
 #[test]
 fn one_family_after_the_other_is_improved(rt: HostRuntime) -> Result<(), Fail> {
     let alloc = rt.alloc();

@@ -86,6 +86,10 @@ fn table(alloc: Global) -> Result<DraftItem, AllocError> {
     )?;
     made.backlog_cost = Some(Vec::from_array(alloc, [7i64, 8, 9])?);
     made.needs = Vec::from_array(alloc, [legs])?;
+    made.uses = Vec::from_array(
+        alloc,
+        [usage(alloc, "saw", 1, 2)?, usage(alloc, "paint", 3, 0)?],
+    )?;
     Ok(made)
 }
 
