@@ -4,6 +4,7 @@ pub mod Endless
 pub mod Joined
 pub mod Ends
 pub mod Sides
+pub mod Guided
 pub mod Trees
 pub mod Claims
 pub mod Shown

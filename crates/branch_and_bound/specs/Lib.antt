@@ -5,6 +5,7 @@ pub mod Costs
 pub mod Trees
 pub mod Growing
 pub mod Sides
+pub mod Guided
 pub mod Joined
 pub mod Claims
 pub mod Whole

@@ -1,10 +1,9 @@
 // A round of asking for evidence at the leaves that say a number.
 ghost use Rattle.std.specs.Prelude.{◌≡◌, ◌≤◌, ◌+◌, ◌<◌, ℕ, List, OnOk, IfOk, length, true, false, None};
-ghost use Rattle.branch_and_bound.specs.Ranges.{AreOrdered};
-ghost use Rattle.branch_and_bound.specs.Costs.{IsAtMost, IsBelow};
+ghost use Rattle.branch_and_bound.specs.Costs.{IsAtMost};
 ghost use Rattle.branch_and_bound.specs.Counts.{branches};
-ghost use Rattle.branch_and_bound.specs.Growing.{AreBranches, EachEnd, IsBranchAt, IsMarkedDeep, IsSound, unasked, unasked_at, wanted, wanted_at};
-ghost use Rattle.branch_and_bound.specs.Sides.{side_path, side_ranges};
+ghost use Rattle.branch_and_bound.specs.Growing.{unasked, unasked_at, wanted, wanted_at};
+ghost use Rattle.branch_and_bound.specs.Guided.{AtNode, AtSide, IsBranchOf, IsGuided, IsLater, IsSameNode, IsSoundLeaf, IsSoundTree, StaysDeep, StaysDeepJoined};
 
 use crate::counting::is_wanted;
 use crate::growing::join;
@@ -22,14 +21,11 @@ fn ask_leaf<S, G: Guide<S>>(
     bound: u128,
     proposal: Proposal,
 ) -> Result<Proposal, AllocError>
-    requires ordered { AreOrdered node.now.ranges.items }
-    requires node { G.IsNode guide.now node.now.ranges.items node.now.path.items }
+    requires node { AtNode node.now (IsGuided G.Guide guide.now) }
     requires state { G.IsState guide.now state.old }
-    requires sound { IsSound (G.Holds guide.now state.old) (G.Tells guide.now) (G.cost state.old) node.now.ranges.items node.now.path.items proposal }
-    ensures state { OnOk result (G.IsState guide.now state.new) }
-    ensures grows { OnOk result (G.Grows state.old state.new) }
-    ensures kept { OnOk result (IsAtMost (G.cost state.new) (G.cost state.old)) }
-    ensures sound { IfOk result (λ p. IsSound (G.Holds guide.now state.new) (G.Tells guide.now) (G.cost state.new) node.now.ranges.items node.now.path.items p) }
+    requires sound { AtNode node.now (IsSoundLeaf G.Guide guide.now state.old proposal) }
+    ensures later { OnOk result (IsLater G.Guide guide.now state.old state.new) }
+    ensures sound { IfOk result (λ p. AtNode node.now (IsSoundLeaf G.Guide guide.now state.new p)) }
     ensures fewer { IfOk result (λ p. unasked_at p + wanted_at bound proposal ≡ unasked_at proposal) }
     ensures more { IfOk result (λ p. IsAtMost proposal.says p.says) }
 {
@@ -50,21 +46,15 @@ pub fn ask_tree<S, G: Guide<S>>(
     bound: u128,
     tree: Sought,
 ) -> Result<Sought, AllocError>
-    requires ordered { AreOrdered node.old.ranges.items }
-    requires node { G.IsNode guide.now node.old.ranges.items node.old.path.items }
+    requires node { AtNode node.old (IsGuided G.Guide guide.now) }
     requires state { G.IsState guide.now state.old }
-    requires branches { AreBranches (G.rules guide.now) node.old.ranges.items node.old.path.items tree }
-    requires sound { EachEnd (IsSound (G.Holds guide.now state.old) (G.Tells guide.now) (G.cost state.old)) node.old.ranges.items node.old.path.items tree }
-    ensures ranges { OnOk result (node.new.ranges.items ≡ node.old.ranges.items) }
-    ensures path { OnOk result (node.new.path.items ≡ node.old.path.items) }
-    ensures state { OnOk result (G.IsState guide.now state.new) }
-    ensures grows { OnOk result (G.Grows state.old state.new) }
-    ensures kept { OnOk result (IsAtMost (G.cost state.new) (G.cost state.old)) }
+    requires tree { AtNode node.old (IsSoundTree G.Guide guide.now state.old tree) }
+    ensures same_node { OnOk result (IsSameNode node.old node.new) }
+    ensures later { OnOk result (IsLater G.Guide guide.now state.old state.new) }
     ensures count { IfOk result (λ t. branches t ≡ branches tree) }
-    ensures branches { IfOk result (λ t. AreBranches (G.rules guide.now) node.old.ranges.items node.old.path.items t) }
-    ensures sound { IfOk result (λ t. EachEnd (IsSound (G.Holds guide.now state.new) (G.Tells guide.now) (G.cost state.new)) node.old.ranges.items node.old.path.items t) }
+    ensures tree { IfOk result (λ t. AtNode node.old (IsSoundTree G.Guide guide.now state.new t)) }
     ensures fewer { IfOk result (λ t. unasked t + wanted bound tree ≡ unasked tree) }
-    ensures deep { IfOk result (λ t. EachEnd (IsMarkedDeep None (G.cost state.old)) node.old.ranges.items node.old.path.items tree → EachEnd (IsMarkedDeep None (G.cost state.new)) node.old.ranges.items node.old.path.items t) }
+    ensures deep { IfOk result (λ t. AtNode node.old (StaysDeep G.Guide state.old state.new tree t)) }
 {
     match tree {
         Sought::Branch {
@@ -101,24 +91,18 @@ fn ask_branch<S, G: Guide<S>>(
     low: Sought,
     high: Sought,
 ) -> Result<Sought, AllocError>
-    requires ordered { AreOrdered node.old.ranges.items }
-    requires node { G.IsNode guide.now node.old.ranges.items node.old.path.items }
+    requires node { AtNode node.old (IsGuided G.Guide guide.now) }
     requires state { G.IsState guide.now state.old }
-    requires branch { IsBranchAt (G.rules guide.now) node.old.ranges.items node.old.path.items split.column split.place split.at }
-    requires low_branches { AreBranches (G.rules guide.now) (side_ranges true node.old.ranges.items split.place split.at) (side_path true node.old.path.items split.column split.at) low }
-    requires low_sound { EachEnd (IsSound (G.Holds guide.now state.old) (G.Tells guide.now) (G.cost state.old)) (side_ranges true node.old.ranges.items split.place split.at) (side_path true node.old.path.items split.column split.at) low }
-    requires high_branches { AreBranches (G.rules guide.now) (side_ranges false node.old.ranges.items split.place split.at) (side_path false node.old.path.items split.column split.at) high }
-    requires high_sound { EachEnd (IsSound (G.Holds guide.now state.old) (G.Tells guide.now) (G.cost state.old)) (side_ranges false node.old.ranges.items split.place split.at) (side_path false node.old.path.items split.column split.at) high }
-    ensures ranges { OnOk result (node.new.ranges.items ≡ node.old.ranges.items) }
-    ensures path { OnOk result (node.new.path.items ≡ node.old.path.items) }
-    ensures state { OnOk result (G.IsState guide.now state.new) }
-    ensures grows { OnOk result (G.Grows state.old state.new) }
-    ensures kept { OnOk result (IsAtMost (G.cost state.new) (G.cost state.old)) }
+    requires branch { AtNode node.old (IsBranchOf (G.rules guide.now) split) }
+    requires low { AtSide true node.old split (IsSoundTree G.Guide guide.now state.old low) }
+    requires high { AtSide false node.old split (IsSoundTree G.Guide guide.now state.old high) }
+    ensures same_node { OnOk result (IsSameNode node.old node.new) }
+    ensures later { OnOk result (IsLater G.Guide guide.now state.old state.new) }
     ensures count { IfOk result (λ t. branches t ≡ branches low + branches high + 1) }
-    ensures branches { IfOk result (λ t. AreBranches (G.rules guide.now) node.old.ranges.items node.old.path.items t) }
-    ensures sound { IfOk result (λ t. EachEnd (IsSound (G.Holds guide.now state.new) (G.Tells guide.now) (G.cost state.new)) node.old.ranges.items node.old.path.items t) }
-    ensures fewer { IfOk result (λ t. unasked t + wanted bound low + wanted bound high ≡ unasked low + unasked high) }
-    ensures deep { IfOk result (λ t. EachEnd (IsMarkedDeep None (G.cost state.old)) (side_ranges true node.old.ranges.items split.place split.at) (side_path true node.old.path.items split.column split.at) low → EachEnd (IsMarkedDeep None (G.cost state.old)) (side_ranges false node.old.ranges.items split.place split.at) (side_path false node.old.path.items split.column split.at) high → EachEnd (IsMarkedDeep None (G.cost state.new)) node.old.ranges.items node.old.path.items t) }
+    ensures tree { IfOk result (λ t. AtNode node.old (IsSoundTree G.Guide guide.now state.new t)) }
+    ensures fewer { IfOk result (λ t.
+        unasked t + wanted bound low + wanted bound high ≡ unasked low + unasked high) }
+    ensures deep { IfOk result (StaysDeepJoined G.Guide state.old state.new node.old split low high) }
 {
     let left = ask_side(alloc, guide, node, state, bound, split, true, low)?;
     let right = ask_side(alloc, guide, node, state, bound, split, false, high)?;
@@ -137,22 +121,17 @@ fn ask_side<S, G: Guide<S>>(
     most: bool,
     tree: Sought,
 ) -> Result<Sought, AllocError>
-    requires ordered { AreOrdered node.old.ranges.items }
-    requires node { G.IsNode guide.now node.old.ranges.items node.old.path.items }
+    requires node { AtNode node.old (IsGuided G.Guide guide.now) }
     requires state { G.IsState guide.now state.old }
-    requires branch { IsBranchAt (G.rules guide.now) node.old.ranges.items node.old.path.items split.column split.place split.at }
-    requires branches { AreBranches (G.rules guide.now) (side_ranges most node.old.ranges.items split.place split.at) (side_path most node.old.path.items split.column split.at) tree }
-    requires sound { EachEnd (IsSound (G.Holds guide.now state.old) (G.Tells guide.now) (G.cost state.old)) (side_ranges most node.old.ranges.items split.place split.at) (side_path most node.old.path.items split.column split.at) tree }
-    ensures ranges { OnOk result (node.new.ranges.items ≡ node.old.ranges.items) }
-    ensures path { OnOk result (node.new.path.items ≡ node.old.path.items) }
-    ensures state { OnOk result (G.IsState guide.now state.new) }
-    ensures grows { OnOk result (G.Grows state.old state.new) }
-    ensures kept { OnOk result (IsAtMost (G.cost state.new) (G.cost state.old)) }
+    requires branch { AtNode node.old (IsBranchOf (G.rules guide.now) split) }
+    requires tree { AtSide most node.old split (IsSoundTree G.Guide guide.now state.old tree) }
+    ensures same_node { OnOk result (IsSameNode node.old node.new) }
+    ensures later { OnOk result (IsLater G.Guide guide.now state.old state.new) }
     ensures count { IfOk result (λ t. branches t ≡ branches tree) }
-    ensures branches { IfOk result (λ t. AreBranches (G.rules guide.now) (side_ranges most node.old.ranges.items split.place split.at) (side_path most node.old.path.items split.column split.at) t) }
-    ensures sound { IfOk result (λ t. EachEnd (IsSound (G.Holds guide.now state.new) (G.Tells guide.now) (G.cost state.new)) (side_ranges most node.old.ranges.items split.place split.at) (side_path most node.old.path.items split.column split.at) t) }
+    ensures tree { IfOk result (λ t. AtSide most node.old split (IsSoundTree G.Guide guide.now state.new t)) }
     ensures fewer { IfOk result (λ t. unasked t + wanted bound tree ≡ unasked tree) }
-    ensures deep { IfOk result (λ t. EachEnd (IsMarkedDeep None (G.cost state.old)) (side_ranges most node.old.ranges.items split.place split.at) (side_path most node.old.path.items split.column split.at) tree → EachEnd (IsMarkedDeep None (G.cost state.new)) (side_ranges most node.old.ranges.items split.place split.at) (side_path most node.old.path.items split.column split.at) t) }
+    ensures deep { IfOk result (λ t.
+        AtSide most node.old split (StaysDeep G.Guide state.old state.new tree t)) }
 {
     let range = enter::<S, G>(guide, node, split, most)?;
     let asked = ask_tree(alloc, guide, node, state, bound, tree)?;

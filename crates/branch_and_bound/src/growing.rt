@@ -1,11 +1,9 @@
 // One pass over a tree: leaves below a mark are branched on.
 ghost use Rattle.std.specs.Prelude.{◌≡◌, ◌≤◌, ◌+◌, ◌<◌, ℕ, List, OnOk, IfOk, length, true, false};
 ghost use Rattle.cert_lines.specs.declared.limits.TheConstants.{MAX_BRANCHES};
-ghost use Rattle.branch_and_bound.specs.Ranges.{AreOrdered};
-ghost use Rattle.branch_and_bound.specs.Costs.{IsAtMost, IsBelow};
+ghost use Rattle.branch_and_bound.specs.Costs.{IsBelow};
 ghost use Rattle.branch_and_bound.specs.Counts.{branches};
-ghost use Rattle.branch_and_bound.specs.Growing.{AreBranches, EachEnd, IsBranchAt, IsMarkedDeep, IsSound};
-ghost use Rattle.branch_and_bound.specs.Sides.{side_path, side_ranges};
+ghost use Rattle.branch_and_bound.specs.Guided.{AreDeep, AtNode, AtSide, IsBranchOf, IsGuided, IsLater, IsSameNode, IsSoundLeaf, IsSoundTree};
 ghost use Rattle.branch_and_bound.specs.Joined.{IsBranch};
 
 use crate::costs::is_below;
@@ -55,21 +53,15 @@ pub fn grow<S, G: Guide<S>>(
     mark: Option<u128>,
     tree: Sought,
 ) -> Result<Sought, AllocError>
-    requires ordered { AreOrdered node.old.ranges.items }
-    requires node { G.IsNode guide.now node.old.ranges.items node.old.path.items }
+    requires node { AtNode node.old (IsGuided G.Guide guide.now) }
     requires state { G.IsState guide.now state.old }
-    requires branches { AreBranches (G.rules guide.now) node.old.ranges.items node.old.path.items tree }
-    requires sound { EachEnd (IsSound (G.Holds guide.now state.old) (G.Tells guide.now) (G.cost state.old)) node.old.ranges.items node.old.path.items tree }
-    ensures ranges { OnOk result (node.new.ranges.items ≡ node.old.ranges.items) }
-    ensures path { OnOk result (node.new.path.items ≡ node.old.path.items) }
-    ensures state { OnOk result (G.IsState guide.now state.new) }
-    ensures grows { OnOk result (G.Grows state.old state.new) }
-    ensures kept { OnOk result (IsAtMost (G.cost state.new) (G.cost state.old)) }
+    requires tree { AtNode node.old (IsSoundTree G.Guide guide.now state.old tree) }
+    ensures same_node { OnOk result (IsSameNode node.old node.new) }
+    ensures later { OnOk result (IsLater G.Guide guide.now state.old state.new) }
     ensures less { OnOk result (room.new ≤ room.old) }
     ensures rest { IfOk result (λ t. branches t + room.new ≡ branches tree + room.old) }
-    ensures branches { IfOk result (λ t. AreBranches (G.rules guide.now) node.old.ranges.items node.old.path.items t) }
-    ensures sound { IfOk result (λ t. EachEnd (IsSound (G.Holds guide.now state.new) (G.Tells guide.now) (G.cost state.new)) node.old.ranges.items node.old.path.items t) }
-    ensures deep { IfOk result (λ t. 1 ≤ room.new → EachEnd (IsMarkedDeep mark (G.cost state.new)) node.old.ranges.items node.old.path.items t) }
+    ensures tree { IfOk result (λ t. AtNode node.old (IsSoundTree G.Guide guide.now state.new t)) }
+    ensures deep { IfOk result (λ t. 1 ≤ room.new → AtNode node.old (AreDeep mark (G.cost state.new) t)) }
 {
     match tree {
         Sought::Branch {
@@ -104,20 +96,15 @@ fn grow_leaf<S, G: Guide<S>>(
     mark: Option<u128>,
     proposal: Proposal,
 ) -> Result<Sought, AllocError>
-    requires ordered { AreOrdered node.old.ranges.items }
-    requires node { G.IsNode guide.now node.old.ranges.items node.old.path.items }
+    requires node { AtNode node.old (IsGuided G.Guide guide.now) }
     requires state { G.IsState guide.now state.old }
-    requires sound { IsSound (G.Holds guide.now state.old) (G.Tells guide.now) (G.cost state.old) node.old.ranges.items node.old.path.items proposal }
-    ensures ranges { OnOk result (node.new.ranges.items ≡ node.old.ranges.items) }
-    ensures path { OnOk result (node.new.path.items ≡ node.old.path.items) }
-    ensures state { OnOk result (G.IsState guide.now state.new) }
-    ensures grows { OnOk result (G.Grows state.old state.new) }
-    ensures kept { OnOk result (IsAtMost (G.cost state.new) (G.cost state.old)) }
+    requires sound { AtNode node.old (IsSoundLeaf G.Guide guide.now state.old proposal) }
+    ensures same_node { OnOk result (IsSameNode node.old node.new) }
+    ensures later { OnOk result (IsLater G.Guide guide.now state.old state.new) }
     ensures less { OnOk result (room.new ≤ room.old) }
     ensures rest { IfOk result (λ t. branches t + room.new ≡ room.old) }
-    ensures branches { IfOk result (λ t. AreBranches (G.rules guide.now) node.old.ranges.items node.old.path.items t) }
-    ensures sound { IfOk result (λ t. EachEnd (IsSound (G.Holds guide.now state.new) (G.Tells guide.now) (G.cost state.new)) node.old.ranges.items node.old.path.items t) }
-    ensures deep { IfOk result (λ t. 1 ≤ room.new → EachEnd (IsMarkedDeep mark (G.cost state.new)) node.old.ranges.items node.old.path.items t) }
+    ensures tree { IfOk result (λ t. AtNode node.old (IsSoundTree G.Guide guide.now state.new t)) }
+    ensures deep { IfOk result (λ t. 1 ≤ room.new → AtNode node.old (AreDeep mark (G.cost state.new) t)) }
 {
     let best = guide.best(state);
     if !is_branched(*room, node.path.len(), proposal.says, mark, best) {
@@ -152,24 +139,17 @@ fn grow_branch<S, G: Guide<S>>(
     low: Sought,
     high: Sought,
 ) -> Result<Sought, AllocError>
-    requires ordered { AreOrdered node.old.ranges.items }
-    requires node { G.IsNode guide.now node.old.ranges.items node.old.path.items }
+    requires node { AtNode node.old (IsGuided G.Guide guide.now) }
     requires state { G.IsState guide.now state.old }
-    requires branch { IsBranchAt (G.rules guide.now) node.old.ranges.items node.old.path.items split.column split.place split.at }
-    requires low_branches { AreBranches (G.rules guide.now) (side_ranges true node.old.ranges.items split.place split.at) (side_path true node.old.path.items split.column split.at) low }
-    requires low_sound { EachEnd (IsSound (G.Holds guide.now state.old) (G.Tells guide.now) (G.cost state.old)) (side_ranges true node.old.ranges.items split.place split.at) (side_path true node.old.path.items split.column split.at) low }
-    requires high_branches { AreBranches (G.rules guide.now) (side_ranges false node.old.ranges.items split.place split.at) (side_path false node.old.path.items split.column split.at) high }
-    requires high_sound { EachEnd (IsSound (G.Holds guide.now state.old) (G.Tells guide.now) (G.cost state.old)) (side_ranges false node.old.ranges.items split.place split.at) (side_path false node.old.path.items split.column split.at) high }
-    ensures ranges { OnOk result (node.new.ranges.items ≡ node.old.ranges.items) }
-    ensures path { OnOk result (node.new.path.items ≡ node.old.path.items) }
-    ensures state { OnOk result (G.IsState guide.now state.new) }
-    ensures grows { OnOk result (G.Grows state.old state.new) }
-    ensures kept { OnOk result (IsAtMost (G.cost state.new) (G.cost state.old)) }
+    requires branch { AtNode node.old (IsBranchOf (G.rules guide.now) split) }
+    requires low { AtSide true node.old split (IsSoundTree G.Guide guide.now state.old low) }
+    requires high { AtSide false node.old split (IsSoundTree G.Guide guide.now state.old high) }
+    ensures same_node { OnOk result (IsSameNode node.old node.new) }
+    ensures later { OnOk result (IsLater G.Guide guide.now state.old state.new) }
     ensures less { OnOk result (room.new ≤ room.old) }
     ensures rest { IfOk result (λ t. branches t + room.new ≡ branches low + branches high + 1 + room.old) }
-    ensures branches { IfOk result (λ t. AreBranches (G.rules guide.now) node.old.ranges.items node.old.path.items t) }
-    ensures sound { IfOk result (λ t. EachEnd (IsSound (G.Holds guide.now state.new) (G.Tells guide.now) (G.cost state.new)) node.old.ranges.items node.old.path.items t) }
-    ensures deep { IfOk result (λ t. 1 ≤ room.new → EachEnd (IsMarkedDeep mark (G.cost state.new)) node.old.ranges.items node.old.path.items t) }
+    ensures tree { IfOk result (λ t. AtNode node.old (IsSoundTree G.Guide guide.now state.new t)) }
+    ensures deep { IfOk result (λ t. 1 ≤ room.new → AtNode node.old (AreDeep mark (G.cost state.new) t)) }
 {
     let left = grow_side(alloc, guide, node, state, room, mark, split, true, low)?;
     let right = grow_side(alloc, guide, node, state, room, mark, split, false, high)?;
@@ -189,22 +169,17 @@ fn grow_side<S, G: Guide<S>>(
     most: bool,
     tree: Sought,
 ) -> Result<Sought, AllocError>
-    requires ordered { AreOrdered node.old.ranges.items }
-    requires node { G.IsNode guide.now node.old.ranges.items node.old.path.items }
+    requires node { AtNode node.old (IsGuided G.Guide guide.now) }
     requires state { G.IsState guide.now state.old }
-    requires branch { IsBranchAt (G.rules guide.now) node.old.ranges.items node.old.path.items split.column split.place split.at }
-    requires branches { AreBranches (G.rules guide.now) (side_ranges most node.old.ranges.items split.place split.at) (side_path most node.old.path.items split.column split.at) tree }
-    requires sound { EachEnd (IsSound (G.Holds guide.now state.old) (G.Tells guide.now) (G.cost state.old)) (side_ranges most node.old.ranges.items split.place split.at) (side_path most node.old.path.items split.column split.at) tree }
-    ensures ranges { OnOk result (node.new.ranges.items ≡ node.old.ranges.items) }
-    ensures path { OnOk result (node.new.path.items ≡ node.old.path.items) }
-    ensures state { OnOk result (G.IsState guide.now state.new) }
-    ensures grows { OnOk result (G.Grows state.old state.new) }
-    ensures kept { OnOk result (IsAtMost (G.cost state.new) (G.cost state.old)) }
+    requires branch { AtNode node.old (IsBranchOf (G.rules guide.now) split) }
+    requires tree { AtSide most node.old split (IsSoundTree G.Guide guide.now state.old tree) }
+    ensures same_node { OnOk result (IsSameNode node.old node.new) }
+    ensures later { OnOk result (IsLater G.Guide guide.now state.old state.new) }
     ensures less { OnOk result (room.new ≤ room.old) }
     ensures rest { IfOk result (λ t. branches t + room.new ≡ branches tree + room.old) }
-    ensures branches { IfOk result (λ t. AreBranches (G.rules guide.now) (side_ranges most node.old.ranges.items split.place split.at) (side_path most node.old.path.items split.column split.at) t) }
-    ensures sound { IfOk result (λ t. EachEnd (IsSound (G.Holds guide.now state.new) (G.Tells guide.now) (G.cost state.new)) (side_ranges most node.old.ranges.items split.place split.at) (side_path most node.old.path.items split.column split.at) t) }
-    ensures deep { IfOk result (λ t. 1 ≤ room.new → EachEnd (IsMarkedDeep mark (G.cost state.new)) (side_ranges most node.old.ranges.items split.place split.at) (side_path most node.old.path.items split.column split.at) t) }
+    ensures tree { IfOk result (λ t. AtSide most node.old split (IsSoundTree G.Guide guide.now state.new t)) }
+    ensures deep { IfOk result (λ t. 1 ≤ room.new →
+        AtSide most node.old split (AreDeep mark (G.cost state.new) t)) }
 {
     let range = enter::<S, G>(guide, node, split, most)?;
     let grown = grow(alloc, guide, node, state, room, mark, tree)?;

@@ -1,9 +1,7 @@
 // Passes over a tree with a rising mark.
 ghost use Rattle.std.specs.Prelude.{◌≡◌, ◌≤◌, ◌+◌, ℕ, List, OnOk, IfOk, None};
-ghost use Rattle.branch_and_bound.specs.Ranges.{AreOrdered};
-ghost use Rattle.branch_and_bound.specs.Costs.{IsAtMost};
 ghost use Rattle.branch_and_bound.specs.Counts.{branches};
-ghost use Rattle.branch_and_bound.specs.Growing.{AreBranches, EachEnd, IsMarkedDeep, IsSound};
+ghost use Rattle.branch_and_bound.specs.Guided.{AreDeep, AtNode, IsGuided, IsLater, IsSameNode, IsSoundTree};
 
 use crate::costs::is_below;
 use crate::counting::least_number;
@@ -43,19 +41,13 @@ fn grow_once<S, G: Guide<S>>(
     root: Option<u128>,
     tree: Sought,
 ) -> Result<Sought, AllocError>
-    requires ordered { AreOrdered node.old.ranges.items }
-    requires node { G.IsNode guide.now node.old.ranges.items node.old.path.items }
+    requires node { AtNode node.old (IsGuided G.Guide guide.now) }
     requires state { G.IsState guide.now state.old }
-    requires branches { AreBranches (G.rules guide.now) node.old.ranges.items node.old.path.items tree }
-    requires sound { EachEnd (IsSound (G.Holds guide.now state.old) (G.Tells guide.now) (G.cost state.old)) node.old.ranges.items node.old.path.items tree }
-    ensures ranges { OnOk result (node.new.ranges.items ≡ node.old.ranges.items) }
-    ensures path { OnOk result (node.new.path.items ≡ node.old.path.items) }
-    ensures state { OnOk result (G.IsState guide.now state.new) }
-    ensures grows { OnOk result (G.Grows state.old state.new) }
-    ensures kept { OnOk result (IsAtMost (G.cost state.new) (G.cost state.old)) }
+    requires tree { AtNode node.old (IsSoundTree G.Guide guide.now state.old tree) }
+    ensures same_node { OnOk result (IsSameNode node.old node.new) }
+    ensures later { OnOk result (IsLater G.Guide guide.now state.old state.new) }
     ensures rest { IfOk result (λ t. branches t + room.new ≡ branches tree + room.old) }
-    ensures branches { IfOk result (λ t. AreBranches (G.rules guide.now) node.old.ranges.items node.old.path.items t) }
-    ensures sound { IfOk result (λ t. EachEnd (IsSound (G.Holds guide.now state.new) (G.Tells guide.now) (G.cost state.new)) node.old.ranges.items node.old.path.items t) }
+    ensures tree { IfOk result (λ t. AtNode node.old (IsSoundTree G.Guide guide.now state.new t)) }
 {
     let least = least_number(&tree);
     let best = guide.best(state);
@@ -76,20 +68,14 @@ pub fn grow_all<S, G: Guide<S>>(
     root: Option<u128>,
     first: Sought,
 ) -> Result<Sought, AllocError>
-    requires ordered { AreOrdered node.old.ranges.items }
-    requires node { G.IsNode guide.now node.old.ranges.items node.old.path.items }
+    requires node { AtNode node.old (IsGuided G.Guide guide.now) }
     requires state { G.IsState guide.now state.old }
-    requires branches { AreBranches (G.rules guide.now) node.old.ranges.items node.old.path.items first }
-    requires sound { EachEnd (IsSound (G.Holds guide.now state.old) (G.Tells guide.now) (G.cost state.old)) node.old.ranges.items node.old.path.items first }
-    ensures ranges { OnOk result (node.new.ranges.items ≡ node.old.ranges.items) }
-    ensures path { OnOk result (node.new.path.items ≡ node.old.path.items) }
-    ensures state { OnOk result (G.IsState guide.now state.new) }
-    ensures grows { OnOk result (G.Grows state.old state.new) }
-    ensures kept { OnOk result (IsAtMost (G.cost state.new) (G.cost state.old)) }
+    requires tree { AtNode node.old (IsSoundTree G.Guide guide.now state.old first) }
+    ensures same_node { OnOk result (IsSameNode node.old node.new) }
+    ensures later { OnOk result (IsLater G.Guide guide.now state.old state.new) }
     ensures rest { IfOk result (λ t. branches t + room.new ≡ branches first + room.old) }
-    ensures branches { IfOk result (λ t. AreBranches (G.rules guide.now) node.old.ranges.items node.old.path.items t) }
-    ensures sound { IfOk result (λ t. EachEnd (IsSound (G.Holds guide.now state.new) (G.Tells guide.now) (G.cost state.new)) node.old.ranges.items node.old.path.items t) }
-    ensures deep { IfOk result (λ t. 1 ≤ room.new → EachEnd (IsMarkedDeep None (G.cost state.new)) node.old.ranges.items node.old.path.items t) }
+    ensures tree { IfOk result (λ t. AtNode node.old (IsSoundTree G.Guide guide.now state.new t)) }
+    ensures deep { IfOk result (λ t. 1 ≤ room.new → AtNode node.old (AreDeep None (G.cost state.new) t)) }
 {
     let mut tree = first;
     for _ in 0..PASSES {

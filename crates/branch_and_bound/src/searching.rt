@@ -5,7 +5,8 @@ ghost use Rattle.branch_and_bound.specs.Counts.{branches, longest, nodes};
 ghost use Rattle.branch_and_bound.specs.Ranges.{AreOrdered, height, volume};
 ghost use Rattle.branch_and_bound.specs.Costs.{IsAtMost};
 ghost use Rattle.branch_and_bound.specs.Trees.{EachLeaf, IsSplitTree};
-ghost use Rattle.branch_and_bound.specs.Growing.{AreBranches, EachEnd, IsMarkedDeep, IsSettled, IsSound};
+ghost use Rattle.branch_and_bound.specs.Growing.{IsSettled};
+ghost use Rattle.branch_and_bound.specs.Guided.{AreDeep, IsGuided, IsLater, IsSoundTree};
 ghost use Rattle.branch_and_bound.specs.Claims.{IsBound, IsLeastClaim, IsShown, IsTold, IsUndecided};
 
 use crate::counting::least_number;
@@ -41,17 +42,13 @@ fn search_tree<S, G: Guide<S>>(
     state: &mut S,
     room: &mut u64,
 ) -> Result<Sought, AllocError>
-    requires ordered { AreOrdered ranges.items }
-    requires node { G.IsNode guide.now ranges.items [] }
+    requires node { IsGuided G.Guide guide.now ranges.items [] }
     requires state { G.IsState guide.now state.old }
-    ensures state { OnOk result (G.IsState guide.now state.new) }
-    ensures grows { OnOk result (G.Grows state.old state.new) }
-    ensures kept { OnOk result (IsAtMost (G.cost state.new) (G.cost state.old)) }
+    ensures later { OnOk result (IsLater G.Guide guide.now state.old state.new) }
     ensures rest { IfOk result (λ t. branches t + room.new ≡ room.old) }
-    ensures branches { IfOk result (λ t. AreBranches (G.rules guide.now) ranges.items [] t) }
-    ensures sound { IfOk result (λ t. EachEnd (IsSound (G.Holds guide.now state.new) (G.Tells guide.now) (G.cost state.new)) ranges.items [] t) }
+    ensures tree { IfOk result (λ t. IsSoundTree G.Guide guide.now state.new t ranges.items []) }
     ensures settled { IfOk result (λ t. IsSettled (G.cost state.new) t) }
-    ensures deep { IfOk result (λ t. 1 ≤ room.new → EachEnd (IsMarkedDeep None (G.cost state.new)) ranges.items [] t) }
+    ensures deep { IfOk result (λ t. 1 ≤ room.new → AreDeep None (G.cost state.new) t ranges.items []) }
 {
     let mut node = Node {
         ranges,

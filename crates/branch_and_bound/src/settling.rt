@@ -1,10 +1,8 @@
 // Evidence at the leaves that say the least number.
 ghost use Rattle.std.specs.Prelude.{◌≡◌, ◌≤◌, ◌<◌, ◌+◌, ℕ, List, OnOk, IfOk, IfSome, None, Some, true, false};
-ghost use Rattle.branch_and_bound.specs.Ranges.{AreOrdered};
-ghost use Rattle.branch_and_bound.specs.Costs.{IsAtMost, IsBelow};
 ghost use Rattle.branch_and_bound.specs.Counts.{branches};
-ghost use Rattle.branch_and_bound.specs.Trees.{least_said};
-ghost use Rattle.branch_and_bound.specs.Growing.{AreBranches, EachEnd, IsMarkedDeep, IsSettled, IsSound, IsWanting, unasked};
+ghost use Rattle.branch_and_bound.specs.Growing.{IsSettled, IsWanting, unasked};
+ghost use Rattle.branch_and_bound.specs.Guided.{AtNode, IsGuided, IsLater, IsSameNode, IsSoundTree, StaysDeep};
 
 use crate::asking::ask_tree;
 use crate::costs::is_below;
@@ -31,21 +29,15 @@ fn ask_least<S, G: Guide<S>>(
     state: &mut S,
     tree: Sought,
 ) -> Result<Sought, AllocError>
-    requires ordered { AreOrdered node.old.ranges.items }
-    requires node { G.IsNode guide.now node.old.ranges.items node.old.path.items }
+    requires node { AtNode node.old (IsGuided G.Guide guide.now) }
     requires state { G.IsState guide.now state.old }
-    requires branches { AreBranches (G.rules guide.now) node.old.ranges.items node.old.path.items tree }
-    requires sound { EachEnd (IsSound (G.Holds guide.now state.old) (G.Tells guide.now) (G.cost state.old)) node.old.ranges.items node.old.path.items tree }
-    ensures ranges { OnOk result (node.new.ranges.items ≡ node.old.ranges.items) }
-    ensures path { OnOk result (node.new.path.items ≡ node.old.path.items) }
-    ensures state { OnOk result (G.IsState guide.now state.new) }
-    ensures grows { OnOk result (G.Grows state.old state.new) }
-    ensures kept { OnOk result (IsAtMost (G.cost state.new) (G.cost state.old)) }
+    requires tree { AtNode node.old (IsSoundTree G.Guide guide.now state.old tree) }
+    ensures same_node { OnOk result (IsSameNode node.old node.new) }
+    ensures later { OnOk result (IsLater G.Guide guide.now state.old state.new) }
     ensures count { IfOk result (λ t. branches t ≡ branches tree) }
-    ensures branches { IfOk result (λ t. AreBranches (G.rules guide.now) node.old.ranges.items node.old.path.items t) }
-    ensures sound { IfOk result (λ t. EachEnd (IsSound (G.Holds guide.now state.new) (G.Tells guide.now) (G.cost state.new)) node.old.ranges.items node.old.path.items t) }
+    ensures tree { IfOk result (λ t. AtNode node.old (IsSoundTree G.Guide guide.now state.new t)) }
     ensures fewer { IfOk result (λ t. IsWanting tree → unasked t < unasked tree) }
-    ensures deep { IfOk result (λ t. EachEnd (IsMarkedDeep None (G.cost state.old)) node.old.ranges.items node.old.path.items tree → EachEnd (IsMarkedDeep None (G.cost state.new)) node.old.ranges.items node.old.path.items t) }
+    ensures deep { IfOk result (λ t. AtNode node.old (StaysDeep G.Guide state.old state.new tree t)) }
 {
     match least_number(&tree) {
         Some(bound) => ask_tree(alloc, guide, node, state, bound, tree),
@@ -62,19 +54,14 @@ pub fn settle<S, G: Guide<S>>(
     state: &mut S,
     first: Sought,
 ) -> Result<Sought, AllocError>
-    requires ordered { AreOrdered node.old.ranges.items }
-    requires node { G.IsNode guide.now node.old.ranges.items node.old.path.items }
+    requires node { AtNode node.old (IsGuided G.Guide guide.now) }
     requires state { G.IsState guide.now state.old }
-    requires branches { AreBranches (G.rules guide.now) node.old.ranges.items node.old.path.items first }
-    requires sound { EachEnd (IsSound (G.Holds guide.now state.old) (G.Tells guide.now) (G.cost state.old)) node.old.ranges.items node.old.path.items first }
-    ensures state { OnOk result (G.IsState guide.now state.new) }
-    ensures grows { OnOk result (G.Grows state.old state.new) }
-    ensures kept { OnOk result (IsAtMost (G.cost state.new) (G.cost state.old)) }
+    requires tree { AtNode node.old (IsSoundTree G.Guide guide.now state.old first) }
+    ensures later { OnOk result (IsLater G.Guide guide.now state.old state.new) }
     ensures count { IfOk result (λ t. branches t ≡ branches first) }
-    ensures branches { IfOk result (λ t. AreBranches (G.rules guide.now) node.old.ranges.items node.old.path.items t) }
-    ensures sound { IfOk result (λ t. EachEnd (IsSound (G.Holds guide.now state.new) (G.Tells guide.now) (G.cost state.new)) node.old.ranges.items node.old.path.items t) }
+    ensures tree { IfOk result (λ t. AtNode node.old (IsSoundTree G.Guide guide.now state.new t)) }
     ensures settled { IfOk result (λ t. IsSettled (G.cost state.new) t) }
-    ensures deep { IfOk result (λ t. EachEnd (IsMarkedDeep None (G.cost state.old)) node.old.ranges.items node.old.path.items first → EachEnd (IsMarkedDeep None (G.cost state.new)) node.old.ranges.items node.old.path.items t) }
+    ensures deep { IfOk result (λ t. AtNode node.old (StaysDeep G.Guide state.old state.new first t)) }
 {
     let mut tree = first;
     while wants_evidence(guide.best(state), &tree) {

@@ -1,8 +1,8 @@
 // The two sides of a branch.
 ghost use Rattle.std.specs.Prelude.{◌≡◌, ◌≤◌, ◌+◌, ◌-◌, ◌<◌, ◌++◌, ◌∷◌, [], ℕ, List, OnOk, IfOk, length, slice_set, take};
 ghost use Rattle.branch_and_bound.specs.Ranges.{AreOrdered, IsSplitAt, range_at};
-ghost use Rattle.branch_and_bound.specs.Growing.{IsBranchAt};
-ghost use Rattle.branch_and_bound.specs.Sides.{side_bound, side_part, side_path, side_ranges};
+ghost use Rattle.branch_and_bound.specs.Guided.{AtNode, IsBranchOf, IsGuided, IsSideOf};
+ghost use Rattle.branch_and_bound.specs.Sides.{side_bound, side_part};
 
 use crate::{Guide, Node, Range, Split};
 use lin_rows::{Bound, Column};
@@ -42,8 +42,7 @@ fn bound(most: bool, column: Column, range: Range, at: u64) -> Bound
 // Goes to a side of a branch, and gives the range that the column had.
 fn go_down(node: &mut Node, split: Split, most: bool) -> Result<Range, AllocError>
     requires { IsSplitAt node.old.ranges.items split.place split.at }
-    ensures ranges { OnOk result (node.new.ranges.items ≡ side_ranges most node.old.ranges.items split.place split.at) }
-    ensures path { OnOk result (node.new.path.items ≡ side_path most node.old.path.items split.column split.at) }
+    ensures side { OnOk result (IsSideOf most node.old split node.new) }
     ensures range { IfOk result (λ range. range ≡ range_at node.old.ranges.items split.place) }
     ensures ordered { OnOk result (AreOrdered node.old.ranges.items → AreOrdered node.new.ranges.items) }
 {
@@ -60,13 +59,10 @@ pub fn enter<S, G: Guide<S>>(
     split: Split,
     most: bool,
 ) -> Result<Range, AllocError>
-    requires ordered { AreOrdered node.old.ranges.items }
-    requires node { G.IsNode guide.now node.old.ranges.items node.old.path.items }
-    requires branch { IsBranchAt (G.rules guide.now) node.old.ranges.items node.old.path.items split.column split.place split.at }
-    ensures ordered { OnOk result (AreOrdered node.new.ranges.items) }
-    ensures node { OnOk result (G.IsNode guide.now node.new.ranges.items node.new.path.items) }
-    ensures ranges { OnOk result (node.new.ranges.items ≡ side_ranges most node.old.ranges.items split.place split.at) }
-    ensures path { OnOk result (node.new.path.items ≡ side_path most node.old.path.items split.column split.at) }
+    requires node { AtNode node.old (IsGuided G.Guide guide.now) }
+    requires branch { AtNode node.old (IsBranchOf (G.rules guide.now) split) }
+    ensures node { OnOk result (AtNode node.new (IsGuided G.Guide guide.now)) }
+    ensures side { OnOk result (IsSideOf most node.old split node.new) }
     ensures range { IfOk result (λ range. range ≡ range_at node.old.ranges.items split.place) }
 {
     Ok(go_down(node, split, most)?)

@@ -1,9 +1,6 @@
 // The leaves of both sides of a branch.
 ghost use Rattle.std.specs.Prelude.{◌≡◌, ℕ, true, false, List, OnOk, IfOk};
-ghost use Rattle.branch_and_bound.specs.Ranges.{AreOrdered};
-ghost use Rattle.branch_and_bound.specs.Costs.{IsAtMost};
-ghost use Rattle.branch_and_bound.specs.Growing.{IsBranchAt, IsSound};
-ghost use Rattle.branch_and_bound.specs.Sides.{side_path, side_ranges};
+ghost use Rattle.branch_and_bound.specs.Guided.{AreSoundSides, AtNode, AtSide, IsBranchOf, IsGuided, IsLater, IsSameNode, IsSoundLeaf};
 
 use crate::side::{enter, leave};
 use crate::{Guide, Node, Proposal, Split};
@@ -28,17 +25,13 @@ fn propose_side<S, G: Guide<S>>(
     split: Split,
     most: bool,
 ) -> Result<Proposal, AllocError>
-    requires ordered { AreOrdered node.old.ranges.items }
-    requires node { G.IsNode guide.now node.old.ranges.items node.old.path.items }
+    requires node { AtNode node.old (IsGuided G.Guide guide.now) }
     requires state { G.IsState guide.now state.old }
-    requires branch { IsBranchAt (G.rules guide.now) node.old.ranges.items node.old.path.items split.column split.place split.at }
+    requires branch { AtNode node.old (IsBranchOf (G.rules guide.now) split) }
     requires holds { G.Holds guide.now state.old node.old.ranges.items node.old.path.items above.now }
-    ensures ranges { OnOk result (node.new.ranges.items ≡ node.old.ranges.items) }
-    ensures path { OnOk result (node.new.path.items ≡ node.old.path.items) }
-    ensures state { OnOk result (G.IsState guide.now state.new) }
-    ensures grows { OnOk result (G.Grows state.old state.new) }
-    ensures kept { OnOk result (IsAtMost (G.cost state.new) (G.cost state.old)) }
-    ensures sound { IfOk result (λ p. IsSound (G.Holds guide.now state.new) (G.Tells guide.now) (G.cost state.new) (side_ranges most node.old.ranges.items split.place split.at) (side_path most node.old.path.items split.column split.at) p) }
+    ensures same_node { OnOk result (IsSameNode node.old node.new) }
+    ensures later { OnOk result (IsLater G.Guide guide.now state.old state.new) }
+    ensures sound { IfOk result (λ p. AtSide most node.old split (IsSoundLeaf G.Guide guide.now state.new p)) }
 {
     let range = enter::<S, G>(guide, node, split, most)?;
     let proposal = guide.propose(alloc, node, above, state)?;
@@ -55,21 +48,15 @@ pub fn propose_sides<S, G: Guide<S>>(
     above: &Proposal,
     split: Split,
 ) -> Result<Sides, AllocError>
-    requires ordered { AreOrdered node.old.ranges.items }
-    requires node { G.IsNode guide.now node.old.ranges.items node.old.path.items }
+    requires node { AtNode node.old (IsGuided G.Guide guide.now) }
     requires state { G.IsState guide.now state.old }
-    requires branch { IsBranchAt (G.rules guide.now) node.old.ranges.items node.old.path.items split.column split.place split.at }
+    requires branch { AtNode node.old (IsBranchOf (G.rules guide.now) split) }
     requires holds { G.Holds guide.now state.old node.old.ranges.items node.old.path.items above.now }
-    ensures ranges { OnOk result (node.new.ranges.items ≡ node.old.ranges.items) }
-    ensures path { OnOk result (node.new.path.items ≡ node.old.path.items) }
-    ensures state { OnOk result (G.IsState guide.now state.new) }
-    ensures grows { OnOk result (G.Grows state.old state.new) }
-    ensures kept { OnOk result (IsAtMost (G.cost state.new) (G.cost state.old)) }
-    ensures ordered { OnOk result (AreOrdered node.new.ranges.items) }
-    ensures node { OnOk result (G.IsNode guide.now node.new.ranges.items node.new.path.items) }
-    ensures branch { OnOk result (IsBranchAt (G.rules guide.now) node.new.ranges.items node.new.path.items split.column split.place split.at) }
-    ensures low { IfOk result (λ s. IsSound (G.Holds guide.now state.new) (G.Tells guide.now) (G.cost state.new) (side_ranges true node.new.ranges.items split.place split.at) (side_path true node.new.path.items split.column split.at) s.low) }
-    ensures high { IfOk result (λ s. IsSound (G.Holds guide.now state.new) (G.Tells guide.now) (G.cost state.new) (side_ranges false node.new.ranges.items split.place split.at) (side_path false node.new.path.items split.column split.at) s.high) }
+    ensures same_node { OnOk result (IsSameNode node.old node.new) }
+    ensures later { OnOk result (IsLater G.Guide guide.now state.old state.new) }
+    ensures node { OnOk result (AtNode node.new (IsGuided G.Guide guide.now)) }
+    ensures branch { OnOk result (AtNode node.new (IsBranchOf (G.rules guide.now) split)) }
+    ensures sound { IfOk result (AreSoundSides G.Guide guide.now state.new node.new split) }
 {
     let low = propose_side(alloc, guide, node, state, above, split, true)?;
     let high = propose_side(alloc, guide, node, state, above, split, false)?;

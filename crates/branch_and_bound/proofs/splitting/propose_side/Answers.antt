@@ -1,9 +1,6 @@
-use Rattle.std.proofs.Common.{◌∙◌, ap, slice_set}
-use Rattle.branch_and_bound.proofs.Sides.{back_ranges}
+use Rattle.branch_and_bound.proofs.Guided.{back_node}
 use Rattle.branch_and_bound.proofs.splitting.propose_side.Goals as goal
 
-pub returns-clause-ranges : goal.returns-clause-ranges
-returns-clause-ranges g c =
-    c.leave.ensures.ranges
-    ∙ (ap (λ r. slice_set c.enter.new.node.ranges.items c.args.split.place r) c.in_ok-range.ensures.range
-    ∙ back_ranges c.args.most c.args.node.now.ranges.items c.enter.new.node.ranges.items c.args.split.place c.args.split.at c.in_ok-range.ensures.ranges)
+pub returns-clause-same_node : goal.returns-clause-same_node
+returns-clause-same_node g c =
+    back_node c.args.most c.args.node.now c.enter.new.node c.leave.new.node c.args.split c.in_ok-range.range c.in_ok-range.ensures.range c.in_ok-range.ensures.side.ranges c.in_ok-range.ensures.side.path c.leave.ensures.ranges c.leave.ensures.path

@@ -1,0 +1,62 @@
+-- Laws of nodes and of trees below them while they are searched.
+use Rattle.std.proofs.Common.{◌≡◌, ◌-◌, ◌∙◌, ℕ, Bool, true, false, sym, ap, List, length, take, set, Option}
+use Rattle.lin_rows.specs.declared.bound.Bound.{Bound}
+use Rattle.branch_and_bound.specs.declared.proposal.Proposal.{Proposal as Leaf}
+use Rattle.branch_and_bound.specs.declared.proposal.Split.{Split}
+use Rattle.branch_and_bound.specs.declared.sought.Sought.{Sought as Tree}
+use Rattle.branch_and_bound.specs.declared.node.Node.{Node}
+use Rattle.branch_and_bound.specs.declared.node.Range.{Range}
+use Rattle.branch_and_bound.specs.declared.rules.Guide.{Ghosts}
+use Rattle.branch_and_bound.specs.Ranges.{range_at}
+use Rattle.branch_and_bound.specs.Costs.{IsAtMost}
+use Rattle.branch_and_bound.specs.Sides.{side_path, side_ranges}
+use Rattle.branch_and_bound.specs.Growing.{IsMarkedDeep, IsSound}
+use Rattle.branch_and_bound.specs.Guided.{AtNode, AtSide, IsBranchOf, AreDeep, IsLater, IsSameNode, IsSoundTree}
+use Rattle.branch_and_bound.specs.Joined.{IsBranch}
+use Rattle.branch_and_bound.proofs.Ends.{branches_joined, deep_later, ends_joined, moved, sound_later}
+use Rattle.branch_and_bound.proofs.Sides.{back_path, back_ranges}
+
+-- what holds at a node holds at the same node
+pub node_moved : (P : List Range → List Bound → Type 0) (old new : Node) → IsSameNode old new → AtNode old P → AtNode new P
+node_moved P old new same h = moved P new.ranges.items old.ranges.items new.path.items old.path.items same.ranges same.path h
+
+pub side_moved : (P : List Range → List Bound → Type 0) (most : Bool) (split : Split) (old new : Node) → IsSameNode old new → AtSide most old split P → AtSide most new split P
+side_moved P most split old new same h =
+    node_moved (λ rs path. P (side_ranges most rs split.place split.at) (side_path most path split.column split.at)) old new same h
+
+pub same_back : (old new : Node) → IsSameNode old new → IsSameNode new old
+same_back old new same = record { ranges = sym same.ranges; path = sym same.path }
+
+-- back from a side, the node is as it was
+pub back_node : (most : Bool) (old mid new : Node) (split : Split) (range : Range) → range ≡ range_at old.ranges.items split.place → mid.ranges.items ≡ side_ranges most old.ranges.items split.place split.at → mid.path.items ≡ side_path most old.path.items split.column split.at → new.ranges.items ≡ set mid.ranges.items split.place range → new.path.items ≡ take (length mid.path.items - 1) mid.path.items → IsSameNode old new
+back_node most old mid new split range is down way back up = record {
+  ranges = back ∙ (ap (λ r. set mid.ranges.items split.place r) is ∙ back_ranges most old.ranges.items mid.ranges.items split.place split.at down);
+  path = up ∙ back_path most old.path.items mid.path.items split.column split.at way;
+}
+
+-- a tree stays one in a later state
+pub tree_later : {Self S : Type 0} (G : Ghosts Self S) (guide : Self) (before after : S) → IsLater G guide before after → ((rs : List Range) (path : List Bound) (leaf : Leaf) → G.Holds guide before rs path leaf → G.Holds guide after rs path leaf) → (tree : Tree) (rs : List Range) (path : List Bound) → IsSoundTree G guide before tree rs path → IsSoundTree G guide after tree rs path
+tree_later G guide before after later stay tree rs path h = record {
+  branches = h.branches;
+  sound = sound_later (G.Holds guide before) (G.Holds guide after) (G.Tells guide) (G.cost before) (G.cost after) later.kept stay rs path tree h.sound;
+}
+
+pub side_later : {Self S : Type 0} (G : Ghosts Self S) (guide : Self) (before after : S) → IsLater G guide before after → ((rs : List Range) (path : List Bound) (leaf : Leaf) → G.Holds guide before rs path leaf → G.Holds guide after rs path leaf) → (most : Bool) (node : Node) (split : Split) (tree : Tree) → AtSide most node split (IsSoundTree G guide before tree) → AtSide most node split (IsSoundTree G guide after tree)
+side_later G guide before after later stay most node split tree h =
+    tree_later G guide before after later stay tree (side_ranges most node.ranges.items split.place split.at) (side_path most node.path.items split.column split.at) h
+
+-- a branch over two trees
+pub tree_joined : {Self S : Type 0} (G : Ghosts Self S) (guide : Self) (state : S) (node : Node) (split : Split) (low high tree : Tree) → IsBranch tree split.column split.place split.at low high → AtNode node (IsBranchOf (G.rules guide) split) → AtSide true node split (IsSoundTree G guide state low) → AtSide false node split (IsSoundTree G guide state high) → AtNode node (IsSoundTree G guide state tree)
+tree_joined G guide state node split low high tree is here one two = record {
+  branches = branches_joined (G.rules guide) node.ranges.items node.path.items split.column split.place split.at low high tree is here one.branches two.branches;
+  sound = ends_joined (IsSound (G.Holds guide state) (G.Tells guide) (G.cost state)) node.ranges.items node.path.items split.column split.place split.at low high tree is one.sound two.sound;
+}
+
+-- leaves of a side that are deep are so against a lesser cost
+pub side_deep : (mark best less : Option ℕ) (most : Bool) (node : Node) (split : Split) (tree : Tree) → IsAtMost less best → AtSide most node split (AreDeep mark best tree) → AtSide most node split (AreDeep mark less tree)
+side_deep mark best less most node split tree h deep =
+    deep_later mark best less h (side_ranges most node.ranges.items split.place split.at) (side_path most node.path.items split.column split.at) tree deep
+
+pub deep_joined : (mark best : Option ℕ) (node : Node) (split : Split) (low high tree : Tree) → IsBranch tree split.column split.place split.at low high → AtSide true node split (AreDeep mark best low) → AtSide false node split (AreDeep mark best high) → AtNode node (AreDeep mark best tree)
+deep_joined mark best node split low high tree is one two =
+    ends_joined (IsMarkedDeep mark best) node.ranges.items node.path.items split.column split.place split.at low high tree is one two
