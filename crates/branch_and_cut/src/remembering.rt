@@ -15,17 +15,27 @@ pub(crate) struct Note {
     pub(crate) choice: Option<Choice>,
 }
 
-/// Notes by their places, counted from 1, marks of the setups with which plans were built, and what improving plans may
-/// still take.
+/// Notes by their places, counted from 1, marks of the setups with which plans were built, what improving plans may still
+/// take, and what programs may whose setups are wanted, and how often rounds of prices were followed by plans.
 #[derive(Debug, Drop)]
 pub(crate) struct Memory {
     notes: Vec<Option<Note>>,
     tried: Vec<u64>,
     work: u64,
+    programs: u64,
+    times: u64,
 }
 
 // What improving plans may take in all: so many plans of a single item and period.
 const ALL_WORK: u64 = 100_000_000;
+
+// What programs may take in all whose setups are wanted, each the square of items times periods.
+const ALL_PROGRAMS: u64 = 1_000_000;
+
+// A walk begins once in so many times, first when the rounds at the root end.
+const WALK_EACH: u64 = 200;
+
+const WALK_FIRST: u64 = 20;
 
 impl Memory {
     /// Nothing is remembered.
@@ -34,6 +44,8 @@ impl Memory {
             notes: Vec::new(alloc),
             tried: Vec::new(alloc),
             work: ALL_WORK,
+            programs: ALL_PROGRAMS,
+            times: 0,
         }
     }
 
@@ -101,5 +113,24 @@ impl Memory {
         }
         self.work -= work;
         true
+    }
+
+    /// Whether there is room for the work of a program whose setups are wanted. It is taken then.
+    pub(crate) fn takes_programs(&mut self, work: u64) -> bool {
+        if self.programs < work {
+            return false;
+        }
+        self.programs -= work;
+        true
+    }
+
+    /// Counts the times that plans follow on rounds of prices, and gives the count where a walk begins.
+    pub(crate) fn next_walk(&mut self) -> Option<u64> {
+        self.times = self.times.wrapping_add(1);
+        if self.times % WALK_EACH == WALK_FIRST {
+            Some(self.times)
+        } else {
+            None
+        }
     }
 }

@@ -9,6 +9,7 @@ ghost use Rattle.branch_and_cut.specs.Within.{HaveShape, IsMadeWithin};
 
 use crate::guiding::Model;
 use crate::knowing::keep_within;
+use crate::programs::{try_program, try_walk};
 use crate::remembering::Memory;
 use first_plans::{built_plan, improved};
 use lot_model::Instance;
@@ -142,8 +143,8 @@ fn built_near(
     }
 }
 
-// Builds a plan with the setups that are made more often than so much, where that wasn't tried, and keeps the better one, if
-// it lies within the ranges.
+// Builds a plan with the setups that are made more often than so much, where that wasn't tried, and plans by the program with
+// them. The better one is kept, if it lies within the ranges.
 fn try_setups(
     alloc: Global,
     model: &Model,
@@ -164,11 +165,11 @@ fn try_setups(
     let wanted = wanted_of(alloc, instance, average, least)?;
     let found = built_near(alloc, instance, &wanted, memory, best)?;
     keep_within(instance, model.ranges, best, found);
-    Ok(())
+    try_program(alloc, model, &wanted, memory, best)
 }
 
-/// Builds plans with the setups that are made in more than a half of the rounds, and in more than a fifth, and keeps the
-/// best plan.
+/// Makes plans with the setups that are made in more than a half of the rounds, and in more than a fifth, and keeps the best
+/// plan. Once in a while it walks from that.
 pub(crate) fn try_average(
     alloc: Global,
     model: &Model,
@@ -182,5 +183,6 @@ pub(crate) fn try_average(
     ensures kept { OnOk result (IsNoWorse best.new best.old) }
 {
     try_setups(alloc, model, average, ONE / 2, memory, best)?;
-    try_setups(alloc, model, average, ONE / 5, memory, best)
+    try_setups(alloc, model, average, ONE / 5, memory, best)?;
+    try_walk(alloc, model, memory, best)
 }

@@ -1,7 +1,7 @@
 //! Tests of the crates of search that branch: searches, leaves of prices and the root, with certificates that are
 //! read again and checked.
 //!
-//! Family: tests. It stands on `branch_and_bound`, `priced_leaves`, `branching`, `root_rounds` and
+//! Family: tests. It stands on `branch_and_bound`, `fixed_setups`, `priced_leaves`, `branching`, `root_rounds` and
 //! `branch_and_cut`, and calls them as any other crate does; nothing stands on it.
 //!
 //! Each crate that is tested has files of its own. The crate `fixtures` has what they make their instances of. `weak` is a
@@ -14,6 +14,8 @@ mod branch_and_bound_tests;
 mod branch_and_cut_tests;
 #[cfg(test)]
 mod branching_tests;
+#[cfg(test)]
+mod fixed_setups_tests;
 #[cfg(test)]
 mod priced_leaves_tests;
 #[cfg(test)]

@@ -1,0 +1,150 @@
+// Rows of the linear model with the values of given setups put in.
+ghost use Rattle.std.specs.Prelude.{◌≤◌};
+ghost use Rattle.lot_sizing.specs.Problem.{item_count, resource_count};
+
+use crate::columns::{Role, read, role_of};
+use lin_rows::{Row, RowName};
+use lot_model::Instance;
+use plan_rules::Grid;
+use std::alloc::{AllocError, Global};
+use tableau::{LpRow, LpTerm};
+
+/// A row of the model with its name.
+#[derive(Debug, Drop)]
+pub(crate) struct NamedRow {
+    pub(crate) name: RowName,
+    pub(crate) row: Row,
+}
+
+// The largest lot for which a resource has the time.
+fn largest_on(instance: &Instance, item: u32, resource: u32, period: u32) -> u64
+    requires item_low { 1 ≤ item }
+    requires item_high { item ≤ item_count instance.now }
+    requires resource_low { 1 ≤ resource }
+    requires resource_high { resource ≤ resource_count instance.now }
+    requires low { 1 ≤ period }
+    requires high { period ≤ instance.now.periods }
+{
+    let capacity = instance.capacity(resource, period);
+    let room = capacity.saturating_sub(instance.setup_time(item, resource));
+    match room.checked_div(instance.unit_time(item, resource)) {
+        Some(units) => units,
+        None => u64::MAX,
+    }
+}
+
+// The largest lot for which all resources have the time.
+fn largest_lot(instance: &Instance, item: u32, period: u32) -> u64
+    requires item_low { 1 ≤ item }
+    requires item_high { item ≤ item_count instance.now }
+    requires low { 1 ≤ period }
+    requires high { period ≤ instance.now.periods }
+{
+    let mut most = u64::MAX;
+    for resource in 1..instance.resources() + 1 {
+        most = most.min(largest_on(instance, item, resource, period));
+    }
+    most
+}
+
+// So often at most a row takes a column: a link takes a setup no more often than the largest lot for which there is time.
+fn most_of(instance: &Instance, name: RowName) -> i128 {
+    match name {
+        RowName::Link(item, period) => {
+            if item == 0 || item > instance.items() {
+                return 0;
+            }
+            if period == 0 || period > instance.periods() {
+                return 0;
+            }
+            i128::from(largest_lot(instance, item, period))
+        }
+        _ => i128::MAX,
+    }
+}
+
+// Whether a row says nothing that the others don't: the link of a setup that is made, where a lot has no bound of its own.
+fn is_left_out(instance: &Instance, low: &Grid, name: RowName) -> bool {
+    match name {
+        RowName::Link(item, period) => {
+            item >= 1
+                && item <= instance.items()
+                && instance.max_lot(item).is_none()
+                && read(low, item, period) == 1
+        }
+        _ => false,
+    }
+}
+
+// A row with the values put in.
+fn reduced(
+    alloc: Global,
+    instance: &Instance,
+    roles: &[Role],
+    named: &NamedRow,
+) -> Result<LpRow, AllocError> {
+    let most = most_of(instance, named.name);
+    let mut terms = Vec::new(alloc);
+    let mut right = named.row.right();
+    for term in named.row.terms() {
+        match role_of(instance, roles, term.column) {
+            Role::Column(column) => terms.push(LpTerm {
+                column,
+                times: term.times.min(most),
+            })?,
+            Role::Value(value) => right = right.saturating_sub(term.times.saturating_mul(value)),
+        }
+    }
+    Ok(LpRow { terms, right })
+}
+
+// The row with all signs changed.
+fn turned(alloc: Global, row: &LpRow) -> Result<LpRow, AllocError> {
+    let mut terms = Vec::new(alloc);
+    for term in &row.terms {
+        terms.push(LpTerm {
+            column: term.column,
+            times: 0i128.saturating_sub(term.times),
+        })?;
+    }
+    Ok(LpRow {
+        terms,
+        right: 0i128.saturating_sub(row.right),
+    })
+}
+
+// Whether a row is met by all numbers of at least 0.
+fn is_void(row: &LpRow) -> bool {
+    row.right <= 0 && row.terms.iter().all(|term| term.times >= 0)
+}
+
+// Puts a row after others, if it isn't void.
+fn put(row: LpRow, rows: &mut Vec<LpRow>) -> Result<(), AllocError> {
+    if !is_void(&row) {
+        rows.push(row)?;
+    }
+    Ok(())
+}
+
+/// Puts a row of the model after others, with the values of given setups put in: an equal one twice, the second time with all
+/// signs changed, and none that says nothing.
+pub(crate) fn put_reduced(
+    alloc: Global,
+    instance: &Instance,
+    low: &Grid,
+    roles: &[Role],
+    named: &NamedRow,
+    rows: &mut Vec<LpRow>,
+) -> Result<(), AllocError> {
+    if is_left_out(instance, low, named.name) {
+        return Ok(());
+    }
+    let row = reduced(alloc, instance, roles, named)?;
+    if named.row.is_equal() {
+        let opposite = turned(alloc, &row)?;
+        put(row, rows)?;
+        put(opposite, rows)
+    } else {
+        put(row, rows)
+    }
+}
