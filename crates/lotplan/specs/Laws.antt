@@ -1,5 +1,5 @@
 -- What a command calls for is one status, and there is one.
-use Rattle.std.specs.Prelude.{◌≡◌, ◌⊎◌, ℕ, Option, Some, None, ⊤}
+use Rattle.std.specs.Prelude.{◌≡◌, ◌⊎◌, ℕ, Option, Some, None}
 use Rattle.lot_io.specs.Outside.{Files}
 use Rattle.lotplan.specs.Bounding.{MayPass}
 use Rattle.command_line.specs.Words.{Request, version, helping, planning, judging, checking, reporting, generating, demonstrating, upgrading, bounding}
@@ -24,19 +24,6 @@ abbrev pub StatusesAreOne : Type 0
 StatusesAreOne =
     (asked : Option Request) (file : Files) (status other : ℕ) → CallFor asked file status → CallFor asked file other → (status ≡ other) ⊎ MayBeUndecided asked file
 
--- that some status is called for is a law of these words: all but those by which a certificate is checked or a model bounded
-abbrev pub HasAnswer : Option Request → Type 0
-HasAnswer None = ⊤
-HasAnswer (Some version) = ⊤
-HasAnswer (Some helping) = ⊤
-HasAnswer (Some (planning m p c budget)) = ⊤
-HasAnswer (Some (judging m p)) = ⊤
-HasAnswer (Some (checking m p c)) = ⊥
-HasAnswer (Some (reporting m p)) = ⊤
-HasAnswer (Some (generating seed items periods m)) = ⊤
-HasAnswer (Some (demonstrating seed)) = ⊤
-HasAnswer (Some (upgrading m n)) = ⊤
-HasAnswer (Some (bounding m)) = ⊥
-
+-- and all words and files call for some
 abbrev pub StatusesExist : Type 0
-StatusesExist = (asked : Option Request) (file : Files) → HasAnswer asked → (status : ℕ) × CallFor asked file status
+StatusesExist = (asked : Option Request) (file : Files) → (status : ℕ) × CallFor asked file status

@@ -1,6 +1,7 @@
 // Laws of runs.
 ghost use Rattle.lotplan.specs.Laws.{StatusesAreOne, StatusesExist};
 
+use answers_exist::{bounds_come_out, certificates_come_out, plans_are_held, texts_come_out};
 use base_bound::base_bounds_are_one;
 use bill::totals_exist;
 use cert_checker::certified_is_not_refused;
@@ -20,12 +21,17 @@ pub fn statuses_are_one()
     base_bounds_are_one();
 }
 
-/// All words and files call for some status, but for `check` and `bound`, of which it isn't said.
+/// All words and files call for some status.
 pub fn statuses_exist()
     ensures { StatusesExist }
 {
+    totals_exist();
     bytes_mean_something();
     records_mean_something();
     plans_are_judged();
     plans_are_decided();
+    bounds_come_out();
+    texts_come_out();
+    certificates_come_out();
+    plans_are_held();
 }

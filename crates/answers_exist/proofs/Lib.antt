@@ -1,0 +1,12 @@
+pub mod Listing
+pub mod Costing
+pub mod Bounding
+pub mod Searching
+pub mod Lines
+pub mod Texts
+pub mod Columns
+pub mod Sums
+pub mod Leaves
+pub mod Cuts
+pub mod Certificates
+pub mod Grids

@@ -1,0 +1,333 @@
+-- A text starts with a line of its version, or with none: all lines within the limits are gone through.
+use Rattle.std.proofs.Common.{◌≡◌, ◌≤◌, ◌<◌, ◌+◌, ◌∙◌, ◌⊎◌, ⊎_elim, inl, inr, ℕ, refl, ap, arith, Bool, List, [], ◌∷◌, ◌++◌, length, codes}
+use Rattle.std.specs.Prelude.{ℤ, pos, ◌≤ℤ◌, ◌<ℤ◌, unsigned_abs, decimal, ⊤}
+use Rattle.std.proofs.lemmas.Bool.{cases_eq}
+use Rattle.std.proofs.lemmas.Int.{by_lt_z, ints}
+use Rattle.std.proofs.lemmas.List.{length-append}
+use Rattle.lin_rows.specs.declared.column.Column.{Column}
+use Rattle.lin_rows.specs.declared.column.Column.TheVariants.{X, Y, S, R}
+use Rattle.lin_rows.specs.declared.base.RowName.{RowName}
+use Rattle.lin_rows.specs.declared.base.RowName.TheVariants.{Balance, Link, Capacity, EndMin, EndMax, Top, Least, Late, Path, Cut}
+use Rattle.lin_rows.specs.Texts.{one_text}
+use Rattle.round_cuts.specs.declared.rounding.TheConstants.{MAX_DIVISOR}
+use Rattle.cert_lines.specs.declared.limits.TheConstants.{MAX_LINE, MAX_PARTS, MAX_ROUND_PARTS}
+use Rattle.cert_lines.specs.Limits.{Is127, Is32, Is64, bound_127, bound_32, bound_64}
+use Rattle.cert_lines.specs.Line.{HasForm, IsFirstName, IsKnown, IsSmallColumn, IsSmallLine, IsSmallName, later_line}
+use Rattle.cert_lines.specs.Shapes.{BlockCut, BranchLine, CutLine, EndLine, FarkasLine, LineShape, LinearLine, LsCut, PartLine, PointLine, PriceCut, RoundCut, RoundLine}
+use Rattle.cert_lines.specs.Text.{list_text, price_head, block_head}
+use Rattle.certificate.specs.Needs.{StartsWith}
+use Rattle.certificate.specs.Values.{value_text}
+use Rattle.existence.proofs.Deciding.{Decided, if_or_not, le_or_not}
+use Rattle.answers_exist.proofs.Searching.{IsListOf, Searched, bits, both, integers, lists, made, numbers, pairs}
+
+-- ---- what is made of two numbers
+two : (A : Type 0) (n k : ℕ) (f : ℕ → ℕ → A) (Good Bad : A → Type 0) → ((i t : ℕ) → i < n → t < k → Good (f i t) ⊎ Bad (f i t)) → ((a : A) × Good a) ⊎ ((i t : ℕ) → i < n → t < k → Bad (f i t))
+two A n k f Good Bad either =
+    ⊎_elim (λ found. inl (f found.0 found.1.0, found.1.1)) (λ none. inr (λ i t low high. none i low t high))
+    (numbers n (λ i. (t : ℕ) × Good (f i t)) (λ i. (t : ℕ) → t < k → Bad (f i t)) (λ i low. numbers k (λ t. Good (f i t)) (λ t. Bad (f i t)) (λ t high. either i t low high)))
+
+pub one : (A : Type 0) (n : ℕ) (f : ℕ → A) (Good Bad : A → Type 0) → ((i : ℕ) → i < n → Good (f i) ⊎ Bad (f i)) → ((a : A) × Good a) ⊎ ((i : ℕ) → i < n → Bad (f i))
+one A n f Good Bad either = made ℕ A (λ i. i < n) (numbers n) f Good Bad either
+
+-- columns and names of rows by their numbers of 32 bits
+abbrev OfTwo : (A : Type 0) → (A → Type 0) → (ℕ → ℕ → A) → Type 0
+OfTwo A Bad f = (i t : ℕ) → i < bound_32 → t < bound_32 → Bad (f i t)
+
+abbrev OfOne : (A : Type 0) → (A → Type 0) → (ℕ → A) → Type 0
+OfOne A Bad f = (i : ℕ) → i < bound_32 → Bad (f i)
+
+columns : Searched Column IsSmallColumn
+columns Good Bad either =
+    ⊎_elim
+    (λ found. inl found)
+    (λ none. inr (each none))
+    (both (two Column bound_32 bound_32 (λ i t. X i t) Good Bad (λ i t low high. either (X i t) (low, high)))
+    (both (two Column bound_32 bound_32 (λ i t. Y i t) Good Bad (λ i t low high. either (Y i t) (low, high)))
+    (both (two Column bound_32 bound_32 (λ i t. S i t) Good Bad (λ i t low high. either (S i t) (low, high)))
+    (two Column bound_32 bound_32 (λ i t. R i t) Good Bad (λ i t low high. either (R i t) (low, high))))))
+  where
+    each : OfTwo Column Bad (λ i t. X i t) × (OfTwo Column Bad (λ i t. Y i t) × (OfTwo Column Bad (λ i t. S i t) × OfTwo Column Bad (λ i t. R i t))) → (c : Column) → IsSmallColumn c → Bad c
+    each none (X i t) is = none.0 i t is.0 is.1
+    each none (Y i t) is = none.1.0 i t is.0 is.1
+    each none (S i t) is = none.1.1.0 i t is.0 is.1
+    each none (R i t) is = none.1.1.1 i t is.0 is.1
+
+row_names : Searched RowName IsSmallName
+row_names Good Bad either =
+    ⊎_elim
+    (λ found. inl found)
+    (λ none. inr (each none.0 none.1))
+    (both
+    (both (two RowName bound_32 bound_32 (λ i t. Balance i t) Good Bad (λ i t low high. either (Balance i t) (low, high)))
+    (both (two RowName bound_32 bound_32 (λ i t. Link i t) Good Bad (λ i t low high. either (Link i t) (low, high)))
+    (both (two RowName bound_32 bound_32 (λ i t. Capacity i t) Good Bad (λ i t low high. either (Capacity i t) (low, high)))
+    (both (two RowName bound_32 bound_32 (λ i t. Top i t) Good Bad (λ i t low high. either (Top i t) (low, high)))
+    (both (two RowName bound_32 bound_32 (λ i t. Least i t) Good Bad (λ i t low high. either (Least i t) (low, high)))
+    (two RowName bound_32 bound_32 (λ i t. Late i t) Good Bad (λ i t low high. either (Late i t) (low, high))))))))
+    (both (one RowName bound_32 (λ i. EndMin i) Good Bad (λ i low. either (EndMin i) low))
+    (both (one RowName bound_32 (λ i. EndMax i) Good Bad (λ i low. either (EndMax i) low))
+    (both (one RowName bound_32 (λ i. Path i) Good Bad (λ i low. either (Path i) low))
+    (one RowName bound_32 (λ i. Cut i) Good Bad (λ i low. either (Cut i) low))))))
+  where
+    each :
+        OfTwo RowName Bad (λ i t. Balance i t) × (OfTwo RowName Bad (λ i t. Link i t) × (OfTwo RowName Bad (λ i t. Capacity i t) × (OfTwo RowName Bad (λ i t. Top i t) × (OfTwo RowName Bad (λ i t. Least i t) × OfTwo RowName Bad (λ i t. Late i t)))))
+        → OfOne RowName Bad (λ i. EndMin i) × (OfOne RowName Bad (λ i. EndMax i) × (OfOne RowName Bad (λ i. Path i) × OfOne RowName Bad (λ i. Cut i))) → (name : RowName) → IsSmallName name → Bad name
+    each long short (Balance i t) is = long.0 i t is.0 is.1
+    each long short (Link i t) is = long.1.0 i t is.0 is.1
+    each long short (Capacity i t) is = long.1.1.0 i t is.0 is.1
+    each long short (EndMin i) is = short.0 i is
+    each long short (EndMax i) is = short.1.0 i is
+    each long short (Top i t) is = long.1.1.1.0 i t is.0 is.1
+    each long short (Least i t) is = long.1.1.1.1.0 i t is.0 is.1
+    each long short (Late i t) is = long.1.1.1.1.1 i t is.0 is.1
+    each long short (Path i) is = short.1.1.0 i is
+    each long short (Cut i) is = short.1.1.1 i is
+
+-- ---- lists that have room on a line
+abbrev IsList : List ℕ → Type 0
+IsList xs = IsListOf Is64 MAX_LINE xs
+
+abbrev IsLongList : List ℕ → Type 0
+IsLongList xs = IsListOf Is127 MAX_LINE xs
+
+abbrev Two : Type 0
+Two = List ℕ × List ℕ
+
+abbrev AreTwo : Two → Type 0
+AreTwo p = IsList p.0 × IsList p.1
+
+some_lists : Searched (List ℕ) IsList
+some_lists = lists ℕ Is64 (numbers bound_64) MAX_LINE
+
+two_lists : Searched Two AreTwo
+two_lists = pairs (List ℕ) (List ℕ) IsList (λ _. IsList) some_lists (λ _. some_lists)
+
+abbrev AreFour : Two × Two → Type 0
+AreFour p = AreTwo p.0 × AreTwo p.1
+
+four_lists : Searched (Two × Two) AreFour
+four_lists = pairs Two Two AreTwo (λ _. AreTwo) two_lists (λ _. two_lists)
+
+-- an item with four lists, and a fifth one
+abbrev Priced : Type 0
+Priced = ℕ × (Two × Two)
+
+abbrev IsPriced : Priced → Type 0
+IsPriced x = Is32 x.0 × AreFour x.1
+
+priced : Searched Priced IsPriced
+priced = pairs ℕ (Two × Two) Is32 (λ _. AreFour) (numbers bound_32) (λ _. four_lists)
+
+abbrev IsStepped : Priced × List ℕ → Type 0
+IsStepped x = IsPriced x.0 × IsLongList x.1
+
+stepped : Searched (Priced × List ℕ) IsStepped
+stepped = pairs Priced (List ℕ) IsPriced (λ _. IsLongList) priced (λ _. lists ℕ Is127 (numbers bound_127) MAX_LINE)
+
+-- the lists on a line are no longer than it
+list_long : (xs : List ℕ) → length xs ≤ length (list_text xs)
+list_long [] = omega arith
+list_long (x ∷ xs) = omega (arith, length-append (one_text x) (list_text xs), length-append (codes " ") (decimal x), list_long xs)
+
+four_long : (head a g b h c k d : List ℕ) (n : ℕ) → length (head ++ (a ++ (g ++ (b ++ (h ++ (c ++ (k ++ d))))))) ≤ n → (length a ≤ n) × (length b ≤ n) × (length c ≤ n) × (length d ≤ n)
+four_long head a g b h c k d n few =
+    let is : length head + (length a + (length g + (length b + (length h + (length c + (length k + length d)))))) ≤ n = simp length-append at few in
+    (omega (arith, is), omega (arith, is), omega (arith, is), omega (arith, is))
+
+two_long : (a p b : List ℕ) (n : ℕ) → length (a ++ (p ++ b)) ≤ n → (length a ≤ n) × (length b ≤ n)
+two_long a p b n few =
+    let is : length a + (length p + length b) ≤ n = simp length-append at few in
+    (omega (arith, is), omega (arith, is))
+
+short : (xs : List ℕ) → length (list_text xs) ≤ MAX_LINE → length xs ≤ MAX_LINE
+short xs few = omega (arith, few, list_long xs)
+
+-- ---- all lines
+module _ (Good Bad : LineShape → Type 0) (either : (l : LineShape) → IsSmallLine l → Good l ⊎ Bad l) where
+  abbrev IfSmall : LineShape → Type 0
+  IfSmall l = IsSmallLine l → Bad l
+
+  abbrev Found : Type 0
+  Found = (l : LineShape) × Good l
+
+  if_small : (l : LineShape) → Decided (IsSmallLine l) → Good l ⊎ IfSmall l
+  if_small l (inl small) = ⊎_elim (λ good. inl good) (λ bad. inr (λ _. bad)) (either l small)
+  if_small l (inr large) = inr (λ small. absurd (large small))
+
+  -- a mark for each period
+  abbrev Marked : Type 0
+  Marked = ℕ × (ℕ × List Bool)
+
+  abbrev IsMarked : Marked → Type 0
+  IsMarked x = Is32 x.0 × (Is32 x.1.0 × IsListOf (λ b. ⊤) x.1.0 x.1.1)
+
+  marked : Searched Marked IsMarked
+  marked =
+      pairs ℕ (ℕ × List Bool) Is32 (λ _ x. Is32 x.0 × IsListOf (λ b. ⊤) x.0 x.1) (numbers bound_32)
+      (λ _. pairs ℕ (List Bool) Is32 (λ last. IsListOf (λ b. ⊤) last) (numbers bound_32) (λ last. lists Bool (λ b. ⊤) bits last))
+
+  ls_line : Marked → LineShape
+  ls_line x = CutLine (LsCut x.0 x.1.0 x.1.1)
+
+  ls_small : (x : Marked) → IsMarked x → Decided (IsSmallLine (ls_line x))
+  unfolding ls_line
+  ls_small x is =
+      ⊎_elim
+      (λ low. ⊎_elim
+      (λ size. inl (is.0, low, is.1.0, size))
+      (λ no. inr (λ small. no small.3))
+      (cases_eq (length x.1.1) x.1.0))
+      (λ no. inr (λ small. no small.1))
+      (le_or_not 1 x.1.0)
+
+  price_of : Priced → LineShape
+  price_of x = CutLine (PriceCut x.0 (record { price = x.1.0.0; unit = x.1.0.1; hold = x.1.1.0; back = x.1.1.1 }))
+
+  block_of : Priced × List ℕ → LineShape
+  block_of x = CutLine (BlockCut x.0.0 (record { setup = x.0.1.0.0; unit = x.0.1.0.1; hold = x.0.1.1.0; back = x.0.1.1.1; steps = x.1 }))
+
+  part_of : RowName × ℤ → LineShape
+  part_of x = PartLine (record { row = x.0; times = x.1 })
+
+  ls_found : Found ⊎ ((x : Marked) → IsMarked x → IfSmall (ls_line x))
+  ls_found = made Marked LineShape IsMarked marked ls_line Good IfSmall (λ x is. if_small (ls_line x) (ls_small x is))
+
+  price_found : Found ⊎ ((x : Priced) → IsPriced x → IfSmall (price_of x))
+  unfolding price_of
+  price_found = made Priced LineShape IsPriced priced price_of Good IfSmall (λ x is. if_small (price_of x) (inl (is.0, (is.1.0.0.1, is.1.0.1.1, is.1.1.0.1, is.1.1.1.1))))
+
+  block_found : Found ⊎ ((x : Priced × List ℕ) → IsStepped x → IfSmall (block_of x))
+  unfolding block_of
+  block_found =
+      made (Priced × List ℕ) LineShape IsStepped stepped block_of Good IfSmall
+      (λ x is. if_small (block_of x) (inl (is.0.0, (is.0.1.0.0.1, is.0.1.0.1.1, is.0.1.1.0.1, is.0.1.1.1.1, is.1.1))))
+
+  round_found : Found ⊎ ((q k : ℕ) → q < MAX_DIVISOR + 1 → k < MAX_ROUND_PARTS + 1 → IfSmall (RoundLine q k))
+  round_found =
+      two LineShape (MAX_DIVISOR + 1) (MAX_ROUND_PARTS + 1) (λ q k. RoundLine q k) Good IfSmall
+      (λ q k q_high k_high. if_small (RoundLine q k) (⊎_elim (λ low. inl (low, omega (arith, q_high), omega (arith, k_high))) (λ no. inr (λ small. no small.0)) (le_or_not 1 q)))
+
+  part_found : Found ⊎ ((x : RowName × ℤ) → IsSmallName x.0 × Is127 (unsigned_abs x.1) → IfSmall (part_of x))
+  unfolding part_of
+  part_found =
+      made (RowName × ℤ) LineShape (λ x. IsSmallName x.0 × Is127 (unsigned_abs x.1))
+      (pairs RowName ℤ IsSmallName (λ _ z. Is127 (unsigned_abs z)) row_names (λ _. integers bound_127)) part_of Good IfSmall
+      (λ x is. if_small (part_of x) (inl is))
+
+  branch_found : Found ⊎ ((x : Column × ℕ) → IsSmallColumn x.0 × Is64 x.1 → IfSmall (BranchLine x.0 x.1))
+  branch_found =
+      made (Column × ℕ) LineShape (λ x. IsSmallColumn x.0 × Is64 x.1)
+      (pairs Column ℕ IsSmallColumn (λ _. Is64) columns (λ _. numbers bound_64)) (λ x. BranchLine x.0 x.1) Good IfSmall
+      (λ x is. if_small (BranchLine x.0 x.1) (inl is))
+
+  linear_found : Found ⊎ ((x : ℤ × ℕ) → Is127 (unsigned_abs x.0) × (x.1 < MAX_PARTS + 1) → IfSmall (LinearLine x.0 x.1))
+  linear_found =
+      made (ℤ × ℕ) LineShape (λ x. Is127 (unsigned_abs x.0) × (x.1 < MAX_PARTS + 1))
+      (pairs ℤ ℕ (λ z. Is127 (unsigned_abs z)) (λ _ k. k < MAX_PARTS + 1) (integers bound_127) (λ _. numbers (MAX_PARTS + 1))) (λ x. LinearLine x.0 x.1) Good IfSmall
+      (λ x is. if_small (LinearLine x.0 x.1) (by_lt_z x.0 (pos 1)
+      (λ less. inr (λ small. not_both x.0 less small.0))
+      (λ low. inl (low, is.0, omega (arith, is.1)))))
+    where
+      not_both : (z : ℤ) → z <ℤ pos 1 → pos 1 ≤ℤ z → ⊥
+      not_both z less low = omega (arith, ints, less, low)
+
+  farkas_found : Found ⊎ ((k : ℕ) → k < MAX_PARTS + 1 → IfSmall (FarkasLine k))
+  farkas_found = one LineShape (MAX_PARTS + 1) (λ k. FarkasLine k) Good IfSmall (λ k high. if_small (FarkasLine k) (inl (omega (arith, high))))
+
+  pub all_lines : Found ⊎ ((l : LineShape) → HasForm l → Bad l)
+  unfolding ls_line price_of block_of part_of
+  all_lines =
+      ⊎_elim (λ found. inl found) (λ none. inr (each none.0 none.1))
+      (both
+      (both ls_found (both price_found (both block_found round_found)))
+      (both part_found (both branch_found (both linear_found (both farkas_found (both (if_found PointLine tt) (if_found EndLine tt)))))))
+    where
+      if_found : (l : LineShape) → IsSmallLine l → Found ⊎ Bad l
+      if_found l small = ⊎_elim (λ good. inl (l, good)) (λ bad. inr bad) (either l small)
+
+      each :
+          ((x : Marked) → IsMarked x → IfSmall (ls_line x)) × (((x : Priced) → IsPriced x → IfSmall (price_of x)) × (((x : Priced × List ℕ) → IsStepped x → IfSmall (block_of x)) × ((q k : ℕ) → q < MAX_DIVISOR + 1 → k < MAX_ROUND_PARTS + 1 → IfSmall (RoundLine q k))))
+          → ((x : RowName × ℤ) → IsSmallName x.0 × Is127 (unsigned_abs x.1) → IfSmall (part_of x)) × (((x : Column × ℕ) → IsSmallColumn x.0 × Is64 x.1 → IfSmall (BranchLine x.0 x.1)) × (((x : ℤ × ℕ) → Is127 (unsigned_abs x.0) × (x.1 < MAX_PARTS + 1) → IfSmall (LinearLine x.0 x.1)) × (((k : ℕ) → k < MAX_PARTS + 1 → IfSmall (FarkasLine k)) × (Bad PointLine × Bad EndLine))))
+          → (l : LineShape) → HasForm l → Bad l
+      each cuts others (CutLine (LsCut item last chosen)) form =
+          let small = form.small in
+          cuts.0 (item, (last, chosen)) (small.0, (small.2, (omega (arith, small.3), λ k d less. tt))) small
+      each cuts others (CutLine (PriceCut item a)) form =
+          let small = form.small in
+          let long = four_long (price_head item) (list_text a.price) (codes " g") (list_text a.unit) (codes " h") (list_text a.hold) (codes " b") (list_text a.back) MAX_LINE form.short in
+          cuts.1.0 (item, ((a.price, a.unit), (a.hold, a.back)))
+          (small.0, (((short a.price long.0, small.1.0), (short a.unit long.1, small.1.1)), ((short a.hold long.2, small.1.2), (short a.back long.3, small.1.3)))) small
+      each cuts others (CutLine (BlockCut item a)) form =
+          let small = form.small in
+          let long = four_long (block_head item) (list_text a.setup) (codes " g") (list_text a.unit) (codes " h") (list_text a.hold) (codes " b") (list_text a.back ++ (codes " p" ++ list_text a.steps)) MAX_LINE form.short in
+          let last = two_long (list_text a.back) (codes " p") (list_text a.steps) MAX_LINE long.3 in
+          cuts.1.1.0 ((item, ((a.setup, a.unit), (a.hold, a.back))), a.steps)
+          ((small.0, (((short a.setup long.0, small.1.0), (short a.unit long.1, small.1.1)), ((short a.hold long.2, small.1.2), (short a.back last.0, small.1.3)))), (short a.steps last.1, small.1.4)) small
+      each cuts others (CutLine (RoundCut q parts)) form = absurd form.small
+      each cuts others (RoundLine q k) form =
+          let small = form.small in
+          cuts.1.1.1 q k (omega (arith, small.1)) (omega (arith, small.2)) small
+      each cuts others (PartLine part) form = others.0 (part.row, part.times) form.small form.small
+      each cuts others (BranchLine c at) form = others.1.0 (c, at) form.small form.small
+      each cuts others (LinearLine den k) form =
+          let small = form.small in
+          others.1.1.0 (den, k) (small.1, omega (arith, small.2)) small
+      each cuts others (FarkasLine k) form =
+          let small = form.small in
+          others.1.1.1.0 k (omega (arith, small)) small
+      each cuts others PointLine form = others.1.1.1.1.0
+      each cuts others EndLine form = others.1.1.1.1.1
+
+-- ---- the first line of a text
+-- a list starts another, or it doesn't
+pub begins_or_not : (xs text : List ℕ) → ((rest : List ℕ) × (text ≡ xs ++ rest)) ⊎ ((rest : List ℕ) → text ≡ xs ++ rest → ⊥)
+begins_or_not [] text = inl (text, refl)
+begins_or_not (x ∷ xs) [] = inr (λ rest e. cc e)
+begins_or_not (x ∷ xs) (y ∷ text) =
+    ⊎_elim
+    (λ same. ⊎_elim
+    (λ found. inl (found.0, ap (λ z. z ∷ text) same ∙ ap (λ ys. x ∷ ys) found.1))
+    (λ none. inr (λ rest e. none rest (cc e)))
+    (begins_or_not xs text))
+    (λ other. inr (λ rest e. other (cc e)))
+    (cases_eq y x)
+
+first_or_not : (name : RowName) → Decided (IsFirstName name)
+first_or_not (Balance i t) = inl tt
+first_or_not (Link i t) = inl tt
+first_or_not (Capacity k t) = inl tt
+first_or_not (EndMin i) = inl tt
+first_or_not (EndMax i) = inl tt
+first_or_not (Top i t) = inl tt
+first_or_not (Least i t) = inr (λ is. is)
+first_or_not (Late i t) = inr (λ is. is)
+first_or_not (Path n) = inl tt
+first_or_not (Cut n) = inl tt
+
+known_or_not : (version : ℕ) (l : LineShape) → Decided (IsKnown version l)
+known_or_not version (CutLine c) = inl tt
+known_or_not version (RoundLine q k) = inl tt
+known_or_not version (PartLine part) = if_or_not (cases_eq version 1) (first_or_not part.row)
+known_or_not version (BranchLine c at) = inl tt
+known_or_not version (LinearLine den k) = inl tt
+known_or_not version (FarkasLine k) = inl tt
+known_or_not version PointLine = inl tt
+known_or_not version EndLine = inl tt
+
+starts_or_not : (version : ℕ) (text : List ℕ) (l : LineShape) → IsSmallLine l → Decided (StartsWith version text l)
+starts_or_not version text l small =
+    ⊎_elim
+    (λ found. ⊎_elim
+    (λ short. ⊎_elim
+    (λ known. inl (record { rest = found.0; text = found.1; line = record { text = refl; form = record { small = small; short = short }; known = known } }))
+    (λ no. inr (λ starts. no starts.line.known))
+    (known_or_not version l))
+    (λ no. inr (λ starts. no starts.line.form.short))
+    (le_or_not (length (later_line l)) MAX_LINE))
+    (λ none. inr (λ starts. none starts.rest starts.text))
+    (begins_or_not (value_text l) text)
+
+pub first_line : (version : ℕ) (text : List ℕ) → ((l : LineShape) × StartsWith version text l) ⊎ ((l : LineShape) → StartsWith version text l → ⊥)
+first_line version text =
+    ⊎_elim (λ found. inl found) (λ none. inr (λ l starts. none l starts.line.form starts))
+    (all_lines (StartsWith version text) (λ l. StartsWith version text l → ⊥) (starts_or_not version text))

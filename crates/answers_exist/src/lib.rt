@@ -1,0 +1,63 @@
+//! Laws of existence for `bound` and `check`: the base bound of each problem comes to something, each text is a
+//! certificate's or has a first fault, and each certificate is accepted or refused.
+//!
+//! Family: search. It stands on `base_bound`, `cert_checker`, `cert_stream` and `existence`; `lotplan` stands on it.
+//!
+//! The laws of `existence` speak of models, plans and exact runs. These go on to what is made of them: with both of them
+//! all words and files call for a status. The proofs go through all lines within the limits, all columns and all blocks; no
+//! program does that.
+#![tactic(auto)]
+
+ghost use Rattle.answers_exist.specs.Bounding.{BoundsComeOut};
+ghost use Rattle.answers_exist.specs.Checking.{CertificatesComeOut, PlansAreHeld, TextsComeOut};
+
+use acceptance::{cut_rows_go_on, cuts_hold, echelon_rows_are_one};
+use base_bound::base_bounds_are_floors;
+use bill::totals_exist;
+use cert_stream::runs_are_bodies;
+use existence::{plans_are_judged, runs_come_out};
+use lot_sizing::{least_stocks_are_best, totals_are_one, weights_are_one};
+use root_rows::{base_names_are_all, empty_is_said, least_is_said};
+use split_trees::plans_are_within;
+
+/// A problem in which no item is its own component has a program of its base rows. Its tableau has too many cells;
+/// or there is a base bound, no point meets the base rows, or the exact run comes to a number that doesn't fit 128 bits.
+pub fn bounds_come_out()
+    ensures { BoundsComeOut }
+{
+    totals_exist();
+    totals_are_one();
+    base_names_are_all();
+    least_is_said();
+    empty_is_said();
+    runs_come_out();
+    base_bounds_are_floors();
+}
+
+/// All bytes are the text of a certificate within the limits, or have a first fault that isn't want of memory.
+pub fn texts_come_out()
+    ensures { TextsComeOut }
+{
+    runs_are_bodies();
+}
+
+/// Each certificate that has a text, with a plan or without one, is accepted with small sums, or has a line and a cause
+/// that are the first for which it isn't: the same, whichever largest totals and weights of the problem are taken.
+pub fn certificates_come_out()
+    ensures { CertificatesComeOut }
+{
+    totals_exist();
+    totals_are_one();
+    weights_are_one();
+    echelon_rows_are_one();
+    cuts_hold();
+    cut_rows_go_on();
+    least_stocks_are_best();
+    plans_are_within();
+    plans_are_judged();
+}
+
+/// The plan of the records of a plan file is held by four grids.
+pub fn plans_are_held()
+    ensures { PlansAreHeld }
+{}
