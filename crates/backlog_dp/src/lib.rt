@@ -1,8 +1,8 @@
 //! The least cost of an item by itself, with or without backlog, and the rows that its potentials give.
 //!
 //! Family: cuts. It stands on `lot_sizing`, `echelon`, `wagner_whitin`, `lin_rows`, `valid_inequalities` and
-//! `echelon_rows`; `uncoupled` plans items with it, and the checker of certificates and the search will make
-//! block rows of potentials.
+//! `echelon_rows`; `uncoupled` plans items with it, and the checker of certificates and the search make block
+//! rows of potentials.
 //!
 //! `solve` answers a cheapest way to serve an item, with potentials that prove it. Where backlog is allowed, a
 //! later period may serve an earlier one at the price of owing it, and the recursion of `wagner_whitin` over

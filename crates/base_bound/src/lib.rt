@@ -1,6 +1,6 @@
 //! The bound of the linear relaxation without cuts.
 //!
-//! Family: search. It stands on `root_rows` and `least_index`; `lotplan` stands on it.
+//! Family: search. It stands on `root_rows` and `least_index`; `answers_exist` and `lotplan` stand on it.
 //!
 //! A point gives each column of the linear model a fraction of at least 0. Of the points that meet all rows which the
 //! rules of plans make, some point costs least, or there is none. The base bound is the least cost rounded up to a whole

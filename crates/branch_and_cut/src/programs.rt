@@ -19,12 +19,12 @@ use std::alloc::{AllocError, Global};
 
 // What a program takes is counted as the square of items times periods, and so much is what those of a walk may take: at the
 // root, and in the tree.
-const ROOT_WORK: u64 = 1_000_000;
+const ROOT_WORK: u64 = 5_000_000;
 
-const TREE_WORK: u64 = 400_000;
+const TREE_WORK: u64 = 2_000_000;
 
 // Most changes that a walk tries.
-const MOST_CHANGES: u64 = 200;
+const MOST_CHANGES: u64 = 600;
 
 // What the programs of a plunge may take, and its most nodes.
 const PLUNGE_WORK: u64 = 3_000_000;

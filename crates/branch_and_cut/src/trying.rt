@@ -11,14 +11,11 @@ use crate::guiding::Model;
 use crate::knowing::keep_within;
 use crate::programs::{try_program, try_walk};
 use crate::remembering::Memory;
-use first_plans::{built_plan, improved};
+use first_plans::{BUILDING_WORK, built_plan, improved};
 use lot_model::Instance;
 use plan_rules::{Grid, Planned};
 use priced_leaves::{Average, ONE};
 use std::alloc::{AllocError, Global};
-
-// What building plans may take to improve one: so many plans of a single item and period.
-const BUILDING_WORK: u32 = 4_000_000;
 
 // How often all changes of a plan are tried: of one that is near the best.
 const SWEEPS: u32 = 2;

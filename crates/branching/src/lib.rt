@@ -1,7 +1,8 @@
 //! Plans with certificates.
 //!
 //! Family: search. It stands on `uncoupled`, which plans items by themselves, and on `acceptance` and
-//! `cert_checker`, which say what a certificate has to be; `branch_and_cut` and `lotplan` stand on it.
+//! `cert_checker`, which say what a certificate has to be; `root_rounds`, `branch_and_cut` and
+//! `lotplan` stand on it.
 //!
 //! What a search finds is a `Found`: a certificate, the plan that goes with it, what was said at the root, and
 //! the number of nodes. `plan_uncoupled` plans instances whose items have nothing to do with each other: its

@@ -7,7 +7,7 @@
 //! most cheaply by itself, and those of each item in every so many periods.
 //!
 //! Family: search. It stands on `lot_model`, on `plan_rules`, which judges what comes out, and on `wagner_whitin`;
-//! `item_lots` and `first_plans` stand on it.
+//! `item_lots`, `first_plans`, `fixed_setups` and `report` stand on it.
 #![tactic(auto)]
 
 mod building;

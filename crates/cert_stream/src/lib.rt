@@ -6,7 +6,7 @@
 //! they are needed are a certificate's is `runs_are_bodies`.
 //!
 //! Family: proofs. It stands on `lot_io`, whose shelves have the file, and on `cert_lines` and `certificate`, whose
-//! lines and grammar it reads; `stream_check` stands on it.
+//! lines and grammar it reads; `stream_check` and `answers_exist` stand on it.
 #![tactic(auto)]
 
 mod claim;

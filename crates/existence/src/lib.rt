@@ -1,6 +1,7 @@
 //! Laws of existence: bytes and records mean something, each plan is judged, and each problem has a feasible plan or none.
 //!
-//! Family: plans. It stands on `instance_reader`, `plan_rules` and `plan_file`; `lotplan` stands on it.
+//! Family: plans. It stands on `instance_reader`, `plan_rules` and `plan_file`; `answers_exist` and `lotplan` stand on
+//! it.
 //!
 //! Beside the laws by which nothing has two answers, these say that each has one. So what bytes mean and what is
 //! found of a plan are functions, though the definitions are relations. Others say when a model is accepted, and that

@@ -7,7 +7,7 @@
 //! once, `own_period_plan` and `built_plan`, are passed on from `built_plans`.
 //!
 //! Family: search. It stands on `built_plans`, which builds plans, on `item_lots`, which makes an item's lots anew, on
-//! `plan_rules`, which judges what comes out, and on `rand_pcg`; `branch_and_cut` and `report` stand on it.
+//! `plan_rules`, which judges what comes out, and on `rand_pcg`; `branch_and_cut` and `lotplan` stand on it.
 #![tactic(auto)]
 
 mod by_families;
@@ -20,5 +20,5 @@ mod trials;
 pub use built_plans::{built_plan, own_period_is_one, own_period_plan};
 pub use by_families::improved_by_families;
 pub use improving::improved;
-pub use listing::candidates;
+pub use listing::{BUILDING_WORK, candidates};
 pub use plan_rules::{Grid, Planned};

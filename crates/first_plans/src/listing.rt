@@ -12,8 +12,8 @@ use lot_model::{Instance, is_plain};
 use plan_rules::{Grid, Planned};
 use std::alloc::{AllocError, Global};
 
-// What building plans may take to improve one: so many plans of a single item and period.
-const BUILDING_WORK: u32 = 4_000_000;
+/// What building plans may take to improve one: so many plans of a single item and period.
+pub const BUILDING_WORK: u32 = 4_000_000;
 
 // What may be built to improve a plan once more after random changes: so many plans of a single item and period, each of which
 // is compared with the other items and periods.

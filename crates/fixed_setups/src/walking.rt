@@ -8,6 +8,7 @@ ghost use Rattle.fixed_setups.specs.Within.{IsCheaper, IsFew};
 
 use crate::planning::{is_few, planned_on};
 use crate::program::Base;
+use item_lots::copy_grid;
 use lot_model::Instance;
 use plan_rules::{Grid, Planned};
 use rand_core::utils::NextWord;
@@ -78,28 +79,13 @@ fn change_some(instance: &Instance, setup: &mut Grid, words: &mut Lcg64Xsh32)
     }
 }
 
-// Copies the row of an item.
-fn copy_row(instance: &Instance, from: &Grid, to: &mut Grid, item: u32)
-    requires from { Fits instance.now from.now }
-    requires to { Fits instance.now to.old }
-    requires low { 1 ≤ item }
-    requires high { item ≤ item_count instance.now }
-    ensures { Fits instance.now to.new }
-{
-    for period in 1..instance.periods() + 1 {
-        to.set(item, period, from.get(item, period));
-    }
-}
-
 /// The grid once more.
 pub(crate) fn copy(alloc: Global, instance: &Instance, from: &Grid) -> Result<Grid, AllocError>
     requires { Fits instance.now from.now }
     ensures { IfOk result (Fits instance.now) }
 {
     let mut to = Grid::filled(alloc, instance.items(), instance.periods(), 0)?;
-    for item in 1..instance.items() + 1 {
-        copy_row(instance, from, &mut to, item);
-    }
+    copy_grid(instance, from, &mut to);
     Ok(to)
 }
 

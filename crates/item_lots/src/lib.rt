@@ -6,7 +6,7 @@
 //! one item after the other, and keeps what is cheaper. `copy_grid` copies the quantities or setups of a plan.
 //!
 //! Family: search. It stands on `plan_rules`, which judges what comes out, and on `built_plans`, by whose definitions a
-//! plan is a feasible one; `first_plans` stands on it.
+//! plan is a feasible one; `first_plans` and `fixed_setups` stand on it.
 #![tactic(auto)]
 
 mod by_items;

@@ -1,6 +1,7 @@
 //! Runs of the dual simplex by the least-index rule end (Bland 1977).
 //!
-//! Family: numbers. It stands on `algebra`, `rational`, `frac128` and `tableau`; `base_bound` stands on it.
+//! Family: numbers. It stands on `algebra`, `rational`, `frac128` and `tableau`; `base_bound` and `existence` stand
+//! on it.
 //!
 //! A run of `tableau` goes from dictionary to dictionary. The variables that are basic in one are its basis, which says
 //! all: dictionaries of a program that have one basis have the same numbers (`bases_have_one_dictionary`). So a run that

@@ -4,7 +4,7 @@
 //! them, or the first fault in the order of the file, by name and place.
 //!
 //! Family: plans. It stands on `plan_rules`, whose `Plan` it writes and reads, and on `whole_numbers` for the
-//! numbers of a record; `lotplan` stands on it.
+//! numbers of a record; `existence` and `lotplan` stand on it.
 #![tactic(auto)]
 
 mod fault;

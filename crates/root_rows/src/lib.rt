@@ -1,7 +1,7 @@
 //! The linear program of the root's rounds, from named rows, and back to leaves and to the relaxation.
 //!
-//! Family: search. It stands on `tableau`, `lin_rows`, `ls_cuts`, `acceptance` and `relaxation`; the rounds of the
-//! root stand on it.
+//! Family: search. It stands on `tableau`, `lin_rows`, `ls_cuts`, `acceptance` and `relaxation`; `root_rounds`,
+//! `path_relaxation`, `base_bound` and `fixed_setups` stand on it.
 //!
 //! `base_names` has the names of all rows that the rules of plans make, in their order, and `base_program` the linear
 //! program of these rows: columns by their numbers, with their costs, and each row as a sum that is at least its right

@@ -2,7 +2,7 @@
 //! show that no net plan costs less.
 //!
 //! Family: single items. It stands on `lot_sizing` and `echelon`; `backlog_dp`, `uncoupled`, `apart` and
-//! `first_plans` stand on it.
+//! `built_plans` stand on it.
 //!
 //! `solve` is for items without backlog, the problem of Wagner and Whitin (1958). For each position, a
 //! period with a net demand, it takes the least of lines, one for each period that may serve it
