@@ -1,5 +1,5 @@
 -- The rows of the first cuts, as a loop makes them while it reads the cuts.
-use Rattle.std.proofs.Common.{◌≡◌, ◌∙◌, ◌<◌, ◌≤◌, ◌+◌, ℕ, refl, sym, ap, subst, arith, List, [], ◌∷◌, ◌++◌, length, slice_index_or, take, drop, length-append, append-nil, append_assoc, add-one}
+use Rattle.std.proofs.Common.{◌≡◌, ◌∙◌, ◌<◌, ◌+◌, ℕ, sym, ap, subst, arith, List, [], ◌∷◌, ◌++◌, length, slice_index_or, take, drop, length-append, append-nil, append_assoc, add-one}
 use Rattle.std.specs.List.{All}
 use Rattle.std.proofs.Math.Seq.{drop-cons, drop-length, take-length}
 use Rattle.std.proofs.lemmas.Grind.{flat_map-append}
@@ -20,7 +20,7 @@ use Rattle.cert_stream.specs.declared.lines.LineReader.{LineReader}
 use Rattle.stream_check.specs.declared.fault.StreamFault.{StreamFault}
 use Rattle.stream_check.specs.Passes.{Awaits, IsOn, IsRefusal}
 use Rattle.stream_check.specs.Rows.{IsRowOf}
-use Rattle.stream_check.proofs.Ways.{awaits_same, on_none, refusal_weaker}
+use Rattle.stream_check.proofs.Ways.{awaits_same, refusal_weaker}
 
 -- these are the rows of the first k cuts, and the others are left
 pub record AreSoFar (m : Problem) (version : ℕ) (shelf : Shelved) (name : List ℕ) (r : LineReader) (cuts : List CutShape) (ls : Values) (k : ℕ) (rows : List LinRow) : Type 0 where

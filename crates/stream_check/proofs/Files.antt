@@ -1,7 +1,7 @@
 -- What a pass says of a file, as a fault of its certificate.
-use Rattle.std.proofs.Common.{◌≡◌, ◌≢◌, ◌≤◌, ◌<◌, ◌+◌, ◌-◌, ◌*◌, ◌∙◌, ℕ, refl, sym, ap, subst, arith, List, [], length, IsTrue, Option, Some, None}
-use Rattle.std.specs.Prelude.{Result, Ok, Err, IsErrOf, unwrap_or}
-use Rattle.lot_io.specs.Outside.{Fails, Finds, Misses, OnlyReads, RoseBy, Shelved}
+use Rattle.std.proofs.Common.{◌≡◌, ◌≤◌, ◌<◌, ◌+◌, ◌-◌, ◌∙◌, ℕ, refl, sym, ap, subst, arith, List, [], length, IsTrue, Option, Some, None}
+use Rattle.std.specs.Prelude.{Result, Err, IsErrOf, unwrap_or}
+use Rattle.lot_io.specs.Outside.{Fails, GrewBy, Misses, OnlyReads, RoseBy, Shelved}
 use Rattle.cert_lines.specs.declared.parts.Claim.{Claim}
 use Rattle.certificate.specs.declared.fault.CertTextFault.{CertTextFault}
 use Rattle.certificate.specs.declared.fault.CertTextFault.TheVariants as fault
@@ -18,7 +18,7 @@ use Rattle.cert_stream.specs.declared.lines.LineReader.{LineReader}
 use Rattle.cert_stream.proofs.Steps.{same_file, told_on}
 use Rattle.stream_check.specs.Faults.{of_claim}
 use Rattle.stream_check.specs.Passes.{IsRefusal, IsStopped}
-use Rattle.stream_check.specs.Streams.{IsStreamFault, IsTooLong, OfCertificate, never_refused, too_many}
+use Rattle.stream_check.specs.Streams.{IsStreamFault, IsTooLong, OfBytes, OfCertificate, WhenRead, never_refused, too_many}
 
 -- the bytes of a file that is there
 pub bytes_are : (shelf : Shelved) (name bytes : List ℕ) → shelf.file name ≡ Some bytes → bytes_of shelf name ≡ bytes
@@ -40,6 +40,7 @@ pub record AreCauses (name : List ℕ) (old new : Shelved) (result : Result Clai
   pub text : (f : CertTextFault) → IsErrOf result (claim.Text f) → IsTrue old.told → IsFileFault (old.file name) f
   pub plain : IsErrOf result (claim.Text fault.Memory) → ⊥
   pub within : WhenWhole result (IsTrue old.told → length (bytes_of old name) ≤ most_bytes)
+  pub given : WhenWhole result (IsTrue old.told → GrewBy (length (bytes_of old name)) old.given new.given)
   pub missing : IsErrOf result claim.Missing → Misses old new
   pub absent : IsErrOf result claim.Missing → IsTrue old.told → old.file name ≡ None
   pub failed : IsErrOf result claim.Failed → Fails old new
@@ -60,6 +61,19 @@ claim_fault name old new claim.Failed causes = (causes.failed refl).faults.0
 claim_fault name old new claim.TooLong causes = (causes.too_much refl, λ told. long_file (old.file name) (causes.too_long refl told))
 claim_fault name old new (claim.Text f) causes = text_fault name old new f causes
 claim_fault name old new claim.Memory causes = tt
+
+-- the whole file was given
+text_whole : (name : List ℕ) (old new : Shelved) (f : CertTextFault) → AreCauses name old new (Err (claim.Text f)) → IsTrue old.told → OfBytes (old.file name) (λ bytes. GrewBy (length bytes) old.given new.given)
+text_whole name old new f causes told =
+    let is = causes.text f refl told in
+    (is.bytes, is.is, short_enough old name is.bytes is.is (causes.within told), subst (λ bs. GrewBy (length bs) old.given new.given) (bytes_are old name is.bytes is.is) (causes.given told))
+
+pub claim_whole : (name : List ℕ) (old new : Shelved) (r : Result Claim StreamFault) (f : ClaimFault) → r ≡ Err (of_claim f) → AreCauses name old new (Err f) → WhenRead r (IsTrue old.told → OfBytes (old.file name) (λ bytes. GrewBy (length bytes) old.given new.given))
+claim_whole name old new r claim.Missing is causes = rw is tt
+claim_whole name old new r claim.Failed is causes = rw is tt
+claim_whole name old new r claim.TooLong is causes = rw is tt
+claim_whole name old new r (claim.Text f) is causes = rw is (text_whole name old new f causes)
+claim_whole name old new r claim.Memory is causes = rw is tt
 
 -- ---- after the pass that reads the claim, another one
 pub stream_weaker : (name : List ℕ) (old new : Shelved) (P : ℕ → Why → Type 0) (f : StreamFault) → IsStreamFault name old new never_refused f → IsStreamFault name old new P f
@@ -86,6 +100,6 @@ later_fault name old mid new at Q stream.Missing zero reads stopped refused =
 later_fault name old mid new at Q stream.Failed zero reads stopped refused = rose_on 1 old.faults mid.faults new.faults reads.faults stopped.cause.faults.0
 later_fault name old mid new at Q stream.TooLong zero reads stopped refused =
     (rose_on too_many old.given mid.given new.given reads.given (subst (λ k. RoseBy (most_bytes + 1 - k) mid.given new.given) zero stopped.cause.1), λ told. subst IsTooLong (same_file reads name) (long_file (mid.file name) (stopped.cause.2 (told_on reads told))))
-later_fault name old mid new at Q (stream.Text f) zero reads stopped refused = (stopped.cause, λ told. absurd (refused told).3.2)
+later_fault name old mid new at Q (stream.Text f) zero reads stopped refused = (stopped.cause.0, λ told. absurd (refused told).3.2)
 later_fault name old mid new at Q (stream.Rejected r) zero reads stopped refused = refused
 later_fault name old mid new at Q stream.Memory zero reads stopped refused = tt

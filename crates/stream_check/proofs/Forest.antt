@@ -1,5 +1,5 @@
 -- The trees that are left of a certificate's tree: what is found of their first node is found of the whole.
-use Rattle.std.proofs.Common.{◌≡◌, ◌≤◌, ◌<◌, ◌+◌, ◌⊎◌, ⊎_elim, ◌∙◌, ℕ, refl, inl, inr, sym, ap, subst, arith, List, [], ◌∷◌, ◌++◌, append_assoc, length, length-append, max}
+use Rattle.std.proofs.Common.{◌≡◌, ◌<◌, ◌+◌, ⊎_elim, ◌∙◌, ℕ, refl, inl, inr, ap, subst, arith, List, [], ◌∷◌, ◌++◌, append_assoc, length, length-append}
 use Rattle.lot_sizing.specs.Problem.{Problem}
 use Rattle.lin_rows.specs.declared.bound.Bound.{Bound}
 use Rattle.lin_rows.specs.declared.column.Column.{Column}
@@ -7,7 +7,6 @@ use Rattle.lin_rows.specs.Rows.{LinRow}
 use Rattle.cert_lines.specs.declared.limits.TheConstants.{MAX_BRANCHES}
 use Rattle.cert_lines.specs.declared.parts.Claim.{Claim}
 use Rattle.cert_lines.specs.Shapes.{EndLine, LeafShape}
-use Rattle.certificate.specs.Counts.{longest_path}
 use Rattle.certificate.specs.Shapes.{End, Split, TreeShape}
 use Rattle.certificate.specs.Values.{Values, leaf_values, tree_values}
 use Rattle.split_trees.specs.Paths.{at_least, at_most}

@@ -1,5 +1,5 @@
 -- The first three lines are those of the certificate whose text they begin.
-use Rattle.std.proofs.Common.{◌≡◌, ℕ, refl, sym, ap, subst, IsTrue, List, ◌++◌, length}
+use Rattle.std.proofs.Common.{◌≡◌, ℕ, refl, sym, ap, subst, IsTrue, List, length}
 use Rattle.lot_io.specs.Outside.{OnlyReads, Shelved}
 use Rattle.certificate.specs.Faults.{AreHeads}
 use Rattle.certificate.specs.Limits.{IsTextOf}

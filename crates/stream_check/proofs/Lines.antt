@@ -1,5 +1,5 @@
 -- What a line says of the unit that it begins.
-use Rattle.std.proofs.Common.{◌≡◌, ◌≢◌, ◌≤◌, ◌+◌, ◌∙◌, ℕ, ℤ, refl, sym, ap, subst, arith, List, [], ◌∷◌, ◌++◌, length, length-append, codes}
+use Rattle.std.proofs.Common.{◌≡◌, ◌≢◌, ℕ, ℤ, refl, sym, ap, subst, arith, List, [], ◌∷◌, ◌++◌, length, length-append, codes}
 use Rattle.lin_rows.specs.declared.column.Column.{Column}
 use Rattle.cert_lines.specs.declared.parts.Cut.{Cut}
 use Rattle.cert_lines.specs.declared.parts.Leaf.{Leaf}

@@ -1,5 +1,5 @@
 -- Parts, one after the other.
-use Rattle.std.proofs.Common.{◌≡◌, ◌<◌, ◌+◌, ◌∙◌, ℕ, refl, sym, ap, subst, arith, List, [], ◌∷◌, ◌++◌, append_assoc, append-nil, length, length-append}
+use Rattle.std.proofs.Common.{◌≡◌, ◌<◌, ◌∙◌, ℕ, refl, sym, ap, arith, List, [], ◌∷◌, ◌++◌, append_assoc, append-nil, length, length-append}
 use Rattle.lot_io.specs.Outside.{Shelved}
 use Rattle.cert_lines.specs.declared.parts.Part.{Part}
 use Rattle.cert_lines.specs.Shapes.{PartLine}

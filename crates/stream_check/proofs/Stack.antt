@@ -1,8 +1,7 @@
 -- The path to a node as the stack of a walk over a tree.
-use Rattle.std.proofs.Common.{◌≡◌, ◌≤◌, ◌<◌, ◌+◌, ◌⊎◌, ⊎_elim, ◌∙◌, ℕ, refl, inl, inr, sym, ap, subst, arith, List, [], ◌∷◌, ◌++◌, append_assoc, append-nil, true, false, ◌^◌, IsTrue, Some}
+use Rattle.std.proofs.Common.{◌≡◌, ◌≤◌, ◌<◌, ◌+◌, ◌⊎◌, ⊎_elim, ◌∙◌, ℕ, inl, inr, sym, ap, subst, arith, List, [], ◌∷◌, ◌++◌, append_assoc, append-nil, true, false, ◌^◌, IsTrue, Some}
 use Rattle.std.proofs.lemmas.Bool.{cases_lt}
 use Rattle.std.proofs.lemmas.List.Elements.{All-cons, All-nil, All-pop, All-push}
-use Rattle.std.specs.List.{All}
 use Rattle.lot_sizing.specs.Problem.{Problem}
 use Rattle.lot_sizing.specs.Plan.{IsFeasible, Plan}
 use Rattle.lin_rows.specs.declared.bound.Bound.{Bound}

@@ -1,5 +1,5 @@
 -- One node of a certificate's tree: what is left of the tree after it, or why it is refused.
-use Rattle.std.proofs.Common.{◌≡◌, ◌≤◌, ◌<◌, ◌+◌, ◌∙◌, ⊎_elim, ℕ, refl, sym, ap, subst, arith, Bool, true, List, [], ◌∷◌, ◌++◌, length}
+use Rattle.std.proofs.Common.{◌≡◌, ◌≤◌, ◌+◌, ◌∙◌, ⊎_elim, ℕ, sym, ap, subst, arith, true, List, [], ◌∷◌, ◌++◌, length}
 use Rattle.lot_io.specs.Outside.{Shelved}
 use Rattle.lot_sizing.specs.Problem.{Problem}
 use Rattle.lin_rows.specs.declared.bound.Bound.{Bound}
@@ -8,13 +8,12 @@ use Rattle.lin_rows.specs.Rows.{LinRow}
 use Rattle.cert_lines.specs.declared.limits.TheConstants.{MAX_BRANCHES}
 use Rattle.cert_lines.specs.declared.parts.Claim.{Claim}
 use Rattle.cert_lines.specs.declared.parts.Leaf.{Leaf}
-use Rattle.cert_lines.specs.Shapes.{EndLine, LeafShape, leaf_shape}
+use Rattle.cert_lines.specs.Shapes.{EndLine, leaf_shape}
 use Rattle.certificate.specs.Counts.{longest_path}
 use Rattle.certificate.specs.Shapes.{End, Split, TreeShape}
 use Rattle.certificate.specs.Values.{Values, leaf_values, tree_values}
 use Rattle.split_trees.specs.Ranges.{WithTotals}
 use Rattle.split_trees.specs.Trees.{low_path}
-use Rattle.cert_checker.specs.declared.fault.Why.{Why}
 use Rattle.cert_checker.specs.declared.fault.Why.TheVariants as why
 use Rattle.cert_checker.specs.Checks.{IsGoodLeaf, IsGoodTree, IsTreeFault, ground}
 use Rattle.cert_stream.specs.declared.lines.LineReader.{LineReader}

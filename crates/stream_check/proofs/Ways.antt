@@ -1,21 +1,21 @@
 -- One part of a pass after the other.
-use Rattle.std.proofs.Common.{◌≡◌, ◌≢◌, ◌≤◌, ◌+◌, ◌∙◌, ℕ, refl, sym, ap, subst, arith, List, ◌∷◌, ◌++◌, IsTrue}
+use Rattle.std.proofs.Common.{◌≡◌, ℕ, refl, ap, subst, arith, List, ◌∷◌}
 use Rattle.std.specs.Prelude.{Result, Ok, Err, IsErrAnd}
 use Rattle.lot_io.specs.Outside.{OnlyReads, Shelved}
 use Rattle.lot_io.specs.declared.files.ReadFault.{ReadFault}
 use Rattle.lot_io.specs.declared.files.ReadFault.TheVariants as file
-use Rattle.lot_io.proofs.Frames.{reads_on}
+use Rattle.lot_io.proofs.Frames.{finds_on, reads_on}
 use Rattle.cert_lines.specs.Shapes.{LineShape}
 use Rattle.cert_lines.specs.Line.{HasLine}
-use Rattle.certificate.specs.Values.{Values, value_text, values_text}
+use Rattle.certificate.specs.Values.{Values, values_text}
 use Rattle.cert_checker.specs.declared.fault.Why.{Why}
 use Rattle.cert_stream.specs.declared.lines.LineReader.{LineReader}
-use Rattle.cert_stream.specs.Reader.{GoesOn, IsBroken, IsCause, IsSound, rest_in}
+use Rattle.cert_stream.specs.Reader.{GoesOn, IsBroken, IsSound, rest_in}
 use Rattle.cert_stream.proofs.Steps.{broken_on, goes_on, stays, told_on}
 use Rattle.stream_check.specs.declared.fault.StreamFault.{StreamFault}
 use Rattle.stream_check.specs.declared.fault.StreamFault.TheVariants as stream
 use Rattle.stream_check.specs.Faults.{of_file}
-use Rattle.stream_check.specs.Passes.{Awaits, Gives, IsOn, IsRefusal, IsStopCause, IsStopped}
+use Rattle.stream_check.specs.Passes.{Awaits, IsOn, IsRefusal, IsStopCause, IsStopped}
 use Rattle.stream_check.specs.Streams.{never_refused}
 
 pub on_none : (name : List ℕ) (shelf : Shelved) (a : LineReader) → IsSound a → IsOn name shelf shelf a a
@@ -28,9 +28,9 @@ cause_on : {name : List ℕ} {o m n : Shelved} {a b : LineReader} → GoesOn nam
 cause_on on stream.Missing stopped = (broken_on on file.Missing (record { cause = stopped.cause; bound = stopped.bound })).cause
 cause_on on stream.Failed stopped = (broken_on on file.Failed (record { cause = stopped.cause; bound = stopped.bound })).cause
 cause_on on stream.TooLong stopped = (broken_on on file.TooLong (record { cause = stopped.cause; bound = stopped.bound })).cause
-cause_on on (stream.Text f) stopped = stopped.cause
-cause_on on (stream.Rejected r) stopped = tt
-cause_on on stream.Memory stopped = tt
+cause_on on (stream.Text f) stopped = (stopped.cause.0, finds_on on.found stopped.cause.1)
+cause_on on (stream.Rejected r) stopped = finds_on on.found stopped.cause
+cause_on on stream.Memory stopped = finds_on on.found stopped.cause
 
 -- what stops a later part stops the whole
 pub stopped_on : {name : List ℕ} {o m n : Shelved} {a b : LineReader} → IsOn name o m a b → (f : StreamFault) → IsStopped name b.at m n f → IsStopped name a.at o n f
@@ -45,7 +45,7 @@ pub broken_stops : {name : List ℕ} {at : ℕ} {old new : Shelved} (f : ReadFau
 broken_stops file.Missing broken reads = record { cause = broken.cause; bound = broken.bound; reads = reads }
 broken_stops file.Failed broken reads = record { cause = broken.cause; bound = broken.bound; reads = reads }
 broken_stops file.TooLong broken reads = record { cause = broken.cause; bound = broken.bound; reads = reads }
-broken_stops file.Memory broken reads = record { cause = tt; bound = broken.bound; reads = reads }
+broken_stops file.Memory broken reads = record { cause = broken.cause; bound = broken.bound; reads = reads }
 
 -- so does what was read
 pub on_stops : {name : List ℕ} {o m : Shelved} {a b : LineReader} → IsOn name o m a b → (f : StreamFault) → IsStopCause name a.at o m f → IsStopped name a.at o m f

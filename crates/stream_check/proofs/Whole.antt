@@ -1,8 +1,7 @@
 -- What the pieces of a certificate make together.
-use Rattle.std.proofs.Common.{◌≡◌, ◌≤◌, ◌+◌, ◌⊎◌, ◌∙◌, ℕ, inl, inr, refl, sym, ap, subst, arith, List, [], ◌∷◌, length, Option, Some, None}
+use Rattle.std.proofs.Common.{◌≡◌, ◌+◌, ℕ, inl, inr, refl, subst, arith, List, [], length, Option, Some, None}
 use Rattle.lot_sizing.specs.Problem.{Problem}
 use Rattle.lot_sizing.specs.Plan as terms
-use Rattle.lot_sizing.specs.Best.{IsBest}
 use Rattle.lot_sizing.specs.Totals.{AreLargestTotals}
 use Rattle.lot_model.specs.Views.{IsInstance}
 use Rattle.plan_rules.specs.declared.plan.Plan.{Plan}

@@ -1,6 +1,6 @@
 -- A pass over a certificate's file goes on, or stops.
-use Rattle.std.specs.Prelude.{◌≡◌, ◌≢◌, ◌≤◌, ◌+◌, ℕ, List, ◌++◌, Result, Ok, Err, IsTrue, ⊤}
-use Rattle.lot_io.specs.Outside.{OnlyReads, Shelved, piece_size}
+use Rattle.std.specs.Prelude.{◌≡◌, ◌≢◌, ◌≤◌, ◌+◌, ℕ, List, Result, Ok, Err, IsTrue, ⊤}
+use Rattle.lot_io.specs.Outside.{Finds, OnlyReads, Shelved, piece_size}
 use Rattle.lot_io.specs.declared.files.ReadFault.TheVariants as file
 use Rattle.certificate.specs.declared.fault.CertTextFault.TheVariants as text
 use Rattle.certificate.specs.Values.{AreLines, Values, values_text}
@@ -15,14 +15,14 @@ pub record IsOn (name : List ℕ) (old new : Shelved) (a b : LineReader) : Type 
   pub sound : IsSound b
   pub goes_on : GoesOn name old new a b
 
--- why a pass, which stood at this place, stops: the file can't be read on, or what was read isn't taken
+-- why a pass, which stood at this place, stops: the file can't be read on; or what was read isn't taken, and then no fetch has failed
 abbrev pub IsStopCause : List ℕ → ℕ → Shelved → Shelved → StreamFault → Type 0
 IsStopCause name at old new stream.Missing = IsCause name at old new file.Missing
 IsStopCause name at old new stream.Failed = IsCause name at old new file.Failed
 IsStopCause name at old new stream.TooLong = IsCause name at old new file.TooLong
-IsStopCause name at old new (stream.Text f) = f ≢ text.Memory
-IsStopCause name at old new (stream.Rejected r) = ⊤
-IsStopCause name at old new stream.Memory = ⊤
+IsStopCause name at old new (stream.Text f) = (f ≢ text.Memory) × Finds old new
+IsStopCause name at old new (stream.Rejected r) = Finds old new
+IsStopCause name at old new stream.Memory = IsCause name at old new file.Memory
 
 -- it has its cause, no more than one piece past the most bytes was given, and nothing was written
 pub record IsStopped (name : List ℕ) (at : ℕ) (old new : Shelved) (f : StreamFault) : Type 0 where

@@ -1,6 +1,6 @@
 -- What the file of a certificate holds, and why it may give nothing to go on with.
-use Rattle.std.specs.Prelude.{◌≡◌, ◌≢◌, ◌+◌, ◌-◌, ◌<◌, ◌^◌, ℕ, List, length, IsTrue, Option, Some, None, ⊤}
-use Rattle.lot_io.specs.Outside.{Rose, RoseBy, Shelved, piece_size}
+use Rattle.std.specs.Prelude.{◌≡◌, ◌≢◌, ◌+◌, ◌-◌, ◌<◌, ◌^◌, ℕ, List, length, IsTrue, Option, Some, None, Result, Ok, Err, ⊤}
+use Rattle.lot_io.specs.Outside.{Fails, Finds, Misses, Rose, RoseBy, Shelved, piece_size}
 use Rattle.certificate.specs.declared.fault.CertTextFault.TheVariants as text
 use Rattle.certificate.specs.Faults.{IsCertTextFault}
 use Rattle.certificate.specs.Limits.{IsTextOf}
@@ -39,6 +39,19 @@ IsStreamFault name old new P (stream.Text fault) =
     (fault ≢ text.Memory) × (IsTrue old.told → OfBytes (old.file name) (λ bytes. IsCertTextFault bytes fault))
 IsStreamFault name old new P (stream.Rejected r) = P r.line r.why
 IsStreamFault name old new P stream.Memory = ⊤
+
+-- how the shelf's counts of failures went: an answer raises none, and of the refusals only an absent file and a failed fetch do, each its own count alone, by one
+abbrev pub CountsOf : {A : Type 0} → Result A StreamFault → Shelved → Shelved → Type 0
+CountsOf (Ok a) old new = Finds old new
+CountsOf (Err stream.Missing) old new = Misses old new
+CountsOf (Err stream.Failed) old new = Fails old new
+CountsOf (Err _) old new = Finds old new
+
+-- what comes where the whole text decides: an answer, or a fault of the text
+abbrev pub WhenRead : {A : Type 0} → Result A StreamFault → Type 0 → Type 0
+WhenRead (Ok a) P = P
+WhenRead (Err (stream.Text f)) P = P
+WhenRead _ P = ⊤
 
 -- no certificate is refused where its claim alone is read
 abbrev pub never_refused : ℕ → Why → Type 0

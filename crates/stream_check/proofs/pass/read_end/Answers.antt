@@ -1,4 +1,4 @@
-use Rattle.std.proofs.Common.{◌≡◌, ◌≢◌, ◌∙◌, List, [], ◌∷◌, ℕ, rules, subst, sym}
+use Rattle.std.proofs.Common.{◌≡◌, ◌∙◌, List, [], ◌∷◌, ℕ, rules, subst, sym}
 use Rattle.cert_lines.specs.Shapes.{EndLine, line_shape}
 use Rattle.cert_stream.specs.declared.values.Value.{Value}
 use Rattle.cert_stream.specs.declared.values.Value.TheVariants as value
@@ -32,7 +32,7 @@ pub returns-in_default-clause-awaited : goal.returns-in_default-clause-awaited
 returns-in_default-clause-awaited g c = λ awaits. other_end c.in_ok-next_line.field-0 c.in_default.not-End (c.in_ok-next_line.ensures.awaited EndLine [] awaits).0
 
 pub returns-in_default-clause-stopped : goal.returns-in_default-clause-stopped
-returns-in_default-clause-stopped g c = on_stops c.in_ok-next_line.ensures.on (stream.Text (text.Shape c.args.reader.now.number)) (λ e. cc)
+returns-in_default-clause-stopped g c = on_stops c.in_ok-next_line.ensures.on (stream.Text (text.Shape c.args.reader.now.number)) (λ e. cc, c.in_ok-next_line.ensures.on.goes_on.found)
 
 pub returns-clause-awaited : goal.returns-clause-awaited
 returns-clause-awaited g c =

@@ -1,4 +1,4 @@
-use Rattle.std.proofs.Common.{◌≡◌, ◌<◌, ◌+◌, ◌++◌, ℕ, List, arith, drop, length, rules, slice_index_or, subst}
+use Rattle.std.proofs.Common.{◌≡◌, ◌<◌, ◌+◌, ◌++◌, List, arith, drop, length, rules, slice_index_or, subst}
 use Rattle.lot_io.specs.Outside.{Shelved}
 use Rattle.lot_sizing.specs.Plan.{IsFeasible, Plan}
 use Rattle.lin_rows.specs.Columns.{value_in}

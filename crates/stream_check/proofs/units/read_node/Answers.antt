@@ -1,9 +1,8 @@
-use Rattle.std.proofs.Common.{◌≡◌, ◌∙◌, ◌++◌, ℕ, List, [], ap, refl, rules, subst, sym}
+use Rattle.std.proofs.Common.{◌≡◌, ◌∙◌, ◌++◌, [], ap, refl, rules, sym}
 use Rattle.std.specs.Prelude.{FitsSigned}
 use mir.Syntax.{w128}
 use mir.Val.{of_z, to_z}
 use mir.Facts.{to_z-of_z}
-use Rattle.cert_lines.specs.declared.parts.Part.{Part}
 use Rattle.cert_lines.specs.declared.parts.Leaf.TheVariants as leaf
 use Rattle.cert_lines.specs.Shapes.{FarkasLeaf, LinearLeaf, PointLeaf, line_shape}
 use Rattle.certificate.specs.Shapes.{TreeShape}

@@ -1,10 +1,8 @@
-use Rattle.std.proofs.Common.{◌≡◌, ◌∙◌, List, ◌∷◌, ap, rules, subst, sym}
+use Rattle.std.proofs.Common.{◌≡◌, ◌∙◌, ◌∷◌, ap, rules, sym}
 use Rattle.cert_lines.specs.declared.parts.Part.{Part}
-use Rattle.cert_lines.specs.declared.line.CertLine.{CertLine}
-use Rattle.cert_lines.specs.declared.line.CertLine.TheVariants as line
 use Rattle.cert_lines.specs.Shapes.{PartLine, line_shape}
 use Rattle.certificate.specs.Values.{Values}
-use Rattle.stream_check.specs.Passes.{Awaits, Gives, IsRefusal}
+use Rattle.stream_check.specs.Passes.{Awaits, IsRefusal}
 use Rattle.stream_check.specs.Streams.{never_refused}
 use Rattle.stream_check.proofs.Lines.{other_part}
 use Rattle.stream_check.proofs.units.read_part.Goals.{in-Part, in_default}
