@@ -73,7 +73,7 @@ PassesAsRun m (Skipped cells) = ⊤
 PassesAsRun m (Passed pivot row column) = (p : Program) × IsBaseProgram m p × IsEndOf p (outcome.Passed pivot row column)
 
 -- ---- laws, of problems that have largest totals
--- there is one bound, and none where no point meets the rows
+-- there is at most one bound, and none where no point meets the rows
 pub record IsOne (m : Problem) : Type 0 where
   pub bound : (n k : ℕ) → IsBaseBound m n → IsBaseBound m k → n ≡ k
   pub apart : (n : ℕ) → IsBaseBound m n → HasNoBasePoint m → ⊥

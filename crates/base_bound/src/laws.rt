@@ -4,8 +4,8 @@ ghost use Rattle.base_bound.specs.Bounds.{BaseBoundsAreFloors, BaseBoundsAreOne,
 use lin_rows::plans_cost;
 use lot_sizing::totals_are_bounded;
 
-/// A problem has one base bound, and none where no point meets all base rows (`bound`). All programs of its base rows
-/// have the same number of cells (`cells`).
+/// A problem has at most one base bound, and none where no point meets all base rows (`bound`). All programs of its base
+/// rows have the same number of cells (`cells`).
 pub fn base_bounds_are_one()
     ensures bound { BaseBoundsAreOne }
     ensures cells { CellsAreOne }

@@ -1,13 +1,14 @@
 // Which range is split, and where.
-ghost use Rattle.std.specs.Prelude.{◌≡◌, ◌≤◌, ◌<◌, ◌+◌, ◌/◌, ℕ, IfSome, IsNone, IsSome, length};
+ghost use Rattle.std.specs.Prelude.{◌≡◌, ◌≤◌, ◌<◌, ◌+◌, ◌/◌, ℕ, IfSome, IsNone, IsSome, length, take};
 ghost use Rattle.branch_and_bound.specs.Ranges.{AreOrdered, IsAllowed, IsLowered, IsPoint, IsSplitAt, range_at, width};
 
 use crate::Range;
 
-/// The first place whose range leaves more than one number, counted from 0.
+/// The first place whose range leaves more than one number, counted from 0, if there is one.
 pub fn open_place(ranges: &[Range]) -> Option<usize>
     requires { AreOrdered ranges.now }
     ensures place { IfSome result (λ k. (k < length ranges.now) × ((range_at ranges.now k).low < (range_at ranges.now k).high)) }
+    ensures first { IfSome result (λ k. IsPoint (take k ranges.now)) }
     ensures point { IsNone result → IsPoint ranges.now }
     ensures open { IsSome result → IsPoint ranges.now → ⊥ }
 {

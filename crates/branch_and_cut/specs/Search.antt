@@ -94,12 +94,12 @@ pub record IsDecidedByOne (found : Found) : Type 0 where
   pub alone : found.nodes ≡ 1
   pub decided : IsDecided found.certificate.claim
 
--- where the relaxation has no point, one node says that no plan is feasible
+-- where the root says that the relaxation has no point, one node says that no plan is feasible
 pub record IsImpossibleByOne (found : Found) : Type 0 where
   pub alone : found.nodes ≡ 1
   pub none : found.certificate.claim ≡ Infeasible
 
--- what is said at the root is used: uncoupled and empty models take one node, and no amount below a closed one is claimed
+-- what is said at the root is used: after Uncoupled and after Empty there is one node, and no amount below a closed one is claimed
 abbrev pub UsesRoot : Found → RootSays → Type 0
 UsesRoot found root.Uncoupled = IsDecidedByOne found
 UsesRoot found (root.Skipped cells) = ⊤

@@ -130,7 +130,7 @@ fn alone(
     searched(alloc, instance, ranges, budget, first, said, apart)
 }
 
-// What is found of a model whose relaxation has no point.
+// What is found of a model of which the root says that its relaxation has no point.
 fn impossible(
     instance: &Instance,
     ranges: &Ranges,
@@ -194,7 +194,8 @@ fn answer(
 ///
 /// Over the whole ranges all holds that `search_all` promises (`whole`).
 ///
-/// The error is that memory ran out. It takes memory for a tableau and for the tree with its leaves.
+/// The error is that memory ran out. It takes memory for a tableau and for the tree with its leaves. A tree of more than
+/// 2^45 nodes is given up with the same error.
 pub fn search(
     alloc: Global,
     instance: &Instance,
@@ -227,8 +228,8 @@ pub fn search(
 /// Searches a best plan of a model, over all ranges, and proves what is found: the certificate is accepted with the plan.
 ///
 /// `budget` is the most nodes that the certificate's tree may have, branches and leaves. `first` is a plan to begin
-/// with: the plan in the answer, if there is one, costs no more than it, and no more than the own-period plan where that
-/// is feasible.
+/// with: there is one in the answer then, which costs no more. Where the own-period plan is feasible there is one too,
+/// which costs no more than that.
 ///
 /// | Claim | Where |
 /// |---|---|
@@ -240,10 +241,13 @@ pub fn search(
 /// that says it, some point of the relaxation without cuts on the path to it costs no more, or that relaxation wasn't
 /// found, for the exact cause that `path_relaxation` names, or the root's program was too large to be tried.
 ///
-/// An uncoupled model takes one node, and so does a model whose relaxation has no point. A budget of about twice the
-/// number of all choices of quantities and setups decides every model whose paths are short enough.
+/// An uncoupled model takes one node, and so does a model of which the root says that its relaxation has no point
+/// (`Empty`). A root that is skipped, stopped or passed doesn't say so, and then one node isn't promised. A budget of
+/// about twice the number of all choices of quantities and setups decides every model whose largest totals and setups
+/// have at most `MAX_BRANCHES` binary digits over all items and periods.
 ///
-/// The error is that memory ran out. It takes memory for a tableau and for the tree with its leaves.
+/// The error is that memory ran out. It takes memory for a tableau and for the tree with its leaves. A tree of more than
+/// 2^45 nodes is given up with the same error.
 pub fn search_all(
     alloc: Global,
     instance: &Instance,

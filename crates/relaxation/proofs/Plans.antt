@@ -1,4 +1,4 @@
--- Plans are points of the relaxation, and there is one closed value.
+-- Plans are points of the relaxation, and there is at most one closed value.
 use Rattle.std.proofs.Common.{◌≤◌, ◌<◌, ◌+◌, ⊎_elim, ℕ, refl, arith, [], ◌∷◌}
 use Rattle.std.proofs.lemmas.Bool.{cases_lt}
 use Rattle.std.proofs.Math.Nat.{mul-le-mul_right}
@@ -37,7 +37,7 @@ floors relaxed m rank total weight some ranks totals weights c closed p f =
 pub impossible : PlansAreRelaxed → (m : Problem) (rank total : ℕ → ℕ) (weight : ℕ → ℕ → ℕ) → 1 ≤ m.periods → IsRanking m rank → AreLargestTotals m total → AreWeights (bill_of m) weight → IsEmptied m total weight → IsImpossible m
 impossible relaxed m rank total weight some ranks totals weights none p f = none (whole_point (value_in p)) (relaxed m rank total weight some ranks totals weights p f).0
 
--- ---- one closed value
+-- ---- at most one closed value
 module _ (m : Problem) (total : ℕ → ℕ) (weight : ℕ → ℕ → ℕ) where
   at_most : (c d : ℕ) → IsClosedValue m total weight c → IsClosedValue m total weight d → d ≤ c
   at_most c d one other =

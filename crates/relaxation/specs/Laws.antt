@@ -1,4 +1,4 @@
--- What the relaxation says of plans, and that it is one.
+-- What the relaxation says of plans, and that it is one whichever largest totals and weights are taken.
 use Rattle.std.specs.Prelude.{◌≡◌, ℕ}
 use Rattle.lot_sizing.specs.Problem.{Problem}
 use Rattle.lot_sizing.specs.Plan.{Plan, IsFeasible, cost}
@@ -22,7 +22,7 @@ ClosedValuesAreFloors = OfProblems (λ m total weight. (c : ℕ) → IsClosedVal
 abbrev pub EmptyIsImpossible : Type 0
 EmptyIsImpossible = OfProblems (λ m total weight. IsEmptied m total weight → IsImpossible m)
 
--- a relaxation closes to one value, and has a point then
+-- a relaxation closes to at most one value, and has a point then
 pub record IsOne (m : Problem) (total : ℕ → ℕ) (weight : ℕ → ℕ → ℕ) : Type 0 where
   pub value : (c d : ℕ) → IsClosedValue m total weight c → IsClosedValue m total weight d → c ≡ d
   pub apart : (c : ℕ) → IsClosedValue m total weight c → IsEmptied m total weight → ⊥

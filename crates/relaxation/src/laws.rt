@@ -32,7 +32,7 @@ pub fn empty_is_impossible()
     plans_are_relaxed();
 }
 
-/// A relaxation closes to one value, and one that closes to a value has a point.
+/// A relaxation closes to at most one value, and one that closes to a value has a point.
 pub fn closed_values_are_one()
     ensures { ClosedValuesAreOne }
 {}

@@ -11,9 +11,9 @@
 //!
 //! Each law is the contract of a function that does nothing. `plans_are_relaxed` says that a feasible plan is a
 //! point of the relaxation, so that no plan costs less than the closed value (`closed_values_are_floors`), and that
-//! where the relaxation has no point there is no plan (`empty_is_impossible`). `closed_values_are_one` and
-//! `relaxations_are_one` say that there is one closed value. `worked_is_closed` shows a problem whose relaxation
-//! closes to 20.
+//! where the relaxation has no point there is no plan (`empty_is_impossible`). `closed_values_are_one` says that there
+//! is at most one closed value, and none where there is no point; `relaxations_are_one` that it is the same whichever
+//! largest totals and weights are taken. `worked_is_closed` shows a problem whose relaxation closes to 20.
 #![tactic(auto)]
 
 mod laws;
