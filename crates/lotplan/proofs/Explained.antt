@@ -3,7 +3,7 @@ use Rattle.std.proofs.Common.{◌≡◌, ◌≢◌, ◌≤◌, ◌∙◌, ◌⊎
 use Rattle.std.specs.Prelude.{Result, Ok, Err, IfOk, OnErr}
 use Rattle.std.specs.declared.alloc.AllocError.{AllocError}
 use Rattle.lot_draft.specs.declared.fault.ModelFault.{ModelFault}
-use Rattle.lot_io.specs.Outside.{GrewBy, OnlyReads, Printed, Rose, Shelved}
+use Rattle.lot_io.specs.Outside.{GrewBy, OnlyReads, OnlyWrites, Printed, Rose, Shelved}
 use Rattle.lotplan.specs.declared.said.Said.{Said}
 use Rattle.lotplan.specs.declared.status.Status.{Status}
 use Rattle.lotplan.specs.declared.status.Status.TheVariants.{Done, NoCommand}
@@ -288,10 +288,9 @@ pub no_command : (asked : Option Request) (code : ℕ) (old new : Shelved) (out_
 no_command asked code old new out_old out_new run is = no_command_by asked code old new out_old out_new (ends asked code old new out_old out_new run (λ e. omega (arith, e, is)) (λ e. omega (arith, e, is))) is
 
 -- words that the parse takes and that are no command are refused by this line
-pub refused_words : (asked : Option Request) (words : List (List ℕ)) (code : ℕ) (old new : Shelved) (out_old out_new : Printed) (r : Result Said AllocError) → IsRun asked code old new out_old out_new → (asked ≡ None → AreTaken words → IfOk r (IsSaid refused_line NoCommand)) → Ends r code out_old out_new → code ≡ 4 → AreTaken words → Gains refused_line out_old out_new
-refused_words asked words code old new out_old out_new (Ok said) run says done four taken =
-    (printed refused_line NoCommand code out_old out_new (prints_as refused_line NoCommand said code out_old out_new (says (no_command asked code old new out_old out_new run four).is taken) done) (λ e. omega (arith, e, four))).1
-refused_words asked words code old new out_old out_new (Err e) run says done four taken = absurd (omega (arith, done.0, four))
+pub refused_words : (asked : Option Request) (words : List (List ℕ)) (code : ℕ) (out_old out_new : Printed) (r : Result Said AllocError) → (asked ≡ None → AreTaken words → IfOk r (IsSaid refused_line NoCommand)) → Ends r code out_old out_new → asked ≡ None → AreTaken words → (code ≡ 10) ⊎ Prints refused_line NoCommand code out_old out_new
+refused_words asked words code out_old out_new (Ok said) says done none taken = inr (prints_as refused_line NoCommand said code out_old out_new (says none taken) done)
+refused_words asked words code out_old out_new (Err e) says done none taken = inl done.0
 
 -- ---- files that give nothing to go on with
 abbrev SomeStop : Option Request → ℕ → Shelved → Shelved → Printed → Printed → Type 0
@@ -543,6 +542,13 @@ made_others_by code old new out_old out_new seed items periods m (runs (answer, 
 pub generate_others : (asked : Option Request) (code : ℕ) (old new : Shelved) (out_old out_new : Printed) → IsRun asked code old new out_old out_new → (seed items periods : ℕ) (m : List ℕ) → asked ≡ Some (generating seed items periods m) → StartsAtMost m old new
 generate_others asked code old new out_old out_new run seed items periods m is = made_others_by code old new out_old out_new seed items periods m (subst (λ a. IsRun a code old new out_old out_new) is run)
 
+made_only_by : (code : ℕ) (old new : Shelved) (out_old out_new : Printed) (seed items periods : ℕ) (m : List ℕ) → IsRun (Some (generating seed items periods m)) code old new out_old out_new → OnlyWrites m old new
+made_only_by code old new out_old out_new seed items periods m (ran_out x) = made.same_writes m old new x.left
+made_only_by code old new out_old out_new seed items periods m (runs (answer, x, done)) = made.only_writes_at seed items periods m code old new answer x
+
+pub generate_only : (asked : Option Request) (code : ℕ) (old new : Shelved) (out_old out_new : Printed) → IsRun asked code old new out_old out_new → (seed items periods : ℕ) (m : List ℕ) → asked ≡ Some (generating seed items periods m) → OnlyWrites m old new
+generate_only asked code old new out_old out_new run seed items periods m is = made_only_by code old new out_old out_new seed items periods m (subst (λ a. IsRun a code old new out_old out_new) is run)
+
 judging_by : (code : ℕ) (old new : Shelved) (out_old out_new : Printed) (m p : List ℕ) → IsRun (Some (judging m p)) code old new out_old out_new → OnlyReads old new
 judging_by code old new out_old out_new m p (ran_out x) = x.left
 judging_by code old new out_old out_new m p (runs (answer, x, reads, done)) = reads
@@ -646,7 +652,7 @@ checks_by one asked code old new out_old out_new m p c budget apart is x done t 
     let (answer, why, number, lines) = subst (λ a. EndsAs a code old new out_old out_new) is x in
     let (claim, all) = planned.accepted_at m p c budget code old new apart t answer why number done in
     let zero : CallFor (Some (checking m p c)) new.file 0 = checked.accepted_called m p c 0 new claim all refl in
-    record { zero = zero; alone = λ status calls. ⊎_elim (λ same. same) (λ may. absurd may) (one (Some (checking m p c)) new.file status 0 calls zero) }
+    record { zero = zero; alone = λ status calls. ⊎_elim (λ same. same) (λ may. absurd may.0) (one (Some (checking m p c)) new.file status 0 calls zero) }
 
 pub checks : StatusesAreOne → (asked : Option Request) (code : ℕ) (old new : Shelved) (out_old out_new : Printed) → ((a : Request) → asked ≡ Some a → IsAllowed a) → IsRun asked code old new out_old out_new → (m p c : List ℕ) (budget : ℕ) → asked ≡ Some (planning m p c budget) → EndsSearch code → IsTrue old.told → CallsForZero new.file m p c
 checks one asked code old new out_old out_new allowed run m p c budget is done t =

@@ -1,6 +1,6 @@
 -- What `gen` leaves, by its answer.
-use Rattle.std.proofs.Common.{◌≡◌, ◌≢◌, ℕ, List, Some, IsTrue, refl, subst, arith}
-use Rattle.lot_io.specs.Outside.{GrewBy, OnlyReads, Printed, Shelved}
+use Rattle.std.proofs.Common.{◌≡◌, ◌≢◌, ◌≤◌, ℕ, List, Some, IsTrue, refl, sym, subst, arith}
+use Rattle.lot_io.specs.Outside.{GrewBy, OnlyReads, OnlyWrites, Printed, Shelved}
 use Rattle.command_line.specs.Words.{generating}
 use Rattle.lotplan.specs.Status.{code_of}
 use Rattle.lotplan.specs.Planning.{StartsAtMost, unwritten_line}
@@ -43,6 +43,23 @@ module _ (seed items periods : ℕ) (m : List ℕ) (code : ℕ) (old new : Shelv
   pub others_at : (answer : GenerateAnswer) → GenerateExplains seed items periods m old new answer → StartsAtMost m old new × (new.told ≡ old.told)
   others_at (written file) x = (starts_at_most m old new x.2, x.2.told)
   others_at (unwritten file) x = (starts_at_most m old new x.2, x.2.told)
+
+  pub only_writes_at : (answer : GenerateAnswer) → GenerateExplains seed items periods m old new answer → OnlyWrites m old new
+  only_writes_at (written file) x = x.3
+  only_writes_at (unwritten file) x = x.3
+
+-- what shows the same was only written
+pub same_writes : (m : List ℕ) (old new : Shelved) → new ≡ old → OnlyWrites m old new
+same_writes m old new same = subst (λ s. OnlyWrites m old s) (sym same) (record {
+  told = refl;
+  others = λ t other apart. refl;
+  starts = omega arith;
+  appends = omega arith;
+  write_faults = omega arith;
+  faults = refl;
+  misses = refl;
+  given = refl;
+})
 
 -- `gen` has the numbers 0 and 8 alone
 pub record IsGenerating (code : ℕ) : Type 0 where

@@ -37,14 +37,18 @@ use Rattle.lotplan.specs.Laws.{MayBeUndecided}
 use Rattle.lotplan.specs.Run.{CallFor}
 use Rattle.lotplan.proofs.Certified.{IsMeant, given_call, meant, planned_call}
 
-problem_one : (m : Problem) (budget s t : ℕ) → ProblemCallsFor m budget s → ProblemCallsFor m budget t → (s ≡ t) ⊎ MayBeLeft m budget
+-- one of two statuses is that of what was left undecided
+abbrev OneIsTwo : ℕ → ℕ → Type 0
+OneIsTwo s t = (s ≡ 2) ⊎ (t ≡ 2)
+
+problem_one : (m : Problem) (budget s t : ℕ) → ProblemCallsFor m budget s → ProblemCallsFor m budget t → (s ≡ t) ⊎ (MayBeLeft m budget × OneIsTwo s t)
 problem_one m budget s t (inl a) (inl b) = inl (a.0 ∙ sym b.0)
 problem_one m budget s t (inl (is, p, feasible)) (inr (inl b)) = absurd (b.1 p feasible)
-problem_one m budget s t (inl a) (inr (inr b)) = inr b.1
+problem_one m budget s t (inl a) (inr (inr b)) = inr (b.1, inr b.0)
 problem_one m budget s t (inr (inl a)) (inl (is, p, feasible)) = absurd (a.1 p feasible)
 problem_one m budget s t (inr (inl a)) (inr (inl b)) = inl (a.0 ∙ sym b.0)
-problem_one m budget s t (inr (inl a)) (inr (inr b)) = inr b.1
-problem_one m budget s t (inr (inr a)) other = inr a.1
+problem_one m budget s t (inr (inl a)) (inr (inr b)) = inr (b.1, inr b.0)
+problem_one m budget s t (inr (inr a)) other = inr (a.1, inl a.0)
 
 -- no bytes mean two problems, or a problem and a fault
 one_problem : (bytes : List ℕ) (m n : Problem) → BytesMean bytes (Ok m) → BytesMean bytes (Ok n) → m ≡ n
@@ -53,7 +57,7 @@ one_problem bytes m n a b = let same = bytes_one NEWEST_VERSION bytes (Ok m) (Ok
 no_fault : (bytes : List ℕ) (m : Problem) (f : ModelFault) → BytesMean bytes (Ok m) → BytesMean bytes (Err f) → ⊥
 no_fault bytes m f a b = let same = bytes_one NEWEST_VERSION bytes (Ok m) (Err f) a b in cc same
 
-file_call : (file : Option (List ℕ)) (budget s t : ℕ) → FileCallsFor file budget s → FileCallsFor file budget t → (s ≡ t) ⊎ MayLeave file budget
+file_call : (file : Option (List ℕ)) (budget s t : ℕ) → FileCallsFor file budget s → FileCallsFor file budget t → (s ≡ t) ⊎ (MayLeave file budget × OneIsTwo s t)
 file_call None budget s t a b = inl (a ∙ sym b)
 file_call (Some bytes) budget s t (inl a) (inl b) = inl (a.1 ∙ sym b.1)
 file_call (Some bytes) budget s t (inl a) (inr b) = absurd (omega (arith, a.0, b.0))
@@ -64,7 +68,7 @@ file_call (Some bytes) budget s t (inr (short, inl (m, reads, calls))) (inr (als
 file_call (Some bytes) budget s t (inr (short, inl (m, reads, calls))) (inr (also, inl (n, too, other))) =
     ⊎_elim
     (λ same. inl same)
-    (λ left. inr (m, reads, left))
+    (λ left. inr ((m, reads, left.0), left.1))
     (problem_one m budget s t calls (subst (λ k. ProblemCallsFor k budget t) (one_problem bytes n m too reads) other))
 
 -- a problem that bytes mean has a period
@@ -265,22 +269,22 @@ module _ (laws : AreLaws) (m : Problem) (known : IsMeant m) where
       let total = known.totals in
       (laws.bounds m total.0 total.1).apart n some.bound none.none
 
-  bounded_call : (s t : ℕ) → BoundedCallsFor m s → BoundedCallsFor m t → (s ≡ t) ⊎ RunPasses m
+  bounded_call : (s t : ℕ) → BoundedCallsFor m s → BoundedCallsFor m t → (s ≡ t) ⊎ (RunPasses m × OneIsTwo s t)
   bounded_call s t (inl (a, is)) (inl (b, too)) = inl (is ∙ sym too)
   bounded_call s t (inl (a, is)) (inr (inl (b, too))) = absurd (bound_or_none a.0 a.1 b)
   bounded_call s t (inl (a, is)) (inr (inr (inl (b, too)))) = absurd (few_or_many a.1.few b)
-  bounded_call s t (inl (a, is)) (inr (inr (inr (b, too)))) = inr b
+  bounded_call s t (inl (a, is)) (inr (inr (inr (b, too)))) = inr (b, inr too)
   bounded_call s t (inr (inl (a, is))) (inl (b, too)) = absurd (bound_or_none b.0 b.1 a)
   bounded_call s t (inr (inl (a, is))) (inr (inl (b, too))) = inl (is ∙ sym too)
   bounded_call s t (inr (inl (a, is))) (inr (inr (inl (b, too)))) = absurd (few_or_many a.few b)
-  bounded_call s t (inr (inl (a, is))) (inr (inr (inr (b, too)))) = inr b
+  bounded_call s t (inr (inl (a, is))) (inr (inr (inr (b, too)))) = inr (b, inr too)
   bounded_call s t (inr (inr (inl (a, is)))) (inl (b, too)) = absurd (few_or_many b.1.few a)
   bounded_call s t (inr (inr (inl (a, is)))) (inr (inl (b, too))) = absurd (few_or_many b.few a)
   bounded_call s t (inr (inr (inl (a, is)))) (inr (inr (inl (b, too)))) = inl (is ∙ sym too)
-  bounded_call s t (inr (inr (inl (a, is)))) (inr (inr (inr (b, too)))) = inr b
-  bounded_call s t (inr (inr (inr (a, is)))) other = inr a
+  bounded_call s t (inr (inr (inl (a, is)))) (inr (inr (inr (b, too)))) = inr (b, inr too)
+  bounded_call s t (inr (inr (inr (a, is)))) other = inr (a, inl is)
 
-bound_call : AreLaws → (file : Option (List ℕ)) (s t : ℕ) → BoundCallsFor file s → BoundCallsFor file t → (s ≡ t) ⊎ MayPass file
+bound_call : AreLaws → (file : Option (List ℕ)) (s t : ℕ) → BoundCallsFor file s → BoundCallsFor file t → (s ≡ t) ⊎ (MayPass file × OneIsTwo s t)
 bound_call laws None s t a b = inl (a ∙ sym b)
 bound_call laws (Some bytes) s t (inl a) (inl b) = inl (a.1 ∙ sym b.1)
 bound_call laws (Some bytes) s t (inl a) (inr b) = absurd (omega (arith, a.0, b.0))
@@ -292,10 +296,10 @@ bound_call laws (Some bytes) s t (inr (short, inl (m, reads, calls))) (inr (also
     let known = meant laws.totals laws.weights bytes m reads in
     ⊎_elim
     (λ same. inl same)
-    (λ passes. inr (m, reads, passes))
+    (λ passes. inr ((m, reads, passes.0), passes.1))
     (bounded_call laws m known s t calls (subst (λ k. BoundedCallsFor k t) (one_problem bytes n m too reads) other))
 
-pub call_one : AreLaws → (asked : Option Request) (file : Files) (s t : ℕ) → CallFor asked file s → CallFor asked file t → (s ≡ t) ⊎ MayBeUndecided asked file
+pub call_one : AreLaws → (asked : Option Request) (file : Files) (s t : ℕ) → CallFor asked file s → CallFor asked file t → (s ≡ t) ⊎ (MayBeUndecided asked file × OneIsTwo s t)
 call_one laws None file s t a b = inl (a ∙ sym b)
 call_one laws (Some version) file s t a b = inl (a ∙ sym b)
 call_one laws (Some helping) file s t a b = inl (a ∙ sym b)

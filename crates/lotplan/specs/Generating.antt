@@ -1,6 +1,6 @@
 -- What `gen` answers, why, and what it leaves.
 use Rattle.std.specs.Prelude.{◌≡◌, ℕ, true, List, IsTrue, Option, Some, Ok}
-use Rattle.lot_io.specs.Outside.{Files, Printed, Rose, Shelved}
+use Rattle.lot_io.specs.Outside.{Files, OnlyWrites, Printed, Rose, Shelved}
 use Rattle.instance_reader.specs.Document.{document_of}
 use Rattle.instance_reader.specs.Model.{BytesMean}
 use Rattle.first_plans.specs.OwnPeriod.{HasOwnPeriod}
@@ -44,8 +44,9 @@ pub record WritesGenerated (after : Files) (seed items periods : ℕ) (model_fil
 -- why the generating of a model ends in this answer, and what it leaves
 abbrev pub GenerateExplains : (seed items periods : ℕ) → List ℕ → Shelved → Shelved → GenerateAnswer → Type 0
 GenerateExplains seed items periods m old new (written file) =
-    (file ≡ m) × (IsTrue old.told → WritesGenerated new.file seed items periods m) × StartsOnly m old new
-GenerateExplains seed items periods m old new (unwritten file) = (file ≡ m) × Rose old.write_faults new.write_faults × StartsOnly m old new
+    (file ≡ m) × (IsTrue old.told → WritesGenerated new.file seed items periods m) × StartsOnly m old new × OnlyWrites m old new
+GenerateExplains seed items periods m old new (unwritten file) =
+    (file ≡ m) × Rose old.write_faults new.write_faults × StartsOnly m old new × OnlyWrites m old new
 
 -- what is said is an answer that has its cause
 abbrev pub GenerateSays : (seed items periods : ℕ) → List ℕ → Shelved → Shelved → Said → Type 0

@@ -1,4 +1,4 @@
--- What a command calls for is one status, and there is one.
+-- What a command calls for is one status, but for a 2 where it may be left undecided, and there is one.
 use Rattle.std.specs.Prelude.{◌≡◌, ◌⊎◌, ℕ, Option, Some, None}
 use Rattle.lot_io.specs.Outside.{Files}
 use Rattle.lotplan.specs.Bounding.{MayPass}
@@ -22,7 +22,8 @@ MayBeUndecided (Some (bounding m)) file = MayPass (file m)
 
 abbrev pub StatusesAreOne : Type 0
 StatusesAreOne =
-    (asked : Option Request) (file : Files) (status other : ℕ) → CallFor asked file status → CallFor asked file other → (status ≡ other) ⊎ MayBeUndecided asked file
+    (asked : Option Request) (file : Files) (status other : ℕ) → CallFor asked file status → CallFor asked file other
+    → (status ≡ other) ⊎ (MayBeUndecided asked file × ((status ≡ 2) ⊎ (other ≡ 2)))
 
 -- and all words and files call for some
 abbrev pub StatusesExist : Type 0

@@ -181,7 +181,7 @@ pub record HasNone (problem : Problem) : Type 0 where
   pub impossible : IsUncoupled problem → IsImpossible problem
 
 -- ---- what is written
--- only the file of this name was touched, and it was started once
+-- one start was made; where told, all files but the one of this name stay
 pub record StartsOnly (name : List ℕ) (old new : Shelved) : Type 0 where
   pub told : new.told ≡ old.told
   pub others : IsTrue old.told → SameElsewhere name old.file new.file
@@ -191,19 +191,19 @@ pub record StartsOnly (name : List ℕ) (old new : Shelved) : Type 0 where
 abbrev pub SameBesides : List ℕ → List ℕ → Files → Files → Type 0
 SameBesides plan_file certificate_file old new = (other : List ℕ) → other ≢ plan_file → other ≢ certificate_file → new other ≡ old other
 
--- only the files of these names were touched, and each was started once
+-- two starts were made; where told, all files but those of these two names stay
 pub record StartsBoth (plan_file certificate_file : List ℕ) (old new : Shelved) : Type 0 where
   pub told : new.told ≡ old.told
   pub others : IsTrue old.told → SameBesides plan_file certificate_file old.file new.file
   pub starts : GrewBy 2 old.starts new.starts
 
--- the file has these bytes, no write failed, and nothing else was touched
+-- no write failed, and one start was made; where told, the file has these bytes, and all others stay
 pub record IsWritten (name bytes : List ℕ) (old new : Shelved) : Type 0 where
   pub written : IsTrue old.told → new.file name ≡ Some bytes
   pub fine : new.write_faults ≡ old.write_faults
   pub touches : StartsOnly name old new
 
--- it could not be written, and nothing else was touched
+-- a write failed, and one start was made; where told, all files but the one of this name stay
 pub record IsUnwritten (name : List ℕ) (old new : Shelved) : Type 0 where
   pub failed : Rose old.write_faults new.write_faults
   pub touches : StartsOnly name old new
@@ -337,12 +337,12 @@ pub record FailsToWrite (asked : Option Request) (old new : Shelved) (out_old ou
   pub left : FailsAt (λ P. IsTrue old.told → OfModel old.file model_file P) plan_file certificate_file old new file
   pub line : Gains (unwritten_line file) out_old out_new
 
--- one file was started once at most, and all others stay
+-- one start was made at most; where told, all files but the one of this name stay
 pub record StartsAtMost (name : List ℕ) (old new : Shelved) : Type 0 where
   pub others : IsTrue old.told → SameElsewhere name old.file new.file
   pub starts : new.starts ≤ old.starts + 1
 
--- two files were started twice at most in all, and all others stay
+-- two starts were made at most; where told, all files but those of these two names stay
 pub record StartsAtMostBoth (plan_file certificate_file : List ℕ) (old new : Shelved) : Type 0 where
   pub others : IsTrue old.told → SameBesides plan_file certificate_file old.file new.file
   pub starts : new.starts ≤ old.starts + 2

@@ -105,18 +105,18 @@ pub record CallsForZero (after : Files) (model_file plan_file certificate_file :
   pub alone : (status : ℕ) → CallFor (Some (checking model_file plan_file certificate_file)) after status → status ≡ 0
 
 -- ---- how many bytes are read
--- none for words that are no command, for the version and help, and where models are generated; two files within the limit, one where a model is bounded, and where a certificate is checked three passes over its file besides
+-- none for words that are no command, for the version and help, and where models are generated; one file within the limit where a model is planned, upgraded or bounded, and two where a plan is judged or reported on, or a certificate is checked, with three passes over its file besides
 abbrev pub most_given : Option Request → ℕ
 most_given None = 0
 most_given (Some version) = 0
 most_given (Some helping) = 0
-most_given (Some (planning m p c budget)) = 2 * (file_limit + piece_size)
+most_given (Some (planning m p c budget)) = file_limit + piece_size
 most_given (Some (judging m p)) = 2 * (file_limit + piece_size)
 most_given (Some (checking m p c)) = 2 * (file_limit + piece_size) + 3 * pass_size
 most_given (Some (reporting m p)) = 2 * (file_limit + piece_size)
 most_given (Some (generating seed items periods m)) = 0
 most_given (Some (demonstrating seed)) = 0
-most_given (Some (upgrading m n)) = 2 * (file_limit + piece_size)
+most_given (Some (upgrading m n)) = file_limit + piece_size
 most_given (Some (bounding m)) = file_limit + piece_size
 
 -- no file is read or written: for words that are no command, the version, help, and where models are planned in memory

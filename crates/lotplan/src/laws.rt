@@ -10,8 +10,8 @@ use existence::{
     bytes_mean_something, plans_are_decided, plans_are_judged, records_mean_something,
 };
 
-/// No words and files call for two statuses, but for `bound` where a number of the exact run doesn't fit 128 bits: 2 may
-/// then be called for beside 0 or 1.
+/// No words and files call for two statuses, but for `plan` where the search may leave a coupled model open, and for
+/// `bound` where a number of the exact run doesn't fit 128 bits: one of the two is 2 then.
 pub fn statuses_are_one()
     ensures { StatusesAreOne }
 {

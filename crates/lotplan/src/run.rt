@@ -1,10 +1,10 @@
 // The top call.
 ghost use Rattle.std.specs.Prelude.{◌≡◌, ◌≢◌, ◌⊎◌, ◌≤◌, ◌+◌, ℕ, List, IsTrue, Some, None, map, string_bytes, IfOk, OnErr};
 ghost use Rattle.lot_draft.specs.declared.fault.ModelFault.{ModelFault};
-ghost use Rattle.lot_io.specs.Outside.{GrewBy, OnlyReads, Rose};
+ghost use Rattle.lot_io.specs.Outside.{GrewBy, OnlyReads, OnlyWrites, Rose};
 ghost use Rattle.command_line.specs.Meant.{asked_by};
 ghost use Rattle.command_line.specs.Words.{AreTaken, IsAllowed, bounding, checking, command_of, demonstrating, generating, judging, planning, reporting, upgrading};
-ghost use Rattle.lotplan.specs.Saying.{Ends, Gains, IsSaid};
+ghost use Rattle.lotplan.specs.Saying.{Ends, IsSaid, Prints};
 ghost use Rattle.lotplan.specs.declared.status.Status.TheVariants.{NoCommand};
 ghost use Rattle.lotplan.specs.Reading.{missing, refused, too_long, unread};
 ghost use Rattle.lotplan.specs.Planning.{PlansBest, StartsAtMost, StartsAtMostBoth, StartsBoth, StartsOnly};
@@ -112,7 +112,8 @@ pub fn run<S: Shelf, K: Sink>(alloc: Global, words: &[String], shelf: &mut S, ou
     ensures faulty { result ≡ 3 → IsTrue (S.shown shelf.old).told
         → IsFaulty (command_of (map string_bytes words.now)) (S.shown shelf.old).file (K.shown out.old) (K.shown out.new) }
     ensures no_command { result ≡ 4 → IsNoCommand (command_of (map string_bytes words.now)) (K.shown out.old) (K.shown out.new) }
-    ensures refused_words { result ≡ 4 → AreTaken (map string_bytes words.now) → Gains refused_line (K.shown out.old) (K.shown out.new) }
+    ensures refused_words { command_of (map string_bytes words.now) ≡ None → AreTaken (map string_bytes words.now)
+        → (result ≡ 10) ⊎ Prints refused_line NoCommand result (K.shown out.old) (K.shown out.new) }
     ensures refused { result ≡ 5 → (fault : ModelFault) × Stops (command_of (map string_bytes words.now))
         (S.shown shelf.old) (S.shown shelf.new) (K.shown out.old) (K.shown out.new) (refused fault) }
     ensures missing { result ≡ 6 → (file : List ℕ) × Stops (command_of (map string_bytes words.now))
@@ -146,6 +147,9 @@ pub fn run<S: Shelf, K: Sink>(alloc: Global, words: &[String], shelf: &mut S, ou
     ensures generate_others { (seed items periods : ℕ) (m : List ℕ)
         → command_of (map string_bytes words.now) ≡ Some (generating seed items periods m)
         → StartsAtMost m (S.shown shelf.old) (S.shown shelf.new) }
+    ensures generate_only_writes { (seed items periods : ℕ) (m : List ℕ)
+        → command_of (map string_bytes words.now) ≡ Some (generating seed items periods m)
+        → OnlyWrites m (S.shown shelf.old) (S.shown shelf.new) }
     ensures judge_only_reads { (m p : List ℕ) → command_of (map string_bytes words.now) ≡ Some (judging m p)
         → OnlyReads (S.shown shelf.old) (S.shown shelf.new) }
     ensures check_only_reads { (m p c : List ℕ) → command_of (map string_bytes words.now) ≡ Some (checking m p c)
@@ -155,8 +159,9 @@ pub fn run<S: Shelf, K: Sink>(alloc: Global, words: &[String], shelf: &mut S, ou
     ensures bound_only_reads { (m : List ℕ) → command_of (map string_bytes words.now) ≡ Some (bounding m)
         → OnlyReads (S.shown shelf.old) (S.shown shelf.new) }
 
-    // What is read: nothing for words that are no command, by `demo` and for help, at most two files within the limit,
-    // by `bound` one, by `gen` none, and by `check` three times a certificate file.
+    // What is read: nothing for words that are no command, for the version and help, and by `demo`; no file by `gen`; at
+    // most as much as one file within the limit by `plan`, `upgrade` and `bound`, and as two by `judge`, `report` and
+    // `check`, and by `check` three times a certificate file besides.
     ensures idle { IsIdle (command_of (map string_bytes words.now)) → S.shown shelf.new ≡ S.shown shelf.old }
     ensures given { (S.shown shelf.new).given ≤ (S.shown shelf.old).given + most_given (command_of (map string_bytes words.now)) }
     ensures told { (S.shown shelf.new).told ≡ (S.shown shelf.old).told }

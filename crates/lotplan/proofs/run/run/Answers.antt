@@ -1,6 +1,6 @@
 use Rattle.std.proofs.Common.{map, string_bytes}
 use Rattle.command_line.specs.Words.{command_of}
-use Rattle.lotplan.proofs.Explained.{accepts, bound_reads, bounds, called, check_reads, checks, fails_to_read, faulty, feasible, generate_others, generates, idle, infeasible, is_long, is_run, judge_reads, misses, no_command, optimal, others, quiet, refused_words, refuses, report_reads, rewrote, shows, silent, sums_up, tells, undecided, unprinted, unwritten, upgrade_others, upgrades, wrote, wrote_made, wrote_one, wrote_some}
+use Rattle.lotplan.proofs.Explained.{accepts, bound_reads, bounds, called, check_reads, checks, fails_to_read, faulty, feasible, generate_only, generate_others, generates, idle, infeasible, is_long, is_run, judge_reads, misses, no_command, optimal, others, quiet, refused_words, refuses, report_reads, rewrote, shows, silent, sums_up, tells, undecided, unprinted, unwritten, upgrade_others, upgrades, wrote, wrote_made, wrote_one, wrote_some}
 use Rattle.lotplan.proofs.run.run.Goals as goal
 
 pub returns-clause-run : goal.returns-clause-run
@@ -111,8 +111,11 @@ returns-clause-wrote_generated g c = wrote_made (command_of (map string_bytes c.
 pub returns-clause-generate_others : goal.returns-clause-generate_others
 returns-clause-generate_others g c = generate_others (command_of (map string_bytes c.args.words.now)) c.end_with.result (g.S.Shelf.shown c.args.shelf.now) (g.S.Shelf.shown c.said-said.new.shelf) (g.K.Sink.shown c.args.out.now) (g.K.Sink.shown c.end_with.new.out) (is_run (command_of (map string_bytes c.args.words.now)) c.end_with.result (g.S.Shelf.shown c.args.shelf.now) (g.S.Shelf.shown c.said-said.new.shelf) (g.K.Sink.shown c.args.out.now) (g.K.Sink.shown c.end_with.new.out) c.said-said.result c.said-said.ensures.said c.said-said.ensures.memory c.end_with.ensures.ends)
 
+pub returns-clause-generate_only_writes : goal.returns-clause-generate_only_writes
+returns-clause-generate_only_writes g c = generate_only (command_of (map string_bytes c.args.words.now)) c.end_with.result (g.S.Shelf.shown c.args.shelf.now) (g.S.Shelf.shown c.said-said.new.shelf) (g.K.Sink.shown c.args.out.now) (g.K.Sink.shown c.end_with.new.out) (is_run (command_of (map string_bytes c.args.words.now)) c.end_with.result (g.S.Shelf.shown c.args.shelf.now) (g.S.Shelf.shown c.said-said.new.shelf) (g.K.Sink.shown c.args.out.now) (g.K.Sink.shown c.end_with.new.out) c.said-said.result c.said-said.ensures.said c.said-said.ensures.memory c.end_with.ensures.ends)
+
 pub returns-clause-report_only_reads : goal.returns-clause-report_only_reads
 returns-clause-report_only_reads g c = report_reads (command_of (map string_bytes c.args.words.now)) c.end_with.result (g.S.Shelf.shown c.args.shelf.now) (g.S.Shelf.shown c.said-said.new.shelf) (g.K.Sink.shown c.args.out.now) (g.K.Sink.shown c.end_with.new.out) (is_run (command_of (map string_bytes c.args.words.now)) c.end_with.result (g.S.Shelf.shown c.args.shelf.now) (g.S.Shelf.shown c.said-said.new.shelf) (g.K.Sink.shown c.args.out.now) (g.K.Sink.shown c.end_with.new.out) c.said-said.result c.said-said.ensures.said c.said-said.ensures.memory c.end_with.ensures.ends)
 
 pub returns-clause-refused_words : goal.returns-clause-refused_words
-returns-clause-refused_words g c = refused_words (command_of (map string_bytes c.args.words.now)) (map string_bytes c.args.words.now) c.end_with.result (g.S.Shelf.shown c.args.shelf.now) (g.S.Shelf.shown c.said-said.new.shelf) (g.K.Sink.shown c.args.out.now) (g.K.Sink.shown c.end_with.new.out) c.said-said.result (is_run (command_of (map string_bytes c.args.words.now)) c.end_with.result (g.S.Shelf.shown c.args.shelf.now) (g.S.Shelf.shown c.said-said.new.shelf) (g.K.Sink.shown c.args.out.now) (g.K.Sink.shown c.end_with.new.out) c.said-said.result c.said-said.ensures.said c.said-said.ensures.memory c.end_with.ensures.ends) c.said-said.ensures.refused c.end_with.ensures.ends
+returns-clause-refused_words g c = refused_words (command_of (map string_bytes c.args.words.now)) (map string_bytes c.args.words.now) c.end_with.result (g.K.Sink.shown c.args.out.now) (g.K.Sink.shown c.end_with.new.out) c.said-said.result c.said-said.ensures.refused c.end_with.ensures.ends

@@ -10,6 +10,7 @@ returns-in-Ok-clause-said g c =
         refl,
         λ t. record { bytes = c.as_slice.result.now; written = c.in-Ok.ensures.written t; is = is },
         record { told = c.write_file.ensures.writes.told; others = c.write_file.ensures.writes.others; starts = c.write_file.ensures.starts },
+        c.write_file.ensures.writes,
       ),
       c.in_ok-written.ensures,
     )
