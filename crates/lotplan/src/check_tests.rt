@@ -145,6 +145,7 @@ fn changed_certificates_are_rejected(rt: HostRuntime) -> Result<(), Fail> {
         (2usize, 2usize, "claim optimal 22\n", "rejected C12 23 22\n"),
         (2, 2, "claim bound 24\n", "rejected C7 line 16 says 23\n"),
         (6, 6, "part link 1 1 2\n", "rejected C6 line 5 y 1 1\n"),
+        (6, 6, "part late 1 1 1\n", "rejected C2 line 6\n"),
         (18, 18, "part capacity 1 2 -1\n", "rejected C5 line 18\n"),
         (21, 21, "", "rejected C3 line 21\n"),
     ] {
@@ -160,11 +161,6 @@ fn damaged_cuts_are_rejected(rt: HostRuntime) -> Result<(), Fail> {
     let more = changed(alloc, BY_LS_CUTS, 2, 2, "claim bound 21\n")?;
     let line = "rejected C7 line 6 says 20\n";
     assert!(rt; checked_as(alloc, SHOP, SHOP_PLAN, more.as_str(), 3, line)?);
-    let owed = one_item(alloc, 2, OWED)?;
-    let steps = "block 1 f 100 20 g 0 0 h 1 1 b 2 2 p 28 48\n";
-    let steep = changed(alloc, BY_A_BLOCK_CUT, 4, 4, steps)?;
-    let line = "rejected C9 line 4 1 2 2\n";
-    assert!(rt; checked_as(alloc, owed.as_str(), OWED_PLAN, steep.as_str(), 3, line)?);
     let later = one_lot(
         alloc,
         2,
@@ -173,6 +169,28 @@ fn damaged_cuts_are_rejected(rt: HostRuntime) -> Result<(), Fail> {
     let text = "lotcert 1\nclaim bound 0\ncuts 1\nls 1 1 1\nlinear 1 0\nend\n";
     let line = "rejected C14 line 4\n";
     assert!(rt; checked_as(alloc, later.as_str(), "", text, 3, line)?);
+    Ok(())
+}
+
+// Made in the second period, the first four units cost a setup of 20 and 2 each, and the other six nothing more: so neither
+// the first potential nor the second may be above 28.
+#[test]
+fn potentials_that_rise_too_steeply_are_rejected(rt: HostRuntime) -> Result<(), Fail> {
+    let alloc = rt.alloc();
+    let owed = one_item(alloc, 2, OWED)?;
+    for (steps, line) in [
+        (
+            "block 1 f 100 20 g 0 0 h 1 1 b 2 2 p 28 48\n",
+            "rejected C9 line 4 1 2 2\n",
+        ),
+        (
+            "block 1 f 100 20 g 0 0 h 1 1 b 2 2 p 29 28\n",
+            "rejected C9 line 4 1 1 2\n",
+        ),
+    ] {
+        let steep = changed(alloc, BY_A_BLOCK_CUT, 4, 4, steps)?;
+        assert!(rt; checked_as(alloc, owed.as_str(), OWED_PLAN, steep.as_str(), 3, line)?);
+    }
     Ok(())
 }
 

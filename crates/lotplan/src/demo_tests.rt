@@ -84,6 +84,9 @@ fn the_largest_generated_model_is_planned(rt: HostRuntime) -> Result<(), Fail> {
     assert!(rt; status == 0 || status == 2);
     assert!(rt; lines.as_slice().starts_with(b"root skipped\nnodes 1\n"));
     assert!(rt; shelf.files.get("p").is_some());
+    let (checked, accepted) = printed_by(alloc, &["check", "g", "p", "c"], &mut shelf)?;
+    assert_eq!(rt; checked, 0);
+    assert!(rt; accepted.as_slice().starts_with(b"accepted "));
     Ok(())
 }
 

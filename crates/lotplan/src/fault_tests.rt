@@ -376,6 +376,33 @@ fn each_call_that_fails_hides_another_answer(rt: HostRuntime) -> Result<(), Fail
     Ok(())
 }
 
+// A text of 70,010 bytes, which is fetched in two pieces, and whose first line is that of no certificate.
+fn no_certificate(alloc: Global) -> Result<String, AllocError> {
+    let mut text = String::from_str(alloc, "lotcert 3\n")?;
+    for _ in 0..7_000u32 {
+        text.push_str("ls 1 2 01\n")?;
+    }
+    Ok(text)
+}
+
+// A later fetch that fails comes before the wrong line.
+#[test]
+fn each_fetch_that_fails_hides_a_wrong_line(rt: HostRuntime) -> Result<(), Fail> {
+    let alloc = rt.alloc();
+    let text = no_certificate(alloc)?;
+    let case = Case {
+        words: &["check", "m", "p", "c"],
+        files: &[("m", SHOP), ("c", text.as_str())],
+        fetches: &["m", "m", "c", "c", "c"],
+        starts: &[],
+        status: 3,
+    };
+    assert!(rt; all_are_named(alloc, &case)?);
+    let left = run_case(alloc, &case, Call::Put, 0, true)?;
+    assert!(rt; left.out.bytes.as_slice() == b"rejected C1 line 1\n".as_slice());
+    Ok(())
+}
+
 // What a plan leaves where no call fails: the best plan, and a certificate that is accepted with it.
 #[test]
 fn a_plan_without_a_fault_leaves_both_files(rt: HostRuntime) -> Result<(), Fail> {

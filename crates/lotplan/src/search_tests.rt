@@ -1,7 +1,7 @@
 use crate::check_tests::{SHOP_PLAN, SHORT_SHOP};
 use crate::tests::{
-    HEADER, SHOP, WORKSHOP, holds, is_checked, one_item, put, shelf_with, status_of, texts,
-    two_items,
+    HEADER, SHOP, TWELVE, WORKSHOP, ends_in, holds, is_checked, is_planned, one_item, put,
+    shelf_with, status_of, texts,
 };
 use lot_io::{MemoryShelf, MemorySink};
 use std::alloc::{AllocError, Global};
@@ -40,22 +40,20 @@ fn plan_model(alloc: Global, model: &str, nodes: Option<&str>) -> Result<Plannin
     })
 }
 
-// Whether a model is planned: the lines begin with that of the root and end with that of a best plan of this cost,
-// these records are left in the plan file, and the certificate is accepted.
+// Whether a model is planned: the lines begin so and end with that of a best plan of this cost, these records are left in
+// the plan file, and the certificate is accepted.
 fn is_searched(
     alloc: Global,
     model: &str,
-    nodes: Option<&str>,
-    root: &str,
+    first: &str,
     cost: u32,
     records: &str,
 ) -> Result<bool, AllocError> {
-    let mut left = plan_model(alloc, model, nodes)?;
-    let first = format!(in alloc; "root {root}\nnodes ")?;
+    let mut left = plan_model(alloc, model, None)?;
     let last = format!(in alloc; "\noptimal {cost}\n")?;
     let accepted = format!(in alloc; "accepted optimal {cost}\n")?;
     let plan = format!(in alloc; "{HEADER}{records}")?;
-    let said = left.status == 0 && left.prints(first.as_str(), last.as_str());
+    let said = left.status == 0 && left.prints(first, last.as_str());
     let kept = holds(&left.shelf, "p", plan.as_str()) && holds(&left.shelf, "m", model);
     Ok(said && kept && is_checked(alloc, &mut left.shelf, accepted.as_str())?)
 }
@@ -67,9 +65,66 @@ const PARTS: &str =
 #[test]
 fn coupled_models_are_planned(rt: HostRuntime) -> Result<(), Fail> {
     let alloc = rt.alloc();
-    assert!(rt; is_searched(alloc, SHOP, None, "closed 20", 23, SHOP_PLAN)?);
+    let first = "root closed 20\nnodes ";
+    assert!(rt; is_searched(alloc, SHOP, first, 23, SHOP_PLAN)?);
     let lots = "A,1,0,0,0,0\nA,2,5,1,0,0\nB,1,0,0,0,0\nB,2,10,1,0,0\n";
-    assert!(rt; is_searched(alloc, PARTS, None, "closed 20", 20, lots)?);
+    assert!(rt; is_searched(alloc, PARTS, first, 20, lots)?);
+    Ok(())
+}
+
+#[test]
+fn a_component_that_may_be_late_is_refused(rt: HostRuntime) -> Result<(), Fail> {
+    let alloc = rt.alloc();
+    let model = format!(in alloc; "{PARTS}backlog_cost = 1\n")?;
+    assert!(rt; ends_in(alloc, model.as_str(), 5, "refused model M11 item 2\n")?);
+    Ok(())
+}
+
+// What is made arrives in the next period.
+const LEAD: &str =
+    "version = 2\nperiods = 2\n[[item]]\nname = \"A\"\ndemand = [0, 10]\nlead = 1\nsetup_cost = 5\nunit_cost = 2\n";
+
+// The same, and it is asked for at once.
+const LATE: &str =
+    "version = 2\nperiods = 2\n[[item]]\nname = \"A\"\ndemand = [10, 0]\nlead = 1\nsetup_cost = 5\nunit_cost = 2\n";
+
+const LEAST_LOT: &str =
+    "version = 2\nperiods = 1\n[[item]]\nname = \"A\"\ndemand = [4]\nmin_lot = 6\nend_max = 5\nsetup_cost = 1\nhold_cost = 1\n";
+
+const LARGEST_LOT: &str =
+    "version = 2\nperiods = 2\n[[item]]\nname = \"A\"\ndemand = [2, 8]\nmax_lot = 6\nsetup_cost = 10\nhold_cost = 1\n";
+
+// Ten for 2 each and a setup of 5; six with two left; four and six with two setups of 10, and two in stock.
+#[test]
+fn lead_times_and_lots_are_planned(rt: HostRuntime) -> Result<(), Fail> {
+    let alloc = rt.alloc();
+    for (model, first, cost, records) in [
+        (
+            LEAD,
+            "root closed 25\nnodes ",
+            25u32,
+            "A,1,10,1,0,0\nA,2,0,0,0,0\n",
+        ),
+        (LEAST_LOT, "root closed 3\nnodes ", 3, "A,1,6,1,2,0\n"),
+        (LARGEST_LOT, "root ", 22, "A,1,4,1,2,0\nA,2,6,1,0,0\n"),
+    ] {
+        assert!(rt; is_searched(alloc, model, first, cost, records)?);
+    }
+    Ok(())
+}
+
+// A unit in each period, which costs nothing but in stock.
+const LONGEST: &str =
+    "version = 2\nperiods = 120\n[[item]]\nname = \"A\"\ndemand = 1\nhold_cost = 1\n";
+
+#[test]
+fn the_most_periods_are_planned(rt: HostRuntime) -> Result<(), Fail> {
+    let alloc = rt.alloc();
+    let mut records = String::new(alloc);
+    for period in 1..121u32 {
+        write!(&mut records, "A,{period},1,1,0,0\n")?;
+    }
+    assert!(rt; is_planned(alloc, LONGEST, 0, "optimal 0", records.as_str())?);
     Ok(())
 }
 
@@ -87,15 +142,21 @@ fn the_workshop_is_planned(rt: HostRuntime) -> Result<(), Fail> {
     Ok(())
 }
 
+// Whether a model has no plan, by one node, and the plan file stays.
+fn has_no_plan(alloc: Global, model: &str) -> Result<bool, AllocError> {
+    let mut left = plan_model(alloc, model, None)?;
+    let lines = b"root empty\nnodes 1\ninfeasible\n".as_slice();
+    let said = left.status == 1 && left.lines.as_slice() == lines;
+    let kept = left.shelf.starts == 1 && holds(&left.shelf, "p", "old\n");
+    Ok(said && kept && is_checked(alloc, &mut left.shelf, "accepted infeasible\n")?)
+}
+
 #[test]
 fn a_model_without_a_point_takes_one_node(rt: HostRuntime) -> Result<(), Fail> {
     let alloc = rt.alloc();
-    let mut left = plan_model(alloc, SHORT_SHOP, None)?;
-    assert_eq!(rt; left.status, 1);
-    assert!(rt; left.lines.as_slice() == b"root empty\nnodes 1\ninfeasible\n".as_slice());
-    assert!(rt; holds(&left.shelf, "p", "old\n"));
-    assert_eq!(rt; left.shelf.starts, 1);
-    assert!(rt; is_checked(alloc, &mut left.shelf, "accepted infeasible\n")?);
+    for model in [SHORT_SHOP, LATE] {
+        assert!(rt; has_no_plan(alloc, model)?);
+    }
     Ok(())
 }
 
@@ -123,14 +184,25 @@ fn one_node_leaves_a_bound(rt: HostRuntime) -> Result<(), Fail> {
     Ok(())
 }
 
-// Without coupling one node is enough.
+// Whether one node is enough for a best plan of this cost, without coupling.
+fn takes_one_node(alloc: Global, model: &str, cost: u32) -> Result<bool, AllocError> {
+    let mut left = plan_model(alloc, model, Some("1"))?;
+    let lines = format!(in alloc; "root uncoupled\nnodes 1\noptimal {cost}\n")?;
+    let accepted = format!(in alloc; "accepted optimal {cost}\n")?;
+    let said = left.status == 0 && left.lines.as_slice() == lines.as_bytes();
+    Ok(said && is_checked(alloc, &mut left.shelf, accepted.as_str())?)
+}
+
 #[test]
 fn one_node_decides_an_uncoupled_model(rt: HostRuntime) -> Result<(), Fail> {
     let alloc = rt.alloc();
-    let model = one_item(alloc, 1, "demand = [10]\nsetup_cost = 5\nunit_cost = 2")?;
-    let left = plan_model(alloc, model.as_str(), Some("1"))?;
-    assert_eq!(rt; left.status, 0);
-    assert!(rt; left.lines.as_slice() == b"root uncoupled\nnodes 1\noptimal 25\n".as_slice());
+    for (periods, lines, cost) in [
+        (1u32, "demand = [10]\nsetup_cost = 5\nunit_cost = 2", 25u32),
+        (12, TWELVE, 864),
+    ] {
+        let model = one_item(alloc, periods, lines)?;
+        assert!(rt; takes_one_node(alloc, model.as_str(), cost)?);
+    }
     Ok(())
 }
 
@@ -140,9 +212,10 @@ fn a_budget_for_all_choices_decides(rt: HostRuntime) -> Result<(), Fail> {
     let alloc = rt.alloc();
     let model =
         "version = 1\nperiods = 1\n[[resource]]\nname = \"m\"\ncapacity = 2\n[[item]]\nname = \"A\"\ndemand = [1]\nsetup_cost = 5\nuses = [{ resource = \"m\", unit = 1 }]\n";
-    let left = plan_model(alloc, model, Some("7"))?;
+    let mut left = plan_model(alloc, model, Some("7"))?;
     assert_eq!(rt; left.status, 0);
     assert!(rt; left.prints("root ", "\noptimal 5\n"));
+    assert!(rt; is_checked(alloc, &mut left.shelf, "accepted optimal 5\n")?);
     Ok(())
 }
 
@@ -180,10 +253,12 @@ fn a_large_model_is_skipped_at_the_root(rt: HostRuntime) -> Result<(), Fail> {
     Ok(())
 }
 
-// The text of `examples/furniture.toml` without what it says of itself. The README shows its lines.
+// The text of `examples/furniture.toml` without what it says of itself.
 const FURNITURE: &str =
     "version = 1\nperiods = 8\n\n[[resource]]\nname = \"saw\"\ncapacity = [80, 80, 80, 80, 60, 80, 80, 80]\n\n[[resource]]\nname = \"paint\"\ncapacity = 70\n\n[[item]]\nname = \"table\"\ndemand = [0, 8, 6, 10, 4, 12, 6, 9]\nsetup_cost = 240\nhold_cost = 9\nneeds = [{ item = \"frame\", quantity = 1 }, { item = \"top\", quantity = 1 }]\nuses = [{ resource = \"paint\", unit = 3, setup = 8 }]\n\n[[item]]\nname = \"chair\"\ndemand = [10, 0, 14, 8, 16, 6, 12, 10]\nsetup_cost = 180\nhold_cost = 4\nbacklog_cost = 15\nneeds = [{ item = \"frame\", quantity = 1 }]\nuses = [{ resource = \"paint\", unit = 1, setup = 6 }]\n\n[[item]]\nname = \"frame\"\ndemand = 0\nsetup_cost = 120\nhold_cost = 2\nopening = 20\nuses = [{ resource = \"saw\", unit = 2, setup = 5 }]\n\n[[item]]\nname = \"top\"\ndemand = [0, 2, 0, 0, 3, 0, 0, 2]\nsetup_cost = 90\nhold_cost = 3\nopening = 6\nuses = [{ resource = \"saw\", unit = 1, setup = 4 }]\n";
 
+// The lines are those that README.md and the example show, so that these stay what the program prints. It is a test of these
+// pages and of no promise: a search that leaves a smaller gap, or comes to it with other nodes, changes the pages and the test.
 #[test]
 fn the_furniture_maker_is_planned(rt: HostRuntime) -> Result<(), Fail> {
     let alloc = rt.alloc();

@@ -96,7 +96,7 @@ pub fn is_checked(alloc: Global, shelf: &mut MemoryShelf, line: &str) -> Result<
 
 // Whether planning a model ends with this status, prints the three lines of this claim and leaves these
 // records in the plan file, which stays where there are none, and whether its certificate is accepted.
-fn is_planned(
+pub fn is_planned(
     alloc: Global,
     model: &str,
     status: u8,
@@ -211,7 +211,7 @@ fn twelve_periods_are_planned(rt: HostRuntime) -> Result<(), Fail> {
 }
 
 // A model of two items over one period, with these lines.
-pub fn two_items(alloc: Global, first: &str, second: &str) -> Result<String, AllocError> {
+fn two_items(alloc: Global, first: &str, second: &str) -> Result<String, AllocError> {
     format!(in alloc;
         "version = 1\nperiods = 1\n[[item]]\nname = \"A\"\n{first}\n[[item]]\nname = \"B\"\n{second}\n"
     )

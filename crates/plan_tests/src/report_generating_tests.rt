@@ -1,9 +1,12 @@
+use echelon::single_of;
 use first_plans::own_period_plan;
 use instance_reader::read_instance;
-use lot_model::Instance;
+use lot_model::{Instance, is_uncoupled};
 use report::{GenFault, generate};
 use std::alloc::Global;
 use std::test::Fail;
+use wagner_whitin::laws::solve_plain;
+use wagner_whitin::solve;
 
 // The instance of a model that is drawn from seed 7.
 fn drawn(alloc: Global, items: u32, periods: u32, coupled: bool) -> Result<Instance, Fail> {
@@ -80,6 +83,34 @@ fn sizes_out_of_range_are_refused(rt: HostRuntime) -> Result<(), Fail> {
             generate(alloc, 1, items, periods, true).err(),
             Some(GenFault::Range)
         );
+    }
+    Ok(())
+}
+
+// The least cost of an item by both recursions, where it has no backlog cost.
+fn both_costs(alloc: Global, instance: &Instance, item: u32) -> Result<Option<(u128, u128)>, Fail> {
+    if item < 1 || item > instance.items() || !is_uncoupled(instance) {
+        return Err("no such item by itself".into());
+    }
+    let single = single_of(alloc, instance, item)?;
+    if single.back.is_some() {
+        return Ok(None);
+    }
+    let found = solve(alloc, &single)?.cost;
+    Ok(Some((found, solve_plain(alloc, &single)?.cost)))
+}
+
+// The model that `demo 7` plans first. Its items 1, 3, 5 .. have a backlog cost.
+#[test]
+fn both_recursions_find_the_same_cost(rt: HostRuntime) -> Result<(), Fail> {
+    let alloc = rt.alloc();
+    let instance = drawn(alloc, 12, 60, false)?;
+    assert_eq!(rt; instance.items(), 12);
+    for item in 1..13u32 {
+        match both_costs(alloc, &instance, item)? {
+            Some((found, plain)) => assert_eq!(rt; (found, item % 2), (plain, 0)),
+            None => assert_eq!(rt; item % 2, 1),
+        }
     }
     Ok(())
 }

@@ -1,6 +1,7 @@
-use cert_lines::Claim;
-use cert_stream::{ClaimFault, read_claim};
+use cert_lines::{CertLine, Claim, Cut, Part};
+use cert_stream::{ClaimFault, LineReader, Next, Value, next_value, read_claim};
 use certificate::{CertTextFault, read_certificate};
+use lin_rows::RowName;
 use lot_io::MemoryShelf;
 use std::alloc::{AllocError, Global};
 use std::collections::BTreeMap;
@@ -131,6 +132,80 @@ fn lines_have_a_limit(rt: HostRuntime) -> Result<(), Fail> {
         let bytes = with_digits(alloc, digits)?;
         let mut shelf = shelf_with(alloc, bytes, &[])?;
         assert_eq!(rt; read_claim(alloc, &mut shelf, "c"), want);
+    }
+    Ok(())
+}
+
+// Two lines, bytes without a line feed, and nothing.
+#[test]
+fn lines_are_given_in_order(rt: HostRuntime) -> Result<(), Fail> {
+    let alloc = rt.alloc();
+    let bytes = Vec::from_slice(alloc, b"point\n\nend")?;
+    let mut shelf = shelf_with(alloc, bytes, &[])?;
+    let mut reader = LineReader::new(alloc)?;
+    for (want, line, number) in [
+        (Next::Line, "point", 2u64),
+        (Next::Line, "", 3),
+        (Next::Unended, "end", 3),
+        (Next::End, "", 3),
+    ] {
+        let Ok(next) = reader.next_line(&mut shelf, "c") else {
+            return Err("not read".into());
+        };
+        assert_eq!(rt; (next, reader.number), (want, number));
+        assert!(rt; reader.line.as_slice() == line.as_bytes());
+    }
+    assert_eq!(rt; (shelf.given, shelf.faults), (10, 0));
+    Ok(())
+}
+
+// The form of a value, and two of its numbers.
+fn form_of(value: Value) -> (&'static str, i128, u32) {
+    match value {
+        Value::Line(CertLine::Cut(Cut::Ls { item, last, .. })) => ("ls", i128::from(item), last),
+        Value::Line(
+            CertLine::Part(
+                Part {
+                    row: RowName::Cut(cut),
+                    times,
+                },
+            ),
+        ) => ("part", times, cut),
+        Value::Line(CertLine::Linear { den, parts }) => ("linear", den, parts),
+        Value::Line(CertLine::Farkas { parts }) => ("farkas", 0, parts),
+        Value::Line(CertLine::Point) => ("point", 0, 0),
+        Value::Line(CertLine::End) => ("end", 0, 0),
+        Value::Line(_) => ("other", 0, 0),
+        Value::Wrong => ("wrong", 0, 0),
+        Value::End => ("none", 0, 0),
+    }
+}
+
+// A line of each kind, a line of none, and bytes without a line feed.
+const LINES: &str =
+    "ls 1 2 01\npart cut 2 -10\nlinear 8 4\nfarkas 3\npoint\nend\npart late 1 1 1\nend";
+
+#[test]
+fn values_are_given_in_order(rt: HostRuntime) -> Result<(), Fail> {
+    let alloc = rt.alloc();
+    let bytes = Vec::from_slice(alloc, LINES.as_bytes())?;
+    let mut shelf = shelf_with(alloc, bytes, &[])?;
+    let mut reader = LineReader::new(alloc)?;
+    for want in [
+        ("ls", 1i128, 2u32),
+        ("part", -10, 2),
+        ("linear", 8, 4),
+        ("farkas", 0, 3),
+        ("point", 0, 0),
+        ("end", 0, 0),
+        ("wrong", 0, 0),
+        ("wrong", 0, 0),
+        ("none", 0, 0),
+    ] {
+        let Ok(value) = next_value(alloc, &mut reader, &mut shelf, "c", 1) else {
+            return Err("not read".into());
+        };
+        assert!(rt; form_of(value) == want);
     }
     Ok(())
 }

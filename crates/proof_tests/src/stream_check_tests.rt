@@ -138,3 +138,28 @@ fn a_file_is_fetched_twice(rt: HostRuntime) -> Result<(), Fail> {
     );
     Ok(())
 }
+
+// A bound of 20 by the most cuts that there may be, all but the last of which say the same: 36 bytes, 9 for each of
+// those, and 97.
+fn most_cuts(alloc: Global) -> Result<String, AllocError> {
+    let mut text = String::from_str(alloc, "lotcert 1\nclaim bound 20\ncuts 20000\n")?;
+    for _ in 0..19_999u32 {
+        text.push_str("ls 1 1 1\n")?;
+    }
+    text.push_str("ls 1 2 01\nlinear 8 4\npart balance 1 1 -8\npart capacity 1 1 2\n")?;
+    text.push_str("part cut 1 41\npart cut 20000 10\nend\n")?;
+    Ok(text)
+}
+
+// It is fetched in three pieces of at most 65,536 bytes.
+#[test]
+fn a_file_of_several_pieces_is_fetched_twice(rt: HostRuntime) -> Result<(), Fail> {
+    let alloc = rt.alloc();
+    let instance = shop(alloc)?;
+    let text = most_cuts(alloc)?;
+    let mut shelf = shelf_with(alloc, text.as_str())?;
+    let found = check_stream(alloc, &instance, &mut shelf, "c", None);
+    assert_eq!(rt; found, Ok(Claim::Bound(20)));
+    assert_eq!(rt; (text.len(), shelf.given), (180_124, 2 * 180_124));
+    Ok(())
+}
