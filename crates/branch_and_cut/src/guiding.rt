@@ -32,7 +32,7 @@ pub(crate) struct Model<'a> {
     pub(crate) explosion: Explosion,
     /// What prices of the model are made with.
     pub(crate) pricing: Pricing,
-    /// Whether branches are tried before one is chosen: where the budget of nodes is small.
+    /// Whether branches are tried before one is chosen: where the model isn't large.
     pub(crate) tries: bool,
     /// The version of the certificate's text.
     pub(crate) version: u32,

@@ -36,6 +36,11 @@ const ROOT_ROUNDS: u32 = 15;
 
 const NODE_ROUNDS: u32 = 40;
 
+// So often are rounds made at a node while what they come to grows by a part of what it lacks of the best plan's cost.
+const NODE_TIMES: u32 = 5;
+
+const NODE_PART: i128 = 40;
+
 // A larger model has fewer rounds at a node: so many for a single item and period, and at least some.
 const NODE_WORK: u32 = 20_000;
 
@@ -96,6 +101,44 @@ fn count_at(instance: &Instance, node: &Node) -> u32 {
     (NODE_WORK / size.max(1)).min(NODE_ROUNDS).max(LEAST_ROUNDS)
 }
 
+// What the rounds lack of a cost, times the scale; 0 where there is none.
+fn lack(rounds: &Rounds, cost: Option<u128>) -> i128 {
+    match i128::try_from(cost.unwrap_or(0)) {
+        Ok(cost) => {
+            let scale = i128::from(rounds.prices().scale);
+            cost.saturating_mul(scale)
+                .saturating_sub(rounds.number())
+                .max(0)
+        }
+        Err(_) => 0,
+    }
+}
+
+// Makes rounds, and some more at a node below the root while they come to much more.
+fn go_further(
+    alloc: Global,
+    model: &Model,
+    node: &Node,
+    rounds: &mut Rounds,
+    fixed: &Fixed,
+    cost: Option<u128>,
+) -> Result<Reached, AllocError> {
+    let instance = model.instance;
+    let count = count_at(instance, node);
+    let times = if node.path.is_empty() { 1 } else { NODE_TIMES };
+    for _time in 0..times {
+        let before = lack(rounds, cost);
+        match rounds.go_on(alloc, instance, &model.pricing, fixed, cost, count)? {
+            Reached::Open => {}
+            reached => return Ok(reached),
+        }
+        if before.saturating_sub(lack(rounds, cost)) <= before / NODE_PART {
+            break;
+        }
+    }
+    Ok(Reached::Open)
+}
+
 // Makes the rounds of a node, until they say as much as the best plan costs or that there is none. Plans are built in between.
 fn improve(
     alloc: Global,
@@ -111,12 +154,8 @@ fn improve(
     ensures made { OnOk result (IfSome best.new (IsMadeWithin model.now.instance.now (ranges_in model.now))) }
     ensures kept { OnOk result (IsNoWorse best.new best.old) }
 {
-    let instance = model.instance;
-    let pricing = &model.pricing;
-    let count = count_at(instance, node);
     for _time in 0..times_at(node) {
-        let cost = best_cost(best);
-        let reached = rounds.go_on(alloc, instance, pricing, fixed, cost, count)?;
+        let reached = go_further(alloc, model, node, rounds, fixed, best_cost(best))?;
         match reached {
             Reached::Open => {}
             _ => return Ok(reached),

@@ -31,14 +31,12 @@ use priced_leaves::Pricing;
 use root_rounds::{Root, root};
 use std::alloc::{AllocError, Global};
 
-// Up to so many nodes it pays to try branches before one is chosen, of a model with at most so many items times periods.
-const TRIED_BUDGET: u64 = 5_000;
-
+// Branches are tried before one is chosen in a model with at most so many items times periods.
 const TRIED_SIZE: u32 = 400;
 
 // Whether branches are tried before one is chosen.
-fn tries_branches(instance: &Instance, budget: u64) -> bool {
-    budget <= TRIED_BUDGET && instance.items() * instance.periods() <= TRIED_SIZE
+fn tries_branches(instance: &Instance) -> bool {
+    instance.items() * instance.periods() <= TRIED_SIZE
 }
 
 // The version of a certificate's text: the first one where the model is plain.
@@ -78,7 +76,7 @@ fn searched(
     let explosion = Explosion::of(alloc, instance)?;
     let pricing = Pricing::new(alloc, instance, &explosion)?;
     let sums = NamedSums::new(alloc, instance)?;
-    let tries = tries_branches(instance, budget);
+    let tries = tries_branches(instance);
     let model = Model {
         instance,
         ranges,

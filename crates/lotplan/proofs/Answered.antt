@@ -1,5 +1,5 @@
 -- The words and the files call for some status.
-use Rattle.std.proofs.Common.{◌≡◌, ◌≤◌, ◌<◌, ◌-◌, ◌⊎◌, ⊎_elim, inl, inr, ℕ, refl, sym, subst, arith, List, Option, Some, None, length}
+use Rattle.std.proofs.Common.{◌≤◌, ◌<◌, ◌-◌, ◌⊎◌, ⊎_elim, inl, inr, ℕ, refl, sym, subst, arith, List, Option, Some, None, length}
 use Rattle.std.specs.Prelude.{Result, Ok, Err}
 use Rattle.std.proofs.lemmas.Bool.{cases_lt}
 use Rattle.bill.specs.Laws.{TotalsExist, WeightsExist}

@@ -1,5 +1,5 @@
 -- What `gen` leaves, by its answer.
-use Rattle.std.proofs.Common.{◌≡◌, ◌≢◌, ◌≤◌, ℕ, List, Some, IsTrue, refl, sym, subst, arith}
+use Rattle.std.proofs.Common.{◌≡◌, ◌≢◌, ℕ, List, Some, IsTrue, refl, sym, subst, arith}
 use Rattle.lot_io.specs.Outside.{GrewBy, OnlyReads, OnlyWrites, Printed, Shelved}
 use Rattle.command_line.specs.Words.{generating}
 use Rattle.lotplan.specs.Status.{code_of}

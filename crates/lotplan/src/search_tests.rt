@@ -264,7 +264,7 @@ fn the_furniture_maker_is_planned(rt: HostRuntime) -> Result<(), Fail> {
     let alloc = rt.alloc();
     let mut left = plan_model(alloc, FURNITURE, None)?;
     assert_eq!(rt; left.status, 2);
-    assert!(rt; left.prints("root passed\nnodes 999\n", "\nundecided 2712 plan 2861\n"));
-    assert!(rt; is_checked(alloc, &mut left.shelf, "accepted bound 2712\n")?);
+    assert!(rt; left.prints("root passed\nnodes 999\n", "\nundecided 2790 plan 2861\n"));
+    assert!(rt; is_checked(alloc, &mut left.shelf, "accepted bound 2790\n")?);
     Ok(())
 }

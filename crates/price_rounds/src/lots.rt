@@ -13,6 +13,15 @@ pub struct Average {
     pub(crate) owed: IntegerGrid,
 }
 
+/// Units that are made beyond all demand, and when.
+#[derive(Clone, Copy, Debug)]
+pub(crate) struct Spare {
+    /// The period, 0 for none.
+    pub(crate) period: u32,
+    /// The units.
+    pub(crate) units: i64,
+}
+
 // No units, and the setups that the path fixes.
 fn write_fixed(units: &mut [i64], setups: &mut [i64], held: &[Held]) {
     for cell in units.iter_mut() {
@@ -100,8 +109,8 @@ impl Average {
         i128::from(self.units.get(item, period))
     }
 
-    // The lots of an item, by the servers of its positions.
-    fn write_made(&mut self, item: &Item, places: &[Served], fixed: &Fixed) {
+    // The lots of an item, by the servers of its positions, with what is made beyond them.
+    fn write_made(&mut self, item: &Item, places: &[Served], spare: Spare, fixed: &Fixed) {
         let Some(units) = self.units.line_mut(item.number) else {
             return;
         };
@@ -110,11 +119,19 @@ impl Average {
         };
         write_fixed(units, setups, fixed.line(item.number));
         write_lots(units, setups, item, places);
+        let more = plus(at(units, spare.period), times(spare.units, UNIT));
+        write(units, spare.period, more);
     }
 
     // The plan of an item, by the servers of its positions.
-    pub(crate) fn write_item(&mut self, item: &Item, places: &[Served], fixed: &Fixed) {
-        self.write_made(item, places, fixed);
+    pub(crate) fn write_item(
+        &mut self,
+        item: &Item,
+        places: &[Served],
+        spare: Spare,
+        fixed: &Fixed,
+    ) {
+        self.write_made(item, places, spare, fixed);
         let units = self.units.line(item.number);
         if let Some(stocks) = self.stocks.line_mut(item.number) {
             write_stocks(stocks, units, item);

@@ -4,7 +4,7 @@ ghost use Rattle.lot_sizing.specs.Problem.{item_count};
 
 use crate::lots::Average;
 use lot_model::Instance;
-use priced_items::numbers::{Rate, UNIT, less, of_amount, times};
+use priced_items::numbers::{Rate, UNIT, less, of_amount, plus, times};
 use priced_items::{DualPrices, IntegerGrid, Pricing, clear};
 use std::alloc::{AllocError, Global};
 
@@ -27,6 +27,15 @@ fn write_room(line: &mut [i64], capacities: &[u64]) {
 fn stay_positive(line: &mut [i64], prices: &[i64]) {
     for (slope, price) in line.iter_mut().zip(prices) {
         if *price <= 0 {
+            *slope = (*slope).max(0);
+        }
+    }
+}
+
+// A direction is 0 where the price is as far below 0 as that of backlog is above it, or further, and would get lower.
+fn stay_owed(line: &mut [i64], prices: &[i64], backs: &[i64]) {
+    for ((slope, price), back) in line.iter_mut().zip(prices).zip(backs) {
+        if plus(*price, *back) <= 0 {
             *slope = (*slope).max(0);
         }
     }
@@ -116,8 +125,8 @@ impl Slopes {
         match pricing.get(item) {
             Some(found) => {
                 stay_below(line, own, instance.hold_costs(item), scale);
-                if !found.is_movable() {
-                    stay_positive(line, own);
+                if found.backlogged {
+                    stay_owed(line, own, prices.back.line(item));
                 }
             }
             None => clear(line),

@@ -2,9 +2,9 @@
 ghost use Rattle.std.specs.Prelude.{◌≤◌};
 ghost use Rattle.lot_sizing.specs.Problem.{item_count};
 
-use crate::lots::Average;
+use crate::lots::{Average, Spare};
 use lot_model::Instance;
-use priced_items::numbers::{at, dot, dot_amounts, wide};
+use priced_items::numbers::{at, dot, dot_amounts, less, wide};
 use priced_items::{Costs, DualPrices, Fixed, Held, Item, Pricing, Serving};
 use std::alloc::{AllocError, Global};
 
@@ -24,6 +24,18 @@ fn fixed_value(fees: &[i64], held: &[Held]) -> i128 {
         }
     }
     sum
+}
+
+// The first period in which a unit costs nothing, and 0 where there is none.
+fn first_free(unit: &[i64]) -> u32 {
+    let mut period = 0u32;
+    for cost in unit {
+        period = period.saturating_add(1);
+        if *cost == 0 {
+            return period;
+        }
+    }
+    0
 }
 
 // The right sides of all capacities.
@@ -60,6 +72,20 @@ impl Planning {
             .saturating_add(opened)
     }
 
+    // What is made beyond all demand, up to the largest end stock, where the cheapest unit would cost less than nothing.
+    fn spare(&self, item: &Item) -> Spare {
+        let costs = &self.costs;
+        let last = u32::try_from(item.left.len()).unwrap_or(0);
+        Spare {
+            period: if costs.lift > 0 {
+                first_free(&costs.unit)
+            } else {
+                0
+            },
+            units: less(item.end_max, at(&item.left, last)).max(0),
+        }
+    }
+
     // What an item adds to the right side of the leaf. Its plan is written where it has one.
     fn value_of(
         &mut self,
@@ -78,7 +104,7 @@ impl Planning {
             Some(item) => {
                 self.costs.write(instance, item, prices, fixed)?;
                 self.serving.serve_all(item, &self.costs)?;
-                plan.write_item(item, &self.serving.places, fixed);
+                plan.write_item(item, &self.serving.places, self.spare(item), fixed);
                 sum = self.item_value(item);
             }
             None => self.costs.write_fees(instance, prices, number)?,

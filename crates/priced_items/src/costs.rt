@@ -138,13 +138,17 @@ impl Costs {
         Ok(())
     }
 
-    // The prices of stock are moved to units: a unit is in stock from its period on, so it costs their sum more. What all
-    // units together cost too much is known, since what remains at the end is.
-    fn move_stocks(&mut self) -> Result<(), AllocError> {
+    // The prices of stock are moved to units: a unit is in stock from its period on, so it costs their sum more; one that is
+    // owed isn't in stock yet, so owing it costs the price of stock more. What all units together cost too much is known,
+    // since what remains at the end is.
+    fn move_stocks(&mut self, owing: bool) -> Result<(), AllocError> {
         self.write_tails()?;
         self.lift = lift_of(&self.unit, &self.shift);
         raise(&mut self.shift, self.lift);
         add_times(&mut self.unit, &self.shift, 1);
+        if owing {
+            add_times(&mut self.back, &self.hold, 1);
+        }
         clear(&mut self.hold);
         Ok(())
     }
@@ -171,8 +175,8 @@ impl Costs {
         self.write_stocks(instance, prices, number)?;
         self.lift = 0;
         self.shift.clear();
-        if item.is_movable() && !are_positive(&self.hold) {
-            self.move_stocks()?;
+        if !are_positive(&self.hold) {
+            self.move_stocks(item.backlogged)?;
         }
         Ok(())
     }

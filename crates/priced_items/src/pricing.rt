@@ -1,5 +1,5 @@
 // What is asked of each lead-free item and of all that it goes into.
-ghost use Rattle.std.specs.Prelude.{◌≤◌, ◌↔◌, IsTrue, IsFalse};
+ghost use Rattle.std.specs.Prelude.{◌≤◌};
 ghost use Rattle.lot_sizing.specs.Problem.{item_count};
 ghost use Rattle.echelon.specs.Weights.{IsExplosionOf};
 
@@ -27,18 +27,9 @@ pub struct Item {
     pub end_max: i64,
     /// Whether the echelon may be owed.
     pub backlogged: bool,
-    /// Whether all end stocks of the echelon have one value.
-    pub is_tight: bool,
 }
 
 impl Item {
-    /// Whether stock prices below 0 can be moved to units: the echelon is never owed, and its end stock is fixed.
-    pub fn is_movable(&self) -> bool
-        ensures { IsTrue result ↔ (IsTrue self.now.is_tight × IsFalse self.now.backlogged) }
-    {
-        self.is_tight && !self.backlogged
-    }
-
     // The units of this item in one unit of another.
     pub(crate) fn weight_in(&self, other: u32) -> i64 {
         match self.weights.get((other as usize).wrapping_sub(1)) {
@@ -116,14 +107,6 @@ impl Pricing {
             None => false,
         }
     }
-
-    /// Whether stock prices of an item may be below 0.
-    pub fn is_movable(&self, item: u32) -> bool {
-        match self.get(item) {
-            Some(found) => found.is_movable(),
-            None => false,
-        }
-    }
 }
 
 // The same numbers, with a sign.
@@ -174,7 +157,6 @@ fn item_of(
         opening: of_total(echelon.opening),
         end_max,
         backlogged: echelon.backlogged,
-        is_tight: end_max == of_total(echelon.end_min),
         weights: echelon.weights,
     }))
 }

@@ -2,7 +2,7 @@
 ghost use Rattle.std.specs.Prelude.{◌≤◌};
 ghost use Rattle.lot_sizing.specs.Problem.{item_count};
 
-use crate::grid::{IntegerGrid, clear, cut_line};
+use crate::grid::{IntegerGrid, clear};
 use crate::numbers::{less, of_amount, over, plus, share, times};
 use crate::prices::DualPrices;
 use crate::pricing::Pricing;
@@ -15,8 +15,15 @@ fn bound_above(line: &mut [i64], costs: &[u64], scale: i64) {
     }
 }
 
-// Prices of stock of an item are at most its holding costs, 0 where the item isn't lead-free, and at least 0 where they
-// can't be moved.
+// Prices of stock are at least as far below 0 as those of backlog are above it.
+fn bound_below(line: &mut [i64], backs: &[i64]) {
+    for (cell, back) in line.iter_mut().zip(backs) {
+        *cell = (*cell).max(less(0, *back));
+    }
+}
+
+// Prices of stock of an item are at most its holding costs, and 0 where the item isn't lead-free; where the echelon may be
+// owed, a unit in stock and one owed together cost no less than nothing.
 fn bound_stock(instance: &Instance, pricing: &Pricing, prices: &mut DualPrices, item: u32)
     requires low { 1 ≤ item }
     requires high { item ≤ item_count instance.now }
@@ -26,8 +33,8 @@ fn bound_stock(instance: &Instance, pricing: &Pricing, prices: &mut DualPrices, 
         match pricing.get(item) {
             Some(found) => {
                 bound_above(line, instance.hold_costs(item), scale);
-                if !found.is_movable() {
-                    cut_line(line);
+                if found.backlogged {
+                    bound_below(line, prices.back.line(item));
                 }
             }
             None => clear(line),
@@ -55,13 +62,14 @@ fn components_price(prices: &DualPrices, needs: &[Need], period: u32) -> i64 {
     sum
 }
 
-// Prices of components are lowered in proportion, so that they cost no more than the item.
+// Prices of components are lowered in proportion, so that they cost no more than the item in stock and owed.
 fn lower_components(prices: &mut DualPrices, needs: &[Need], item: u32, period: u32) {
-    if echelon_price(&prices.stock, needs, item, period) >= 0 {
+    let owed = prices.back.get(item, period);
+    if plus(echelon_price(&prices.stock, needs, item, period), owed) >= 0 {
         return;
     }
     let whole = components_price(prices, needs, period);
-    let most = prices.stock.get(item, period);
+    let most = plus(prices.stock.get(item, period), owed).max(0);
     for need in needs {
         let price = prices.stock.get(need.item, period);
         if price > 0 {
@@ -83,10 +91,10 @@ fn lower_all(instance: &Instance, prices: &mut DualPrices, item: u32) {
     }
 }
 
-// Echelons whose prices can't be moved to units have none below 0.
+// Echelons that may be owed have no prices further below 0 than what a unit that is owed costs.
 fn order_stocks(instance: &Instance, pricing: &Pricing, prices: &mut DualPrices) {
     for item in pricing.order() {
-        if pricing.get(*item).is_some() && !pricing.is_movable(*item) {
+        if pricing.is_backlogged(*item) {
             lower_all(instance, prices, *item);
         }
     }
@@ -195,14 +203,14 @@ fn order_backs(instance: &Instance, pricing: &Pricing, prices: &mut DualPrices) 
 
 /// All prices are kept within their bounds.
 pub fn settle(instance: &Instance, pricing: &Pricing, prices: &mut DualPrices) {
-    for item in 1..instance.items() + 1 {
-        bound_stock(instance, pricing, prices, item);
-    }
-    order_stocks(instance, pricing, prices);
     if pricing.may_owe() {
         bound_backs(instance, pricing, prices);
         order_backs(instance, pricing, prices);
     }
+    for item in 1..instance.items() + 1 {
+        bound_stock(instance, pricing, prices, item);
+    }
+    order_stocks(instance, pricing, prices);
 }
 
 // How many echelons an item is in.
