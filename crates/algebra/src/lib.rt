@@ -1,7 +1,7 @@
 //! Laws of exact arithmetic that proofs cite, each stated once.
 //!
-//! Family: numbers. It stands on nothing; `rational`, the other crates of numbers and all proofs that count
-//! with whole numbers or sums stand on it.
+//! Family: numbers. It stands on nothing; the other crates of numbers, and the proofs of rows, cuts, certificates
+//! and the search that need its laws, stand on it.
 //!
 //! `Integers` has the ring laws of ℤ, `Order` its order with products. `Rings` has commutative rings
 //! and a solver: an equation between polynomials is one line that computes. `Ordered` has ordered

@@ -12,3 +12,4 @@ pub mod Halves
 pub mod Wholes
 pub mod Ratios
 mod Reductions
+pub mod LeastCommon

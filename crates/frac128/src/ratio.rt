@@ -57,16 +57,3 @@ impl Frac {
         })
     }
 }
-
-impl From<Frac> for Ratio {
-    ghost use Rattle.std.specs.Prelude.{◌≡◌};
-
-    ghost from_gives = { λ x y. y ≡ x };
-
-    fn from(number: Frac) -> Ratio {
-        Ratio {
-            num: number.num,
-            den: number.den,
-        }
-    }
-}

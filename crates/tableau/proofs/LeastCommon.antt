@@ -1,25 +1,27 @@
--- Least common denominators, fraction by fraction.
-use Rattle.std.proofs.Common.{◌≡◌, ◌≢◌, ◌≤◌, ◌<◌, ◌+◌, ◌*◌, ◌/◌, ◌∙◌, ⊎_elim, inl, inr, ℕ, zero, suc, refl, sym, ap, subst, arith, List, [], ◌∷◌, ◌++◌, length, length-append}
-use Rattle.std.specs.Prelude.{◌^◌, ℤ, pos, negsuc, ◌*ℤ◌, ◌<ℤ◌, unsigned_abs, int_div}
+-- Fractions times their least common denominator.
+use Rattle.std.proofs.Common.{◌≡◌, ◌≤◌, ◌<◌, ◌+◌, ◌*◌, ◌/◌, ◌∙◌, ⊎_elim, inl, inr, ℕ, refl, sym, ap, subst, arith, List, [], ◌∷◌, ◌++◌, length, length-append}
+use Rattle.std.specs.Prelude.{◌^◌, ℤ, pos, ◌*ℤ◌, ◌<ℤ◌, unsigned_abs, int_div}
 use Rattle.std.proofs.Math.Seq.{get_or-append_seam}
 use Rattle.std.proofs.lemmas.List.{get_or_append_left}
+use Rattle.std.proofs.lemmas.List.Elements.{All-from_get_or}
 use Rattle.std.proofs.lemmas.Bool.{cases_eq, cases_lt}
-use Rattle.std.proofs.lemmas.Int.{ints, unsigned_abs-mul}
+use Rattle.std.proofs.lemmas.Int.{unsigned_abs-mul}
 use Rattle.std.proofs.lemmas.Nat.Gcd.{IsGcd-swap}
 use Prim.Native.Nat.{◌∣◌}
-use native.Mathlib.Nat.{div-mul_cancel, dvd-mul_left, dvd-mul_right, dvd_trans, eq_of_mul-eq-mul_right, le_of_dvd, mul-dvd-mul_right, one-dvd}
-use Rattle.std.specs.Int.{IsGcd}
+use native.Mathlib.Nat.{div-mul_cancel, dvd-mul_left, le_of_dvd}
 use Rattle.algebra.proofs.Divisors.{dvd_of_coprime}
 use Rattle.algebra.proofs.Lowest.{abs_pos}
 use Rattle.algebra.proofs.Order.{mul_pos}
 use Rattle.algebra.proofs.Rings.{int_ring, con, ◌⊗◌, ◌⊜◌, ring2, ring3}
 use Rattle.rational.specs.Rational.{ℚ, make, whole, ◌*ℚ◌}
-use Rattle.rational.proofs.Rationals.{den_above, make-is, make-parts, make-same, mul-make, one_above, rational_ring, whole-mul}
+use Rattle.rational.proofs.Rationals.{den_above, make-parts, make-same, mul-make, one_above, rational_ring, whole-mul}
 use Rattle.rational.proofs.Facts.{whole-inj}
+use Rattle.frac128.specs.Limits.{IsSmall}
+use Rattle.frac128.specs.Denominators.{HasLargeDenominator, IsCommonDenominator, IsLeastDenominator, den_of, numerator_over}
 use Rattle.tableau.specs.Leaves.{AreOfLeaf}
-use Rattle.frac128.specs.Limits.{Fits, IsSmall, quotient_ℚ}
 use Rattle.tableau.specs.Outcomes.{number_at}
-use Rattle.tableau.specs.Denominators.{AreNumerators, AreWholeMultipliers, HasLarge, IsCommon, IsLeastCommon, PassWhole, den_of, times_den, whole_at}
+use Rattle.tableau.specs.Program.{zero_ℚ}
+use Rattle.tableau.specs.Denominators.{AreNumerators, AreWholeMultipliers, HasLarge, PassWhole, whole_at}
 
 -- a fraction times its denominator is its numerator
 times_own : (n d : ℤ) → pos 0 <ℤ d → whole d *ℚ make n d ≡ whole n
@@ -31,18 +33,15 @@ times_own n d above =
 num-is : (x : ℚ) → whole x.den *ℚ x ≡ whole x.num
 num-is x = ap (λ y. whole x.den *ℚ y) (sym (make-parts x)) ∙ times_own x.num x.den (den_above x)
 
--- a fraction times such a number
-abbrev numerator_over : ℕ → ℚ → ℤ
-numerator_over d x = x.num *ℤ pos (d / den_of x)
-
 den_is : (x : ℚ) → pos (den_of x) ≡ x.den
 den_is x = abs_pos x.den (den_above x)
 
-den_some : (x : ℚ) → 1 ≤ den_of x
-den_some x = let above = den_above x in omega (arith, ints, above, den_is x)
+-- a fraction times a multiple of its denominator
+abbrev times_own_part : ℕ → ℚ → ℤ
+times_own_part d x = x.num *ℤ pos (d / den_of x)
 
 -- a multiple of the denominator makes the fraction whole
-made_whole : (x : ℚ) (d : ℕ) → den_of x ∣ d → whole (numerator_over d x) ≡ whole (pos d) *ℚ x
+made_whole : (x : ℚ) (d : ℕ) → den_of x ∣ d → whole (times_own_part d x) ≡ whole (pos d) *ℚ x
 made_whole x d divides =
     let q = d / den_of x in
     whole-mul x.num (pos q)
@@ -63,114 +62,32 @@ divides_by x d z is =
     turned : (a b : ℕ) → a * b ≡ b * a
     turned a b = omega arith
 
--- ---- one more fraction
--- with a e = d b and no factor shared by a and b, what d and e divide is divided by d b
-joined : (d e a b n : ℕ) → 1 ≤ d → a * e ≡ d * b → IsGcd a b 1 → d ∣ n → e ∣ n → (d * b) ∣ n
-joined d e a b n some cross apart by_d by_e =
-    let s = n / d in
-    let t = n / e in
-    let sd : s * d ≡ n = div-mul_cancel d by_d in
-    let te : t * e ≡ n = div-mul_cancel e by_e in
-    let same : s * a ≡ t * b = eq_of_mul-eq-mul_right d (omega (arith, some)) (s * a) (t * b) (omega (arith, ap (λ k. k * a) (sd ∙ sym te), ap (λ k. t * k) cross)) in
-    let by_b : b ∣ s = dvd_of_coprime b a s (IsGcd-swap a b 1 apart) (subst (λ k. b ∣ k) (sym same ∙ turned s a) (dvd-mul_left b t)) in
-    subst (λ k. (d * b) ∣ k) sd (subst (λ k. k ∣ s * d) (turned b d) (mul-dvd-mul_right b by_b d))
-  where
-    turned : (a b : ℕ) → a * b ≡ b * a
-    turned a b = omega arith
-
-module _ (y : ℕ → ℚ) (n d : ℕ) (is : IsLeastCommon n y d) where
-  abbrev part : ℚ
-  part = make (pos d) (y n).den
-
-  cross : unsigned_abs part.num * den_of (y n) ≡ d * den_of part
-  cross = sym (unsigned_abs-mul part.num (y n).den) ∙ ap unsigned_abs (make-is (pos d) (y n).den (den_above (y n))) ∙ unsigned_abs-mul (pos d) part.den
-
-  grows : IsLeastCommon (suc n) y (d * den_of part)
-  grows = record {
-    positive = product (den_some part);
-    each = λ k less. ⊎_elim
-        (λ last. subst (λ j. den_of (y j) ∣ d * den_of part) (sym last) (subst (λ m. den_of (y n) ∣ m) cross (dvd-mul_left (den_of (y n)) (unsigned_abs part.num))))
-        (λ before. dvd_trans (den_of (y k)) (is.each k (omega (arith, less, before))) (dvd-mul_right d (den_of part)))
-        (cases_eq k n);
-    least = λ e each. joined d (den_of (y n)) (unsigned_abs part.num) (den_of part) e is.positive cross part.lowest.1 (is.least e (λ k less. each k (omega (arith, less)))) (each n (omega arith));
-  }
-    where
-      product : 1 ≤ den_of part → 1 ≤ d * den_of part
-      product some = grind (arith, is.positive, some)
-
 -- ---- the leaf
-module _ (y : ℕ → ℚ) (n d : ℕ) (is : IsLeastCommon n y d) where
-  leaf : AreOfLeaf n y d (λ k. numerator_over d (y k))
+module _ (xs : List ℚ) (d : ℕ) (is : IsLeastDenominator xs d) where
+  abbrev y : ℕ → ℚ
+  y = number_at xs
+
+  leaf : AreOfLeaf (length xs) y d (λ k. times_own_part d (y k))
   leaf = record {
-    times = record { positive = is.positive; each = λ k less. made_whole (y k) d (is.each k less) };
-    least = λ e w times. le_of_dvd (omega (arith, times.positive)) (is.least e (λ k less. divides_by (y k) e (w k) (times.each k less)));
+    times = record { positive = is.positive; each = λ k less. made_whole (y k) d (is.each k zero_ℚ less) };
+    least = λ e w times. le_of_dvd (omega (arith, times.positive)) (is.least e (All-from_get_or (λ x. den_of x ∣ e) xs zero_ℚ (λ k less. divides_by (y k) e (w k) (times.each k less))));
   }
 
--- there is one, and one leaf of it
+-- there is one leaf
 pub leaves_are_one : (n : ℕ) (y : ℕ → ℚ) (d e : ℕ) (z w : ℕ → ℤ) → AreOfLeaf n y d z → AreOfLeaf n y e w → (d ≡ e) × ((k : ℕ) → k < n → z k ≡ w k)
 leaves_are_one n y d e z w one other =
     let same : d ≡ e = omega (arith, one.least e w other.times, other.least d z one.times) in
     (same, λ k less. whole-inj (z k) (w k) (one.times.each k less ∙ ap (λ m. whole (pos m) *ℚ y k) same ∙ sym (other.times.each k less)))
 
-pub none_common : (y : ℕ → ℚ) → IsLeastCommon 0 y 1
-none_common y = record { positive = omega arith; each = λ k less. absurd (omega (arith, less)); least = λ e each. one-dvd e }
-
-some_common : (n : ℕ) (y : ℕ → ℚ) → (d : ℕ) × IsLeastCommon n y d
-some_common zero y = (1, none_common y)
-some_common (suc n) y =
-    let before = some_common n y in
-    (before.0 * den_of (make (pos before.0) (y n).den), grows y n before.0 before.1)
-
--- ---- as the code goes on
--- lowest terms of small numbers are small
-pub fits_small : (d e : ℤ) → pos 0 <ℤ d → pos 0 <ℤ e → IsSmall d → IsSmall e → (e ≢ pos 0) × Fits (quotient_ℚ d e)
-fits_small d (negsuc e) d_above e_above d_small e_small = absurd (omega (arith, ints, e_above))
-fits_small d (pos e) d_above e_above d_small e_small =
-    let x = make d (pos e) in
-    let n = unsigned_abs x.num in
-    let b = den_of x in
-    let cross : n * e ≡ unsigned_abs d * b = sym (unsigned_abs-mul x.num (pos e)) ∙ ap unsigned_abs (make-is d (pos e) e_above) ∙ unsigned_abs-mul d x.den in
-    let by_b : b ∣ e = dvd_of_coprime b n e (IsGcd-swap n b 1 x.lowest.1) (subst (λ k. b ∣ k) (sym cross) (dvd-mul_left b (unsigned_abs d))) in
-    let by_n : n ∣ unsigned_abs d = dvd_of_coprime n b (unsigned_abs d) x.lowest.1 (subst (λ k. n ∣ k) (cross ∙ turned (unsigned_abs d) b) (dvd-mul_right n e)) in (
-      (λ none. omega (arith, ints, none, e_above)),
-      record {
-        num = omega (arith, d_small, le_of_dvd {m = n} {n = unsigned_abs d} (omega (arith, ints, d_above)) by_n);
-        den = omega (arith, e_small, le_of_dvd {m = b} {n = e} (omega (arith, ints, e_above)) by_b);
-      },
-    )
-  where
-    turned : (a b : ℕ) → a * b ≡ b * a
-    turned a b = omega arith
-
--- the number of one more fraction
-joined_is : (n : ℕ) (y : ℕ → ℚ) (den other : ℤ) (x : ℚ) (d : ℕ) → pos d ≡ den → other ≡ x.den → x ≡ y n → pos (d * den_of (make (pos d) (y n).den)) ≡ den *ℤ (make den other).den
-joined_is n y den other x d is same here =
-    ap (λ k. pos d *ℤ k) (den_is (make (pos d) (y n).den))
-    ∙ ap (λ k. pos d *ℤ (make (pos d) k).den) (ap (λ (a : ℚ). a.den) (sym here) ∙ sym same)
-    ∙ ap (λ k. k *ℤ (make k other).den) is
-
-pub next_common : (n : ℕ) (y : ℕ → ℚ) (den other next : ℤ) (x : ℚ) → IsCommon n y den → other ≡ x.den → x ≡ y n → next ≡ den *ℤ (make den other).den → IsSmall next → IsCommon (n + 1) y next
-next_common n y den other next x (d, is, common, small) same here value next_small =
-    let e : suc n ≡ n + 1 = omega arith in
-    let new = d * den_of (make (pos d) (y n).den) in
-    (new, joined_is n y den other x d is same here ∙ sym value, subst (λ k. IsLeastCommon k y new) e (grows y n d common), next_small)
-
-pub too_large : (n count : ℕ) (y : ℕ → ℚ) (den other : ℤ) (x : ℚ) → IsCommon n y den → other ≡ x.den → x ≡ y n → n < count → (IsSmall (den *ℤ (make den other).den) → ⊥) → (all : ℕ) → IsLeastCommon count y all → IsSmall (pos all) → ⊥
-too_large n count y den other x (d, is, common, small) same here less large all least all_small =
-    let new = d * den_of (make (pos d) (y n).den) in
-    let divides : new ∣ all = (grows y n d common).least all (λ k k_less. least.each k (omega (arith, k_less, less))) in
-    let most : new ≤ all = le_of_dvd (omega (arith, least.positive)) divides in
-    large (subst IsSmall (joined_is n y den other x d is same here) (omega (arith, most, all_small)))
-
 -- ---- the fractions times it
-pub one_more : (n : ℕ) (y : ℕ → ℚ) (den next : ℤ) (x : ℚ) (list : List ℤ) → AreNumerators n y den list → x ≡ y n → next ≡ times_den den x → IsSmall next → AreNumerators (n + 1) y den (list ++ (next ∷ []))
+pub one_more : (n : ℕ) (y : ℕ → ℚ) (den next : ℤ) (x : ℚ) (list : List ℤ) → AreNumerators n y den list → x ≡ y n → next ≡ numerator_over x den → IsSmall next → AreNumerators (n + 1) y den (list ++ (next ∷ []))
 one_more n y den next x list are here value next_small =
     let last_is : (k : ℕ) → k ≡ n → whole_at (list ++ (next ∷ [])) k ≡ next = λ k last. ap (whole_at (list ++ (next ∷ []))) (last ∙ sym are.size) ∙ get_or-append_seam list next [] (pos 0) in
     let before_is : (k : ℕ) → k < n → whole_at (list ++ (next ∷ [])) k ≡ whole_at list k = λ k less. get_or_append_left list (next ∷ []) (pos 0) k (omega (arith, less, are.size)) in
     record {
       size = omega (arith, length-append list (next ∷ []), are.size);
       each = λ k less. ⊎_elim
-          (λ last. last_is k last ∙ value ∙ ap (times_den den) (here ∙ ap y (sym last)))
+          (λ last. last_is k last ∙ value ∙ ap (λ z. numerator_over z den) (here ∙ ap y (sym last)))
           (λ before. let low : k < n = omega (arith, less, before) in before_is k low ∙ are.each k low)
           (cases_eq k n);
       small = λ k less. ⊎_elim
@@ -179,14 +96,14 @@ one_more n y den next x list are here value next_small =
           (cases_eq k n);
     }
 
-times_is : (x : ℚ) (d : ℕ) (den : ℤ) → pos d ≡ den → times_den den x ≡ numerator_over d x
+times_is : (x : ℚ) (d : ℕ) (den : ℤ) → pos d ≡ den → numerator_over x den ≡ times_own_part d x
 times_is x d den is = ap (λ k. x.num *ℤ int_div k x.den) (sym is) ∙ ap (λ k. x.num *ℤ int_div (pos d) k) (sym (den_is x))
 
 -- ---- the answers
-pub whole_is : (xs : List ℚ) (den : ℤ) (list : List ℤ) → IsCommon (length xs) (number_at xs) den → AreNumerators (length xs) (number_at xs) den list → AreWholeMultipliers xs den list
+pub whole_is : (xs : List ℚ) (den : ℤ) (list : List ℤ) → IsCommonDenominator xs den → AreNumerators (length xs) (number_at xs) den list → AreWholeMultipliers xs den list
 whole_is xs den list (d, is, common, small) are =
     let y = number_at xs in
-    let here = leaf y (length xs) d common in
+    let here = leaf xs d common in
     record {
       size = are.size;
       leaf = (
@@ -214,18 +131,15 @@ whole_stays xs den list whole passes =
     (λ large. omega (arith, large.2, subst IsSmall (one.1 large.0 large.1) (whole.numerators_small large.0 large.1)))
     passes.cause
 
-pub den_passes : (xs : List ℚ) → ((d : ℕ) → IsLeastCommon (length xs) (number_at xs) d → IsSmall (pos d) → ⊥) → PassWhole xs
-den_passes xs large =
-    let y = number_at xs in
-    let (d, common) = some_common (length xs) y in
-    record { den = d; numerators = λ k. numerator_over d (y k); leaf = leaf y (length xs) d common; cause = inl (not_small (pos d) (large d common)) }
+pub den_passes : (xs : List ℚ) → HasLargeDenominator xs → PassWhole xs
+den_passes xs (d, least, large) = record { den = d; numerators = λ k. times_own_part d (number_at xs k); leaf = leaf xs d least; cause = inl large }
 
-pub numerator_passes : (xs : List ℚ) (den : ℤ) → IsCommon (length xs) (number_at xs) den → HasLarge (length xs) (number_at xs) den → PassWhole xs
+pub numerator_passes : (xs : List ℚ) (den : ℤ) → IsCommonDenominator xs den → HasLarge (length xs) (number_at xs) den → PassWhole xs
 numerator_passes xs den (d, is, common, small) (k, less, large) =
     let y = number_at xs in
     record {
       den = d;
-      numerators = λ j. numerator_over d (y j);
-      leaf = leaf y (length xs) d common;
-      cause = inr (k, less, not_small (numerator_over d (y k)) (λ fits. large (subst IsSmall (sym (times_is (y k) d den is)) fits)));
+      numerators = λ j. times_own_part d (y j);
+      leaf = leaf xs d common;
+      cause = inr (k, less, not_small (times_own_part d (y k)) (λ fits. large (subst IsSmall (sym (times_is (y k) d den is)) fits)));
     }

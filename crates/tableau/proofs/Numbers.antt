@@ -1,21 +1,17 @@
 -- Rational numbers that the proofs use.
 use Rattle.std.proofs.Common.{◌≡◌, ◌≢◌, ◌<◌, ◌∙◌, ℕ, refl, sym, ap, subst, arith}
 use Rattle.std.specs.Prelude.{pos, negsuc, if◌then◌else◌, ◌==◌}
-use Rattle.rational.specs.Rational.{ℚ, whole, inv_ℚ, neg_ℚ, ◌+ℚ◌, ◌-ℚ◌, ◌≤ℚ◌}
-use Rattle.rational.proofs.Rationals.{den_above, inv-mul, le-make, make-le, make-parts, one_above, rational_ring}
+use Rattle.rational.specs.Rational.{ℚ, whole, inv_ℚ, neg_ℚ, ◌+ℚ◌, ◌-ℚ◌}
+use Rattle.rational.proofs.Rationals.{den_above, inv-mul, one_above, rational_ring}
 use Rattle.rational.specs.Rational.{make}
 use Rattle.frac128.specs.Limits.{Fits, IsSmall, quotient_ℚ}
-use Rattle.frac128.proofs.Multiples.{num_from_zero, parts_fit, zero_from_num}
+use Rattle.frac128.proofs.Multiples.{parts_fit}
 use Rattle.algebra.specs.Fractions.{IsLowest}
-use Rattle.algebra.proofs.Integers as Z
-use lib.Signed.{lt_z}
-use Rattle.std.proofs.Common.{rules, true, false}
 use native.Mathlib.Nat.{dvd_refl, one-dvd}
 use Rattle.std.specs.Int.{IsGcd}
 use Rattle.std.specs.Option.{SomeIff}
-use Rattle.std.specs.Prelude.{ℤ, ◌<ℤ◌, ◌≤ℤ◌, ◌-ℤ◌, neg_ℤ, unsigned_abs, Option, None, Some, IsSome}
+use Rattle.std.specs.Prelude.{ℤ, ◌<ℤ◌, ◌-ℤ◌, neg_ℤ, unsigned_abs, Option, None, Some, IsSome}
 use Rattle.std.proofs.lemmas.Int.{ints}
-use Rattle.tableau.specs.Run.{IsNegative, IsPositive}
 use Rattle.rational.proofs.Rationals as Q
 use Rattle.algebra.proofs.Rings.{con, ◌⊕◌, ◌⊖◌, ◌⊗◌}
 use Rattle.algebra.proofs.Claims.{same4, so, from}
@@ -36,32 +32,6 @@ sum_one n k c less = sum-only rational_ring n k (λ t. if t == k then c else zer
 pub inv_opposite : (p : ℚ) → p ≢ zero_ℚ → neg_ℚ p ≢ zero_ℚ → inv_ℚ (neg_ℚ p) ≡ zero_ℚ -ℚ inv_ℚ p
 inv_opposite p some other =
     same4 rational_ring (λ p q r m. from (con (negsuc 0) ⊗ r) (q ⊗ p) (con (pos 1)) (from (con (negsuc 0) ⊗ q) (r ⊗ m) (con (pos 1)) (from (r ⊗ q) (m ⊕ p) (con (pos 0)) (so r (con (pos 0) ⊖ q))))) refl p (inv_ℚ p) (inv_ℚ (neg_ℚ p)) (neg_ℚ p) (inv-mul p some) (inv-mul (neg_ℚ p) other) (Q.neg_add p)
-
--- ---- signs by the numerator
-pub num_at_most : (x : ℚ) → x ≤ℚ zero_ℚ → x.num ≤ℤ pos 0
-unfolding whole
-num_at_most x h =
-    let c = make-le x.num x.den (pos 0) (pos 1) (den_above x) one_above (subst (λ y. y ≤ℚ make (pos 0) (pos 1)) (sym (make-parts x)) h) in
-    omega (arith, ints, Z.mul_one x.num)
-
-pub at_most : (x : ℚ) → x.num ≤ℤ pos 0 → x ≤ℚ zero_ℚ
-unfolding whole
-at_most x h = subst (λ y. y ≤ℚ make (pos 0) (pos 1)) (make-parts x) (le-make x.num x.den (pos 0) (pos 1) (den_above x) one_above (omega (arith, ints, Z.mul_one x.num, h)))
-
-pub at_least : (x : ℚ) → pos 0 ≤ℤ x.num → zero_ℚ ≤ℚ x
-at_least x h = subst (λ y. zero_ℚ ≤ℚ y) (make-parts x) (Q.num-nonneg x.num x.den (den_above x) h)
-
-pub negative_num : (x : ℚ) → x.num <ℤ pos 0 → IsNegative x
-negative_num x h = λ low. let c = Q.nonneg-num x low in omega (arith, ints, h)
-
-pub positive_num : (x : ℚ) → pos 0 <ℤ x.num → IsPositive x
-positive_num x h = λ low. let c = num_at_most x low in omega (arith, ints, h)
-
-pub zero_num : (x : ℚ) → x.num ≡ pos 0 → x ≡ zero_ℚ
-zero_num x e = sym (make-parts x) ∙ ap (λ n. make n x.den) e ∙ zero_from_num x.den (den_above x)
-
-pub some_num : (x : ℚ) → x.num ≢ pos 0 → x ≢ zero_ℚ
-some_num x other e = other (num_from_zero x.num x.den x.lowest (make-parts x ∙ e))
 
 -- ---- whole numbers and opposites fit
 quotient_above : (n d : ℤ) → pos 0 <ℤ d → quotient_ℚ n d ≡ make n d
@@ -105,13 +75,6 @@ some_is (Some x) P v h some = refl
 
 pub some_value : {T : Type 0} (r : Option T) (P : Type 0) (v x : T) → SomeIff r P v → r ≡ Some x → x ≡ v
 some_value r P v x h is = (subst (λ o. SomeIff o P v) is h).1
-
--- ---- tests of whole numbers
-pub lt_true : (a b : ℤ) → lt_z a b ≡ true → a <ℤ b
-lt_true a b h = search (rules, h)
-
-pub lt_false : (a b : ℤ) → lt_z a b ≡ false → b ≤ℤ a
-lt_false a b h = search (rules, h)
 
 pub minus_is : (n : ℤ) → pos 0 -ℤ n ≡ neg_ℤ n
 minus_is n = omega (arith, ints)

@@ -1,8 +1,8 @@
--- The least common denominator of fractions, and the fractions times it.
-use Rattle.std.specs.Prelude.{◌≡◌, ◌⊎◌, ℕ, ◌≤◌, ◌<◌, ◌^◌, ℤ, pos, ◌*ℤ◌, unsigned_abs, int_div, List, length, slice_index_or}
-use Prim.Native.Nat.{◌∣◌}
+-- Fractions times their least common denominator.
+use Rattle.std.specs.Prelude.{◌≡◌, ◌⊎◌, ℕ, ◌≤◌, ◌<◌, ◌^◌, ℤ, pos, unsigned_abs, List, length, slice_index_or}
 use Rattle.rational.specs.Rational.{ℚ}
 use Rattle.frac128.specs.Limits.{IsSmall}
+use Rattle.frac128.specs.Denominators.{numerator_over}
 use Rattle.tableau.specs.Leaves.{AreOfLeaf}
 use Rattle.tableau.specs.Outcomes.{number_at}
 
@@ -29,30 +29,12 @@ abbrev pub AllLeavesAreOne : Type 0
 AllLeavesAreOne = (n : ℕ) (y : ℕ → ℚ) (d e : ℕ) (z w : ℕ → ℤ) → AreOfLeaf n y d z → AreOfLeaf n y e w → (d ≡ e) × ((k : ℕ) → k < n → z k ≡ w k)
 
 -- ---- as the code finds them
--- the denominator in lowest terms
-abbrev pub den_of : ℚ → ℕ
-den_of x = unsigned_abs x.den
-
--- the least common multiple of the denominators of the first n fractions
-pub record IsLeastCommon (n : ℕ) (y : ℕ → ℚ) (d : ℕ) : Type 0 where
-  pub positive : 1 ≤ d
-  pub each : (k : ℕ) → k < n → den_of (y k) ∣ d
-  pub least : (e : ℕ) → ((k : ℕ) → k < n → den_of (y k) ∣ e) → d ∣ e
-
--- a small one
-abbrev pub IsCommon : ℕ → (ℕ → ℚ) → ℤ → Type 0
-IsCommon n y den = (d : ℕ) × (pos d ≡ den) × IsLeastCommon n y d × IsSmall den
-
--- a fraction times a number
-abbrev pub times_den : ℤ → ℚ → ℤ
-times_den den x = x.num *ℤ int_div den x.den
-
 -- a list of the first fractions times it
 pub record AreNumerators (n : ℕ) (y : ℕ → ℚ) (den : ℤ) (list : List ℤ) : Type 0 where
   pub size : length list ≡ n
-  pub each : (k : ℕ) → k < n → whole_at list k ≡ times_den den (y k)
+  pub each : (k : ℕ) → k < n → whole_at list k ≡ numerator_over (y k) den
   pub small : (k : ℕ) → k < n → IsSmall (whole_at list k)
 
 -- one of them isn't small
 abbrev pub HasLarge : ℕ → (ℕ → ℚ) → ℤ → Type 0
-HasLarge n y den = (k : ℕ) × (k < n) × (IsSmall (times_den den (y k)) → ⊥)
+HasLarge n y den = (k : ℕ) × (k < n) × (IsSmall (numerator_over (y k) den) → ⊥)

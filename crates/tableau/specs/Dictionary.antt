@@ -5,6 +5,7 @@ use Rattle.frac128.specs.Limits.{divided_ℚ}
 use Rattle.tableau.specs.Program.{Program, column_count, cost_at, entry_at, right_at, row_count, sum_ℚ, zero_ℚ}
 
 -- Row 0 is the cost's, and column 0 has the constants. A row is a variable's number and a cell for each column.
+-- The type `Tableau` holds one.
 pub record Dictionary : Type 0 where
   pub basic : List ℕ
   pub nonbasic : List ℕ

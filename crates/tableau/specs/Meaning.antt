@@ -6,7 +6,7 @@ use Rattle.tableau.specs.Dictionary.{Dictionary, Meets, Solves, basic_at, cell, 
 use Rattle.tableau.specs.Run.{IsPositive}
 
 -- ---- the invariant, whatever the rule
--- each variable has one place; the cost is basic in row 0, and the constants stand in column 0
+-- the basic variables are a basis: each variable has one place; the cost is basic in row 0, and the constants stand in column 0
 pub record HasNames (p : Program) (d : Dictionary) : Type 0 where
   pub rows : height d ≡ row_count p + 1
   pub columns : width d ≡ column_count p + 1
@@ -25,7 +25,7 @@ pub record SaysTheSame (p : Program) (d : Dictionary) : Type 0 where
   pub solves : (x : ℕ → ℚ) → Meets p x → Solves d x
   pub meets : (x : ℕ → ℚ) → Solves d x → Meets p x
 
--- no reduced cost is negative
+-- no reduced cost is negative: the basis is dual feasible
 abbrev pub IsDual : Dictionary → Type 0
 IsDual d = (t : ℕ) → 1 ≤ t → t < width d → zero_ℚ ≤ℚ cell d 0 t
 

@@ -1,7 +1,8 @@
 -- Linear programs: the least cost of numbers of at least 0 under rows that bound sums of multiples from below.
-use Rattle.std.specs.Prelude.{◌≤◌, ◌<◌, ◌+◌, ◌-◌, ◌^◌, ℕ, ℤ, pos, ◌+ℤ◌, unsigned_abs, if◌then◌else◌, ◌==◌, List, [], ◌∷◌, ◌++◌, length, slice_index_or, ⊤}
+use Rattle.std.specs.Prelude.{◌≤◌, ◌<◌, ◌+◌, ◌^◌, ℕ, ℤ, pos, ◌+ℤ◌, unsigned_abs, if◌then◌else◌, ◌==◌, List, [], ◌∷◌, ◌++◌, length, slice_index_or, ⊤}
 use Rattle.rational.specs.Rational.{ℚ, whole, ◌+ℚ◌}
 use Rattle.algebra.specs.Sums.{sum_with}
+use Rattle.tableau.specs.declared.limits.TheConstants.{MAX_PROGRAM_SIZE}
 use Rattle.tableau.specs.declared.program.LpTerm.{LpTerm}
 
 abbrev pub zero_ℚ : ℚ
@@ -11,11 +12,12 @@ zero_ℚ = whole (pos 0)
 abbrev pub sum_ℚ : ℕ → (ℕ → ℚ) → ℚ
 sum_ℚ n f = sum_with ◌+ℚ◌ zero_ℚ n f
 
--- the sum of multiples of columns is at least the right side
+-- the sum of multiples of columns is at least the right side; the type `LpRow` holds one
 pub record Inequality : Type 0 where
   pub terms : List LpTerm
   pub right : ℤ
 
+-- costs of the columns, and rows; the type `Lp` holds one
 pub record Program : Type 0 where
   pub costs : List ℕ
   pub rows : List Inequality
@@ -63,7 +65,7 @@ AreRows last [] = ⊤
 AreRows last (row ∷ rows) = IsRow last row × AreRows last rows
 
 pub record IsProgram (p : Program) : Type 0 where
-  pub few : column_count p + row_count p < 2 ^ 32 - 1
+  pub few : column_count p + row_count p ≤ MAX_PROGRAM_SIZE
   pub rows : AreRows (column_count p) p.rows
 
 -- with a further row after the others

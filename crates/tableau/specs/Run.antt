@@ -55,7 +55,7 @@ pub record IsLeastIndex (d : Dictionary) (k j : ℕ) : Type 0 where
   pub leaving : IsLeaving d k
   pub entering : IsEntering d k j
 
--- no constant is negative
+-- no constant is negative: the basis is primal feasible
 abbrev pub IsLast : Dictionary → Type 0
 IsLast d = (i : ℕ) → 1 ≤ i → i < height d → zero_ℚ ≤ℚ cell d i 0
 

@@ -5,7 +5,7 @@ use frac128::Frac;
 /// How the solution of a linear program ends.
 #[derive(Debug, Drop)]
 pub enum Outcome {
-    /// A point meets all rows, and the multipliers prove that none costs less.
+    /// Optimal: a point meets all rows, and the multipliers prove that none costs less.
     Least {
         /// The value of each column.
         point: Vec<Frac>,
@@ -14,17 +14,17 @@ pub enum Outcome {
         /// What the point costs.
         value: Frac,
     },
-    /// No point meets all rows, as the multipliers prove.
+    /// Infeasible: no point meets all rows, as the multipliers prove.
     Empty {
         /// How many times each row is taken.
         multipliers: Vec<Frac>,
     },
-    /// The run has more pivots than it was given.
+    /// The iteration limit is reached: the run has more pivots than it was given.
     Stopped {
         /// The pivots that were made.
         pivots: u32,
     },
-    /// A number of the run doesn't fit 128 bits.
+    /// Overflow: a number of the run doesn't fit 128 bits.
     Passed {
         /// The pivot, counted from 1.
         pivot: u32,

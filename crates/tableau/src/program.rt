@@ -1,8 +1,10 @@
 // Linear programs.
-ghost use Rattle.std.specs.Prelude.{◌≡◌, ◌<◌, ◌+◌, ◌*◌, ◌↔◌, IsTrue, OnErr, OnOk, map};
+ghost use Rattle.std.specs.Prelude.{◌≡◌, ◌≤◌, ◌+◌, ◌*◌, ◌↔◌, IsTrue, OnErr, OnOk, map};
 ghost use Rattle.tableau.specs.Program.{AreRows, IsProgram, IsRow, column_count, row_count, with_row};
 ghost use Rattle.tableau.specs.Held.{inequality_of};
+ghost use Rattle.tableau.specs.declared.limits.TheConstants.{MAX_PROGRAM_SIZE};
 
+use crate::limits::MAX_PROGRAM_SIZE;
 use std::alloc::AllocError;
 use std::marker::Model;
 
@@ -15,7 +17,7 @@ pub struct LpTerm {
     pub times: i128,
 }
 
-/// A row: the sum of the terms is at least the right side.
+/// A row: the sum of the terms is at least the right side. It holds an `Inequality`, as contracts see it.
 #[derive(Debug, Drop)]
 pub struct LpRow {
     /// The terms, whose columns rise.
@@ -24,7 +26,8 @@ pub struct LpRow {
     pub right: i128,
 }
 
-/// A linear program: to find numbers of at least 0 for the columns that meet each row and cost least.
+/// A linear program: to find numbers of at least 0 for the columns that meet each row and cost least. Contracts see it as a
+/// `Program`.
 #[derive(Debug, Drop)]
 pub struct Lp {
     pub(crate) costs: Vec<u64>,
@@ -64,7 +67,7 @@ fn are_rows(last: usize, rows: &[LpRow]) -> bool
 pub fn is_program(costs: &[u64], rows: &[LpRow]) -> bool
     ensures { IsTrue result ↔ IsProgram (record { costs = costs.now; rows = map inequality_of rows.now }) }
 {
-    costs.len() + rows.len() < 4_294_967_295 && are_rows(costs.len(), rows)
+    costs.len() + rows.len() <= MAX_PROGRAM_SIZE as usize && are_rows(costs.len(), rows)
 }
 
 impl Model for Lp {
@@ -80,7 +83,7 @@ impl Model for Lp {
 
 impl Lp {
     /// The program with these costs of columns and these rows, whose columns rise and are among them. Costs and
-    /// rows are fewer than 2^32 - 1 together, and numbers at most 2^127 - 1 in absolute value. It takes no memory.
+    /// rows are at most `MAX_PROGRAM_SIZE` together, and numbers at most 2^127 - 1 in absolute value. It takes no memory.
     pub fn new(costs: Vec<u64>, rows: Vec<LpRow>) -> Lp
         requires { IsProgram (record { costs = costs.items; rows = map inequality_of rows.items }) }
         ensures { result ≡ record { costs = costs.items; rows = map inequality_of rows.items } }
@@ -92,10 +95,11 @@ impl Lp {
     pub fn takes(&self, row: &LpRow) -> bool
         ensures { IsTrue result ↔ IsProgram (with_row self.now (inequality_of row.now)) }
     {
-        self.costs.len() + self.rows.len() + 1 < 4_294_967_295 && is_row(self.costs.len(), row)
+        self.costs.len() + self.rows.len() + 1 <= MAX_PROGRAM_SIZE as usize
+            && is_row(self.costs.len(), row)
     }
 
-    /// Adds a row after the others. The error is want of memory, and leaves the program as it was.
+    /// Adds a row after the others. The error is that memory ran out, and leaves the program as it was.
     pub fn push(&mut self, row: LpRow) -> Result<(), AllocError>
         requires { IsProgram (with_row self.old (inequality_of row)) }
         ensures pushed { OnOk result (self.new ≡ with_row self.old (inequality_of row)) }
@@ -108,7 +112,7 @@ impl Lp {
     /// How many variables the program has: its columns, and the slacks of its rows.
     pub fn variables(&self) -> u32
         ensures value { result ≡ column_count self.now + row_count self.now }
-        ensures few { result < 4294967295 }
+        ensures few { result ≤ MAX_PROGRAM_SIZE }
     {
         (self.costs.len() + self.rows.len()) as u32
     }

@@ -16,9 +16,9 @@ use std::marker::Model;
 pub enum StepSays {
     /// One pivot was made.
     Moved,
-    /// The run ends here, and nothing has changed.
+    /// The run ends here, optimal or infeasible, and nothing has changed.
     Ended,
-    /// A ratio or a cell of the next pivot doesn't fit 128 bits. The run can't go on.
+    /// Overflow: a ratio or a cell of the next pivot doesn't fit 128 bits. The run can't go on.
     Passed {
         /// The number of the row's basic variable, and 0 for the cost.
         row: u32,
@@ -49,7 +49,7 @@ impl Model for Run {
 }
 
 impl Run {
-    /// The run of a program at the slack basis. It takes memory for one dictionary. The error is want of memory.
+    /// The run of a program at the slack basis. It takes memory for one dictionary. The error is that memory ran out.
     pub fn start(alloc: Global, lp: &Lp) -> Result<Run, AllocError>
         ensures { IfOk result (IsStarted lp.now) }
     {
@@ -97,7 +97,7 @@ impl Run {
         true
     }
 
-    /// The outcome of a run that has ended: `Least` or `Empty`. The error is want of memory.
+    /// The outcome of a run that has ended: `Least` or `Empty`. The error is that memory ran out.
     pub fn finish(self, lp: &Lp, alloc: Global) -> Result<Outcome, AllocError>
         requires { IsAtEnd lp.now self }
         ensures outcome { IfOk result (IsEndOf lp.now) }

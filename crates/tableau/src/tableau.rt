@@ -1,10 +1,10 @@
 // Dictionaries and their pivots.
 ghost use Rattle.std.specs.Prelude.{◌≡◌, ◌≢◌, ◌≤◌, ◌<◌, ◌+◌, ◌*◌, ◌^◌, ℕ, unsigned_abs, false, ◌↔◌, IfErr, IfOk, IfSome, IsNone, IsTrue, length, OnOk};
-ghost use Rattle.rational.specs.Rational.{whole, neg_ℚ, ◌*ℚ◌, ◌-ℚ◌, ◌≤ℚ◌};
+ghost use Rattle.rational.specs.Rational.{whole, neg_ℚ, ◌*ℚ◌, ◌-ℚ◌};
 ghost use Rattle.frac128.specs.Limits.{Fits, divided_ℚ};
 ghost use Rattle.tableau.specs.Program.{zero_ℚ};
 ghost use Rattle.tableau.specs.Dictionary.{IsPivoted, basic_at, cell, height, nonbasic_at, width};
-ghost use Rattle.tableau.specs.Run.{IsCandidate, IsEntering, IsLast, IsLeaving, IsNegative, IsPositive, OtherFits, RatioFits, RowFits, UpdateFits};
+ghost use Rattle.tableau.specs.Run.{IsCandidate, IsEntering, IsLast, IsLeaving, OtherFits, RatioFits, RowFits, UpdateFits};
 ghost use Rattle.tableau.specs.Steps.{AreExchanged, CellFits, GoesBefore, HasNoneTo, HasSameNames, IsBetter, IsDivided, IsLower, IsRefusedRatio, IsRowUpdated, IsSet, AreBelow, AreColumns, AreCopied, AreListed, RatiosFitTo, UpdatesFit};
 
 use crate::marks::{is_marked, mark};
@@ -12,9 +12,9 @@ use frac128::{Frac, Ratio};
 use std::cmp::Ordering;
 use std::marker::Model;
 
-// A dictionary: the numbers of the variables of rows and columns, and the cells. Row 0 is the cost's, and column 0 has
-// the constants, which stand in a list of their own; the cells of the other columns stand row by row. A cell that isn't 0
-// has a mark, by its row and column, so that a search for such cells reads a bit of each.
+// A tableau holds a `Dictionary`: the numbers of the variables of rows and columns, and the cells. Row 0 is the cost's,
+// and column 0 has the constants, which stand in a list of their own; the cells of the other columns stand row by row.
+// A cell that isn't 0 has a mark, by its row and column, so that a search for such cells reads a bit of each.
 #[derive(Debug, Drop)]
 pub struct Tableau {
     pub(crate) basic: Vec<u32>,
@@ -48,30 +48,6 @@ pub(crate) fn opposite(number: Frac) -> Frac
     ensures { result ≡ zero_ℚ -ℚ number }
 {
     -number
-}
-
-// Whether a number is below 0.
-fn is_negative(number: Frac) -> bool
-    ensures yes { IsTrue result → IsNegative number }
-    ensures no { result ≡ false → zero_ℚ ≤ℚ number }
-{
-    number.num() < 0
-}
-
-// Whether a number is above 0.
-fn is_positive(number: Frac) -> bool
-    ensures yes { IsTrue result → IsPositive number }
-    ensures no { result ≡ false → number ≤ℚ zero_ℚ }
-{
-    number.num() > 0
-}
-
-// Whether a number is 0.
-fn is_zero(number: Frac) -> bool
-    ensures yes { IsTrue result → number ≡ zero_ℚ }
-    ensures no { result ≡ false → number ≢ zero_ℚ }
-{
-    number.num() == 0
 }
 
 impl Tableau {
@@ -145,7 +121,7 @@ impl Tableau {
         if !is_marked(&self.marks, self.mark_place(row, column)) {
             return false;
         }
-        !is_zero(self.cell(row, column))
+        !self.cell(row, column).is_zero()
     }
 
     pub(crate) fn set(&mut self, row: usize, column: usize, value: Frac)
@@ -169,7 +145,7 @@ impl Tableau {
         requires row { row < height self.now }
         ensures { IsLower self.now best row result }
     {
-        if !is_negative(self.constant(row)) {
+        if !self.constant(row).is_negative() {
             return best;
         }
         let Some(lowest) = best else {
@@ -200,7 +176,7 @@ impl Tableau {
         ensures none { result ≡ false → (t : ℕ) → IsCandidate self.now row t → ⊥ }
     {
         for column in 1..self.width() {
-            if is_positive(self.cell(row, column)) {
+            if self.cell(row, column).is_positive() {
                 return true;
             }
         }
@@ -240,7 +216,7 @@ impl Tableau {
             return Ok(best);
         }
         let coefficient = self.cell(row, column);
-        if !is_positive(coefficient) {
+        if !coefficient.is_positive() {
             return Ok(best);
         }
         let Some(ratio) = self.cell(0, column).ratio(coefficient) else {
@@ -322,7 +298,7 @@ impl Tableau {
         ensures names { HasSameNames self.old self.new }
     {
         let source = self.cell(pivot_row, column);
-        if is_zero(source) {
+        if source.is_zero() {
             return true;
         }
         let Some(product) = factor.mul(source) else {
@@ -387,7 +363,7 @@ impl Tableau {
         ensures names { HasSameNames self.old self.new }
     {
         let old = self.cell(row, column);
-        if is_zero(old) {
+        if old.is_zero() {
             return true;
         }
         let Some(product) = old.mul(factor) else {

@@ -3,6 +3,7 @@ ghost use Rattle.std.specs.Prelude.{◌≡◌, ◌≤◌, ◌<◌, ◌+◌, ◌^
 ghost use Rattle.tableau.specs.Program.{column_count, row_count};
 ghost use Rattle.tableau.specs.Dictionary.{basic_at, cell, height, nonbasic_at, width};
 ghost use Rattle.tableau.specs.Run.{IsLast};
+ghost use Rattle.tableau.specs.declared.limits.TheConstants.{MAX_PROGRAM_SIZE};
 ghost use Rattle.tableau.specs.Meaning.{coefficient_at, opposite_at, value_at};
 ghost use Rattle.tableau.specs.Outcomes.{AreApart, AreValues, GivesEmpty, GivesLeast, IsCertain, IsNowhere, IsOutcome, IsPutIn};
 
@@ -91,7 +92,7 @@ impl Tableau {
         rows: usize,
     ) -> Result<Outcome, AllocError>
         requires some { 1 ≤ height self.now }
-        requires few { columns < 4294967296 }
+        requires few { columns ≤ MAX_PROGRAM_SIZE }
         requires rows_apart { AreApart (height self.now) (basic_at self.now) }
         requires columns_apart { AreApart (width self.now) (nonbasic_at self.now) }
         ensures { IfOk result (GivesLeast self.now columns rows) }
@@ -114,7 +115,7 @@ impl Tableau {
         rows: usize,
     ) -> Result<Outcome, AllocError>
         requires row { row < height self.now }
-        requires few { columns < 4294967296 }
+        requires few { columns ≤ MAX_PROGRAM_SIZE }
         requires columns_apart { AreApart (width self.now) (nonbasic_at self.now) }
         requires own { IsNowhere self.now row }
         ensures { IfOk result (GivesEmpty self.now row columns rows) }

@@ -4,6 +4,7 @@ ghost use Rattle.tableau.specs.Program.{IsRow, column_count, zero_ℚ};
 ghost use Rattle.tableau.specs.Dictionary.{IsStart, cell, height, width};
 ghost use Rattle.tableau.specs.Starts.{AreVariables, HasCosts, GainsRow, IsBlank};
 ghost use Rattle.tableau.specs.Held.{inequality_of};
+ghost use Rattle.tableau.specs.declared.limits.TheConstants.{MAX_PROGRAM_SIZE};
 
 use crate::plain::tableau::{Tableau, opposite, whole};
 use crate::{Lp, LpRow};
@@ -11,7 +12,7 @@ use std::alloc::{AllocError, Global};
 
 // So many numbers from one on.
 fn numbers(alloc: Global, first: usize, count: usize) -> Result<Vec<u32>, AllocError>
-    requires { first + count < 4294967296 }
+    requires { first + count ≤ MAX_PROGRAM_SIZE + 1 }
     ensures { IfOk result (λ list. AreVariables first count list.items) }
 {
     let mut list = Vec::new(alloc);

@@ -1,18 +1,18 @@
 // Dictionaries and their pivots, the constants as column 0 among the cells.
 ghost use Rattle.std.specs.Prelude.{◌≡◌, ◌≢◌, ◌≤◌, ◌<◌, ◌^◌, ℕ, unsigned_abs, false, ◌↔◌, IfErr, IfOk, IfSome, IsNone, IsTrue, OnOk};
-ghost use Rattle.rational.specs.Rational.{whole, neg_ℚ, ◌*ℚ◌, ◌-ℚ◌, ◌≤ℚ◌};
+ghost use Rattle.rational.specs.Rational.{whole, neg_ℚ, ◌*ℚ◌, ◌-ℚ◌};
 ghost use Rattle.frac128.specs.Limits.{Fits, divided_ℚ};
 ghost use Rattle.tableau.specs.Program.{zero_ℚ};
 ghost use Rattle.tableau.specs.Dictionary.{IsPivoted, basic_at, cell, height, nonbasic_at, width};
-ghost use Rattle.tableau.specs.Run.{IsCandidate, IsEntering, IsLast, IsLeaving, IsNegative, IsPositive, OtherFits, RatioFits, RowFits, UpdateFits};
+ghost use Rattle.tableau.specs.Run.{IsCandidate, IsEntering, IsLast, IsLeaving, OtherFits, RatioFits, RowFits, UpdateFits};
 ghost use Rattle.tableau.specs.Steps.{AreExchanged, CellFits, GoesBefore, HasNoneTo, HasSameNames, IsBetter, IsDivided, IsLower, IsRefusedRatio, IsRowUpdated, IsSet, RatiosFitTo, UpdatesFit};
 
 use frac128::{Frac, plain};
 use std::cmp::Ordering;
 use std::marker::Model;
 
-// A dictionary: the numbers of the variables of rows and columns, and the cells row by row. Row 0 is the cost's,
-// and column 0 has the constants.
+// A tableau holds a `Dictionary`: the numbers of the variables of rows and columns, and the cells row by row. Row 0 is
+// the cost's, and column 0 has the constants.
 #[derive(Debug, Drop)]
 pub struct Tableau {
     pub(crate) basic: Vec<u32>,
@@ -44,30 +44,6 @@ pub(crate) fn opposite(number: Frac) -> Frac
     ensures { result ≡ zero_ℚ -ℚ number }
 {
     Frac::new(-number.num(), number.den()).unwrap()
-}
-
-// Whether a number is below 0.
-fn is_negative(number: Frac) -> bool
-    ensures yes { IsTrue result → IsNegative number }
-    ensures no { result ≡ false → zero_ℚ ≤ℚ number }
-{
-    number.num() < 0
-}
-
-// Whether a number is above 0.
-fn is_positive(number: Frac) -> bool
-    ensures yes { IsTrue result → IsPositive number }
-    ensures no { result ≡ false → number ≤ℚ zero_ℚ }
-{
-    number.num() > 0
-}
-
-// Whether a number is 0.
-fn is_zero(number: Frac) -> bool
-    ensures yes { IsTrue result → number ≡ zero_ℚ }
-    ensures no { result ≡ false → number ≢ zero_ℚ }
-{
-    number.num() == 0
 }
 
 impl Tableau {
@@ -134,7 +110,7 @@ impl Tableau {
         requires row { row < height self.now }
         ensures { IsLower self.now best row result }
     {
-        if !is_negative(self.constant(row)) {
+        if !self.constant(row).is_negative() {
             return best;
         }
         let Some(lowest) = best else {
@@ -165,7 +141,7 @@ impl Tableau {
         ensures none { result ≡ false → (t : ℕ) → IsCandidate self.now row t → ⊥ }
     {
         for column in 1..self.width() {
-            if is_positive(self.cell(row, column)) {
+            if self.cell(row, column).is_positive() {
                 return true;
             }
         }
@@ -203,7 +179,7 @@ impl Tableau {
         ensures refused { IfErr result (IsRefusedRatio self.now row) }
     {
         let coefficient = self.cell(row, column);
-        if !is_positive(coefficient) {
+        if !coefficient.is_positive() {
             return Ok(best);
         }
         let Some(ratio) = plain::div(self.cell(0, column), coefficient) else {
@@ -245,7 +221,7 @@ impl Tableau {
         ensures names { HasSameNames self.old self.new }
     {
         let source = self.cell(pivot_row, column);
-        if is_zero(source) {
+        if source.is_zero() {
             return true;
         }
         let Some(product) = plain::mul(factor, source) else {
@@ -271,7 +247,7 @@ impl Tableau {
         ensures names { HasSameNames self.old self.new }
     {
         let old = self.cell(row, pivot_column);
-        if is_zero(old) {
+        if old.is_zero() {
             return Ok(());
         }
         let Some(factor) = plain::div(old, self.cell(pivot_row, pivot_column)) else {
@@ -296,7 +272,7 @@ impl Tableau {
         ensures names { HasSameNames self.old self.new }
     {
         let old = self.cell(row, column);
-        if is_zero(old) {
+        if old.is_zero() {
             return true;
         }
         let Some(product) = plain::mul(old, factor) else {

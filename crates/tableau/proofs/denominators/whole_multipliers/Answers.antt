@@ -7,7 +7,7 @@ use Rattle.tableau.proofs.LeastCommon.{den_passes, numerator_passes, whole_is, w
 use Rattle.tableau.proofs.denominators.whole_multipliers.Goals as goal
 
 pub returns-in_default-clause-none : goal.returns-in_default-clause-none
-returns-in_default-clause-none c = ((λ _. den_passes c.args.fractions.now (c.in_default.ensures.none refl)), λ _. refl)
+returns-in_default-clause-none c = ((λ _. den_passes c.args.fractions.now (c.in_default.ensures.none.0 refl)), λ _. refl)
 
 pub returns-in_default-2-clause-none : goal.returns-in_default-2-clause-none
 returns-in_default-2-clause-none c =

@@ -1,6 +1,6 @@
 use Rattle.std.proofs.lemmas.Int.{to_z-of_z}
-use Rattle.tableau.proofs.LeastCommon.{fits_small}
-use Rattle.tableau.proofs.denominators.grown.Goals as goal
+use Rattle.frac128.proofs.LeastCommon.{fits_small}
+use Rattle.frac128.proofs.denominators.grown.Goals as goal
 
 pub returns-in-None : goal.returns-in-None
 returns-in-None c =
