@@ -1,7 +1,8 @@
 //! Bills of materials: which items are components of which, over any number of lines, and how much of
 //! them goes into one unit.
 //!
-//! Family: models. It stands on `lot_sizing`; `lot_model` and `echelon` stand on it.
+//! Family: models. It stands on `lot_sizing`; `lot_model`, `echelon`, `existence`, `cert_checker`, `root_rounds`,
+//! `answers_exist` and `lotplan` stand on it.
 //!
 //! `BillLines` lends the list of each item's components. `Ranking` gives each item a number above those
 //! of the items that it goes into, or names the first item that is its own component. With ranks,

@@ -1,4 +1,4 @@
--- Records mean a plan, or a fault that isn't want of memory.
+-- Records mean a plan, or a fault that isn't out of memory.
 use Rattle.std.proofs.Common.{◌≡◌, ◌≢◌, ◌≤◌, ◌<◌, ◌+◌, ◌*◌, ◌^◌, ◌⊎◌, ⊎_elim, inl, inr, ℕ, refl, arith, List, [], ◌∷◌, length, slice_index_or, IsTrue}
 use Rattle.std.specs.Char.{digit_value}
 use Rattle.std.specs.Str.Parse.{AllDigits, digits_value}

@@ -13,6 +13,6 @@ use Rattle.plan_file.specs.declared.fault.PlanFault.TheVariants.{Memory}
 abbrev pub BytesMeanSomething : Type 0
 BytesMeanSomething = (newest : ℕ) (bytes : List ℕ) → (r : Result Problem ModelFault) × MeanUpTo newest bytes r
 
--- records mean a plan, or a fault that isn't want of memory
+-- records mean a plan, or a fault that isn't out of memory
 abbrev pub RecordsMeanSomething : Type 0
 RecordsMeanSomething = (m : Problem) (rs : List Record) → ((p : Plan) × IsPlanOf m rs p) ⊎ ((f : PlanFault) × (f ≢ Memory) × IsPlanFault m rs f)

@@ -1,7 +1,7 @@
 //! Laws of existence: bytes and records mean something, each plan is judged, and each problem has a feasible plan or none.
 //!
-//! Family: plans. It stands on `instance_reader`, `plan_rules` and `plan_file`; `answers_exist` and `lotplan` stand on
-//! it.
+//! Family: plans. It stands on `instance_reader`, `plan_rules` and `plan_file`, and for runs on `tableau` and
+//! `least_index`; `answers_exist` and `lotplan` stand on it.
 //!
 //! Beside the laws by which nothing has two answers, these say that each has one. So what bytes mean and what is
 //! found of a plan are functions, though the definitions are relations. Others say when a model is accepted, and that
@@ -34,7 +34,7 @@ pub fn accepted_exactly()
     a_model_means_something();
 }
 
-/// All records mean something as a plan file of a problem: a plan, or a fault that isn't want of memory.
+/// All records mean something as a plan file of a problem: a plan, or a fault that isn't out of memory.
 pub fn records_mean_something()
     ensures { RecordsMeanSomething }
 {}

@@ -1,6 +1,6 @@
 //! Models as TOML documents (TOML 1.1).
 //!
-//! Family: models. It stands on `lot_draft` and `lot_model`; the commands stand on it.
+//! Family: models. It stands on `lot_draft`, `lot_model` and `toml`; `existence` and the commands stand on it.
 //!
 //! `read_instance` gives the instance that bytes mean, or the first rule that they break. A document is
 //! read with `toml`, and its table key by key: what is absent, unknown or of another kind is a fault. What
@@ -24,7 +24,7 @@ pub use laws::{bytes_mean_one_thing, model_texts_are_read};
 use lot_model::{DraftRefusal, Instance};
 use std::alloc::Global;
 pub use versions::{FIRST_VERSION, FIRST_VERSION_PERIODS, NEWEST_VERSION};
-pub use writing::write_model;
+pub use writing::{put, put_some, write_model};
 
 /// The instance that the bytes mean, or the first rule that they break.
 ///

@@ -23,7 +23,7 @@ use lot_sizing::limits::MAX_PERIODS;
 use std::alloc::Global;
 use toml::{Table, Value};
 
-// The number after this one. A list of 2^32 elements, which no text of fewer bytes has, is want of memory.
+// The number after this one. A list of 2^32 elements, which no text of fewer bytes has, is out of memory.
 fn next(number: u32) -> Result<u32, ReadModelFault>
     ensures ok { IfOk result (λ n. n ≡ number + 1) }
     ensures refused { IfErr result (λ e. (e ≡ Memory) × (2 ^ 32 ≤ number + 1)) }

@@ -32,23 +32,24 @@ fn number_list(alloc: Global, amounts: &[u64]) -> Result<Value, AllocError>
     Ok(Value::Array(list))
 }
 
-// The table with one key more.
-fn put(alloc: Global, table: &mut Table, key: Key, value: Value) -> Result<(), AllocError>
-    ensures { OnOk result (table_view table.new ≡ with_key key (view value) (table_view table.old)) }
+/// Puts a value for a key of models into a table. The error is that memory ran out; nothing is said
+/// of the table then.
+pub fn put(alloc: Global, table: &mut Table, key: Key, value: Value) -> Result<(), AllocError>
+    ensures table { OnOk result (table_view table.new ≡ with_key key (view value) (table_view table.old)) }
 {
     let name = String::from_str(alloc, key.name())?;
     drop(table.insert(name, value)?);
     Ok(())
 }
 
-// The table with one key more, where there is a value for it.
-fn put_some(
+/// The same where there is a value, and nothing otherwise.
+pub fn put_some(
     alloc: Global,
     table: &mut Table,
     key: Key,
     value: Option<Value>,
 ) -> Result<(), AllocError>
-    ensures { OnOk result (table_view table.new ≡ with_some key (option_map view value) (table_view table.old)) }
+    ensures table { OnOk result (table_view table.new ≡ with_some key (option_map view value) (table_view table.old)) }
 {
     match value {
         Some(value) => put(alloc, table, key, value),
@@ -307,7 +308,7 @@ fn model(alloc: Global, instance: &Instance) -> Result<Table, AllocError>
 }
 
 /// The text of an instance: a model of the newest version, as a TOML document, with every list written
-/// out. The error is want of memory.
+/// out. The error is that memory ran out.
 ///
 /// Read again, the bytes mean the instance's problem (`model_texts_are_read`). It takes time and memory in
 /// the number of items times that of the periods, and in the lines.

@@ -2,8 +2,8 @@
 ghost use Rattle.std.specs.Prelude.{◌≡◌, Some};
 ghost use Rattle.lot_draft.specs.Faults.{code_text, fault_text, key_text, place_text};
 
-use std::error::Error;
 use std::fmt;
+use thiserror::Error;
 
 /// A rule that a model breaks.
 #[derive(Clone, Copy, Debug, PartialEq, Eq)]
@@ -105,7 +105,7 @@ pub enum Key {
 }
 
 /// The first rule that a model breaks, with its place, and its key and period where it has them.
-#[derive(Clone, Copy, Debug, PartialEq, Eq)]
+#[derive(Clone, Copy, Debug, PartialEq, Eq, Error)]
 pub struct ModelFault {
     /// The rule.
     pub code: ModelCode,
@@ -196,6 +196,7 @@ impl fmt::Display for Key {
     }
 }
 
+// By hand: its text is promised, and a derived message has no contract.
 impl fmt::Display for ModelFault {
     ghost output = { λ fault. Some (fault_text fault) };
 
@@ -211,5 +212,3 @@ impl fmt::Display for ModelFault {
         Ok(())
     }
 }
-
-impl Error for ModelFault {}

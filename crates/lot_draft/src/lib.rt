@@ -1,6 +1,7 @@
 //! Models as a reader found them, and the plain rules that they break.
 //!
-//! Family: models. It stands on `lot_sizing`; `lot_model`, `instance_reader` and `report` stand on it.
+//! Family: models. It stands on `lot_sizing`; `lot_model`, `instance_reader`, `existence`, `report` and `lotplan`
+//! stand on it.
 //!
 //! A `Draft` has the numbers and names of a model as they stand, of any sign and size. `plain_fault`
 //! names the first rule of counts, names, lists, numbers and lines that it breaks, by a `ModelFault` with

@@ -34,7 +34,7 @@ pub record AddsHalf (piece name : List ℕ) (old new : MemoryShelf) : Type 0 whe
   pub half : file_in new.files name ≡ Some (unwrap_or (file_in old.files name) [] ++ half_of piece)
   pub enough : new.wants ≡ old.wants
 
--- nothing was added for want of memory
+-- nothing was added, since memory ran out
 pub record AddsNothing (name : List ℕ) (old new : MemoryShelf) : Type 0 where
   pub same : file_in new.files name ≡ file_in old.files name
   pub lacked : GrewBy 1 old.wants new.wants
@@ -44,7 +44,7 @@ pub record PutsHalf (piece : List ℕ) (old new : MemorySink) : Type 0 where
   pub half : new.bytes.items ≡ old.bytes.items ++ half_of piece
   pub enough : new.wants ≡ old.wants
 
--- nothing was put for want of memory
+-- nothing was put, since memory ran out
 pub record PutsNothing (old new : MemorySink) : Type 0 where
   pub same : new.bytes.items ≡ old.bytes.items
   pub lacked : GrewBy 1 old.wants new.wants

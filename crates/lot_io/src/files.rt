@@ -5,14 +5,14 @@ ghost use Rattle.lot_io.specs.Outside.{RoseBy, GrewBy, OnlyReads, OnlyWrites, Fi
 
 use crate::{Shelf, ShelfFault, WriteFailed};
 use std::alloc::{AllocError, Global};
-use std::error::Error;
 use std::fmt;
+use thiserror::Error;
 
 /// How many bytes of a file go over in one call.
 pub const PIECE: usize = 65_536;
 
 /// Why a file was not read.
-#[derive(Clone, Copy, Debug, PartialEq, Eq)]
+#[derive(Clone, Copy, Debug, PartialEq, Eq, Error)]
 pub enum ReadFault {
     /// There is no file of this name.
     Missing,
@@ -24,6 +24,7 @@ pub enum ReadFault {
     Memory,
 }
 
+// By hand: its text is promised, and a derived message has no contract.
 impl fmt::Display for ReadFault {
     ghost use Rattle.lot_io.specs.Texts.{read_fault_text};
 
@@ -38,8 +39,6 @@ impl fmt::Display for ReadFault {
         }
     }
 }
-
-impl Error for ReadFault {}
 
 impl From<AllocError> for ReadFault {
     ghost from_gives = { λ _ e. e ≡ Memory };
@@ -68,7 +67,7 @@ pub fn read_file<S: Shelf>(
 ) -> Result<Vec<u8>, ReadFault>
     requires { most < 2 ^ 63 }
 
-    // What is read, and why it may not be. Want of memory stands in for no other refusal.
+    // What is read, and why it may not be. Out of memory stands in for no other refusal.
     ensures bytes { IfOk result (λ bytes. IsTrue (S.shown shelf.old).told → (S.shown shelf.old).file name.now ≡ Some bytes.items) }
     ensures within { IfOk result (λ bytes. length bytes.items ≤ most) }
     ensures given { IfOk result (λ bytes. GrewBy (length bytes.items) (S.shown shelf.old).given (S.shown shelf.new).given) }

@@ -139,7 +139,7 @@ impl Shelf for MemoryShelf {
         ensures others { SameElsewhere name.now (file_in self.old.files) (file_in self.new.files) }
         ensures writes { OnlyWrites name.now (shelved self.old) (shelved self.new) }
 
-        // It fails where its number is listed, and else only for want of memory. The file stays then.
+        // It fails where its number is listed, and else only where memory runs out. The file stays then.
         ensures listed { Contains self.old.fail_start.items (next_count self.old.starts) → IsErr result × (self.new.wants ≡ self.old.wants) }
         ensures unlisted { OnErr result ((Contains self.old.fail_start.items (next_count self.old.starts) → ⊥) → GrewBy 1 self.old.wants self.new.wants) }
         ensures enough { OnOk result (self.new.wants ≡ self.old.wants) }
@@ -170,12 +170,12 @@ impl Shelf for MemoryShelf {
         ensures others { SameElsewhere name.now (file_in self.old.files) (file_in self.new.files) }
         ensures writes { OnlyWrites name.now (shelved self.old) (shelved self.new) }
 
-        // It fails where its number is listed, and else only for want of memory.
+        // It fails where its number is listed, and else only where memory runs out.
         ensures listed { Contains self.old.fail_append.items (next_count self.old.appends) → IsErr result }
         ensures unlisted { OnErr result ((Contains self.old.fail_append.items (next_count self.old.appends) → ⊥) → GrewBy 1 self.old.wants self.new.wants) }
         ensures enough { OnOk result (self.new.wants ≡ self.old.wants) }
 
-        // A listed one has added half of the piece, and want of memory adds nothing.
+        // A listed one has added half of the piece, and out of memory adds nothing.
         ensures half { OnErr result (AddsHalf piece.now name.now self.old self.new ⊎ AddsNothing name.now self.old self.new) }
         ensures whole { OnErr result ((Contains self.old.fail_append.items (next_count self.old.appends) → ⊥) → AddsNothing name.now self.old self.new) }
         ensures counted { self.new.appends ≡ next_count self.old.appends }
@@ -284,12 +284,12 @@ impl Sink for MemorySink {
         ensures failed { OnErr result (GrewBy 1 self.old.faults self.new.faults) }
         ensures puts { GrewBy 1 self.old.puts self.new.puts }
 
-        // It fails where its number is listed, and else only for want of memory.
+        // It fails where its number is listed, and else only where memory runs out.
         ensures listed { Contains self.old.fail_put.items (next_count self.old.puts) → IsErr result }
         ensures unlisted { OnErr result ((Contains self.old.fail_put.items (next_count self.old.puts) → ⊥) → GrewBy 1 self.old.wants self.new.wants) }
         ensures enough { OnOk result (self.new.wants ≡ self.old.wants) }
 
-        // A listed one has added half of the piece, and want of memory adds nothing.
+        // A listed one has added half of the piece, and out of memory adds nothing.
         ensures half { OnErr result (PutsHalf piece.now self.old self.new ⊎ PutsNothing self.old self.new) }
         ensures whole { OnErr result ((Contains self.old.fail_put.items (next_count self.old.puts) → ⊥) → PutsNothing self.old self.new) }
         ensures counted { self.new.puts ≡ next_count self.old.puts }

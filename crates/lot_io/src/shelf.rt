@@ -2,11 +2,11 @@
 ghost use Rattle.std.specs.Prelude.{◌≡◌, ◌++◌, ◌≤◌, List, ℕ, [], length, IsTrue, Some, None, unwrap_or, IfOk, OnOk, OnErr, IsErrOf};
 ghost use Rattle.lot_io.specs.Outside.{Shelved, GrewBy, Fetched, OnlyReads, OnlyWrites, Finds, Misses, Fails};
 
-use std::error::Error;
 use std::fmt;
+use thiserror::Error;
 
 /// Why a fetch gave nothing.
-#[derive(Clone, Copy, Debug, PartialEq, Eq)]
+#[derive(Clone, Copy, Debug, PartialEq, Eq, Error)]
 pub enum ShelfFault {
     /// There is no file of this name.
     Missing,
@@ -14,6 +14,7 @@ pub enum ShelfFault {
     Failed,
 }
 
+// By hand: its text is promised, and a derived message has no contract.
 impl fmt::Display for ShelfFault {
     ghost use Rattle.lot_io.specs.Texts.{shelf_fault_text};
 
@@ -27,12 +28,11 @@ impl fmt::Display for ShelfFault {
     }
 }
 
-impl Error for ShelfFault {}
-
 /// A file could not be written.
-#[derive(Clone, Copy, Debug, PartialEq, Eq)]
+#[derive(Clone, Copy, Debug, PartialEq, Eq, Error)]
 pub struct WriteFailed;
 
+// By hand: its text is promised, and a derived message has no contract.
 impl fmt::Display for WriteFailed {
     ghost use Rattle.std.specs.Prelude.{codes};
 
@@ -42,8 +42,6 @@ impl fmt::Display for WriteFailed {
         f.write_str("the file could not be written")
     }
 }
-
-impl Error for WriteFailed {}
 
 /// Named files, whose contents may be told or not.
 ///

@@ -2,13 +2,14 @@
 ghost use Rattle.std.specs.Prelude.{◌≡◌, ◌++◌, Some, IsTrue, OnOk, OnErr};
 ghost use Rattle.lot_io.specs.Outside.{Printed, GrewBy, AppendsSome};
 
-use std::error::Error;
 use std::fmt;
+use thiserror::Error;
 
 /// The text could not be printed.
-#[derive(Clone, Copy, Debug, PartialEq, Eq)]
+#[derive(Clone, Copy, Debug, PartialEq, Eq, Error)]
 pub struct SinkFailed;
 
+// By hand: its text is promised, and a derived message has no contract.
 impl fmt::Display for SinkFailed {
     ghost use Rattle.std.specs.Prelude.{codes};
 
@@ -18,8 +19,6 @@ impl fmt::Display for SinkFailed {
         f.write_str("the text could not be printed")
     }
 }
-
-impl Error for SinkFailed {}
 
 /// A place to print to, whose bytes may be told or not.
 ///

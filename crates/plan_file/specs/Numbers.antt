@@ -3,6 +3,7 @@ use Rattle.std.specs.Prelude.{◌≡◌, ◌≢◌, ◌⊎◌, ℕ, ◌≤◌, L
 use Rattle.std.specs.Str.Parse.{digits_value}
 use Rattle.lot_sizing.specs.Problem.{Problem, item_count}
 use Rattle.lot_sizing.specs.Plan.{Plan}
+use Rattle.plan_rules.specs.Order.{HoldsBefore}
 use Rattle.plan_file.specs.Records.{HasNumbers, IsRead, Record, field}
 use Rattle.plan_file.specs.declared.reading.Numbers.{Numbers}
 
@@ -37,3 +38,7 @@ pub record ArePut (m : Problem) (p q : Plan) (i t : ℕ) (x : Numbers) : Type 0 
 pub record IsPutFrom (m : Problem) (rs : List Record) (p q : Plan) (i t : ℕ) : Type 0 where
   pub read : IsRead m rs q i t
   pub others : (j u : ℕ) → 1 ≤ j → j ≤ item_count m → 1 ≤ u → u ≤ m.periods → (j ≢ i) ⊎ (u ≢ t) → AreSame p q j u
+
+-- the records of all items before this one are good, and the plan has their numbers
+abbrev pub AreReadBefore : Problem → List Record → Plan → ℕ → Type 0
+AreReadBefore m rs p i = HoldsBefore (item_count m) m.periods (IsRead m rs p) i 1

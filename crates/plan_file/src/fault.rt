@@ -3,11 +3,11 @@ ghost use Rattle.std.specs.Prelude.{Some};
 ghost use Rattle.plan_file.specs.Texts.{plan_fault_text};
 
 use std::alloc::{AllocError, AllocFailed};
-use std::error::Error;
 use std::fmt;
+use thiserror::Error;
 
 /// Why bytes were not read as a plan. Records after the header are counted from 1, and so are fields.
-#[derive(Clone, Copy, Debug, PartialEq, Eq)]
+#[derive(Clone, Copy, Debug, PartialEq, Eq, Error)]
 pub enum PlanFault {
     /// The first record isn't the header.
     Header,
@@ -43,6 +43,7 @@ impl<T: Drop> From<AllocFailed<T>> for PlanFault {
     }
 }
 
+// By hand: its text is promised, and a derived message has no contract.
 impl fmt::Display for PlanFault {
     ghost output = { λ fault. Some (plan_fault_text fault) };
 
@@ -56,5 +57,3 @@ impl fmt::Display for PlanFault {
         }
     }
 }
-
-impl Error for PlanFault {}

@@ -3,8 +3,8 @@
 //! `write_plan` gives the text of a plan. `read_plan` gives the plan whose records bytes are, as `csv` reads
 //! them, or the first fault in the order of the file, by name and place.
 //!
-//! Family: plans. It stands on `plan_rules`, whose `Plan` it writes and reads, and on `whole_numbers` for the
-//! numbers of a record; `existence` and `lotplan` stand on it.
+//! Family: plans. It stands on `plan_rules`, whose `Plan` it writes and reads, on `whole_numbers` for the
+//! numbers of a record, and on `csv`; `existence`, `answers_exist` and `lotplan` stand on it.
 #![tactic(auto)]
 
 mod fault;

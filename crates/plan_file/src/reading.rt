@@ -1,5 +1,5 @@
 // From the records of a text to a plan.
-ghost use Rattle.std.specs.Prelude.{◌≡◌, ◌≢◌, ◌⊎◌, ◌≤◌, ◌<◌, ◌-◌, ℕ, IfOk, IfErr, IfSome, IfNone, OnOk, IsTrue, ◌↔◌, List, [], map, length, unwrap_or};
+ghost use Rattle.std.specs.Prelude.{◌≡◌, ◌≢◌, ◌⊎◌, ◌≤◌, ◌<◌, ◌+◌, ◌-◌, ℕ, IfOk, IfErr, IfSome, IfNone, OnOk, IsTrue, ◌↔◌, List, [], map, length, unwrap_or};
 ghost use Rattle.std.specs.Prelude.{decimal};
 ghost use Rattle.std.specs.Str.{bytes_eq};
 ghost use Rattle.std.specs.Str.Parse.{digits_value};
@@ -9,7 +9,7 @@ ghost use Rattle.lot_sizing.specs.Plan.{EachCell};
 ghost use Rattle.plan_rules.specs.Held.{AllFit, plan_of};
 ghost use Rattle.plan_file.specs.Records.{AreNumbersOf, HasHeader, HasNumbers, IsNumber, IsPlanOf, IsRead, field, is_header, is_row, number_of, record_at, records_of};
 ghost use Rattle.plan_file.specs.Faults.{IsFirstBad, IsPlanFault, IsRecordFault, IsCellFault};
-ghost use Rattle.plan_file.specs.Numbers.{ArePut, HasNumbersIn, IsPutFrom};
+ghost use Rattle.plan_file.specs.Numbers.{ArePut, AreReadBefore, HasNumbersIn, IsPutFrom};
 
 use crate::PlanFault;
 use crate::records::first_records;
@@ -163,6 +163,27 @@ fn read_record(
     }
 }
 
+// Reads the records of an item into a plan into which those of all earlier items were read. It takes no memory.
+fn read_item(
+    instance: &Instance,
+    rows: &[ByteRecord],
+    item: u32,
+    plan: &mut Plan,
+) -> Result<(), PlanFault>
+    requires fits { AllFit instance.now plan.old }
+    requires low { 1 ≤ item }
+    requires high { item ≤ item_count instance.now }
+    requires earlier { AreReadBefore instance.now (map fields_of rows.now) (plan_of plan.old) item }
+    ensures fits { OnOk result (AllFit instance.now plan.new) }
+    ensures read { OnOk result (AreReadBefore instance.now (map fields_of rows.now) (plan_of plan.new) (item + 1)) }
+    ensures refused { IfErr result (IsCellFault instance.now (map fields_of rows.now)) }
+{
+    for period in 1..instance.periods() + 1 {
+        read_record(instance, rows, item, period, plan)?;
+    }
+    Ok(())
+}
+
 // Reads all records after the header into a plan. It takes no memory.
 fn read_records(instance: &Instance, rows: &[ByteRecord], plan: &mut Plan) -> Result<(), PlanFault>
     requires fits { AllFit instance.now plan.old }
@@ -170,11 +191,8 @@ fn read_records(instance: &Instance, rows: &[ByteRecord], plan: &mut Plan) -> Re
     ensures read { OnOk result (EachCell instance.now (IsRead instance.now (map fields_of rows.now) (plan_of plan.new))) }
     ensures refused { IfErr result (IsCellFault instance.now (map fields_of rows.now)) }
 {
-    let periods = instance.periods();
     for item in 1..instance.items() + 1 {
-        for period in 1..periods + 1 {
-            read_record(instance, rows, item, period, plan)?;
-        }
+        read_item(instance, rows, item, plan)?;
     }
     Ok(())
 }

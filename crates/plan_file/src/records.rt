@@ -23,15 +23,11 @@ pub fn first_records(
         if rows.len() == most {
             return Ok(rows);
         }
-        match row {
-            Ok(row) => {
-                if rows.push(row).is_err() {
-                    return Err(AllocError);
-                }
-            }
-            // Over bytes in memory the reader has no other cause, which its contract leaves open.
-            Err(_) => return Err(AllocError),
-        }
+        // Over bytes in memory the reader has no other cause, which its contract leaves open.
+        let Ok(row) = row else {
+            return Err(AllocError);
+        };
+        rows.push(row)?;
     }
     Ok(rows)
 }

@@ -54,7 +54,7 @@ fn plan_text(alloc: Global, instance: &Instance, plan: &Plan) -> Result<String, 
 }
 
 /// The text of a plan: the header, and a record for each item and period in order, in at most `MAX_FILE`
-/// bytes. Read again, it is the plan. The error is want of memory.
+/// bytes. Read again, it is the plan. The error is that memory ran out.
 pub fn write_plan(alloc: Global, instance: &Instance, plan: &Plan) -> Result<Vec<u8>, AllocError>
     requires { AllFit instance.now plan.now }
     ensures text { IfOk result (λ bytes. bytes.items ≡ plan_text instance.now (plan_of plan.now)) }

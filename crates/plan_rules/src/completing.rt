@@ -69,7 +69,7 @@ fn fill(instance: &Instance, make: &Grid, stock: &mut Grid, backlog: &mut Grid) 
 }
 
 // The feasible plan with these quantities and setups and the least stocks and backlogs, which are put in
-// the other two grids. It is given no allocator, so no want of memory can stand in for its answer.
+// the other two grids. It is given no allocator, so out of memory can't stand in for its answer.
 fn finish(
     instance: &Instance,
     make: Grid,

@@ -1,7 +1,8 @@
 // A number for each item and period.
-ghost use Rattle.std.specs.Prelude.{◌≡◌, ◌≤◌, ◌*◌, replicate, IfOk};
-ghost use Rattle.plan_rules.specs.Cells.{place, table_of, HoldsOnly, SameApart};
+ghost use Rattle.std.specs.Prelude.{◌≡◌, ◌≤◌, ◌*◌, ◌↔◌, replicate, IfOk, IsTrue};
+ghost use Rattle.plan_rules.specs.Cells.{place, table_of, Fits, HoldsOnly, SameApart};
 
+use lot_model::Instance;
 use std::alloc::{AllocError, Global};
 use std::marker::Model;
 
@@ -60,6 +61,13 @@ impl Grid {
         ensures { result ≡ self.now.periods }
     {
         self.periods
+    }
+
+    /// Whether it has a number for each item and period of an instance, and no other.
+    pub fn fits(&self, instance: &Instance) -> bool
+        ensures { IsTrue result ↔ Fits instance.now self.now }
+    {
+        self.items == instance.items() && self.periods == instance.periods()
     }
 
     /// All numbers, item by item, each item's by period.

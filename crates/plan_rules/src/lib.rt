@@ -5,7 +5,8 @@
 //! and where. `complete` gives the stocks and backlogs that go best with quantities and setups. Contracts
 //! see a grid as its numbers by item and period, and a plan as the plan of the definitions.
 //!
-//! Family: plans. It stands on `lot_model`; `plan_file`, the checker and the search stand on it.
+//! Family: plans. It stands on `lot_sizing` and `lot_model`; `plan_file`, `existence`, the checkers, the
+//! search, `report` and `lotplan` stand on it.
 #![tactic(auto)]
 
 mod broken;

@@ -3,11 +3,11 @@ ghost use Rattle.std.specs.Prelude.{◌≡◌, ◌≢◌, ◌≤◌, ◌<◌, �
 ghost use Rattle.std.specs.Str.Parse.{IsNumeral, digits_value};
 ghost use Rattle.whole_numbers.specs.Digits.{IsWholeText, StartsWithZero};
 
-use std::error::Error;
 use std::fmt;
+use thiserror::Error;
 
 /// Why a text is no whole number.
-#[derive(Clone, Copy, Debug, PartialEq, Eq)]
+#[derive(Clone, Copy, Debug, PartialEq, Eq, Error)]
 pub enum NumberFault {
     /// It is empty, or has a byte that is no digit.
     NotDigits,
@@ -17,6 +17,7 @@ pub enum NumberFault {
     TooLarge,
 }
 
+// By hand: its text is promised, and a derived message has no contract.
 impl fmt::Display for NumberFault {
     ghost use Rattle.std.specs.Prelude.{Some};
     ghost use Rattle.whole_numbers.specs.Texts.{number_fault_text};
@@ -31,8 +32,6 @@ impl fmt::Display for NumberFault {
         }
     }
 }
-
-impl Error for NumberFault {}
 
 // Whether a text is one digit or more.
 fn is_numeral(text: &[u8]) -> bool

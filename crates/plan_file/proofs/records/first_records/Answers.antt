@@ -1,5 +1,4 @@
-use Rattle.std.proofs.Common.{Bor, List, ℕ, ◌≡◌, ◌∙◌, sym, refl, ap, arith, length, rules, inl, inr, true, map, Some, ◌∷◌, []}
-use Rattle.std.specs.Result.{is_ok}
+use Rattle.std.proofs.Common.{Bor, List, ℕ, ◌≡◌, ◌∙◌, sym, refl, ap, arith, length, inl, inr, map, Some, ◌∷◌, []}
 use Rattle.std.proofs.lemmas.List.{length-append, length-map, map-append, take_all}
 use Rattle.csv.specs.Reading.{Reached, default_config, strip_bom}
 use Rattle.csv.specs.Records.{fields_of}
@@ -32,8 +31,7 @@ pub loop-row-preserved : goal.loop-row-preserved
 loop-row-preserved c =
     let inv = c.loop-row.invariant in
     let s = rw (c.in-Some.is, c.in-Ok.is) at ((c.next.ensures.steps inv.2 inv.0).0 inv.1) in
-    let good : is_ok c.push.result ≡ true = search (rules, c.if-is_err.false, c.is_err.ensures) in
-    let items = rw good at c.push.ensures.items in
+    let items = c.in_ok-push.ensures.items in
     let m = rows-more (λ (s : Bor (List ℕ)). Some s.now) c.loop-row.row-iterator.rdr c.next.new.self.rdr (fields_of c.in-Ok.row) default_config st.StartRecord (strip_bom c.args.bytes.now) inv.4 (map fields_of c.loop-row.rows.items) inv.3 inv.5 inv.6 s.0 in
     (s.0.3 ∙ inv.0, inl s.1, s.2, s.0.2 ∙ inv.3, m.0, m.1, rw (items, map-append fields_of c.loop-row.rows.items (c.in-Ok.row ∷ [])) m.2, omega (arith, inv.7, c.if-len-most.false, c.len.ensures, ap length items, length-append c.loop-row.rows.items (c.in-Ok.row ∷ [])))
 
