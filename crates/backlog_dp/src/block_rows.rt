@@ -1,8 +1,8 @@
 // The block row of an echelon.
 ghost use Rattle.std.specs.Prelude.{◌≡◌, ◌≤◌, ◌+◌, ◌*◌, ◌↔◌, [], false, length, pos, IfErr, IfOk, IsTrue};
 ghost use Rattle.lot_sizing.specs.Sums.{sum_to};
-ghost use Rattle.lot_sizing.specs.Problem.{AllAtMost, entry};
-ghost use Rattle.lot_sizing.specs.Single.{ArePotentials, position_count, potential};
+ghost use Rattle.lot_sizing.specs.Problem.{entry};
+ghost use Rattle.lot_sizing.specs.Single.{ArePotentials, position_count};
 ghost use Rattle.lot_sizing.specs.Net.{left_after, net_in};
 ghost use Rattle.lot_sizing.specs.declared.limits.TheConstants.{MAX_PERIODS};
 ghost use Rattle.echelon.specs.Views.{HasEach, IsEchelonWithinBounds, asked_of_echelon};
@@ -11,7 +11,6 @@ ghost use Rattle.lin_rows.specs.Rows.{HoldsIn};
 ghost use Rattle.lin_rows.specs.declared.fault.CutFault.TheVariants.{Memory};
 ghost use Rattle.echelon_rows.specs.Rows.{echelon_in, single_with};
 ghost use Rattle.echelon_rows.specs.Plans.{AreColumnsOf, AtPlansOf};
-ghost use Rattle.echelon_rows.specs.declared.limits.TheConstants.{MAX_STEP};
 ghost use Rattle.backlog_dp.specs.Broken.{IsFirstBrokenOrNone};
 ghost use Rattle.backlog_dp.specs.BlockRow.{AreSmall, HaveLengths, HavePrices, IsAllowed, IsBlockFault, block_right, block_row_of, block_terms, single_by, priced_by};
 
@@ -24,6 +23,7 @@ use echelon_rows::{
 };
 use lin_rows::{CutFault, Potentials, Row, Term};
 use std::alloc::{AllocError, Global};
+use wagner_whitin::last_potential;
 
 // The numbers of a list in more bits.
 fn wide(alloc: Global, list: &[u64]) -> Result<Vec<u128>, AllocError>
@@ -57,19 +57,6 @@ fn terms_of(
         &potentials.back,
     )?;
     Ok(terms)
-}
-
-// The last potential, and 0 where there is none.
-fn last_potential(steps: &[u128]) -> u128
-    requires { AllAtMost MAX_STEP steps.now }
-    ensures value { result ≡ potential steps.now (length steps.now) }
-    ensures small { result ≤ MAX_STEP }
-{
-    if steps.is_empty() {
-        0
-    } else {
-        steps[steps.len() - 1]
-    }
 }
 
 // The last potential, and the holding of what is left.

@@ -125,7 +125,7 @@ fn earlier(first: Option<Block>, second: Option<Block>) -> Option<Block>
 }
 
 /// The first block over which potentials rise by more than it costs, by its first position, then by its last
-/// one and then by its server; none where they rise over no block by more. The error is want of memory.
+/// one and then by its server; none where they rise over no block by more. The error is that memory ran out.
 ///
 /// It takes time in the number of periods times that of positions and periods where there is none. A server with
 /// such a block takes time in the square of the number of positions, so that all may take its product with the

@@ -13,7 +13,7 @@ ghost use Rattle.backlog_dp.specs.Search.{AreServingCosts};
 use echelon_rows::serving_prices;
 use std::alloc::{AllocError, Global};
 
-/// The periods of the positions: those with a net demand, in order. The error is want of memory.
+/// The periods of the positions: those with a net demand, in order. The error is that memory ran out.
 pub fn periods_of(alloc: Global, net: &[u128]) -> Result<Vec<u32>, AllocError>
     requires { length net.now ≤ MAX_PERIODS }
     ensures { IfOk result (λ found. found.items ≡ positions (single_with net.now [] [] [] [] false)) }
@@ -57,7 +57,7 @@ fn costs_at(
 }
 
 /// What it costs that a period serves each position; the periods of the positions are handed in. The error is
-/// want of memory. It takes time in the number of periods.
+/// that memory ran out. It takes time in the number of periods.
 pub fn serving_costs(
     alloc: Global,
     net: &[u128],

@@ -41,7 +41,7 @@ fn backlog_costs(
 
 /// An item by itself: what remains to be made of it once its opening stock is used up, and its costs.
 ///
-/// The error is want of memory.
+/// The error is that memory ran out.
 pub fn single_of(alloc: Global, instance: &Instance, item: u32) -> Result<SingleItem, AllocError>
     requires low { 1 ≤ item }
     requires high { item ≤ item_count instance.now }

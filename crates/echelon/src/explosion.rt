@@ -68,7 +68,7 @@ fn order_of(alloc: Global, ranks: &[u32]) -> Result<Vec<u32>, AllocError>
 }
 
 impl Explosion {
-    /// The weights and the order of an instance's items. The error is want of memory.
+    /// The weights and the order of an instance's items. The error is that memory ran out.
     ///
     /// It takes time in the square of the number of items.
     pub fn of(alloc: Global, instance: &Instance) -> Result<Explosion, AllocError>

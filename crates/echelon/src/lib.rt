@@ -1,7 +1,7 @@
 //! Items by themselves, and with what they go into.
 //!
-//! Family: single items. It stands on `lot_sizing`, `bill` and `lot_model`; the recursions and the cuts stand
-//! on it.
+//! Family: single items. It stands on `lot_sizing`, `bill` and `lot_model`; the recursions, the cuts, the
+//! proofs and the search stand on it.
 //!
 //! An `Explosion` has the weights of an instance's items, and an order in which each stands before its
 //! components. `lead_free` tells whether an item and all that it goes into arrive when they are

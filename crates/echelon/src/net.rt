@@ -137,7 +137,7 @@ pub(crate) fn net_of_demand(
     Ok(Net { net, left })
 }
 
-/// The net demands of an echelon, and what is left of its opening stock. The error is want of memory.
+/// The net demands of an echelon, and what is left of its opening stock. The error is that memory ran out.
 pub fn net_of(alloc: Global, echelon: &EchelonItem) -> Result<Net, AllocError>
     requires within { IsEchelonWithinBounds echelon.now }
     ensures net { IfOk result (λ found. HasEach (length echelon.now.demand.items) (net_in (asked_of_echelon echelon.now)) found.net.items) }

@@ -81,7 +81,7 @@ pub fn is_within_bounds(single: &SingleItem) -> bool
     periods <= MAX_PERIODS as usize && costs && kept && is_small_in_all(single)
 }
 
-/// The positions: the periods with a net demand, in order. The error is want of memory.
+/// The positions: the periods with a net demand, in order. The error is that memory ran out.
 pub fn positions(alloc: Global, single: &SingleItem) -> Result<Vec<u32>, AllocError>
     requires within { IsWithinBounds (single_of_item single.now) }
     ensures positions { IfOk result (λ periods. periods.items ≡ positions (single_of_item single.now)) }

@@ -140,7 +140,7 @@ pub fn lead_free(instance: &Instance, explosion: &Explosion, item: u32) -> bool
 }
 
 /// What is asked of a lead-free item and of all items that it goes into, in units of the item. The
-/// explosion is that of the instance. The error is want of memory.
+/// explosion is that of the instance. The error is that memory ran out.
 ///
 /// In every feasible plan the echelon balances (`balances`), and its net demands add to at most the
 /// item's largest total (`net`).

@@ -58,7 +58,7 @@ pub fn held_of(left: &[u128], hold: &[u64]) -> u128
 }
 
 /// The terms of what units, setups, stocks and backlogs of an echelon cost: of one in each period so much. The
-/// lists have an entry for each period. The error is want of memory.
+/// lists have an entry for each period. The error is that memory ran out.
 ///
 /// It takes time in the number of items times that of the periods.
 pub fn cost_terms_of(

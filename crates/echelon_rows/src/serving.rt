@@ -53,7 +53,7 @@ fn next_price(price: u64, hold: u64, back: u64, server: u32, period: u32) -> u64
 
 /// What a unit costs that a period makes for each other one: making it, and keeping it until then or owing it up
 /// to there. The lists of prices have an entry for each period; where no backlog is allowed those of backlogs count
-/// for nothing. The error is want of memory.
+/// for nothing. The error is that memory ran out.
 ///
 /// It takes time in the number of periods.
 pub fn serving_prices(

@@ -25,7 +25,7 @@ fn push_term(terms: &mut Vec<Term>, column: Column, times: u128) -> Result<(), A
 }
 
 /// Puts the quantities of an item after some terms, each period's so many times, where that isn't 0 times. The
-/// error is want of memory.
+/// error is that memory ran out.
 pub fn push_units(terms: &mut Vec<Term>, item: u32, times: &[u64]) -> Result<(), AllocError>
     requires periods { length times.now ≤ MAX_PERIODS }
     ensures { IfOk result (λ _. PutTerms terms.old.items (units_by item times.now) terms.new.items) }
@@ -38,7 +38,7 @@ pub fn push_units(terms: &mut Vec<Term>, item: u32, times: &[u64]) -> Result<(),
 }
 
 /// Puts the setups of an item after some terms, each period's so many times, where that isn't 0 times. The error
-/// is want of memory.
+/// is that memory ran out.
 pub fn push_setups(terms: &mut Vec<Term>, item: u32, times: &[u128]) -> Result<(), AllocError>
     requires periods { length times.now ≤ MAX_PERIODS }
     requires small { AllAtMost MAX_STEP times.now }
@@ -105,7 +105,7 @@ fn push_item_backlogs(
 }
 
 /// Puts the stocks of an echelon after some terms: item by item its weight, each period's so many times, where
-/// that isn't 0 times. The error is want of memory.
+/// that isn't 0 times. The error is that memory ran out.
 pub fn push_stocks(terms: &mut Vec<Term>, weights: &[u64], times: &[u64]) -> Result<(), AllocError>
     requires weights { AllAtMost MAX_TOTAL weights.now }
     requires items { length weights.now ≤ MAX_ITEMS }
@@ -120,7 +120,7 @@ pub fn push_stocks(terms: &mut Vec<Term>, weights: &[u64], times: &[u64]) -> Res
 }
 
 /// Puts the backlogs of an echelon over so many periods after some terms: item by item its weight, each period's
-/// so many times, where that isn't 0 times and the backlog is a column. The error is want of memory.
+/// so many times, where that isn't 0 times and the backlog is a column. The error is that memory ran out.
 ///
 /// `backs` marks the items that have a backlog cost; the backlog of the last of `periods` is no column. `times` may
 /// have fewer entries than there are periods.

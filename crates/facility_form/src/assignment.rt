@@ -57,7 +57,7 @@ fn sums_asked(alloc: Global, net: &[u128]) -> Result<Vec<u128>, AllocError>
 /// in all as is asked for.
 ///
 /// What is made for a period over all periods is what it asks for, and what a period makes for all is at
-/// most what it makes. The error is want of memory.
+/// most what it makes. The error is that memory ran out.
 pub fn assign(alloc: Global, make: &[u64], net: &[u128]) -> Result<Assignment, AllocError>
     requires periods { length make.now ≡ length net.now }
     requires enough { sum_to (length net.now) (entry net.now) ≤ sum_to (length make.now) (entry make.now) }

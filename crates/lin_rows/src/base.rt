@@ -128,9 +128,10 @@ fn is_late(instance: &Instance, item: u32, period: u32) -> bool
     is_cell(instance, item, period) && instance.periods() - period < instance.lead(item)
 }
 
-// Whether the model has a row.
-fn has_row(instance: &Instance, name: RowName) -> bool
-    ensures { IsTrue result ↔ HasRow instance.now name }
+/// Whether the model has the row of this name, so whether `base_row` makes it. It has none of `Path` or `Cut`.
+/// It takes no memory.
+pub fn has_row(instance: &Instance, name: RowName) -> bool
+    ensures row { IsTrue result ↔ HasRow instance.now name }
 {
     match name {
         RowName::Balance(item, period) | RowName::Link(item, period) | RowName::Top(item, period) =>

@@ -35,7 +35,7 @@ fn right_of(most: bool, number: u64) -> i128
 impl Bound {
     /// The row of the bound: `-column >= -number` where the number is the greatest value, and
     /// `column >= number` where it is the least. It holds at exactly the points within the bound. The error is
-    /// want of memory.
+    /// that memory ran out.
     pub fn row(self, alloc: Global) -> Result<Row, AllocError>
         ensures row { IfOk result (λ row. row ≡ bound_row self) }
         ensures holds { IfOk result (λ row. (q : LinPoint) → (HoldsAt q row ↔ IsWithinBound q self)) }

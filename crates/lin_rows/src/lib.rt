@@ -34,12 +34,12 @@ mod row_terms;
 mod sums;
 mod total;
 
-pub use base::{RowName, base_row};
+pub use base::{RowName, base_row, has_row};
 pub use bound::Bound;
 pub use column::Column;
 pub use fault::{CutFault, RowFault};
 pub use laws::{plans_cost, sums_bound, sums_hold, sums_refute};
-pub use numbers::{column_at, column_cost, column_count, column_number};
+pub use numbers::{column_at, column_cost, column_count, column_number, is_cell};
 pub use point::Point;
 pub use prices::{Potentials, Prices};
 pub use row::{Row, Term};

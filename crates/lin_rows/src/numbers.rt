@@ -46,9 +46,9 @@ pub fn column_count(instance: &Instance) -> u32
     3 * (items * periods) + owing_items(instance, items) * (periods - 1)
 }
 
-// Whether the model has an item and a period.
-pub(crate) fn is_cell(instance: &Instance, item: u32, period: u32) -> bool
-    ensures { IsTrue result ↔ IsCell instance.now item period }
+/// Whether the model has an item and a period, both counted from 1. It takes no memory.
+pub fn is_cell(instance: &Instance, item: u32, period: u32) -> bool
+    ensures cell { IsTrue result ↔ IsCell instance.now item period }
 {
     item >= 1 && item <= instance.items() && period >= 1 && period <= instance.periods()
 }

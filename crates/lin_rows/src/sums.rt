@@ -88,7 +88,7 @@ pub(crate) fn is_within(items: u32, periods: u32, column: Column) -> bool
 }
 
 impl Sums {
-    /// Sums of nothing, for an instance's columns. The error is want of memory.
+    /// Sums of nothing, for an instance's columns. The error is that memory ran out.
     pub fn new(alloc: Global, instance: &Instance) -> Result<Sums, AllocError>
         ensures items { IfOk result (λ sums. sums.items ≡ item_count instance.now) }
         ensures periods { IfOk result (λ sums. sums.periods ≡ instance.now.periods) }

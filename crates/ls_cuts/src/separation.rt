@@ -116,7 +116,7 @@ fn find(
 ///
 /// It is evaluated in fractions of 128 bits: R\[t\] is added up from 0 by items whose backlog is a column and whose
 /// weight isn't 0, and the left side from O + R\[l\] by periods. `Passed128` comes exactly where one of these steps
-/// doesn't fit; the other error is want of memory. It takes time in `l` times the number of items, and the
+/// doesn't fit; the other error is that memory ran out. It takes time in `l` times the number of items, and the
 /// memory of the marks.
 pub fn separate(
     alloc: Global,

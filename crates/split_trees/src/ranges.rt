@@ -1,20 +1,12 @@
 // What a path leaves to a quantity or a setup.
 ghost use Rattle.std.specs.Prelude.{◌≡◌, ◌↔◌, ◌+◌, ◌<◌, ◌^◌, IfSome, IsSome, IsTrue};
-ghost use Rattle.lin_rows.specs.Columns.{IsCell};
 ghost use Rattle.split_trees.specs.Spans.{span_of};
 ghost use Rattle.split_trees.specs.Ranges.{IsChoice, WithTotals, whole_ranges};
 ghost use Rattle.split_trees.specs.Paths.{HasNumbersLeft, IsRangeLeft, left_to, narrowed};
 ghost use Rattle.split_trees.specs.Trees.{IsSplit};
 
-use lin_rows::{Bound, Column};
+use lin_rows::{Bound, Column, is_cell};
 use lot_model::Instance;
-
-// Whether the instance has an item and a period.
-fn is_cell(instance: &Instance, item: u32, period: u32) -> bool
-    ensures { IsTrue result ↔ IsCell instance.now item period }
-{
-    item >= 1 && item <= instance.items() && period >= 1 && period <= instance.periods()
-}
 
 // The range from which a quantity or a setup starts.
 fn whole_range(instance: &Instance, column: Column) -> Option<(u64, u64)>

@@ -11,30 +11,30 @@ use Rattle.lot_sizing.specs.Single.{Single, IsWithinBounds, IsServer, period_cou
 use Rattle.lot_sizing.proofs.Sums.{sum_to_at, sum_to-front}
 use Rattle.lot_sizing.proofs.Positions.{count, count_idle, count_next, place}
 use Rattle.lot_sizing.proofs.Blocks.{periods_rise}
-use Rattle.wagner_whitin.specs.declared.runs.ServerBlock.{ServerBlock}
-use Rattle.wagner_whitin.specs.Tables.{IsServerBlock, IsClosed, IsServerBlockOrNone, AreServerBlocks, most_for_one, run_of}
+use Rattle.wagner_whitin.specs.declared.server_blocks.ServerBlock.{ServerBlock}
+use Rattle.wagner_whitin.specs.Tables.{IsServerBlock, IsClosed, IsServerBlockOrNone, AreServerBlocks, most_for_one, block_at}
 use Rattle.wagner_whitin.proofs.Sums.{IsRead, read_is, entry_small}
 
-abbrev block : ℕ → ℕ → ℕ → Block
-block a p u = record { first = a; last = p; server = u }
+abbrev block_of : ℕ → ℕ → ℕ → Block
+block_of a p u = record { first = a; last = p; server = u }
 
 -- a block that serves one position more
-block_more : (s : Single) (a p u : ℕ) → a ≤ suc p → block_cost s (block a (suc p) u) ≡ block_cost s (block a p u) + serving_cost s u (suc p)
+block_more : (s : Single) (a p u : ℕ) → a ≤ suc p → block_cost s (block_of a (suc p) u) ≡ block_cost s (block_of a p u) + serving_cost s u (suc p)
 block_more s a p u h =
     let e : suc (suc p) - a ≡ suc (suc p - a) = omega (arith, h) in
     let i : a + (suc p - a) ≡ suc p = omega (arith, h) in
     omega (arith, ap (λ k. sum_from a k (serving_cost s u)) e, ap (serving_cost s u) i)
 
 -- a block of no position
-block_none : (s : Single) (p u : ℕ) → block_cost s (block (suc p) p u) ≡ entry s.setup u
+block_none : (s : Single) (p u : ℕ) → block_cost s (block_of (suc p) p u) ≡ entry s.setup u
 block_none s p u = let e : suc p - suc p ≡ 0 = omega arith in omega (arith, ap (λ k. sum_from (suc p) k (serving_cost s u)) e)
 
 -- a block that began earlier costs no less up to the last position
-earlier_dearer : (s : Single) (g : List ℕ) (u p a x : ℕ) (old : Option ServerBlock) → IsServerBlockOrNone s g u p old → IfSome old (λ run. x ≤ run.cost) → 1 ≤ a → a ≤ p → IsServer s u (period_of s a) → x ≤ potential g (a - 1) + block_cost s (block a p u)
+earlier_dearer : (s : Single) (g : List ℕ) (u p a x : ℕ) (old : Option ServerBlock) → IsServerBlockOrNone s g u p old → IfSome old (λ block. x ≤ block.cost) → 1 ≤ a → a ≤ p → IsServer s u (period_of s a) → x ≤ potential g (a - 1) + block_cost s (block_of a p u)
 earlier_dearer s g u p a x None closed dearer low high may = absurd (closed a low high may)
-earlier_dearer s g u p a x (Some run) ran dearer low high may = omega (arith, dearer, ran.least a low high may)
+earlier_dearer s g u p a x (Some block) has dearer low high may = omega (arith, dearer, has.least a low high may)
 
-begins : (s : Single) (g : List ℕ) (u p cost : ℕ) (old : Option ServerBlock) → IsServer s u (period_of s (suc p)) → IsServerBlockOrNone s g u p old → IfSome old (λ run. potential g p + entry s.setup u ≤ run.cost) → cost ≡ potential g p + entry s.setup u + serving_cost s u (suc p) → cost ≤ suc p * most_for_one → IsServerBlock s g u (suc p) (record { cost = cost; first = suc p; server = u })
+begins : (s : Single) (g : List ℕ) (u p cost : ℕ) (old : Option ServerBlock) → IsServer s u (period_of s (suc p)) → IsServerBlockOrNone s g u p old → IfSome old (λ block. potential g p + entry s.setup u ≤ block.cost) → cost ≡ potential g p + entry s.setup u + serving_cost s u (suc p) → cost ≤ suc p * most_for_one → IsServerBlock s g u (suc p) (record { cost = cost; first = suc p; server = u })
 begins s g u p cost old server before dearer is small =
     let d : suc p - 1 ≡ p = omega arith in
     record {
@@ -45,23 +45,23 @@ begins s g u p cost old server before dearer is small =
       cost = omega (arith, is, block_more s (suc p) p u (omega arith), block_none s p u, ap (potential g) d);
       least = λ a low high may. ⊎_elim
           (λ earlier. omega (arith, is, earlier_dearer s g u p a (potential g p + entry s.setup u) old before dearer low (omega (arith, earlier)) may, block_more s a p u high))
-          (λ here. let e : a ≡ suc p = omega (arith, here, high) in omega (arith, is, block_more s (suc p) p u (omega arith), block_none s p u, ap (potential g) d, ap (λ k. potential g (k - 1)) e, ap (λ k. block_cost s (block k (suc p) u)) e))
+          (λ here. let e : a ≡ suc p = omega (arith, here, high) in omega (arith, is, block_more s (suc p) p u (omega arith), block_none s p u, ap (potential g) d, ap (λ k. potential g (k - 1)) e, ap (λ k. block_cost s (block_of k (suc p) u)) e))
           (cases_lt a (suc p));
       small = small;
     }
 
-goes_on : (s : Single) (g : List ℕ) (u p cost : ℕ) (run : ServerBlock) → IsServer s u (period_of s (suc p)) → IsServerBlock s g u p run → run.cost ≤ potential g p + entry s.setup u → cost ≡ run.cost + serving_cost s u (suc p) → cost ≤ suc p * most_for_one → IsServerBlock s g u (suc p) (record { cost = cost; first = run.first; server = u })
-goes_on s g u p cost run server ran cheaper is small =
+goes_on : (s : Single) (g : List ℕ) (u p cost : ℕ) (block : ServerBlock) → IsServer s u (period_of s (suc p)) → IsServerBlock s g u p block → block.cost ≤ potential g p + entry s.setup u → cost ≡ block.cost + serving_cost s u (suc p) → cost ≤ suc p * most_for_one → IsServerBlock s g u (suc p) (record { cost = cost; first = block.first; server = u })
+goes_on s g u p cost block server has cheaper is small =
     let d : suc p - 1 ≡ p = omega arith in
     record {
       own = refl;
-      low = ran.low;
-      high = omega (arith, ran.high);
-      server = ran.server;
-      cost = omega (arith, is, ran.cost, block_more s run.first p u (omega (arith, ran.high)));
+      low = has.low;
+      high = omega (arith, has.high);
+      server = has.server;
+      cost = omega (arith, is, has.cost, block_more s block.first p u (omega (arith, has.high)));
       least = λ a low high may. ⊎_elim
-          (λ earlier. omega (arith, is, ran.least a low (omega (arith, earlier)) may, block_more s a p u high))
-          (λ here. let e : a ≡ suc p = omega (arith, here, high) in omega (arith, is, cheaper, block_more s (suc p) p u (omega arith), block_none s p u, ap (potential g) d, ap (λ k. potential g (k - 1)) e, ap (λ k. block_cost s (block k (suc p) u)) e))
+          (λ earlier. omega (arith, is, has.least a low (omega (arith, earlier)) may, block_more s a p u high))
+          (λ here. let e : a ≡ suc p = omega (arith, here, high) in omega (arith, is, cheaper, block_more s (suc p) p u (omega arith), block_none s p u, ap (potential g) d, ap (λ k. potential g (k - 1)) e, ap (λ k. block_cost s (block_of k (suc p) u)) e))
           (cases_lt a (suc p));
       small = small;
     }
@@ -101,8 +101,8 @@ serving_is s u p t serving same value =
     let e : p + 1 ≡ suc p = omega arith in
     value ∙ ap (λ k. net_demand s k * unit_price s u k) (same ∙ ap (period_of s) e)
 
-pub fresh_run : (s : Single) (g : List ℕ) (u t : ℕ) (old : Option ServerBlock) (before setup serving : ℕ) → IsWithinBounds s → length g < 120 → t ≡ period_of s (length g + 1) → IsServer s u t → IsServerBlockOrNone s g u (length g) old → potential g (length g) ≤ length g * most_for_one → before ≡ potential g (length g) → IsRead s.setup (u - 1) setup → serving ≡ net_demand s t * unit_price s u t → serving ≤ 121 * 10 ^ 21 → IfSome old (λ run. before + setup ≤ run.cost) → IsServerBlock s g u (length g + 1) (record { cost = before + setup + serving; first = length g + 1; server = u })
-fresh_run s g u t old before setup serving within count same server had small is read value few dearer =
+pub fresh_block : (s : Single) (g : List ℕ) (u t : ℕ) (old : Option ServerBlock) (before setup serving : ℕ) → IsWithinBounds s → length g < 120 → t ≡ period_of s (length g + 1) → IsServer s u t → IsServerBlockOrNone s g u (length g) old → potential g (length g) ≤ length g * most_for_one → before ≡ potential g (length g) → IsRead s.setup (u - 1) setup → serving ≡ net_demand s t * unit_price s u t → serving ≤ 121 * 10 ^ 21 → IfSome old (λ block. before + setup ≤ block.cost) → IsServerBlock s g u (length g + 1) (record { cost = before + setup + serving; first = length g + 1; server = u })
+fresh_block s g u t old before setup serving within count same server had small is read value few dearer =
     let p = length g in
     let e : suc p ≡ p + 1 = omega arith in
     let setup_is = read_is s.setup (u - 1) setup (omega (arith, within.setup.size, server.low, server.high)) read in
@@ -110,25 +110,25 @@ fresh_run s g u t old before setup serving within count same server had small is
     let here : IsServer s u (period_of s (suc p)) = subst (IsServer s u) (same ∙ ap (period_of s) (sym e)) server in
     let starts : before + setup ≡ potential g p + entry s.setup u = omega (arith, is, setup_is) in
     let cost_small : before + setup + serving ≤ suc p * most_for_one = omega (arith, small, is, setup_is, setup_small, few) in
-    subst (λ q. IsServerBlock s g u q (record { cost = before + setup + serving; first = q; server = u })) e (begins s g u p (before + setup + serving) old here had (subst (λ k. IfSome old (λ run. k ≤ run.cost)) starts dearer) (omega (arith, is, setup_is, serving_is s u p t serving same value)) cost_small)
+    subst (λ q. IsServerBlock s g u q (record { cost = before + setup + serving; first = q; server = u })) e (begins s g u p (before + setup + serving) old here had (subst (λ k. IfSome old (λ block. k ≤ block.cost)) starts dearer) (omega (arith, is, setup_is, serving_is s u p t serving same value)) cost_small)
 
-pub kept_run : (s : Single) (g : List ℕ) (u t : ℕ) (run : ServerBlock) (before setup serving : ℕ) → IsWithinBounds s → t ≡ period_of s (length g + 1) → IsServer s u t → IsServerBlock s g u (length g) run → before ≡ potential g (length g) → IsRead s.setup (u - 1) setup → serving ≡ net_demand s t * unit_price s u t → serving ≤ 121 * 10 ^ 21 → run.cost ≤ before + setup → IsServerBlock s g u (length g + 1) (record { cost = run.cost + serving; first = run.first; server = u })
-kept_run s g u t run before setup serving within same server ran is read value few cheaper =
+pub kept_block : (s : Single) (g : List ℕ) (u t : ℕ) (block : ServerBlock) (before setup serving : ℕ) → IsWithinBounds s → t ≡ period_of s (length g + 1) → IsServer s u t → IsServerBlock s g u (length g) block → before ≡ potential g (length g) → IsRead s.setup (u - 1) setup → serving ≡ net_demand s t * unit_price s u t → serving ≤ 121 * 10 ^ 21 → block.cost ≤ before + setup → IsServerBlock s g u (length g + 1) (record { cost = block.cost + serving; first = block.first; server = u })
+kept_block s g u t block before setup serving within same server has is read value few cheaper =
     let p = length g in
     let e : suc p ≡ p + 1 = omega arith in
     let setup_is = read_is s.setup (u - 1) setup (omega (arith, within.setup.size, server.low, server.high)) read in
     let here : IsServer s u (period_of s (suc p)) = subst (IsServer s u) (same ∙ ap (period_of s) (sym e)) server in
-    subst (λ q. IsServerBlock s g u q (record { cost = run.cost + serving; first = run.first; server = u })) e (goes_on s g u p (run.cost + serving) run here ran (omega (arith, cheaper, is, setup_is)) (omega (arith, serving_is s u p t serving same value)) (omega (arith, ran.small, few)))
+    subst (λ q. IsServerBlock s g u q (record { cost = block.cost + serving; first = block.first; server = u })) e (goes_on s g u p (block.cost + serving) block here has (omega (arith, cheaper, is, setup_is)) (omega (arith, serving_is s u p t serving same value)) (omega (arith, has.small, few)))
 
--- a list of runs with one set anew
-pub run_here : (runs : List (Option ServerBlock)) (v : ℕ) (x : Option ServerBlock) → 1 ≤ v → v ≤ length runs → run_of (slice_set runs (v - 1) x) v ≡ x
-run_here runs v x low high = get_or-set_same runs (v - 1) x None (omega (arith, low, high))
+-- a list of blocks with one set anew
+pub block_here : (blocks : List (Option ServerBlock)) (v : ℕ) (x : Option ServerBlock) → 1 ≤ v → v ≤ length blocks → block_at (slice_set blocks (v - 1) x) v ≡ x
+block_here blocks v x low high = get_or-set_same blocks (v - 1) x None (omega (arith, low, high))
 
-pub run_other : (runs : List (Option ServerBlock)) (v u : ℕ) (x : Option ServerBlock) → 1 ≤ v → 1 ≤ u → (u ≡ v → ⊥) → run_of (slice_set runs (v - 1) x) u ≡ run_of runs u
-run_other runs v u x low u_low apart = get_or-set_other runs (v - 1) (u - 1) x None (λ same. apart (omega (arith, same, low, u_low)))
+pub block_other : (blocks : List (Option ServerBlock)) (v u : ℕ) (x : Option ServerBlock) → 1 ≤ v → 1 ≤ u → (u ≡ v → ⊥) → block_at (slice_set blocks (v - 1) x) u ≡ block_at blocks u
+block_other blocks v u x low u_low apart = get_or-set_other blocks (v - 1) (u - 1) x None (λ same. apart (omega (arith, same, low, u_low)))
 
-pub set_length : (runs : List (Option ServerBlock)) (i : ℕ) (x : Option ServerBlock) → length (slice_set runs i x) ≡ length runs
-set_length runs i x = length-set runs i x
+pub set_length : (blocks : List (Option ServerBlock)) (i : ℕ) (x : Option ServerBlock) → length (slice_set blocks i x) ≡ length blocks
+set_length blocks i x = length-set blocks i x
 
 -- a server that may not serve a position may serve no earlier one
 still_closed : (s : Single) (t u p : ℕ) → p < position_count s → t ≡ period_of s (p + 1) → (IsServer s u t → ⊥) → IsClosed s u (p + 1)
@@ -136,16 +136,16 @@ still_closed s t u p some same closed a low high may =
     let rise = periods_rise s a (p + 1) low high (omega (arith, some)) in
     closed (record { low = may.low; high = may.high; in_time = λ none. omega (arith, may.in_time none, rise, same) })
 
-closed_run : (s : Single) (g : List ℕ) (t u p : ℕ) (old : Option ServerBlock) → p < position_count s → t ≡ period_of s (p + 1) → (IsServer s u t → ⊥) → IsServerBlockOrNone s g u p old → IsServerBlockOrNone s g u (p + 1) old
-closed_run s g t u p None some same closed before = still_closed s t u p some same closed
-closed_run s g t u p (Some run) some same closed ran = absurd (still_closed s t u p some same closed run.first ran.low (omega (arith, ran.high)) ran.server)
+closed_block : (s : Single) (g : List ℕ) (t u p : ℕ) (old : Option ServerBlock) → p < position_count s → t ≡ period_of s (p + 1) → (IsServer s u t → ⊥) → IsServerBlockOrNone s g u p old → IsServerBlockOrNone s g u (p + 1) old
+closed_block s g t u p None some same closed before = still_closed s t u p some same closed
+closed_block s g t u p (Some block) some same closed has = absurd (still_closed s t u p some same closed block.first has.low (omega (arith, has.high)) has.server)
 
--- servers past the limit have no run, and the others have one
-pub closed_runs : (s : Single) (g : List ℕ) (t limit v : ℕ) (runs : List (Option ServerBlock)) → length g < position_count s → t ≡ period_of s (length g + 1) → ((u : ℕ) → 1 ≤ u → (IsServer s u t ↔ (u ≤ limit))) → limit < v → length runs ≡ period_count s → ((u : ℕ) → 1 ≤ u → u < v → IsServerBlockOrNone s g u (length g + 1) (run_of runs u)) → ((u : ℕ) → v ≤ u → u ≤ period_count s → IsServerBlockOrNone s g u (length g) (run_of runs u)) → AreServerBlocks s g (length g + 1) runs
-closed_runs s g t limit v runs some same servers past size done rest = record {
+-- servers past the limit have no block, and the others have one
+pub closed_blocks : (s : Single) (g : List ℕ) (t limit v : ℕ) (blocks : List (Option ServerBlock)) → length g < position_count s → t ≡ period_of s (length g + 1) → ((u : ℕ) → 1 ≤ u → (IsServer s u t ↔ (u ≤ limit))) → limit < v → length blocks ≡ period_count s → ((u : ℕ) → 1 ≤ u → u < v → IsServerBlockOrNone s g u (length g + 1) (block_at blocks u)) → ((u : ℕ) → v ≤ u → u ≤ period_count s → IsServerBlockOrNone s g u (length g) (block_at blocks u)) → AreServerBlocks s g (length g + 1) blocks
+closed_blocks s g t limit v blocks some same servers past size done rest = record {
   size = size;
   each = λ u low high. ⊎_elim
       (λ before. done u low before)
-      (λ no. closed_run s g t u (length g) (run_of runs u) some same (λ may. omega (arith, (servers u low).0 may, past, no)) (rest u no high))
+      (λ no. closed_block s g t u (length g) (block_at blocks u) some same (λ may. omega (arith, (servers u low).0 may, past, no)) (rest u no high))
       (cases_lt u v);
 }

@@ -9,10 +9,10 @@ use Rattle.lot_sizing.specs.Laws.{BlocksServe, LastPotentialIsFloor}
 use Rattle.lot_sizing.specs.Single.{Single, IsWithinBounds, IsServer, ArePotentials, Cover, IsLeastNetCost, blocks_plan, blocks_cost, period_count, position_count, positions, period_of, block_cost, potential}
 use Rattle.lot_sizing.proofs.Blocks.{periods_rise}
 use Rattle.wagner_whitin.specs.declared.plain.Candidate.{Candidate}
-use Rattle.wagner_whitin.specs.declared.runs.ServerBlock.{ServerBlock}
+use Rattle.wagner_whitin.specs.declared.server_blocks.ServerBlock.{ServerBlock}
 use Rattle.wagner_whitin.specs.Solution.{IsSolution}
 use Rattle.echelon.specs.declared.single.Blocks.{Blocks}
-use Rattle.wagner_whitin.specs.Tables.{IsCheapestLast, IsServerBlock, IsServerBlockOrNone, AreServerBlocks, BlockCostsAtMost, IsTable, IsLastBlock, most_for_one, last_block, most_cost, no_block, run_of}
+use Rattle.wagner_whitin.specs.Tables.{IsCheapestLast, IsServerBlock, IsServerBlockOrNone, AreServerBlocks, BlockCostsAtMost, IsTable, IsLastBlock, most_for_one, last_block, most_cost, no_block, block_at}
 use Rattle.wagner_whitin.proofs.Sums.{IsRead, read_is}
 use Rattle.wagner_whitin.proofs.Serving.{period_in, positions_small}
 
@@ -24,46 +24,46 @@ potential_kept g x (suc k) h = get_or_append_left g (x ∷ []) 0 (suc k - 1) (om
 pub potential_new : (g : List ℕ) (x : ℕ) → potential (g ++ x ∷ []) (suc (length g)) ≡ x
 potential_new g x = get_or_push g x 0 (suc (length g) - 1) (omega arith)
 
-run_kept : (s : Single) (g : List ℕ) (x u p : ℕ) (run : ServerBlock) → p ≤ suc (length g) → IsServerBlock s g u p run → IsServerBlock s (g ++ x ∷ []) u p run
-run_kept s g x u p run h ran = record {
-  own = ran.own;
-  low = ran.low;
-  high = ran.high;
-  server = ran.server;
-  cost = omega (arith, ran.cost, potential_kept g x (run.first - 1) (omega (arith, ran.high, h)));
-  least = λ a low high may. omega (arith, ran.least a low high may, potential_kept g x (a - 1) (omega (arith, high, h)));
-  small = ran.small;
+block_kept : (s : Single) (g : List ℕ) (x u p : ℕ) (block : ServerBlock) → p ≤ suc (length g) → IsServerBlock s g u p block → IsServerBlock s (g ++ x ∷ []) u p block
+block_kept s g x u p block h has = record {
+  own = has.own;
+  low = has.low;
+  high = has.high;
+  server = has.server;
+  cost = omega (arith, has.cost, potential_kept g x (block.first - 1) (omega (arith, has.high, h)));
+  least = λ a low high may. omega (arith, has.least a low high may, potential_kept g x (a - 1) (omega (arith, high, h)));
+  small = has.small;
 }
 
-run_or_none_kept : (s : Single) (g : List ℕ) (x u p : ℕ) (old : Option ServerBlock) → p ≤ suc (length g) → IsServerBlockOrNone s g u p old → IsServerBlockOrNone s (g ++ x ∷ []) u p old
-run_or_none_kept s g x u p None h closed = closed
-run_or_none_kept s g x u p (Some run) h ran = run_kept s g x u p run h ran
+block_or_none_kept : (s : Single) (g : List ℕ) (x u p : ℕ) (old : Option ServerBlock) → p ≤ suc (length g) → IsServerBlockOrNone s g u p old → IsServerBlockOrNone s (g ++ x ∷ []) u p old
+block_or_none_kept s g x u p None h closed = closed
+block_or_none_kept s g x u p (Some block) h has = block_kept s g x u p block h has
 
-pub runs_kept : (s : Single) (g : List ℕ) (x p : ℕ) (runs : List (Option ServerBlock)) → p ≤ suc (length g) → AreServerBlocks s g p runs → AreServerBlocks s (g ++ x ∷ []) p runs
-runs_kept s g x p runs h are = record {
+pub blocks_kept : (s : Single) (g : List ℕ) (x p : ℕ) (blocks : List (Option ServerBlock)) → p ≤ suc (length g) → AreServerBlocks s g p blocks → AreServerBlocks s (g ++ x ∷ []) p blocks
+blocks_kept s g x p blocks h are = record {
   size = are.size;
-  each = λ u low high. run_or_none_kept s g x u p (run_of runs u) h (are.each u low high);
+  each = λ u low high. block_or_none_kept s g x u p (block_at blocks u) h (are.each u low high);
 }
 
--- the run of a server that may serve the position
-ran_at : (s : Single) (g : List ℕ) (p u : ℕ) (old : Option ServerBlock) → IsServerBlockOrNone s g u p old → 1 ≤ p → IsServer s u (period_of s p) → (run : ServerBlock) × (old ≡ Some run) × IsServerBlock s g u p run
-ran_at s g p u None closed low may = absurd (closed p low (omega arith) may)
-ran_at s g p u (Some run) ran low may = (run, refl, ran)
+-- the block of a server that may serve the position
+has_at : (s : Single) (g : List ℕ) (p u : ℕ) (old : Option ServerBlock) → IsServerBlockOrNone s g u p old → 1 ≤ p → IsServer s u (period_of s p) → (block : ServerBlock) × (old ≡ Some block) × IsServerBlock s g u p block
+has_at s g p u None closed low may = absurd (closed p low (omega arith) may)
+has_at s g p u (Some block) has low may = (block, refl, has)
 
--- some server has a run
-pub some_run : (s : Single) (g : List ℕ) (p u : ℕ) (runs : List (Option ServerBlock)) → AreServerBlocks s g p runs → 1 ≤ p → IsServer s u (period_of s p) → (x : ℕ) × BlockCostsAtMost (run_of runs u) x
-some_run s g p u runs are low may =
-    let ran = ran_at s g p u (run_of runs u) (are.each u may.low may.high) low may in
-    (ran.0.cost, subst (λ o. BlockCostsAtMost o ran.0.cost) (sym ran.1) (omega arith))
+-- some server has a block
+pub some_block : (s : Single) (g : List ℕ) (p u : ℕ) (blocks : List (Option ServerBlock)) → AreServerBlocks s g p blocks → 1 ≤ p → IsServer s u (period_of s p) → (x : ℕ) × BlockCostsAtMost (block_at blocks u) x
+some_block s g p u blocks are low may =
+    let has = has_at s g p u (block_at blocks u) (are.each u may.low may.high) low may in
+    (has.0.cost, subst (λ o. BlockCostsAtMost o has.0.cost) (sym has.1) (omega arith))
 
--- the cheapest run makes the next potential
-pub table_more : (s : Single) (p : ℕ) (g : List ℕ) (lasts : List Block) (runs : List (Option ServerBlock)) (t limit u : ℕ) (run : ServerBlock) → IsTable s p g lasts → p < position_count s → t ≡ period_of s (p + 1) → ((v : ℕ) → 1 ≤ v → (IsServer s v t ↔ (v ≤ limit))) → AreServerBlocks s g (p + 1) runs → 1 ≤ u → u ≤ limit → run_of runs u ≡ Some run → ((v x : ℕ) → 1 ≤ v → v ≤ limit → BlockCostsAtMost (run_of runs v) x → run.cost ≤ x) → IsTable s (p + 1) (g ++ run.cost ∷ []) (lasts ++ record { first = run.first; last = p + 1; server = run.server } ∷ [])
-table_more s p g lasts runs t limit u run table some same servers are low high kept least =
-    let x = run.cost in
-    let b : Block = record { first = run.first; last = p + 1; server = run.server } in
+-- the cheapest block makes the next potential
+pub table_more : (s : Single) (p : ℕ) (g : List ℕ) (lasts : List Block) (blocks : List (Option ServerBlock)) (t limit u : ℕ) (block : ServerBlock) → IsTable s p g lasts → p < position_count s → t ≡ period_of s (p + 1) → ((v : ℕ) → 1 ≤ v → (IsServer s v t ↔ (v ≤ limit))) → AreServerBlocks s g (p + 1) blocks → 1 ≤ u → u ≤ limit → block_at blocks u ≡ Some block → ((v x : ℕ) → 1 ≤ v → v ≤ limit → BlockCostsAtMost (block_at blocks v) x → block.cost ≤ x) → IsTable s (p + 1) (g ++ block.cost ∷ []) (lasts ++ record { first = block.first; last = p + 1; server = block.server } ∷ [])
+table_more s p g lasts blocks t limit u block table some same servers are low high kept least =
+    let x = block.cost in
+    let b : Block = record { first = block.first; last = p + 1; server = block.server } in
     let at = λ (v : ℕ) (v_low : 1 ≤ v) (v_high : v ≤ limit). subst (IsServer s v) same ((servers v v_low).1 v_high) in
-    let ran : IsServerBlock s g u (p + 1) run = subst (IsServerBlockOrNone s g u (p + 1)) kept (are.each u low (at u low high).high) in
-    let own_cost : block_cost s b ≡ block_cost s (record { first = run.first; last = p + 1; server = u }) = ap (λ k. block_cost s (record { first = run.first; last = p + 1; server = k })) ran.own in
+    let has : IsServerBlock s g u (p + 1) block = subst (IsServerBlockOrNone s g u (p + 1)) kept (are.each u low (at u low high).high) in
+    let own_cost : block_cost s b ≡ block_cost s (record { first = block.first; last = p + 1; server = u }) = ap (λ k. block_cost s (record { first = block.first; last = p + 1; server = k })) has.own in
     let e : suc (length g) ≡ p + 1 = omega (arith, table.size) in
     let new : potential (g ++ x ∷ []) (p + 1) ≡ x = ap (potential (g ++ x ∷ [])) (sym e) ∙ potential_new g x in
     record {
@@ -77,13 +77,13 @@ table_more s p g lasts runs t limit u run table some same servers are low high k
           let rise = periods_rise s c.first (p + 1) is_block.low (omega (arith, is_block.order, last)) (omega (arith, some)) in
           let may : IsServer s v (period_of s (p + 1)) = record { low = is_block.server.low; high = is_block.server.high; in_time = λ none. omega (arith, is_block.server.in_time none, rise) } in
           let v_high = (servers v is_block.server.low).0 (subst (IsServer s v) (sym same) may) in
-          let ran_v = ran_at s g (p + 1) v (run_of runs v) (are.each v may.low may.high) (omega arith) may in
+          let has_v = has_at s g (p + 1) v (block_at blocks v) (are.each v may.low may.high) (omega arith) may in
           omega (
             arith,
             ap (potential (g ++ x ∷ [])) last,
             new,
-            least v ran_v.0.cost is_block.server.low v_high (subst (λ o. BlockCostsAtMost o ran_v.0.cost) (sym ran_v.1) (omega arith)),
-            ran_v.2.least c.first is_block.low (omega (arith, is_block.order, last)) is_block.server,
+            least v has_v.0.cost is_block.server.low v_high (subst (λ o. BlockCostsAtMost o has_v.0.cost) (sym has_v.1) (omega arith)),
+            has_v.2.least c.first is_block.low (omega (arith, is_block.order, last)) is_block.server,
             potential_kept g x (c.first - 1) (omega (arith, is_block.order, last, table.size)),
             ap (λ k. block_cost s (record { first = c.first; last = k; server = v })) last,
           ))
@@ -97,14 +97,14 @@ table_more s p g lasts runs t limit u run table some same servers are low high k
           let i : k ≡ p + 1 = omega (arith, no, k_high) in
           let here : last_block (lasts ++ b ∷ []) k ≡ b = get_or_push lasts b no_block (k - 1) (omega (arith, i, table.blocks)) in
           subst (IsLastBlock s (g ++ x ∷ []) k) (sym here) (record {
-            block = record { low = ran.low; order = ran.high; high = omega (arith, some); server = subst (λ k. IsServer s k (period_of s run.first)) (sym ran.own) ran.server };
+            block = record { low = has.low; order = has.high; high = omega (arith, some); server = subst (λ k. IsServer s k (period_of s block.first)) (sym has.own) has.server };
             ends = sym i;
-            cost = omega (arith, ap (potential (g ++ x ∷ [])) i, new, ran.cost, own_cost, potential_kept g x (run.first - 1) (omega (arith, ran.high, table.size)));
+            cost = omega (arith, ap (potential (g ++ x ∷ [])) i, new, has.cost, own_cost, potential_kept g x (block.first - 1) (omega (arith, has.high, table.size)));
           }))
           (cases_lt k (p + 1));
       small = λ k k_high. ⊎_elim
           (λ before. omega (arith, potential_kept g x k (omega (arith, before, table.size)), table.small k (omega (arith, before))))
-          (λ no. let i : k ≡ p + 1 = omega (arith, no, k_high) in omega (arith, ap (potential (g ++ x ∷ [])) i, new, ran.small, ap (λ j. j * most_for_one) i))
+          (λ no. let i : k ≡ p + 1 = omega (arith, no, k_high) in omega (arith, ap (potential (g ++ x ∷ [])) i, new, has.small, ap (λ j. j * most_for_one) i))
           (cases_lt k (p + 1));
     }
 

@@ -7,7 +7,7 @@ use Rattle.lot_sizing.specs.declared.limits.TheConstants.{MAX_AMOUNT, MAX_PERIOD
 use Rattle.lot_sizing.specs.Single.{Single, IsServer, IsBlock, period_count, period_of, block_cost, potential}
 use Rattle.wagner_whitin.specs.declared.prices.CostSums.{CostSums}
 use Rattle.wagner_whitin.specs.declared.plain.Candidate.{Candidate}
-use Rattle.wagner_whitin.specs.declared.runs.ServerBlock.{ServerBlock}
+use Rattle.wagner_whitin.specs.declared.server_blocks.ServerBlock.{ServerBlock}
 
 -- the sums of the first numbers, that of none first
 pub record AreSums (n : ℕ) (f : ℕ → ℕ) (sums : List ℕ) : Type 0 where
@@ -35,36 +35,36 @@ abbrev pub most_cost : ℕ
 most_cost = MAX_PERIODS * most_for_one
 
 -- the cheapest last block of a server that ends with position p, and what all up to it costs
-pub record IsServerBlock (s : Single) (g : List ℕ) (u p : ℕ) (run : ServerBlock) : Type 0 where
-  pub own : run.server ≡ u
-  pub low : 1 ≤ run.first
-  pub high : run.first ≤ p
-  pub server : IsServer s u (period_of s run.first)
-  pub cost : run.cost ≡ potential g (run.first - 1) + block_cost s (record { first = run.first; last = p; server = u })
-  pub least : (a : ℕ) → 1 ≤ a → a ≤ p → IsServer s u (period_of s a) → run.cost ≤ potential g (a - 1) + block_cost s (record { first = a; last = p; server = u })
-  pub small : run.cost ≤ p * most_for_one
+pub record IsServerBlock (s : Single) (g : List ℕ) (u p : ℕ) (block : ServerBlock) : Type 0 where
+  pub own : block.server ≡ u
+  pub low : 1 ≤ block.first
+  pub high : block.first ≤ p
+  pub server : IsServer s u (period_of s block.first)
+  pub cost : block.cost ≡ potential g (block.first - 1) + block_cost s (record { first = block.first; last = p; server = u })
+  pub least : (a : ℕ) → 1 ≤ a → a ≤ p → IsServer s u (period_of s a) → block.cost ≤ potential g (a - 1) + block_cost s (record { first = a; last = p; server = u })
+  pub small : block.cost ≤ p * most_for_one
 
 -- the server may serve no position up to p
 abbrev pub IsClosed : Single → ℕ → ℕ → Type 0
 IsClosed s u p = (a : ℕ) → 1 ≤ a → a ≤ p → IsServer s u (period_of s a) → ⊥
 
--- the server's run, and none where it may serve no position up to p
+-- the server's block, and none where it may serve no position up to p
 abbrev pub IsServerBlockOrNone : Single → List ℕ → ℕ → ℕ → Option ServerBlock → Type 0
 IsServerBlockOrNone s g u p None = IsClosed s u p
-IsServerBlockOrNone s g u p (Some run) = IsServerBlock s g u p run
+IsServerBlockOrNone s g u p (Some block) = IsServerBlock s g u p block
 
-abbrev pub run_of : List (Option ServerBlock) → ℕ → Option ServerBlock
-run_of runs u = slice_index_or runs (u - 1) None
+abbrev pub block_at : List (Option ServerBlock) → ℕ → Option ServerBlock
+block_at blocks u = slice_index_or blocks (u - 1) None
 
--- there is a run that costs at most so much
+-- there is a block that costs at most so much
 abbrev pub BlockCostsAtMost : Option ServerBlock → ℕ → Type 0
 BlockCostsAtMost None x = ⊥
-BlockCostsAtMost (Some run) x = run.cost ≤ x
+BlockCostsAtMost (Some block) x = block.cost ≤ x
 
--- each server has its run
-pub record AreServerBlocks (s : Single) (g : List ℕ) (p : ℕ) (runs : List (Option ServerBlock)) : Type 0 where
-  pub size : length runs ≡ period_count s
-  pub each : (u : ℕ) → 1 ≤ u → u ≤ period_count s → IsServerBlockOrNone s g u p (run_of runs u)
+-- each server has its block
+pub record AreServerBlocks (s : Single) (g : List ℕ) (p : ℕ) (blocks : List (Option ServerBlock)) : Type 0 where
+  pub size : length blocks ≡ period_count s
+  pub each : (u : ℕ) → 1 ≤ u → u ≤ period_count s → IsServerBlockOrNone s g u p (block_at blocks u)
 
 abbrev pub no_block : Block
 no_block = record { first = 0; last = 0; server = 0 }

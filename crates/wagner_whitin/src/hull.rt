@@ -37,19 +37,11 @@ pub fn insert<L: Ledger>(
     if high <= low {
         return;
     }
+    let below = level - 1;
     let middle = low + (high - low) / 2;
+    let after = middle + 1;
     if middle < from {
-        insert(
-            single,
-            sums,
-            slots,
-            line,
-            from,
-            level - 1,
-            middle + 1,
-            high,
-            steps,
-        );
+        insert(single, sums, slots, line, from, below, after, high, steps);
         return;
     }
     let place = (middle - 1) as usize;
@@ -60,29 +52,9 @@ pub fn insert<L: Ledger>(
     let (kept, rest) = lines::ordered(single, sums, line, other, middle, steps);
     slots[place] = Some(kept);
     if lines::is_no_dearer(single, sums, rest.server, kept.server) {
-        insert(
-            single,
-            sums,
-            slots,
-            rest,
-            from,
-            level - 1,
-            middle + 1,
-            high,
-            steps,
-        );
+        insert(single, sums, slots, rest, from, below, after, high, steps);
     } else {
-        insert(
-            single,
-            sums,
-            slots,
-            rest,
-            from,
-            level - 1,
-            low,
-            middle,
-            steps,
-        );
+        insert(single, sums, slots, rest, from, below, low, middle, steps);
     }
 }
 

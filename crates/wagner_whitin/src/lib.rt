@@ -22,12 +22,12 @@ mod line_table;
 mod lines;
 mod plain;
 mod prices;
-mod runs;
+mod server_blocks;
 mod solving;
 mod table;
 
 pub use counting::{Steps, less_counted};
 pub use echelon::{Block, Blocks, SingleItem};
 pub use plain::plain_least_cost;
-pub use prices::needed;
+pub use server_blocks::last_potential;
 pub use solving::{solve, solve_counted, solve_over_servers};

@@ -8,7 +8,7 @@ ghost use Rattle.wagner_whitin.specs.Lines.{AreLineSums, IsCheapest, IsHull, ent
 use crate::counting::Steps;
 use crate::hull;
 use crate::lines::{self, Line, LineSums};
-use crate::runs::last_potential;
+use crate::server_blocks::last_potential;
 use crate::table::LeastCosts;
 use echelon::{Block, SingleItem};
 use std::alloc::{AllocError, Global};

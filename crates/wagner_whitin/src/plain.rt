@@ -5,8 +5,8 @@ ghost use Rattle.lot_sizing.specs.Single.{IsBlock, IsLeastNetCost, IsServer, IsW
 ghost use Rattle.echelon.specs.Views.{single_of_item};
 ghost use Rattle.wagner_whitin.specs.Tables.{AreCostSums, IsCandidate, IsCheapestLast, IsTable, most_cost, most_for_one};
 
-use crate::prices::{self, CostSums};
-use crate::runs::{last_potential, last_server, serving_cost};
+use crate::prices::CostSums;
+use crate::server_blocks::{last_potential, last_server, serving_cost};
 use crate::table::{self, LeastCosts};
 use echelon::{Block, SingleItem};
 use std::alloc::{AllocError, Global};
@@ -133,7 +133,7 @@ fn plain_costs(alloc: Global, single: &SingleItem) -> Result<LeastCosts, AllocEr
     requires within { IsWithinBounds (single_of_item single.now) }
     ensures { IfOk result (λ table. IsTable (single_of_item single.now) (position_count (single_of_item single.now)) table.potentials.items table.lasts.items) }
 {
-    let needed = prices::needed(alloc, single)?;
+    let needed = echelon::positions(alloc, single)?;
     let prices = CostSums::of(alloc, single)?;
     let mut potentials = Vec::with_capacity(alloc, needed.len())?;
     let mut lasts = Vec::with_capacity(alloc, needed.len())?;

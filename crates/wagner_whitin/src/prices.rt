@@ -2,7 +2,7 @@
 ghost use Rattle.std.specs.Prelude.{◌≡◌, ◌≤◌, length, ℕ, IfOk, IfSome};
 ghost use Rattle.lot_sizing.specs.Problem.{AllAtMost, entry};
 ghost use Rattle.lot_sizing.specs.declared.limits.TheConstants.{MAX_AMOUNT, MAX_PERIODS};
-ghost use Rattle.lot_sizing.specs.Single.{IsWithinBounds, IsServer, period_count, positions, unit_price};
+ghost use Rattle.lot_sizing.specs.Single.{IsWithinBounds, IsServer, period_count, unit_price};
 ghost use Rattle.echelon.specs.Views.{single_of_item};
 ghost use Rattle.wagner_whitin.specs.Tables.{AreSums, AreCostSums, most_price};
 
@@ -74,18 +74,4 @@ impl CostSums {
             unit + (self.owed[from] - self.owed[to])
         }
     }
-}
-
-/// The periods with a net demand, in order.
-pub fn needed(alloc: Global, single: &SingleItem) -> Result<Vec<u32>, AllocError>
-    requires within { IsWithinBounds (single_of_item single.now) }
-    ensures { IfOk result (λ periods. periods.items ≡ positions (single_of_item single.now)) }
-{
-    let mut periods = Vec::new(alloc);
-    for period in 1..single.net.len() as u32 + 1 {
-        if single.net[(period - 1) as usize] != 0 {
-            periods.push(period)?;
-        }
-    }
-    Ok(periods)
 }

@@ -7,7 +7,7 @@ ghost use Rattle.wagner_whitin.specs.Solution.{IsSolution};
 use crate::counting::Steps;
 use crate::digits::binary_digits;
 use crate::lines::LineSums;
-use crate::{line_table, prices, table};
+use crate::{line_table, table};
 use echelon::{Blocks, SingleItem};
 use std::alloc::{AllocError, Global};
 use std::marker::Brand;
@@ -40,7 +40,7 @@ pub fn solve_counted<L: Ledger>(
     ensures solution { IfOk result (IsSolution (single_of_item single.now)) }
     ensures steps { (d : ℕ) → period_count (single_of_item single.now) < 2 ^ d → steps.new ≤ steps.old + 4 * period_count (single_of_item single.now) * (d + 1) }
 {
-    let needed = prices::needed(alloc, single)?;
+    let needed = echelon::positions(alloc, single)?;
     let sums = LineSums::of(alloc, single, &needed)?;
     let level = binary_digits(single.net.len() as u32);
     let table = line_table::least_costs(alloc, single, &sums, &needed, level, steps)?;

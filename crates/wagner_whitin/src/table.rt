@@ -5,8 +5,8 @@ ghost use Rattle.echelon.specs.Views.{single_of_item};
 ghost use Rattle.wagner_whitin.specs.Solution.{IsSolution};
 ghost use Rattle.wagner_whitin.specs.Tables.{AreCostSums, AreServerBlocks, IsTable};
 
-use crate::prices::{self, CostSums};
-use crate::runs;
+use crate::prices::CostSums;
+use crate::server_blocks;
 use echelon::{Block, Blocks, SingleItem};
 use std::alloc::{AllocError, Global};
 
@@ -22,16 +22,16 @@ pub fn least_costs(alloc: Global, single: &SingleItem) -> Result<LeastCosts, All
     requires within { IsWithinBounds (single_of_item single.now) }
     ensures { IfOk result (λ table. IsTable (single_of_item single.now) (position_count (single_of_item single.now)) table.potentials.items table.lasts.items) }
 {
-    let needed = prices::needed(alloc, single)?;
+    let needed = echelon::positions(alloc, single)?;
     let prices = CostSums::of(alloc, single)?;
-    let mut runs = vec![in alloc; None; single.net.len()]?;
+    let mut blocks = vec![in alloc; None; single.net.len()]?;
     let mut potentials = Vec::with_capacity(alloc, needed.len())?;
     let mut lasts = Vec::with_capacity(alloc, needed.len())?;
     for place in 0..needed.len() {
         let period = needed[place];
-        let limit = runs::last_server(single, period);
-        runs::serve(single, &prices, &potentials, period, limit, &mut runs);
-        let Some(best) = runs::cheapest(&runs, limit) else {
+        let limit = server_blocks::last_server(single, period);
+        server_blocks::serve(single, &prices, &potentials, period, limit, &mut blocks);
+        let Some(best) = server_blocks::cheapest(&blocks, limit) else {
             unreachable!();
         };
         lasts.push(Block {
@@ -71,7 +71,7 @@ pub fn solution(alloc: Global, single: &SingleItem, table: LeastCosts) -> Result
     lot_sizing::last_potential_is_floor();
     lot_sizing::blocks_serve();
     let blocks = trace(alloc, single, &table)?;
-    let cost = runs::last_potential(&table.potentials);
+    let cost = server_blocks::last_potential(&table.potentials);
     Ok(Blocks {
         cost,
         blocks,

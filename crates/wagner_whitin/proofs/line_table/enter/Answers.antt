@@ -20,7 +20,7 @@ pub insert-requires-clause-line : goal.insert-requires-clause-line
 insert-requires-clause-line g c =
     let s = single_of_item c.args.single.now in
     let begins = c.requires.entries c.loop-server.server (omega arith) (omega (arith, c.loop-server-test.true)) in
-    (new_is s c.args.potentials.now c.loop-server.server c.last_potential-before.result c.index.result.now c.requires.within c.requires.no_backlog c.requires.some c.requires.small (omega arith) (omega (arith, c.loop-server-test.true, c.requires.high)) begins c.last_potential-before.ensures c.index.ensures).line
+    (new_is s c.args.potentials.now c.loop-server.server c.last_potential-before.result c.index.result.now c.requires.within c.requires.no_backlog c.requires.some c.requires.small (omega arith) (omega (arith, c.loop-server-test.true, c.requires.high)) begins c.last_potential-before.ensures.value c.index.ensures).line
 
 pub loop-server-preserved : goal.loop-server-preserved
 loop-server-preserved g c =
@@ -28,7 +28,7 @@ loop-server-preserved g c =
     let xs = c.args.potentials.now in
     let u = c.loop-server.server in
     let begins = c.requires.entries u (omega arith) (omega (arith, c.loop-server-test.true)) in
-    let is = new_is s c.args.potentials.now c.loop-server.server c.last_potential-before.result c.index.result.now c.requires.within c.requires.no_backlog c.requires.some c.requires.small (omega arith) (omega (arith, c.loop-server-test.true, c.requires.high)) begins c.last_potential-before.ensures c.index.ensures in
+    let is = new_is s c.args.potentials.now c.loop-server.server c.last_potential-before.result c.index.result.now c.requires.within c.requires.no_backlog c.requires.some c.requires.small (omega arith) (omega (arith, c.loop-server-test.true, c.requires.high)) begins c.last_potential-before.ensures.value c.index.ensures in
     record {
       high = omega (arith, c.loop-server-test.true);
       hull = hull_next s xs u c.args.level (length c.args.slots.now + 1) (new_line xs u c.last_potential-before.result c.index.result.now) c.loop-server.slots c.insert.new.slots (omega arith) (omega (arith, c.requires.hull.size)) c.loop-server.invariant.hull is.line is.own begins c.insert.ensures.inserted;

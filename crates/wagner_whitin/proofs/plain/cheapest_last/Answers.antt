@@ -13,7 +13,7 @@ pub overflow_add-last : goal.overflow_add-last
 overflow_add-last c = omega (arith, positions_small (single_of_item c.args.single.now) c.requires.within, c.requires.some)
 
 pub cheapest_server-best-requires-clause-before : goal.cheapest_server-best-requires-clause-before
-cheapest_server-best-requires-clause-before c = omega (arith, positions_small (single_of_item c.args.single.now) c.requires.within, c.requires.some, c.last_potential.ensures, c.requires.small (length c.args.potentials.now) (omega arith))
+cheapest_server-best-requires-clause-before c = omega (arith, positions_small (single_of_item c.args.single.now) c.requires.within, c.requires.some, c.last_potential.ensures.value, c.requires.small (length c.args.potentials.now) (omega arith))
 
 pub cheapest_server-requires-clause-before : goal.cheapest_server-requires-clause-before
 cheapest_server-requires-clause-before c = omega (arith, positions_small (single_of_item c.args.single.now) c.requires.within, c.requires.some, c.potential_before-before.ensures, c.requires.small (c.loop-first.first - 1) (omega arith))

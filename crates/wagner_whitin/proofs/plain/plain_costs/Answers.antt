@@ -19,5 +19,5 @@ loop-preserved c =
 pub returns : goal.returns
 returns c =
     let s = single_of_item c.args.single.now in
-    let e : c.loop.counter ≡ position_count s = omega (arith, ap length c.in_ok-needed.ensures) in
+    let e : c.loop.counter ≡ position_count s = omega (arith, ap length c.in_ok-needed.ensures.positions) in
     subst (λ k. IsTable s k c.loop.potentials.items c.loop.lasts.items) e c.loop.invariant

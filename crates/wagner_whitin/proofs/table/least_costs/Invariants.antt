@@ -10,5 +10,5 @@ invariant-loop-place l =
     record {
       high : l.place ≤ position_count s;
       table : IsTable s l.place l.potentials.items l.lasts.items;
-      runs : AreServerBlocks s l.potentials.items l.place l.runs.items;
+      blocks : AreServerBlocks s l.potentials.items l.place l.blocks.items;
     }

@@ -1,7 +1,7 @@
 use Rattle.std.proofs.Common.{arith}
 use Rattle.echelon.specs.Views.{single_of_item}
 use Rattle.wagner_whitin.proofs.Serving.{net_small, serving_small}
-use Rattle.wagner_whitin.proofs.runs.serving_cost.Goals as goal
+use Rattle.wagner_whitin.proofs.server_blocks.serving_cost.Goals as goal
 
 pub overflow_mul-result : goal.overflow_mul-result
 overflow_mul-result c =

@@ -3,7 +3,7 @@ ghost use Rattle.std.specs.Prelude.{◌≡◌, ◌≤◌, ◌<◌, ◌+◌, ◌*
 ghost use Rattle.lot_sizing.specs.declared.limits.TheConstants.{MAX_PERIODS};
 ghost use Rattle.lot_sizing.specs.Single.{IsWithinBounds, IsServer, net_demand, period_count, period_of, position_count, potential, unit_price};
 ghost use Rattle.echelon.specs.Views.{single_of_item};
-ghost use Rattle.wagner_whitin.specs.Tables.{AreCostSums, AreServerBlocks, BlockCostsAtMost, IsServerBlock, IsServerBlockOrNone, most_for_one, most_serving, run_of};
+ghost use Rattle.wagner_whitin.specs.Tables.{AreCostSums, AreServerBlocks, BlockCostsAtMost, IsServerBlock, IsServerBlockOrNone, most_for_one, most_serving, block_at};
 
 use crate::prices::CostSums;
 use echelon::SingleItem;
@@ -18,7 +18,7 @@ pub struct ServerBlock {
 
 /// The potential of the last position, and 0 where there is none.
 pub fn last_potential(potentials: &[u128]) -> u128
-    ensures { result ≡ potential potentials.now (length potentials.now) }
+    ensures value { result ≡ potential potentials.now (length potentials.now) }
 {
     match potentials.last() {
         Some(last) => *last,
@@ -41,25 +41,25 @@ pub fn serving_cost(single: &SingleItem, prices: &CostSums, server: u32, period:
     net * price as u128
 }
 
-// A run that goes on, or a fresh one where that costs less.
-fn cheaper_start(run: Option<ServerBlock>, fresh: ServerBlock) -> ServerBlock
+// A block that goes on, or a fresh one where that costs less.
+fn cheaper_start(block: Option<ServerBlock>, fresh: ServerBlock) -> ServerBlock
     ensures no_more { result.cost ≤ fresh.cost }
-    ensures start { ((result ≡ fresh) × IfSome run (λ old. fresh.cost ≤ old.cost)) ⊎ ((run ≡ Some result) × (result.cost ≤ fresh.cost)) }
+    ensures start { ((result ≡ fresh) × IfSome block (λ old. fresh.cost ≤ old.cost)) ⊎ ((block ≡ Some result) × (result.cost ≤ fresh.cost)) }
 {
-    match run {
+    match block {
         Some(old) if old.cost <= fresh.cost => old,
         _ => fresh,
     }
 }
 
-// A server's run with one position more: the run goes on, or begins with the position.
+// A server's block with one position more: the block goes on, or begins with the position.
 fn extended(
     single: &SingleItem,
     prices: &CostSums,
     potentials: &[u128],
     server: u32,
     period: u32,
-    run: Option<ServerBlock>,
+    block: Option<ServerBlock>,
 ) -> ServerBlock
     requires within { IsWithinBounds (single_of_item single.now) }
     requires prices { AreCostSums (single_of_item single.now) prices.now }
@@ -69,7 +69,7 @@ fn extended(
     requires high { period ≤ period_count (single_of_item single.now) }
     requires server { IsServer (single_of_item single.now) server period }
     requires small { potential potentials.now (length potentials.now) ≤ length potentials.now * most_for_one }
-    requires run { IsServerBlockOrNone (single_of_item single.now) potentials.now server (length potentials.now) run }
+    requires block { IsServerBlockOrNone (single_of_item single.now) potentials.now server (length potentials.now) block }
     ensures { IsServerBlock (single_of_item single.now) potentials.now server (length potentials.now + 1) result }
 {
     let serving = serving_cost(single, prices, server, period);
@@ -79,7 +79,7 @@ fn extended(
         first: potentials.len() as u32 + 1,
         server,
     };
-    let start = cheaper_start(run, fresh);
+    let start = cheaper_start(block, fresh);
     ServerBlock {
         cost: start.cost + serving,
         first: start.first,
@@ -102,14 +102,14 @@ pub fn last_server(single: &SingleItem, period: u32) -> u32
     }
 }
 
-/// One position more, of the period, in the run of each server that may serve it.
+/// One position more, of the period, in the block of each server that may serve it.
 pub fn serve(
     single: &SingleItem,
     prices: &CostSums,
     potentials: &[u128],
     period: u32,
     limit: u32,
-    runs: &mut [Option<ServerBlock>],
+    blocks: &mut [Option<ServerBlock>],
 )
     requires within { IsWithinBounds (single_of_item single.now) }
     requires prices { AreCostSums (single_of_item single.now) prices.now }
@@ -121,18 +121,18 @@ pub fn serve(
     requires small { potential potentials.now (length potentials.now) ≤ length potentials.now * most_for_one }
     requires limit { limit ≤ period_count (single_of_item single.now) }
     requires servers { (server : ℕ) → 1 ≤ server → (IsServer (single_of_item single.now) server period ↔ (server ≤ limit)) }
-    requires runs { AreServerBlocks (single_of_item single.now) potentials.now (length potentials.now) runs.now }
-    ensures { AreServerBlocks (single_of_item single.now) potentials.now (length potentials.now + 1) runs.new }
+    requires blocks { AreServerBlocks (single_of_item single.now) potentials.now (length potentials.now) blocks.now }
+    ensures { AreServerBlocks (single_of_item single.now) potentials.now (length potentials.now + 1) blocks.new }
 {
     for server in 1..limit + 1 {
-        let run = runs[(server - 1) as usize];
-        runs[(server - 1) as usize] = Some(extended(
-            single, prices, potentials, server, period, run,
+        let block = blocks[(server - 1) as usize];
+        blocks[(server - 1) as usize] = Some(extended(
+            single, prices, potentials, server, period, block,
         ));
     }
 }
 
-// The cheaper of two runs, where there are both.
+// The cheaper of two blocks, where there are both.
 fn cheaper(one: Option<ServerBlock>, other: Option<ServerBlock>) -> Option<ServerBlock>
     ensures either { (result ≡ one) ⊎ (result ≡ other) }
     ensures least { (x : ℕ) → BlockCostsAtMost one x → BlockCostsAtMost result x }
@@ -147,16 +147,16 @@ fn cheaper(one: Option<ServerBlock>, other: Option<ServerBlock>) -> Option<Serve
     Some(if right.cost < left.cost { right } else { left })
 }
 
-/// The cheapest run of the first servers, if one of them has a run.
-pub fn cheapest(runs: &[Option<ServerBlock>], limit: u32) -> Option<ServerBlock>
-    requires high { limit ≤ length runs.now }
-    requires count { length runs.now ≤ MAX_PERIODS }
-    ensures kept { IfSome result (λ run. (server : ℕ) × (1 ≤ server) × (server ≤ limit) × (run_of runs.now server ≡ Some run)) }
-    ensures least { (server x : ℕ) → 1 ≤ server → server ≤ limit → BlockCostsAtMost (run_of runs.now server) x → BlockCostsAtMost result x }
+/// The cheapest block of the first servers, if one of them has a block.
+pub fn cheapest(blocks: &[Option<ServerBlock>], limit: u32) -> Option<ServerBlock>
+    requires high { limit ≤ length blocks.now }
+    requires count { length blocks.now ≤ MAX_PERIODS }
+    ensures kept { IfSome result (λ block. (server : ℕ) × (1 ≤ server) × (server ≤ limit) × (block_at blocks.now server ≡ Some block)) }
+    ensures least { (server x : ℕ) → 1 ≤ server → server ≤ limit → BlockCostsAtMost (block_at blocks.now server) x → BlockCostsAtMost result x }
 {
     let mut best = None;
     for server in 1..limit + 1 {
-        best = cheaper(best, runs[(server - 1) as usize]);
+        best = cheaper(best, blocks[(server - 1) as usize]);
     }
     best
 }

@@ -1,7 +1,0 @@
-use Rattle.std.proofs.Common.{◌≡◌, ◌-◌}
-use Rattle.lot_sizing.specs.Single.{positions_to}
-use Rattle.echelon.specs.Views.{single_of_item}
-use Rattle.wagner_whitin.proofs.prices.needed.Given as goal
-
-abbrev pub invariant-loop-period : goal.invariant-loop-period
-invariant-loop-period l = l.periods.items ≡ positions_to (single_of_item l.single) (l.period - 1)
