@@ -170,7 +170,7 @@ module _ (m : Problem) (total : ℕ → ℕ) (weight : ℕ → ℕ → ℕ) wher
       later.1)
       bad
 
--- so a refusal of one that is certified is want of memory
+-- so a refusal of one that is certified is out of memory
 pub never : (m : Problem) (c : Shape) (given : Option Plan) (f : CheckFault) → JudgementIsOne → CutRowsByPlaces → CutRowsAreOne → SaysAreOne → IsWithinLimits m → HasFault m c given f → IsNeverRefused m c given f
 never m c given (fault.Rejected r) judged places one says limits faulty = λ total weight totals weights is.
     absurd (no_fault m total weight judged places one says limits c given r.line r.why is (faulty total weight totals weights))

@@ -12,6 +12,7 @@ use Rattle.lin_rows.specs.Rows.{LinRow}
 use Rattle.cert_lines.specs.declared.parts.Claim.{Claim}
 use Rattle.cert_lines.specs.declared.parts.Claim.TheVariants.{Optimal, Infeasible, Bound as BoundOf}
 use Rattle.cert_lines.specs.Shapes.{CutShape, LeafShape, LsCut}
+use Rattle.certificate.specs.declared.places.TheConstants.{CLAIM_LINE, FIRST_CUT_LINE}
 use Rattle.certificate.specs.Shapes.{End, Shape, Split, TreeShape}
 use Rattle.certificate.specs.Values.{all_cut_values, body_values, tree_values}
 use Rattle.split_trees.specs.Ranges.{Ranges, WithTotals, whole_ranges}
@@ -40,10 +41,10 @@ GivenFits m (Some p) = AllFit m p
 
 -- the line of the claim, and that of the first cut
 abbrev pub claim_line : ℕ
-claim_line = 2
+claim_line = CLAIM_LINE
 
 abbrev pub first_line : ℕ
-first_line = 4
+first_line = FIRST_CUT_LINE
 
 -- a claim of an optimal cost comes with a feasible plan of this cost
 abbrev pub ComesWith : Problem → Claim → Option Plan → Type 0
@@ -178,7 +179,7 @@ IsGoodCertificate m c given = OfProblem m (λ total weight. IsCertified m total 
 abbrev pub HasFault : Problem → Shape → Option Plan → CheckFault → Type 0
 HasFault m c given f = IfRejected f (λ at w. OfProblem m (λ total weight. IsCheckFault m total weight c given at w))
 
--- a certificate that is accepted and whose sums are small, for some largest totals and weights, is refused for want of memory alone
+-- a certificate that is accepted and whose sums are small, for some largest totals and weights, is refused only where memory ran out
 abbrev pub IsNeverRefused : Problem → Shape → Option Plan → CheckFault → Type 0
 IsNeverRefused m c given f =
     (total : ℕ → ℕ) (weight : ℕ → ℕ → ℕ) → AreLargestTotals m total → AreWeights (bill_of m) weight → IsCertified m total weight c given → f ≡ fault.Memory

@@ -17,16 +17,13 @@ use crate::walk::walk;
 use crate::{CheckFault, NamedSums, cut_row_in};
 use acceptance::{accepted_is_true, cut_rows_are_one, cut_rows_go_on, says_are_one};
 use bill::totals_exist;
-use certificate::{Certificate, Cut, cut_lines_count};
+use certificate::{Certificate, Cut, FIRST_CUT_LINE, cut_lines_count};
 use echelon::Explosion;
 use lin_rows::Row;
 use lot_model::Instance;
 use plan_rules::{Plan, judgement_is_one};
 use split_trees::plans_are_within;
 use std::alloc::Global;
-
-// The line of the first cut.
-const FIRST_LINE: u64 = 4;
 
 // The rows of cuts, and the line after them.
 #[derive(Debug, Drop)]
@@ -53,7 +50,7 @@ fn cut_rows(
 {
     cut_rows_go_on();
     let mut rows = Vec::new(alloc);
-    let mut line = FIRST_LINE;
+    let mut line = FIRST_CUT_LINE;
     for cut in cuts {
         let row = cut_row_in(alloc, instance, explosion, &rows, cut, line)?;
         rows.push(row)?;
@@ -104,7 +101,7 @@ fn examine(
 ///
 /// Otherwise it is refused with the first thing that is wrong, and its line in the certificate's text (`fault`):
 ///
-/// 1. The plan, on line 2: there is none (`PlanMissing`), it breaks a rule (`Plan`), or it costs another amount than
+/// 1. The plan, on `CLAIM_LINE`: there is none (`PlanMissing`), it breaks a rule (`Plan`), or it costs another amount than
 ///    is claimed (`Costs`).
 /// 2. The cuts, in their order, the first that has no row as `cut_row` says: a number or a list that is out of
 ///    range (`Range`), an item that isn't lead-free (`Lead`), potentials that rise by too much (`Block`); of a cut by

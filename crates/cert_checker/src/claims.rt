@@ -7,12 +7,9 @@ ghost use Rattle.cert_checker.specs.Checks.{ComesWith, IsOptimalFault, IsPlanFau
 
 use crate::{Rejected, Why};
 use acceptance::LeafSays;
-use certificate::Claim;
+use certificate::{CLAIM_LINE, Claim};
 use lot_model::Instance;
 use plan_rules::{Plan, judge};
-
-// The line of the claim.
-const CLAIM_LINE: u64 = 2;
 
 // Whether what a leaf says is enough for a claim.
 fn is_enough(claim: Claim, says: LeafSays) -> bool
@@ -60,7 +57,7 @@ fn judge_cost(instance: &Instance, cost: u128, plan: Option<&Plan>) -> Result<()
 }
 
 /// Whether the plan that was given goes with a claim. Only an optimal cost asks for one: it is there, feasible, and costs what
-/// is claimed. The refusals are `PlanMissing`, `Plan` and `Costs`, in this order, on line 2.
+/// is claimed. The refusals are `PlanMissing`, `Plan` and `Costs`, in this order, on `CLAIM_LINE`.
 pub fn judge_claim(instance: &Instance, claim: Claim, plan: Option<&Plan>) -> Result<(), Rejected>
     ensures comes { OnOk result (ComesWith instance.now claim (option_copied plan.entry)) }
     ensures fault { IfErr result (λ r. IsPlanFault instance.now claim (option_copied plan.entry) r.line r.why) }

@@ -5,8 +5,7 @@ ghost use Rattle.lin_rows.specs.Columns.{IsColumn};
 ghost use Rattle.lin_rows.specs.Sums.{item_of, kind_of, period_of};
 ghost use Rattle.cert_checker.specs.Named.{IsAny, IsFirstLarge, IsLarge, IsOfItem, IsOfKind, IsWithinCost};
 
-use crate::parts::is_cell;
-use lin_rows::{Column, Sums, column_cost};
+use lin_rows::{Column, Sums, column_cost, is_cell};
 use lot_model::Instance;
 
 // Whether the instance has a column.

@@ -1,5 +1,7 @@
 // The rows of cuts over the echelon of an item.
-ghost use Rattle.std.specs.Prelude.{◌≡◌, [], IfErr, IfOk, IfSome, IsNone};
+ghost use Rattle.std.specs.Prelude.{◌≡◌, ◌≤◌, [], IfErr, IfOk, IfSome, IsNone};
+ghost use Rattle.lot_sizing.specs.declared.limits.TheConstants.{MAX_TOTAL};
+ghost use Rattle.echelon.specs.Views.{net_of_all};
 ghost use Rattle.echelon.specs.Weights.{IsExplosionOf};
 ghost use Rattle.cert_lines.specs.Shapes.{BlockCut, LsCut, PriceCut, block_lists, price_lists};
 ghost use Rattle.cert_checker.specs.Cuts.{HasItsColumns, HoldsAlways, IsCutEchelon, IsFaultOfCut, IsItem, IsNotLeadFree, IsRowOfCut, fault_on, rejected};
@@ -47,8 +49,12 @@ fn fault_on(line: u64, fault: CutFault) -> CheckFault
     }
 }
 
-// The echelon of an item, and none where the item isn't lead-free.
-fn echelon_for(
+/// The echelon of an item, over which cuts of the item have their rows; none where the item isn't lead-free, so that it
+/// has no cut. The explosion is that of the instance. The error is that memory ran out.
+///
+/// It is the same whichever weights of the bill are taken, and balances in every feasible plan (`some`); its net demands
+/// add to at most the largest total that an item may have (`net`).
+pub fn echelon_for(
     alloc: Global,
     instance: &Instance,
     explosion: &Explosion,
@@ -57,6 +63,8 @@ fn echelon_for(
     requires explosion { IsExplosionOf instance.now explosion.now }
     requires item { IsItem instance.now item }
     ensures some { IfOk result (λ found. IfSome found (IsCutEchelon instance.now item)) }
+    ensures item { IfOk result (λ found. IfSome found (λ e. e.item ≡ item)) }
+    ensures net { IfOk result (λ found. IfSome found (λ e. net_of_all e ≤ MAX_TOTAL)) }
     ensures none { IfOk result (λ found. IsNone found → IsNotLeadFree instance.now item) }
 {
     weights_are_one();

@@ -10,7 +10,7 @@ pub fn lines_are_bytes()
 {}
 
 /// A certificate has one refusal: two of them name the same line and the same cause, places and numbers included. So
-/// what `check` answers of a refused certificate is one thing, but for want of memory.
+/// what `check` answers of a refused certificate is one thing, but where memory ran out.
 pub fn checks_are_one()
     ensures { ChecksAreOne }
 {

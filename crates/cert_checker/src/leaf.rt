@@ -68,7 +68,7 @@ fn leaf_says(
 /// | `Short` | the leaf's | the sum of `Farkas` has a right side of 0 or less; it says 0 |
 /// | `NotPoint` | the leaf's | the path of `Point` leaves a quantity or a setup more values than one, or none |
 ///
-/// `Memory` may come instead of any answer, and none of the others comes for want of memory. `named` was made for the
+/// `Memory` may come instead of any answer, and none of the others comes where memory ran out. `named` was made for the
 /// same instance, and stays ready for the next leaf, whatever the answer is.
 ///
 /// A sum takes time in the number of columns and the terms of the rows of its parts; a row of the instance also takes

@@ -75,7 +75,8 @@ fn fill_item(
     requires setup { Fits instance.now setup.old }
     ensures make { Fits instance.now make.new }
     ensures setup { Fits instance.now setup.new }
-    ensures row { IsTrue result → WithTotals instance.now (λ total. (t : ℕ) → 1 ≤ t → t ≤ instance.now.periods → IsPointAt total path.now (table_of make.new) (table_of setup.new) item t) }
+    ensures row { IsTrue result → WithTotals instance.now (λ total. (t : ℕ) → 1 ≤ t → t ≤ instance.now.periods
+        → IsPointAt total path.now (table_of make.new) (table_of setup.new) item t) }
     ensures other_quantities { OtherRowsSame make.old make.new item }
     ensures other_setups { OtherRowsSame setup.old setup.new item }
     ensures open { result ≡ false → HasOpenChoice instance.now path.now }
@@ -94,7 +95,8 @@ fn fill(instance: &Instance, path: &[Bound], make: &mut Grid, setup: &mut Grid) 
     requires setup { Fits instance.now setup.old }
     ensures make { Fits instance.now make.new }
     ensures setup { Fits instance.now setup.new }
-    ensures cells { IsTrue result → WithTotals instance.now (λ total. EachCell instance.now (IsPointAt total path.now (table_of make.new) (table_of setup.new))) }
+    ensures cells { IsTrue result → WithTotals instance.now
+        (λ total. EachCell instance.now (IsPointAt total path.now (table_of make.new) (table_of setup.new))) }
     ensures open { result ≡ false → HasOpenChoice instance.now path.now }
 {
     for item in 1..instance.items() + 1 {
@@ -115,8 +117,11 @@ pub(crate) fn point_leaf(
     path: &[Bound],
     line: u64,
 ) -> Result<LeafSays, CheckFault>
-    ensures says { IfOk result (λ says. WithTotals instance.now (λ total. (cuts : List LinRow) → Says (names instance.now total cuts path.now) (whole_ranges total) PointLeaf says)) }
-    ensures fault { IfErr result (λ fault. IfRejected fault (λ at why. WithTotals instance.now (λ total. (cuts : List LinRow) → IsPointFault (names instance.now total cuts path.now) (whole_ranges total) line at why))) }
+    ensures says { IfOk result (λ says. WithTotals instance.now (λ total. (cuts : List LinRow)
+        → Says (names instance.now total cuts path.now) (whole_ranges total) PointLeaf says)) }
+    ensures fault { IfErr result (λ fault. IfRejected fault (λ at why. WithTotals instance.now
+        (λ total. (cuts : List LinRow)
+        → IsPointFault (names instance.now total cuts path.now) (whole_ranges total) line at why))) }
 {
     let mut make = Grid::filled(alloc, instance.items(), instance.periods(), 0)?;
     let mut setup = Grid::filled(alloc, instance.items(), instance.periods(), 0)?;

@@ -3,13 +3,10 @@ ghost use Rattle.std.specs.Prelude.{◌≡◌, ◌+◌, ◌<◌, ◌^◌, ◌≤
 ghost use Rattle.lin_rows.specs.Combining.{AreOfProblem};
 ghost use Rattle.cert_lines.specs.Shapes.{FarkasLeaf, LinearLeaf};
 ghost use Rattle.split_trees.specs.Paths.{AreChoices};
-ghost use Rattle.split_trees.specs.Ranges.{WithTotals, whole_ranges};
-ghost use Rattle.acceptance.specs.Accepts.{IsSmallLeaf};
-ghost use Rattle.acceptance.specs.Named.{names};
 ghost use Rattle.acceptance.specs.Parts.{sum_of_right};
-ghost use Rattle.acceptance.specs.Says.{IsRoundedUp, Says};
+ghost use Rattle.acceptance.specs.Says.{IsRoundedUp};
 ghost use Rattle.cert_checker.specs.Named.{IsReadyFor};
-ghost use Rattle.cert_checker.specs.Leaves.{IfRejected, IsFarkasFault, IsGoodSum, IsSumFault, linear_most};
+ghost use Rattle.cert_checker.specs.Leaves.{IsFaultOfLeaf, IsGoodSum, LeafIsSmall, LeafSaysThis, WithNames, linear_most};
 
 use crate::columns::first_large;
 use crate::named::AddFault;
@@ -50,9 +47,11 @@ fn summed(
     requires den { pos 0 ≤ℤ den }
     requires lines { line + length parts.now < 2 ^ 64 }
     ensures ready { IsReadyFor instance.now named.new }
-    ensures good { IfOk result (λ _. WithTotals instance.now (λ total. IsGoodSum (names instance.now total cuts.now path.now) (linear_most (names instance.now total cuts.now path.now) den) parts.now)) }
-    ensures right { IfOk result (λ right. WithTotals instance.now (λ total. right ≡ sum_of_right (names instance.now total cuts.now path.now) parts.now)) }
-    ensures fault { IfErr result (λ fault. IfRejected fault (λ at why. WithTotals instance.now (λ total. IsSumFault (names instance.now total cuts.now path.now) (linear_most (names instance.now total cuts.now path.now) den) parts.now line at why))) }
+    ensures good { IfOk result (λ _. WithNames instance.now cuts.now path.now
+        (λ n ranges. IsGoodSum n (linear_most n den) parts.now)) }
+    ensures right { IfOk result (λ right. WithNames instance.now cuts.now path.now
+        (λ n ranges. right ≡ sum_of_right n parts.now)) }
+    ensures fault { IfErr result (IsFaultOfLeaf instance.now cuts.now path.now (LinearLeaf den parts.now) line) }
 {
     match test_parts(instance, cuts, path, parts, line) {
         Ok(()) => {}
@@ -93,9 +92,9 @@ pub(crate) fn linear_leaf(
     requires den { pos 1 ≤ℤ den }
     requires lines { line + length parts.now < 2 ^ 64 }
     ensures ready { IsReadyFor instance.now named.new }
-    ensures says { IfOk result (λ says. WithTotals instance.now (λ total. Says (names instance.now total cuts.now path.now) (whole_ranges total) (LinearLeaf den parts.now) says)) }
-    ensures small { IfOk result (λ _. WithTotals instance.now (λ total. IsSmallLeaf (names instance.now total cuts.now path.now) (LinearLeaf den parts.now))) }
-    ensures fault { IfErr result (λ fault. IfRejected fault (λ at why. WithTotals instance.now (λ total. IsSumFault (names instance.now total cuts.now path.now) (linear_most (names instance.now total cuts.now path.now) den) parts.now line at why))) }
+    ensures says { IfOk result (LeafSaysThis instance.now cuts.now path.now (LinearLeaf den parts.now)) }
+    ensures small { IfOk result (λ _. LeafIsSmall instance.now cuts.now path.now (LinearLeaf den parts.now)) }
+    ensures fault { IfErr result (IsFaultOfLeaf instance.now cuts.now path.now (LinearLeaf den parts.now) line) }
 {
     let right = match summed(alloc, instance, named, cuts, path, den, parts, line) {
         Ok(right) => right,
@@ -120,9 +119,9 @@ pub(crate) fn farkas_leaf(
     requires path { AreChoices instance.now path.now }
     requires lines { line + length parts.now < 2 ^ 64 }
     ensures ready { IsReadyFor instance.now named.new }
-    ensures says { IfOk result (λ says. WithTotals instance.now (λ total. Says (names instance.now total cuts.now path.now) (whole_ranges total) (FarkasLeaf parts.now) says)) }
-    ensures small { IfOk result (λ _. WithTotals instance.now (λ total. IsSmallLeaf (names instance.now total cuts.now path.now) (FarkasLeaf parts.now))) }
-    ensures fault { IfErr result (λ fault. IfRejected fault (λ at why. WithTotals instance.now (λ total. IsFarkasFault (names instance.now total cuts.now path.now) parts.now line at why))) }
+    ensures says { IfOk result (LeafSaysThis instance.now cuts.now path.now (FarkasLeaf parts.now)) }
+    ensures small { IfOk result (λ _. LeafIsSmall instance.now cuts.now path.now (FarkasLeaf parts.now)) }
+    ensures fault { IfErr result (IsFaultOfLeaf instance.now cuts.now path.now (FarkasLeaf parts.now) line) }
 {
     let right = match summed(alloc, instance, named, cuts, path, 0, parts, line) {
         Ok(right) => right,

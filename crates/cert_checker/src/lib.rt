@@ -5,10 +5,11 @@
 //! cost; the checker of certificates in files and the search stand on it.
 //!
 //! `check` is the call that the crate exists for: where it answers Ok, the claim of the certificate is true of all plans
-//! of the instance, whoever wrote the certificate. It goes by `cut_row`, which gives the row of one cut, and by
-//! `leaf_bound`, which says what one leaf says; a search uses both to try what it would write. `NamedSums` keeps what
-//! is made once for all leaves, and `leaf_bound_in` and `cut_row_in` are the same calls with what was made before;
-//! `judge_claim` and `shortfall` are the other steps of `check`.
+//! of the instance, whoever wrote the certificate. It goes by `cut_row_in`, which gives the row of one cut, and by
+//! `leaf_bound_in`, which says what one leaf says; a search uses both to try what it would write. They take what is
+//! made once, the explosion for all cuts and `NamedSums` for all leaves; `cut_row` and `leaf_bound` are the same calls
+//! for a caller with one cut or one leaf, for which they make it. `judge_claim` and `shortfall` are the other steps of
+//! `check`. `echelon_for` gives the echelon over which the cuts of an item have their rows.
 //!
 //! Each refusal is a `Rejected`: the line of the certificate's text and `Why`. `specs/Leaves`, `specs/Cuts` and
 //! `specs/Checks` say exactly when each comes and in which order. A certificate that is accepted and whose sums fit
@@ -34,6 +35,7 @@ mod walk;
 pub use checking::check;
 pub use claims::{judge_claim, shortfall};
 pub use cut::{cut_row, cut_row_in};
+pub use cut_echelons::echelon_for;
 pub use fault::{CheckFault, Rejected, Why};
 pub use laws::{certified_is_not_refused, checks_are_one, lines_are_bytes};
 pub use leaf::{leaf_bound, leaf_bound_in};

@@ -134,7 +134,7 @@ fn add_row(instance: &Instance, sums: &mut Sums, row: &Row, times: i128) -> Resu
 
 impl NamedSums {
     /// Sums of nothing, for an instance. It takes memory and time in the number of the instance's columns and rows;
-    /// the error is want of memory.
+    /// the error is that memory ran out.
     pub fn new(alloc: Global, instance: &Instance) -> Result<NamedSums, AllocError>
         ensures { IfOk result (IsReadyFor instance.now) }
     {
@@ -203,7 +203,8 @@ impl NamedSums {
         requires ready { IsReadyFor instance.now self.old }
         requires name { HasRow instance.now name }
         ensures ready { IsReadyFor instance.now self.new }
-        ensures added { IfOk result (λ _. WithTotals instance.now (λ total. AddsWithin self.old.sums self.new.sums (row_of instance.now total name) times)) }
+        ensures added { IfOk result (λ _. WithTotals instance.now
+            (λ total. AddsWithin self.old.sums self.new.sums (row_of instance.now total name) times)) }
         ensures passed { result ≡ Err TooLarge → WithTotals instance.now (λ total. PassesWith self.old.sums (row_of instance.now total name) times) }
     {
         let place = row_place(instance, name);
@@ -227,8 +228,10 @@ impl NamedSums {
         requires path { AreChoices instance.now path.now }
         requires name { HasName instance.now (length cuts.now) (length path.now) part.row }
         ensures ready { IsReadyFor instance.now self.new }
-        ensures added { IfOk result (λ _. WithTotals instance.now (λ total. AddsPart self.old.sums self.new.sums part (names instance.now total cuts.now path.now))) }
-        ensures passed { result ≡ Err TooLarge → WithTotals instance.now (λ total. PassesPart self.old.sums part (names instance.now total cuts.now path.now)) }
+        ensures added { IfOk result (λ _. WithTotals instance.now
+            (λ total. AddsPart self.old.sums self.new.sums part (names instance.now total cuts.now path.now))) }
+        ensures passed { result ≡ Err TooLarge
+            → WithTotals instance.now (λ total. PassesPart self.old.sums part (names instance.now total cuts.now path.now)) }
     {
         match part.row {
             RowName::Cut(number) => {
@@ -259,9 +262,12 @@ impl NamedSums {
         requires path { AreChoices instance.now path.now }
         requires parts { All (λ part. HasName instance.now (length cuts.now) (length path.now) part.row) parts.now }
         ensures ready { IsReadyFor instance.now self.new }
-        ensures sums { IfOk result (λ _. WithTotals instance.now (λ total. AreSumsOf (names instance.now total cuts.now path.now) parts.now self.new.sums)) }
+        ensures sums { IfOk result (λ _. WithTotals instance.now
+            (λ total. AreSumsOf (names instance.now total cuts.now path.now) parts.now self.new.sums)) }
         ensures small { IfOk result (λ _. WithTotals instance.now (λ total. AreSmall (names instance.now total cuts.now path.now) parts.now)) }
-        ensures large { result ≡ Err TooLarge → WithTotals instance.now (λ total. AreSmall (names instance.now total cuts.now path.now) parts.now → ⊥) }
+        ensures large { result ≡ Err TooLarge
+            → WithTotals instance.now
+            (λ total. AreSmall (names instance.now total cuts.now path.now) parts.now → ⊥) }
     {
         self.sums.clear();
         for place in 0..parts.len() {

@@ -1,25 +1,16 @@
 // Whether the parts of a sum may be taken.
 ghost use Rattle.std.specs.Prelude.{◌≡◌, ◌↔◌, ◌+◌, ◌≤◌, ◌<◌, ◌^◌, ℕ, List, length, IfErr, IfOk, IsTrue};
 ghost use Rattle.lot_sizing.specs.Problem.{Problem};
-ghost use Rattle.lin_rows.specs.declared.base.RowName.TheVariants.{Cut, Late, Least};
+ghost use Rattle.lin_rows.specs.declared.base.RowName.TheVariants.{Cut};
 ghost use Rattle.lin_rows.specs.declared.bound.Bound.{Bound};
-ghost use Rattle.lin_rows.specs.Base.{HasRow};
-ghost use Rattle.lin_rows.specs.Columns.{IsCell};
 ghost use Rattle.acceptance.specs.Named.{HasName, names, row_named};
 ghost use Rattle.acceptance.specs.Parts.{AreParts, IsPart};
 ghost use Rattle.cert_checker.specs.Leaves.{IsFirstWrong, IsWrongPart};
 
 use crate::{Rejected, Why};
 use certificate::Part;
-use lin_rows::{Bound, Row, RowName};
+use lin_rows::{Bound, Row, RowName, has_row};
 use lot_model::Instance;
-
-// Whether a number is one of so many, counted from 1.
-fn is_one_of(number: u32, count: u32) -> bool
-    ensures { IsTrue result ↔ ((1 ≤ number) × (number ≤ count)) }
-{
-    number >= 1 && number <= count
-}
 
 // Whether a number is the place of one in a list, counted from 1.
 fn is_place(number: u32, count: usize) -> bool
@@ -28,42 +19,14 @@ fn is_place(number: u32, count: usize) -> bool
     number >= 1 && number as usize <= count
 }
 
-// Whether the instance has an item and a period.
-pub(crate) fn is_cell(instance: &Instance, item: u32, period: u32) -> bool
-    ensures { IsTrue result ↔ IsCell instance.now item period }
-{
-    item >= 1 && item <= instance.items() && period >= 1 && period <= instance.periods()
-}
-
-// Whether a setup of an item has a least lot in a period.
-fn has_least(instance: &Instance, item: u32, period: u32) -> bool
-    ensures { IsTrue result ↔ HasRow instance.now (Least item period) }
-{
-    is_cell(instance, item, period) && instance.min_lot(item) > 0
-}
-
-// Whether what is started of an item in a period would arrive after the last one.
-fn is_late(instance: &Instance, item: u32, period: u32) -> bool
-    ensures { IsTrue result ↔ HasRow instance.now (Late item period) }
-{
-    is_cell(instance, item, period) && instance.periods() - period < instance.lead(item)
-}
-
 // Whether there is a row of this name, with so many cuts and so many bounds on the path.
 fn has_name(instance: &Instance, cuts: usize, bounds: usize, name: RowName) -> bool
     ensures { IsTrue result ↔ HasName instance.now cuts bounds name }
 {
     match name {
-        RowName::Balance(item, period) | RowName::Link(item, period) | RowName::Top(item, period) =>
-            { is_cell(instance, item, period) }
-        RowName::Capacity(resource, period) => {
-            is_one_of(resource, instance.resources()) && is_one_of(period, instance.periods())
-        }
-        RowName::EndMin(item) | RowName::EndMax(item) => is_one_of(item, instance.items()),
-        RowName::Least(item, period) => has_least(instance, item, period),
-        RowName::Late(item, period) => is_late(instance, item, period),
         RowName::Path(number) => is_place(number, bounds),
         RowName::Cut(number) => is_place(number, cuts),
+        _ => has_row(instance, name),
     }
 }
 

@@ -52,10 +52,10 @@ price_words_of ws item xs bs cs ds f = same_lines ws (price_words item xs bs cs 
     f.first,
     (
       f.number.0,
-      join_list ws 2 (3 + length xs) (2 ^ 64) (codes "w") xs _ f.a (omega arith)
-          (join_list ws (3 + length xs) (4 + length xs + length bs) (2 ^ 64) (codes "g") bs _ (f.b.0, subst (λ j. IsListFrom ws (2 ^ 64) j bs) (omega arith) f.b.1) (omega arith)
-          (join_list ws (4 + length xs + length bs) (5 + length xs + length bs + length cs) (2 ^ 64) (codes "h") cs _ (f.c.0, subst (λ j. IsListFrom ws (2 ^ 64) j cs) (omega arith) f.c.1) (omega arith)
-          (last_list ws (5 + length xs + length bs + length cs) (2 ^ 64) (codes "b") ds (f.d.0, subst (λ j. IsListFrom ws (2 ^ 64) j ds) (omega arith) f.d.1)))),
+      join_list ws 2 (3 + length xs) (2 ^ 64) (codes "w") xs _ f.first_list (omega arith)
+          (join_list ws (3 + length xs) (4 + length xs + length bs) (2 ^ 64) (codes "g") bs _ (f.unit.0, subst (λ j. IsListFrom ws (2 ^ 64) j bs) (omega arith) f.unit.1) (omega arith)
+          (join_list ws (4 + length xs + length bs) (5 + length xs + length bs + length cs) (2 ^ 64) (codes "h") cs _ (f.hold.0, subst (λ j. IsListFrom ws (2 ^ 64) j cs) (omega arith) f.hold.1) (omega arith)
+          (last_list ws (5 + length xs + length bs + length cs) (2 ^ 64) (codes "b") ds (f.back.0, subst (λ j. IsListFrom ws (2 ^ 64) j ds) (omega arith) f.back.1)))),
     ),
   ),
 )
@@ -70,10 +70,10 @@ block_words_of ws item xs bs cs ds es block =
         f.first,
         (
           f.number.0,
-          join_list ws 2 (3 + length xs) (2 ^ 64) (codes "f") xs _ f.a (omega arith)
-              (join_list ws (3 + length xs) (4 + length xs + length bs) (2 ^ 64) (codes "g") bs _ (f.b.0, subst (λ j. IsListFrom ws (2 ^ 64) j bs) (omega arith) f.b.1) (omega arith)
-              (join_list ws (4 + length xs + length bs) (5 + length xs + length bs + length cs) (2 ^ 64) (codes "h") cs _ (f.c.0, subst (λ j. IsListFrom ws (2 ^ 64) j cs) (omega arith) f.c.1) (omega arith)
-              (join_list ws (5 + length xs + length bs + length cs) block.next (2 ^ 64) (codes "b") ds _ (f.d.0, subst (λ j. IsListFrom ws (2 ^ 64) j ds) (omega arith) f.d.1) (omega (arith, next))
+          join_list ws 2 (3 + length xs) (2 ^ 64) (codes "f") xs _ f.first_list (omega arith)
+              (join_list ws (3 + length xs) (4 + length xs + length bs) (2 ^ 64) (codes "g") bs _ (f.unit.0, subst (λ j. IsListFrom ws (2 ^ 64) j bs) (omega arith) f.unit.1) (omega arith)
+              (join_list ws (4 + length xs + length bs) (5 + length xs + length bs + length cs) (2 ^ 64) (codes "h") cs _ (f.hold.0, subst (λ j. IsListFrom ws (2 ^ 64) j cs) (omega arith) f.hold.1) (omega arith)
+              (join_list ws (5 + length xs + length bs + length cs) block.next (2 ^ 64) (codes "b") ds _ (f.back.0, subst (λ j. IsListFrom ws (2 ^ 64) j ds) (omega arith) f.back.1) (omega (arith, next))
               (last_list ws block.next (2 ^ 127) (codes "p") es block.steps)))),
         ),
       ),
@@ -92,10 +92,10 @@ four_form ws word letter item next xs bs cs ds tail small a b c d end s none =
     record {
       first = s.0;
       number = (s.1.0, small);
-      a = first.0;
-      b = (unit.0.0, subst (λ j. IsListFrom ws (2 ^ 64) j bs) (omega arith) unit.0.1);
-      c = (hold.0.0, subst (λ j. IsListFrom ws (2 ^ 64) j cs) (omega arith) hold.0.1);
-      d = (back.0.0, subst (λ j. IsListFrom ws (2 ^ 64) j ds) (omega arith) back.0.1);
+      first_list = first.0;
+      unit = (unit.0.0, subst (λ j. IsListFrom ws (2 ^ 64) j bs) (omega arith) unit.0.1);
+      hold = (hold.0.0, subst (λ j. IsListFrom ws (2 ^ 64) j cs) (omega arith) hold.0.1);
+      back = (back.0.0, subst (λ j. IsListFrom ws (2 ^ 64) j ds) (omega arith) back.0.1);
       end = end;
     }
 
@@ -126,8 +126,8 @@ block_form item xs bs cs ds es small a b c d e =
 
 cut_words : (ws : Lines) (c : CutShape) → IsCutOf ws c → (ws ≡ words_of_cut c) × IsSmallCut c
 cut_words ws (LsCut item last chosen) h = (same_lines ws _ h.0, (h.1, h.2, h.3, h.4))
-cut_words ws (PriceCut item a) h = (price_words_of ws item a.price a.unit a.hold a.back h, (h.number.1, (h.a.1.small, h.b.1.small, h.c.1.small, h.d.1.small)))
-cut_words ws (BlockCut item a) h = (block_words_of ws item a.setup a.unit a.hold a.back a.steps h, (h.four.number.1, (h.four.a.1.small, h.four.b.1.small, h.four.c.1.small, h.four.d.1.small, h.steps.1.small)))
+cut_words ws (PriceCut item a) h = (price_words_of ws item a.price a.unit a.hold a.back h, (h.number.1, (h.first_list.1.small, h.unit.1.small, h.hold.1.small, h.back.1.small)))
+cut_words ws (BlockCut item a) h = (block_words_of ws item a.setup a.unit a.hold a.back a.steps h, (h.four.number.1, (h.four.first_list.1.small, h.four.unit.1.small, h.four.hold.1.small, h.four.back.1.small, h.steps.1.small)))
 cut_words ws (RoundCut divisor parts) h = absurd h
 
 line_words : (ws : Lines) (l : LineShape) → IsLineOf ws l → (ws ≡ words_of l) × IsSmallLine l

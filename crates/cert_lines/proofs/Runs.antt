@@ -87,21 +87,21 @@ given P r x is h = subst (λ o. IfSome o P) is h
 -- the lists that were read leave no other start
 pub other_unit : (ws : Lines) (word letter : List ℕ) (item next : ℕ) (xs bs cs ds : List ℕ) (a : List ℕ) → IsListFrom ws (2 ^ 64) 3 a → (word_at ws (3 + length a) ≡ codes "g" → ⊥) → IsFour ws word letter item xs bs cs ds next → ⊥
 other_unit ws word letter item next xs bs cs ds a first none f =
-    let same = same_from ws (2 ^ 64) 3 xs a (omega arith) f.a.1 first in
-    none (subst (λ l. word_at ws (3 + length l) ≡ codes "g") same f.b.0)
+    let same = same_from ws (2 ^ 64) 3 xs a (omega arith) f.first_list.1 first in
+    none (subst (λ l. word_at ws (3 + length l) ≡ codes "g") same f.unit.0)
 
 pub other_hold : (ws : Lines) (word letter : List ℕ) (item next : ℕ) (xs bs cs ds : List ℕ) (a b : List ℕ) → IsListFrom ws (2 ^ 64) 3 a → IsListFrom ws (2 ^ 64) (4 + length a) b → (word_at ws (4 + length a + length b) ≡ codes "h" → ⊥) → IsFour ws word letter item xs bs cs ds next → ⊥
 other_hold ws word letter item next xs bs cs ds a b first unit none f =
-    let same = same_from ws (2 ^ 64) 3 xs a (omega arith) f.a.1 first in
-    let two = same_from ws (2 ^ 64) (4 + length a) bs b (omega arith) (subst (λ l. IsListFrom ws (2 ^ 64) (4 + length l) bs) same f.b.1) unit in
-    none (subst (λ l. word_at ws (4 + length a + length l) ≡ codes "h") two (subst (λ l. word_at ws (4 + length l + length bs) ≡ codes "h") same f.c.0))
+    let same = same_from ws (2 ^ 64) 3 xs a (omega arith) f.first_list.1 first in
+    let two = same_from ws (2 ^ 64) (4 + length a) bs b (omega arith) (subst (λ l. IsListFrom ws (2 ^ 64) (4 + length l) bs) same f.unit.1) unit in
+    none (subst (λ l. word_at ws (4 + length a + length l) ≡ codes "h") two (subst (λ l. word_at ws (4 + length l + length bs) ≡ codes "h") same f.hold.0))
 
 pub other_back : (ws : Lines) (word letter : List ℕ) (item next : ℕ) (xs bs cs ds : List ℕ) (a b c : List ℕ) → IsListFrom ws (2 ^ 64) 3 a → IsListFrom ws (2 ^ 64) (4 + length a) b → IsListFrom ws (2 ^ 64) (5 + length a + length b) c → (word_at ws (5 + length a + length b + length c) ≡ codes "b" → ⊥) → IsFour ws word letter item xs bs cs ds next → ⊥
 other_back ws word letter item next xs bs cs ds a b c first unit hold none f =
-    let same = same_from ws (2 ^ 64) 3 xs a (omega arith) f.a.1 first in
-    let two = same_from ws (2 ^ 64) (4 + length a) bs b (omega arith) (subst (λ l. IsListFrom ws (2 ^ 64) (4 + length l) bs) same f.b.1) unit in
-    let three = same_from ws (2 ^ 64) (5 + length a + length b) cs c (omega arith) (subst (λ l. IsListFrom ws (2 ^ 64) (5 + length a + length l) cs) two (subst (λ l. IsListFrom ws (2 ^ 64) (5 + length l + length bs) cs) same f.c.1)) hold in
-    none (subst (λ l. word_at ws (5 + length a + length b + length l) ≡ codes "b") three (subst (λ l. word_at ws (5 + length a + length l + length cs) ≡ codes "b") two (subst (λ l. word_at ws (5 + length l + length bs + length cs) ≡ codes "b") same f.d.0)))
+    let same = same_from ws (2 ^ 64) 3 xs a (omega arith) f.first_list.1 first in
+    let two = same_from ws (2 ^ 64) (4 + length a) bs b (omega arith) (subst (λ l. IsListFrom ws (2 ^ 64) (4 + length l) bs) same f.unit.1) unit in
+    let three = same_from ws (2 ^ 64) (5 + length a + length b) cs c (omega arith) (subst (λ l. IsListFrom ws (2 ^ 64) (5 + length a + length l) cs) two (subst (λ l. IsListFrom ws (2 ^ 64) (5 + length l + length bs) cs) same f.hold.1)) hold in
+    none (subst (λ l. word_at ws (5 + length a + length b + length l) ≡ codes "b") three (subst (λ l. word_at ws (5 + length a + length l + length cs) ≡ codes "b") two (subst (λ l. word_at ws (5 + length l + length bs + length cs) ≡ codes "b") same f.back.0)))
 
 pub not_there : (ws : Lines) (v : List ℕ) (j k : ℕ) → j ≡ k → (word_at ws j ≡ v → ⊥) → word_at ws k ≡ v → ⊥
 not_there ws v j k e none = subst (λ i. word_at ws i ≡ v → ⊥) e none
@@ -116,10 +116,10 @@ nothing r e = subst IsNone (sym e) refl
 -- two starts have the same lists
 pub same_lists : (ws : Lines) (word letter : List ℕ) (item jtem next mext : ℕ) (xs bs cs ds as' bs' cs' ds' : List ℕ) → IsFour ws word letter item xs bs cs ds next → IsFour ws word letter jtem as' bs' cs' ds' mext → (xs ≡ as') × (bs ≡ bs') × (cs ≡ cs') × (ds ≡ ds')
 same_lists ws word letter item jtem next mext xs bs cs ds a b c d f g =
-    let same = same_from ws (2 ^ 64) 3 xs a (omega arith) f.a.1 g.a.1 in
-    let two = same_from ws (2 ^ 64) (4 + length a) bs b (omega arith) (subst (λ l. IsListFrom ws (2 ^ 64) (4 + length l) bs) same f.b.1) g.b.1 in
-    let three = same_from ws (2 ^ 64) (5 + length a + length b) cs c (omega arith) (subst (λ l. IsListFrom ws (2 ^ 64) (5 + length a + length l) cs) two (subst (λ l. IsListFrom ws (2 ^ 64) (5 + length l + length bs) cs) same f.c.1)) g.c.1 in
-    let four = same_from ws (2 ^ 64) (6 + length a + length b + length c) ds d (omega arith) (subst (λ l. IsListFrom ws (2 ^ 64) (6 + length a + length b + length l) ds) three (subst (λ l. IsListFrom ws (2 ^ 64) (6 + length a + length l + length cs) ds) two (subst (λ l. IsListFrom ws (2 ^ 64) (6 + length l + length bs + length cs) ds) same f.d.1))) g.d.1 in
+    let same = same_from ws (2 ^ 64) 3 xs a (omega arith) f.first_list.1 g.first_list.1 in
+    let two = same_from ws (2 ^ 64) (4 + length a) bs b (omega arith) (subst (λ l. IsListFrom ws (2 ^ 64) (4 + length l) bs) same f.unit.1) g.unit.1 in
+    let three = same_from ws (2 ^ 64) (5 + length a + length b) cs c (omega arith) (subst (λ l. IsListFrom ws (2 ^ 64) (5 + length a + length l) cs) two (subst (λ l. IsListFrom ws (2 ^ 64) (5 + length l + length bs) cs) same f.hold.1)) g.hold.1 in
+    let four = same_from ws (2 ^ 64) (6 + length a + length b + length c) ds d (omega arith) (subst (λ l. IsListFrom ws (2 ^ 64) (6 + length a + length b + length l) ds) three (subst (λ l. IsListFrom ws (2 ^ 64) (6 + length a + length l + length cs) ds) two (subst (λ l. IsListFrom ws (2 ^ 64) (6 + length l + length bs + length cs) ds) same f.back.1))) g.back.1 in
     (same, two, three, four)
 
 -- and end at one place

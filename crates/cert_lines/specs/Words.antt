@@ -121,10 +121,10 @@ pub record IsListFrom (ws : Lines) (limit place : ℕ) (xs : List ℕ) : Type 0 
 pub record IsFour (ws : Lines) (word letter : List ℕ) (item : ℕ) (xs bs cs ds : List ℕ) (next : ℕ) : Type 0 where
   pub first : word_at ws 0 ≡ word
   pub number : (word_at ws 1 ≡ decimal item) × (item < bound_32)
-  pub a : (word_at ws 2 ≡ letter) × IsListFrom ws bound_64 3 xs
-  pub b : (word_at ws (3 + length xs) ≡ codes "g") × IsListFrom ws bound_64 (4 + length xs) bs
-  pub c : (word_at ws (4 + length xs + length bs) ≡ codes "h") × IsListFrom ws bound_64 (5 + length xs + length bs) cs
-  pub d : (word_at ws (5 + length xs + length bs + length cs) ≡ codes "b") × IsListFrom ws bound_64 (6 + length xs + length bs + length cs) ds
+  pub first_list : (word_at ws 2 ≡ letter) × IsListFrom ws bound_64 3 xs
+  pub unit : (word_at ws (3 + length xs) ≡ codes "g") × IsListFrom ws bound_64 (4 + length xs) bs
+  pub hold : (word_at ws (4 + length xs + length bs) ≡ codes "h") × IsListFrom ws bound_64 (5 + length xs + length bs) cs
+  pub back : (word_at ws (5 + length xs + length bs + length cs) ≡ codes "b") × IsListFrom ws bound_64 (6 + length xs + length bs + length cs) ds
   pub end : next ≡ 6 + length xs + length bs + length cs + length ds
 
 -- the words of a `block` line

@@ -74,7 +74,8 @@ fn column_at(words: &[&[u8]]) -> Option<Column>
 
 // The name with one number at place 1.
 fn short_name_at(words: &[&[u8]]) -> Option<RowName>
-    ensures some { IfSome result (λ row. StandFrom (map (λ w. w.now) words.now) 1 (name_words row) × IsSmallName row × (length (name_words row) ≡ 2)) }
+    ensures some { IfSome result (λ row. StandFrom (map (λ w. w.now) words.now) 1 (name_words row) × IsSmallName row
+        × (length (name_words row) ≡ 2)) }
     ensures none { IsNone result → HasNoShortName (map (λ w. w.now) words.now) }
 {
     if let Some(item) = one_after(words, 1, b"endmin") {
@@ -94,7 +95,8 @@ fn short_name_at(words: &[&[u8]]) -> Option<RowName>
 
 // The name with two numbers at place 1.
 fn long_name_at(words: &[&[u8]]) -> Option<RowName>
-    ensures some { IfSome result (λ row. StandFrom (map (λ w. w.now) words.now) 1 (name_words row) × IsSmallName row × (length (name_words row) ≡ 3)) }
+    ensures some { IfSome result (λ row. StandFrom (map (λ w. w.now) words.now) 1 (name_words row) × IsSmallName row
+        × (length (name_words row) ≡ 3)) }
     ensures none { IsNone result → HasNoLongName (map (λ w. w.now) words.now) }
 {
     if let Some((item, period)) = two_after(words, 1, b"balance") {
@@ -120,8 +122,10 @@ fn long_name_at(words: &[&[u8]]) -> Option<RowName>
 
 // A divisor and a number of parts.
 pub(crate) fn read_round(words: &[&[u8]]) -> Option<(u64, u32)>
-    ensures some { IfSome result (λ p. HasWords (map (λ w. w.now) words.now) (round_words p.0 p.1) × (1 ≤ p.0) × (p.0 ≤ MAX_DIVISOR) × (p.1 ≤ MAX_ROUND_PARTS)) }
-    ensures none { IsNone result → (divisor parts : ℕ) → 1 ≤ divisor → divisor ≤ MAX_DIVISOR → parts ≤ MAX_ROUND_PARTS → HasWords (map (λ w. w.now) words.now) (round_words divisor parts) → ⊥ }
+    ensures some { IfSome result (λ p. HasWords (map (λ w. w.now) words.now) (round_words p.0 p.1) × (1 ≤ p.0)
+        × (p.0 ≤ MAX_DIVISOR) × (p.1 ≤ MAX_ROUND_PARTS)) }
+    ensures none { IsNone result → (divisor parts : ℕ) → 1 ≤ divisor → divisor ≤ MAX_DIVISOR
+        → parts ≤ MAX_ROUND_PARTS → HasWords (map (λ w. w.now) words.now) (round_words divisor parts) → ⊥ }
 {
     if words.len() != 3 || !is_word(words, 0, b"round") {
         return None;
@@ -137,8 +141,10 @@ pub(crate) fn read_round(words: &[&[u8]]) -> Option<(u64, u32)>
 
 // A denominator and a number of parts.
 pub(crate) fn read_linear(words: &[&[u8]]) -> Option<(u128, u32)>
-    ensures some { IfSome result (λ p. HasWords (map (λ w. w.now) words.now) (linear_words (pos p.0) p.1) × (1 ≤ p.0) × (p.0 < bound_127) × (p.1 ≤ MAX_PARTS)) }
-    ensures none { IsNone result → (den parts : ℕ) → 1 ≤ den → den < bound_127 → parts ≤ MAX_PARTS → HasWords (map (λ w. w.now) words.now) (linear_words (pos den) parts) → ⊥ }
+    ensures some { IfSome result (λ p. HasWords (map (λ w. w.now) words.now) (linear_words (pos p.0) p.1)
+        × (1 ≤ p.0) × (p.0 < bound_127) × (p.1 ≤ MAX_PARTS)) }
+    ensures none { IsNone result → (den parts : ℕ) → 1 ≤ den → den < bound_127 → parts ≤ MAX_PARTS
+        → HasWords (map (λ w. w.now) words.now) (linear_words (pos den) parts) → ⊥ }
 {
     if words.len() != 3 || !is_word(words, 0, b"linear") {
         return None;
@@ -169,7 +175,8 @@ pub(crate) fn read_farkas(words: &[&[u8]]) -> Option<u32>
 // A column and the greatest value on the low side.
 pub(crate) fn read_branch(words: &[&[u8]]) -> Option<(Column, u64)>
     ensures some { IfSome result (λ p. HasWords (map (λ w. w.now) words.now) (branch_words p.0 p.1) × IsSmallColumn p.0 × Is64 p.1) }
-    ensures none { IsNone result → (column : Column) (at : ℕ) → IsSmallColumn column → Is64 at → HasWords (map (λ w. w.now) words.now) (branch_words column at) → ⊥ }
+    ensures none { IsNone result → (column : Column) (at : ℕ) → IsSmallColumn column → Is64 at
+        → HasWords (map (λ w. w.now) words.now) (branch_words column at) → ⊥ }
 {
     if words.len() != 5 || !is_word(words, 0, b"branch") {
         return None;
@@ -185,8 +192,10 @@ pub(crate) fn read_branch(words: &[&[u8]]) -> Option<(Column, u64)>
 
 // A multiple of a row.
 pub(crate) fn read_part(words: &[&[u8]]) -> Option<Part>
-    ensures some { IfSome result (λ part. HasWords (map (λ w. w.now) words.now) (part_words part.row part.times) × IsSmallName part.row × IsSmallPart part) }
-    ensures none { IsNone result → (part : Part) → IsSmallName part.row → IsSmallPart part → HasWords (map (λ w. w.now) words.now) (part_words part.row part.times) → ⊥ }
+    ensures some { IfSome result (λ part. HasWords (map (λ w. w.now) words.now) (part_words part.row part.times)
+        × IsSmallName part.row × IsSmallPart part) }
+    ensures none { IsNone result → (part : Part) → IsSmallName part.row → IsSmallPart part
+        → HasWords (map (λ w. w.now) words.now) (part_words part.row part.times) → ⊥ }
 {
     if !is_word(words, 0, b"part") {
         return None;

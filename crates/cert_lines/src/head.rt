@@ -8,7 +8,7 @@ ghost use Rattle.cert_lines.specs.Limits.{IsSmallClaim, IsVersion};
 ghost use Rattle.cert_lines.specs.Head.{IsHead, head_line};
 
 use crate::Claim;
-use crate::limits::{MAX_CUTS, MAX_VERSION, MOST_127};
+use crate::limits::{FIRST_VERSION, MAX_CUTS, MAX_VERSION, MOST_127};
 use whole_numbers::read_whole;
 
 /// One of the first three lines.
@@ -43,7 +43,7 @@ fn read_version(line: &[u8]) -> Option<u32>
 {
     match number_after(line, b"lotcert ", MAX_VERSION as u128) {
         Some(version) => {
-            if version < 1 {
+            if version < FIRST_VERSION as u128 {
                 return None;
             }
             Some(version as u32)

@@ -7,8 +7,9 @@
 //! `lines_mean_one_thing` and `heads_mean_one_thing`; that a line has no line feed in it is
 //! `lines_have_no_feed` and `heads_have_no_feed`.
 //!
-//! Family: proofs. It stands on `lin_rows`, whose rows and columns lines name, and on `round_cuts`, whose largest
-//! divisor is theirs, and is used by `certificate`.
+//! Family: proofs. It stands on `lin_rows`, whose rows and columns lines name, on `whole_numbers` for their numbers, and on
+//! `round_cuts`, whose largest divisor is theirs; `certificate`, the other crates of proofs, the search and `lotplan` stand
+//! on it.
 #![tactic(auto)]
 
 mod copying;
@@ -30,7 +31,9 @@ pub use head::{HeadLine, read_head};
 pub use laws::{
     heads_have_no_feed, heads_mean_one_thing, lines_have_no_feed, lines_mean_one_thing,
 };
-pub use limits::{MAX_BRANCHES, MAX_CUTS, MAX_LINE, MAX_PARTS, MAX_ROUND_PARTS, MAX_VERSION};
+pub use limits::{
+    FIRST_VERSION, MAX_BRANCHES, MAX_CUTS, MAX_LINE, MAX_PARTS, MAX_ROUND_PARTS, MAX_VERSION,
+};
 pub use line::{CertLine, LineFault, read_line};
 pub use parts::{Claim, Cut, Leaf, Part};
 pub use round_cuts::MAX_DIVISOR;

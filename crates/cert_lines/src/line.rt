@@ -14,6 +14,7 @@ use crate::words::{is_word, split};
 use crate::{Cut, Part};
 use lin_rows::Column;
 use std::alloc::{AllocError, Global};
+use thiserror::Error;
 
 /// A line after the first three.
 #[derive(Debug, Drop)]
@@ -55,11 +56,13 @@ pub enum CertLine {
 }
 
 /// Why a line isn't read.
-#[derive(Clone, Copy, Debug, PartialEq, Eq)]
+#[derive(Clone, Copy, Debug, PartialEq, Eq, Error)]
 pub enum LineFault {
     /// The bytes are too many, or have no form of a line.
+    #[error("the line is too long, or has no form of a line")]
     NoForm,
     /// Memory ran out.
+    #[error("out of memory")]
     Memory,
 }
 

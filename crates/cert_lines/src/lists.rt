@@ -103,9 +103,11 @@ fn read_four(
 ) -> Result<Option<Four>, AllocError>
     requires word { 0 < length word.now }
     requires letter { 0 < length letter.now }
-    ensures some { IfOk result (λ read. IfSome read (λ f. IsFour (map (λ w. w.now) words.now) word.now letter.now f.item f.first.items f.unit.items f.hold.items f.back.items f.next)) }
+    ensures some { IfOk result (λ read. IfSome read (λ f.
+        IsFour (map (λ w. w.now) words.now) word.now letter.now f.item f.first.items f.unit.items f.hold.items f.back.items f.next)) }
     ensures room { IfOk result (λ read. IfSome read (λ f. f.next ≤ length words.now)) }
-    ensures none { IfOk result (λ read. IsNone read → (item : ℕ) (xs bs cs ds : List ℕ) (next : ℕ) → IsFour (map (λ w. w.now) words.now) word.now letter.now item xs bs cs ds next → ⊥) }
+    ensures none { IfOk result (λ read. IsNone read → (item : ℕ) (xs bs cs ds : List ℕ) (next : ℕ)
+        → IsFour (map (λ w. w.now) words.now) word.now letter.now item xs bs cs ds next → ⊥) }
 {
     if !is_word(words, 0, word) {
         return Ok(None);
@@ -144,8 +146,11 @@ pub(crate) fn read_price(
     alloc: Global,
     words: &[&[u8]],
 ) -> Result<Option<(u32, Prices)>, AllocError>
-    ensures some { IfOk result (λ read. IfSome read (λ p. IsFour (map (λ w. w.now) words.now) (codes "price") (codes "w") p.0 p.1.price.items p.1.unit.items p.1.hold.items p.1.back.items (length words.now))) }
-    ensures none { IfOk result (λ read. IsNone read → (item : ℕ) (xs bs cs ds : List ℕ) → IsFour (map (λ w. w.now) words.now) (codes "price") (codes "w") item xs bs cs ds (length words.now) → ⊥) }
+    ensures some { IfOk result (λ read. IfSome read (λ p.
+        IsFour (map (λ w. w.now) words.now) (codes "price") (codes "w")
+        p.0 p.1.price.items p.1.unit.items p.1.hold.items p.1.back.items (length words.now))) }
+    ensures none { IfOk result (λ read. IsNone read → (item : ℕ) (xs bs cs ds : List ℕ)
+        → IsFour (map (λ w. w.now) words.now) (codes "price") (codes "w") item xs bs cs ds (length words.now) → ⊥) }
 {
     let Some(four) = read_four(alloc, words, b"price", b"w")? else {
         return Ok(None);
@@ -177,8 +182,10 @@ pub(crate) fn read_block(
     alloc: Global,
     words: &[&[u8]],
 ) -> Result<Option<(u32, Potentials)>, AllocError>
-    ensures some { IfOk result (λ read. IfSome read (λ p. IsBlock (map (λ w. w.now) words.now) p.0 p.1.setup.items p.1.unit.items p.1.hold.items p.1.back.items p.1.steps.items)) }
-    ensures none { IfOk result (λ read. IsNone read → (item : ℕ) (xs bs cs ds es : List ℕ) → IsBlock (map (λ w. w.now) words.now) item xs bs cs ds es → ⊥) }
+    ensures some { IfOk result (λ read. IfSome read (λ p.
+        IsBlock (map (λ w. w.now) words.now) p.0 p.1.setup.items p.1.unit.items p.1.hold.items p.1.back.items p.1.steps.items)) }
+    ensures none { IfOk result (λ read. IsNone read → (item : ℕ) (xs bs cs ds es : List ℕ)
+        → IsBlock (map (λ w. w.now) words.now) item xs bs cs ds es → ⊥) }
 {
     let Some(four) = read_four(alloc, words, b"block", b"f")? else {
         return Ok(None);
@@ -218,8 +225,11 @@ pub(crate) fn read_ls(
     alloc: Global,
     words: &[&[u8]],
 ) -> Result<Option<(u32, u32, Vec<bool>)>, AllocError>
-    ensures some { IfOk result (λ read. IfSome read (λ p. HasWords (map (λ w. w.now) words.now) (ls_words p.0 p.1 p.2.items) × Is32 p.0 × (1 ≤ p.1) × Is32 p.1 × (length p.2.items ≡ p.1))) }
-    ensures none { IfOk result (λ read. IsNone read → (item last : ℕ) (chosen : List Bool) → Is32 item → 1 ≤ last → Is32 last → length chosen ≡ last → HasWords (map (λ w. w.now) words.now) (ls_words item last chosen) → ⊥) }
+    ensures some { IfOk result (λ read. IfSome read (λ p.
+        HasWords (map (λ w. w.now) words.now) (ls_words p.0 p.1 p.2.items) × Is32 p.0 × (1 ≤ p.1) × Is32 p.1
+        × (length p.2.items ≡ p.1))) }
+    ensures none { IfOk result (λ read. IsNone read → (item last : ℕ) (chosen : List Bool) → Is32 item → 1 ≤ last
+        → Is32 last → length chosen ≡ last → HasWords (map (λ w. w.now) words.now) (ls_words item last chosen) → ⊥) }
 {
     if words.len() != 4 || !is_word(words, 0, b"ls") {
         return Ok(None);

@@ -4,7 +4,8 @@ use Rattle.std.specs.Prelude.{Option, slice_range, unwrap_or}
 use Rattle.std.proofs.lemmas.List.{drop-drop, drop-take, length-drop, length-take, take-append-drop}
 use Rattle.lot_io.specs.Outside.{Fetched, Finds, GrewBy, OnlyReads, Shelved}
 use Rattle.cert_stream.specs.declared.lines.LineReader.{LineReader}
-use Rattle.cert_stream.specs.Reader.{GoesOn, IsTooLong, IsWhole, bytes_of, most_bytes, rest_in}
+use Rattle.cert_stream.specs.declared.limits.TheConstants.{MAX_BYTES}
+use Rattle.cert_stream.specs.Reader.{GoesOn, IsTooLong, IsWhole, bytes_of, rest_in}
 use Rattle.cert_stream.proofs.Steps.{same_bytes}
 
 pub same_rest : (room : List ℕ) (s e at : ℕ) (bytes : List ℕ) (t f k : ℕ) (more : List ℕ) → s ≡ t → e ≡ f → at ≡ k → bytes ≡ more → slice_range room s e ++ drop at bytes ≡ slice_range room t f ++ drop k more
@@ -38,7 +39,7 @@ fetched_whole file bytes room at n k is f some place none = record {
   high = ⊎_elim (λ h. absurd (omega (arith, h, some))) (λ h. omega (arith, h, place)) (f.none none);
 }
 
-pub fetched_long : (file : Option (List ℕ)) (bytes room : List ℕ) (at n : ℕ) → file ≡ Some bytes → Fetched bytes at n room → at ≤ most_bytes → most_bytes < at + n → IsTooLong file
+pub fetched_long : (file : Option (List ℕ)) (bytes room : List ℕ) (at n : ℕ) → file ≡ Some bytes → Fetched bytes at n room → at ≤ MAX_BYTES → MAX_BYTES < at + n → IsTooLong file
 fetched_long file bytes room at n is f high past = record { bytes = bytes; is = is; more = omega (arith, past, f.some (omega (arith, high, past))) }
 
 fetched_within : (file : Option (List ℕ)) (bytes room : List ℕ) (at n k : ℕ) → file ≡ Some bytes → Fetched bytes at n room → k ≡ at + n → at ≤ length (unwrap_or file []) → k ≤ length (unwrap_or file [])

@@ -54,7 +54,7 @@ IsStep version needs text n step.Taken left rest m = AreTaken version needs text
 IsStep version needs text n step.Ended left rest m = (text ≡ []) × (needs ≡ [])
 IsStep version needs text n (step.Stopped f) left rest m = IsStop version needs text n f
 
--- a line that is needed is counted, and want of memory is no fault of a text
+-- a line that is needed is counted, and out of memory is no fault of a text
 abbrev pub IsStepGiven : Step → LineReader → LineReader → Type 0
 IsStepGiven step.Taken a b = IsLineFurther a b
 IsStepGiven step.Ended a b = ⊤

@@ -1,19 +1,16 @@
 -- How a pass over a file stands, and what its calls do.
-use Rattle.std.specs.Prelude.{◌≡◌, ◌≢◌, ◌≤◌, ◌<◌, ◌+◌, ◌-◌, ◌^◌, ℕ, List, [], ◌++◌, length, drop, slice_range, Option, None, Some, unwrap_or, IsTrue}
+use Rattle.std.specs.Prelude.{◌≡◌, ◌≢◌, ◌≤◌, ◌<◌, ◌+◌, ◌-◌, ℕ, List, [], ◌++◌, length, drop, slice_range, Option, None, Some, unwrap_or, IsTrue}
 use Rattle.lot_io.specs.Outside.{Finds, Fails, GrewBy, Misses, OnlyReads, RoseBy, Shelved, piece_size}
 use Rattle.lot_io.specs.declared.files.ReadFault.{ReadFault}
 use Rattle.lot_io.specs.declared.files.ReadFault.TheVariants as fault
 use Rattle.cert_lines.specs.declared.limits.TheConstants.{MAX_LINE}
 use Rattle.cert_lines.specs.Text.{HasNoFeed, line_text}
+use Rattle.cert_stream.specs.declared.limits.TheConstants.{MAX_BYTES}
 use Rattle.cert_stream.specs.declared.lines.LineReader.{LineReader}
 use Rattle.cert_stream.specs.declared.lines.Next.{Next}
 use Rattle.cert_stream.specs.declared.lines.Next.TheVariants as next
 use Rattle.cert_stream.specs.declared.lines.Found.{Found}
 use Rattle.cert_stream.specs.declared.lines.Found.TheVariants as found
-
--- the most bytes of a file
-abbrev pub most_bytes : ℕ
-most_bytes = 2 ^ 63 - 1
 
 -- the bytes of a file, and none where there is none
 abbrev pub bytes_of : Shelved → List ℕ → List ℕ
@@ -29,15 +26,15 @@ rest_in shelf name r = unread r ++ drop r.at (bytes_of shelf name)
 
 -- how many bytes it may still give
 abbrev pub left_of : LineReader → ℕ
-left_of r = (most_bytes - r.at) + (r.end - r.start)
+left_of r = (MAX_BYTES - r.at) + (r.end - r.start)
 
 -- its numbers fit together
 pub record IsSound (r : LineReader) : Type 0 where
   pub room : length r.room.items ≡ piece_size
   pub start : r.start ≤ r.end
   pub end : r.end ≤ piece_size
-  pub high : r.at ≤ most_bytes
-  pub number : r.number + left_of r ≤ 2 ^ 63
+  pub high : r.at ≤ MAX_BYTES
+  pub number : r.number + left_of r ≤ MAX_BYTES + 1
 
 -- from one moment of a pass to a later one: as many bytes more were given as the pass stands further on, and no more than the file has; no fetch failed, and nothing was written
 pub record GoesOn (name : List ℕ) (old new : Shelved) (a b : LineReader) : Type 0 where
@@ -53,23 +50,23 @@ pub record IsWhole (file : Option (List ℕ)) (count : ℕ) : Type 0 where
   pub is : file ≡ Some bytes
   pub high : length bytes ≤ count
 
--- the file has more bytes than there may be
+-- the file has more bytes than it may have
 pub record IsTooLong (file : Option (List ℕ)) : Type 0 where
   pub bytes : List ℕ
   pub is : file ≡ Some bytes
-  pub more : most_bytes < length bytes
+  pub more : MAX_BYTES < length bytes
 
 -- why a pass, which stands at this place, comes to no end
 abbrev pub IsCause : List ℕ → ℕ → Shelved → Shelved → ReadFault → Type 0
 IsCause name at old new fault.Missing = Misses old new × (IsTrue old.told → old.file name ≡ None)
 IsCause name at old new fault.Failed = Fails old new
-IsCause name at old new fault.TooLong = Finds old new × RoseBy (most_bytes + 1 - at) old.given new.given × (IsTrue old.told → IsTooLong (old.file name))
+IsCause name at old new fault.TooLong = Finds old new × RoseBy (MAX_BYTES + 1 - at) old.given new.given × (IsTrue old.told → IsTooLong (old.file name))
 IsCause name at old new fault.Memory = Finds old new
 
 -- it has its cause, and no more than one piece past the most bytes was given
 pub record IsBroken (name : List ℕ) (at : ℕ) (old new : Shelved) (f : ReadFault) : Type 0 where
   pub cause : IsCause name at old new f
-  pub bound : new.given + at ≤ old.given + most_bytes + piece_size
+  pub bound : new.given + at ≤ old.given + MAX_BYTES + piece_size
 
 -- more bytes than a line may have, and no line feed among them
 pub record IsLong (text : List ℕ) : Type 0 where

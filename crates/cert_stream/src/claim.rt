@@ -5,17 +5,18 @@ ghost use Rattle.cert_lines.specs.Limits.{IsVersion};
 ghost use Rattle.certificate.specs.declared.fault.CertTextFault.{CertTextFault};
 ghost use Rattle.certificate.specs.declared.fault.CertTextFault.TheVariants as fault;
 ghost use Rattle.certificate.specs.Needs.{IsFaultFrom};
-ghost use Rattle.certificate.specs.Stacks.{needs_in};
+ghost use Rattle.certificate.specs.Stacks.{dues_in};
 ghost use Rattle.certificate.specs.Faults.{IsCertTextFault};
 ghost use Rattle.cert_stream.specs.Claims.{AreAll, IsFileFault, IsFileOfClaim, IsStep, IsStepGiven, IsTextOfClaim, WhenWhole};
-ghost use Rattle.cert_stream.specs.Reader.{GoesOn, IsBroken, IsSound, IsTooLong, bytes_of, most_bytes, rest_in};
+ghost use Rattle.cert_stream.specs.declared.limits.TheConstants.{MAX_BYTES};
+ghost use Rattle.cert_stream.specs.Reader.{GoesOn, IsBroken, IsSound, IsTooLong, bytes_of, rest_in};
 
 use crate::ClaimFault;
 use crate::heads::read_heads;
 use crate::lines::LineReader;
 use crate::values::{Value, next_value};
 use cert_lines::Claim;
-use certificate::{CertTextFault, Misfit, Needs};
+use certificate::{CertTextFault, Dues, Misfit};
 use lot_io::{ReadFault, Shelf};
 use std::alloc::Global;
 
@@ -37,14 +38,14 @@ fn take_line<S: Shelf>(
     shelf: &mut S,
     name: &str,
     version: u32,
-    needs: &mut Needs,
+    dues: &mut Dues,
 ) -> Result<Step, ReadFault>
     requires sound { IsSound reader.old }
     requires version { IsVersion version }
     ensures sound { OnOk result (IsSound reader.new) }
     ensures step { IfOk result (λ step. IsTrue (S.shown shelf.old).told
-        → IsStep version (needs_in needs.old) (rest_in (S.shown shelf.old) name.now reader.old) reader.old.number step
-        (needs_in needs.new) (rest_in (S.shown shelf.new) name.now reader.new) reader.new.number) }
+        → IsStep version (dues_in dues.old) (rest_in (S.shown shelf.old) name.now reader.old) reader.old.number step
+        (dues_in dues.new) (rest_in (S.shown shelf.new) name.now reader.new) reader.new.number) }
     ensures given { IfOk result (λ step. IsStepGiven step reader.old reader.new) }
     ensures goes_on { OnOk result (GoesOn name.now (S.shown shelf.old) (S.shown shelf.new) reader.old reader.new) }
     ensures broken { IfErr result (IsBroken name.now reader.old.at (S.shown shelf.old) (S.shown shelf.new)) }
@@ -52,7 +53,7 @@ fn take_line<S: Shelf>(
 {
     let number = reader.number;
     match next_value(alloc, reader, shelf, name, version)? {
-        Value::Line(line) => match needs.take(&line) {
+        Value::Line(line) => match dues.take(&line) {
             Ok(()) => Ok(Step::Taken),
             Err(Misfit::Unwanted) => Ok(Step::Stopped(CertTextFault::Shape(number))),
             Err(Misfit::Deep) => Ok(Step::Stopped(CertTextFault::Deep(number))),
@@ -60,7 +61,7 @@ fn take_line<S: Shelf>(
         },
         Value::Wrong => Ok(Step::Stopped(CertTextFault::Line(number))),
         Value::End => {
-            if needs.are_met() {
+            if dues.are_met() {
                 return Ok(Step::Ended);
             }
             Ok(Step::Stopped(CertTextFault::Shape(number)))
@@ -75,22 +76,22 @@ fn read_body<S: Shelf>(
     shelf: &mut S,
     name: &str,
     version: u32,
-    needs: &mut Needs,
+    dues: &mut Dues,
 ) -> Result<Result<(), CertTextFault>, ReadFault>
     requires sound { IsSound reader.old }
     requires version { IsVersion version }
     ensures sound { OnOk result (IsSound reader.new) }
     ensures all { IfOk result (λ read. OnOk read (IsTrue (S.shown shelf.old).told
-        → AreAll version (needs_in needs.old) (rest_in (S.shown shelf.old) name.now reader.old))) }
+        → AreAll version (dues_in dues.old) (rest_in (S.shown shelf.old) name.now reader.old))) }
     ensures refused { IfOk result (λ read. IfErr read (λ f. IsTrue (S.shown shelf.old).told
-        → IsFaultFrom version (needs_in needs.old) (rest_in (S.shown shelf.old) name.now reader.old) reader.old.number f)) }
+        → IsFaultFrom version (dues_in dues.old) (rest_in (S.shown shelf.old) name.now reader.old) reader.old.number f)) }
     ensures plain { IfOk result (λ read. IfErr read (λ f. f ≢ fault.Memory)) }
     ensures goes_on { OnOk result (GoesOn name.now (S.shown shelf.old) (S.shown shelf.new) reader.old reader.new) }
     ensures broken { IfErr result (IsBroken name.now reader.old.at (S.shown shelf.old) (S.shown shelf.new)) }
     ensures reads { OnlyReads (S.shown shelf.old) (S.shown shelf.new) }
 {
     loop {
-        match take_line(alloc, reader, shelf, name, version, needs)? {
+        match take_line(alloc, reader, shelf, name, version, dues)? {
             Step::Taken => {}
             Step::Ended => return Ok(Ok(())),
             Step::Stopped(fault) => return Ok(Err(fault)),
@@ -121,8 +122,8 @@ fn walk<S: Shelf>(
         Ok(heads) => heads,
         Err(fault) => return Ok(Err(fault)),
     };
-    let mut needs = Needs::new(alloc, heads.count)?;
-    match read_body(alloc, reader, shelf, name, heads.version, &mut needs)? {
+    let mut dues = Dues::new(alloc, heads.count)?;
+    match read_body(alloc, reader, shelf, name, heads.version, &mut dues)? {
         Ok(()) => Ok(Ok(heads.claim)),
         Err(fault) => Ok(Err(fault)),
     }
@@ -134,14 +135,14 @@ fn walk<S: Shelf>(
 /// It keeps one piece of `PIECE` bytes, one line, and what the text needs next: memory in the greatest number of
 /// branches on a path and not in the length of the file.
 pub fn read_claim<S: Shelf>(alloc: Global, shelf: &mut S, name: &str) -> Result<Claim, ClaimFault>
-    // What the file is. Want of memory stands in for no other refusal.
+    // What the file is. Out of memory stands in for no other refusal.
     ensures claim { IfOk result (λ claim. IsTrue (S.shown shelf.old).told
         → IsFileOfClaim ((S.shown shelf.old).file name.now) claim) }
     ensures text { (f : CertTextFault) → IsErrOf result (ClaimFault.Text f) → IsTrue (S.shown shelf.old).told
         → IsFileFault ((S.shown shelf.old).file name.now) f }
     ensures plain { IsErrOf result (ClaimFault.Text fault.Memory) → ⊥ }
     ensures within { WhenWhole result (IsTrue (S.shown shelf.old).told
-        → length (bytes_of (S.shown shelf.old) name.now) ≤ most_bytes) }
+        → length (bytes_of (S.shown shelf.old) name.now) ≤ MAX_BYTES) }
     ensures given { WhenWhole result (IsTrue (S.shown shelf.old).told
         → GrewBy (length (bytes_of (S.shown shelf.old) name.now)) (S.shown shelf.old).given (S.shown shelf.new).given) }
     ensures found { WhenWhole result (Finds (S.shown shelf.old) (S.shown shelf.new)) }
@@ -152,7 +153,7 @@ pub fn read_claim<S: Shelf>(alloc: Global, shelf: &mut S, name: &str) -> Result<
         → (S.shown shelf.old).file name.now ≡ None }
     ensures failed { IsErrOf result ClaimFault.Failed → Fails (S.shown shelf.old) (S.shown shelf.new) }
     ensures too_much { IsErrOf result ClaimFault.TooLong
-        → RoseBy (most_bytes + 1) (S.shown shelf.old).given (S.shown shelf.new).given }
+        → RoseBy (MAX_BYTES + 1) (S.shown shelf.old).given (S.shown shelf.new).given }
     ensures too_long { IsErrOf result ClaimFault.TooLong → IsTrue (S.shown shelf.old).told
         → IsTooLong ((S.shown shelf.old).file name.now) }
     ensures long_found { IsErrOf result ClaimFault.TooLong → Finds (S.shown shelf.old) (S.shown shelf.new) }
@@ -160,7 +161,7 @@ pub fn read_claim<S: Shelf>(alloc: Global, shelf: &mut S, name: &str) -> Result<
 
     // Nothing is written, and what is fetched has a limit.
     ensures reads { OnlyReads (S.shown shelf.old) (S.shown shelf.new) }
-    ensures given_bound { (S.shown shelf.new).given ≤ (S.shown shelf.old).given + most_bytes + piece_size }
+    ensures given_bound { (S.shown shelf.new).given ≤ (S.shown shelf.old).given + MAX_BYTES + piece_size }
 {
     let mut reader = LineReader::new(alloc)?;
     let read = walk(alloc, &mut reader, shelf, name)?;

@@ -3,19 +3,25 @@
 use certificate::CertTextFault;
 use lot_io::ReadFault;
 use std::alloc::AllocError;
+use thiserror::Error;
 
 /// Why a certificate's file isn't read.
-#[derive(Clone, Copy, Debug, PartialEq, Eq)]
+#[derive(Clone, Copy, Debug, PartialEq, Eq, Error)]
 pub enum ClaimFault {
     /// There is no file of this name.
+    #[error("there is no such file")]
     Missing,
     /// A fetch failed.
+    #[error("the file could not be read")]
     Failed,
-    /// The file has 2^63 bytes or more.
+    /// The file has more than `MAX_BYTES` bytes.
+    #[error("the file is too long")]
     TooLong,
     /// The file is no certificate's text. The fault is never `CertTextFault::Memory`.
+    #[error("the text is no certificate's: {0}")]
     Text(CertTextFault),
     /// Memory ran out.
+    #[error("out of memory")]
     Memory,
 }
 

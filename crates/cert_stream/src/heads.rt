@@ -3,6 +3,7 @@ ghost use Rattle.std.specs.Prelude.{◌≡◌, ◌≢◌, ◌++◌, ℕ, List, S
 ghost use Rattle.lot_io.specs.Outside.{OnlyReads};
 ghost use Rattle.cert_lines.specs.declared.head.HeadLine.TheVariants as value;
 ghost use Rattle.certificate.specs.declared.fault.CertTextFault.TheVariants as fault;
+ghost use Rattle.certificate.specs.declared.places.TheConstants.{FIRST_CUT_LINE};
 ghost use Rattle.certificate.specs.Text.{head_values};
 ghost use Rattle.certificate.specs.Faults.{AreHeads, IsCertTextFault};
 ghost use Rattle.cert_stream.specs.declared.heads.Heads.{Heads};
@@ -73,7 +74,7 @@ pub fn read_heads<S: Shelf>(
     ensures text { IfOk result (λ heads. IfOk heads (λ h. IsTrue (S.shown shelf.old).told
         → rest_in (S.shown shelf.old) name.now reader.old
         ≡ heads_of h ++ rest_in (S.shown shelf.new) name.now reader.new)) }
-    ensures number { IfOk result (λ heads. IfOk heads (λ h. reader.new.number ≡ 4)) }
+    ensures number { IfOk result (λ heads. IfOk heads (λ h. reader.new.number ≡ FIRST_CUT_LINE)) }
     ensures refused { IfOk result (λ heads. IfErr heads (λ f. IsTrue (S.shown shelf.old).told
         → IsCertTextFault (rest_in (S.shown shelf.old) name.now reader.old) f)) }
     ensures plain { IfOk result (λ heads. IfErr heads (λ f. f ≢ fault.Memory)) }

@@ -13,6 +13,7 @@ mod claim;
 mod fault;
 mod heads;
 mod laws;
+mod limits;
 mod lines;
 mod values;
 
@@ -20,5 +21,6 @@ pub use claim::read_claim;
 pub use fault::ClaimFault;
 pub use heads::{Heads, read_heads};
 pub use laws::runs_are_bodies;
+pub use limits::MAX_BYTES;
 pub use lines::{LineReader, Next};
 pub use values::{Value, next_head, next_value};

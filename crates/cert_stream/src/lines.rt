@@ -4,12 +4,10 @@ ghost use Rattle.lot_io.specs.Outside.{OnlyReads, Shelved};
 ghost use Rattle.cert_lines.specs.Text.{HasNoFeed};
 ghost use Rattle.cert_stream.specs.Reader.{GoesOn, IsBegun, IsBroken, IsCounted, IsFound, IsNext, IsSound, IsWhole, KeepsPiece, bytes_of, left_of, rest_in, text_from};
 
+use crate::limits::MAX_BYTES;
 use cert_lines::MAX_LINE;
 use lot_io::{PIECE, ReadFault, Shelf, ShelfFault};
 use std::alloc::{AllocError, Global};
-
-// The most bytes of a file.
-const MOST_BYTES: u64 = 9_223_372_036_854_775_807;
 
 /// One pass over a file, line by line. The shelf and the name of the file are passed at each call.
 #[derive(Debug, Drop)]
@@ -108,7 +106,7 @@ impl LineReader {
             Err(ShelfFault::Missing) => return Err(ReadFault::Missing),
             Err(ShelfFault::Failed) => return Err(ReadFault::Failed),
         };
-        if self.at + count as u64 > MOST_BYTES {
+        if self.at + count as u64 > MAX_BYTES {
             return Err(ReadFault::TooLong);
         }
         self.start = 0;

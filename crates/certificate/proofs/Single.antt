@@ -9,6 +9,7 @@ use Rattle.cert_lines.specs.declared.head.HeadLine.{HeadLine}
 use Rattle.cert_lines.specs.declared.head.HeadLine.TheVariants as head
 use Rattle.certificate.specs.declared.fault.CertTextFault.{CertTextFault}
 use Rattle.certificate.specs.declared.fault.CertTextFault.TheVariants as fault
+use Rattle.certificate.specs.declared.places.TheConstants.{FIRST_CUT_LINE}
 use Rattle.cert_lines.specs.Shapes.{BlockCut, BranchLine, CutShape, EndLine, FarkasLeaf, LeafShape, LineShape, LinearLeaf, LsCut, PointLeaf, PriceCut, RoundCut}
 use Rattle.cert_lines.specs.Text.{claim_line, count_line}
 use Rattle.cert_lines.specs.Line.{HasLine, IsLine, later_line}
@@ -177,10 +178,10 @@ one_head_fault bytes n m a b =
     inside n m a b less = heads_inside 1 a.read b.read a.rest b.rest a.lines b.lines (sym a.text ∙ b.text) (omega (arith, a.number, b.number, less)) (λ h s. a.none h (subst (λ k. StartsWithHead k a.rest h) (omega (arith, a.number)) s))
 
 -- two ends after the same three lines
-one_body : (bytes rest more : List ℕ) (v w : ℕ) (c d : Claim) (n m : ℕ) (xs ys : Values) (left mid : List Due) (r s : List ℕ) (e f : Option CertTextFault) → bytes ≡ heads_text (head_values v c n) ++ rest → bytes ≡ heads_text (head_values w d m) ++ more → AreHeads 1 (head_values v c n) → AreHeads 1 (head_values w d m) → AreLines v xs → AreLines w ys → rest ≡ values_text xs ++ r → more ≡ values_text ys ++ s → TakesAll (body_needs n) xs left → TakesAll (body_needs m) ys mid → IsEnd v left r (4 + length xs) e → IsEnd w mid s (4 + length ys) f → e ≡ f
+one_body : (bytes rest more : List ℕ) (v w : ℕ) (c d : Claim) (n m : ℕ) (xs ys : Values) (left mid : List Due) (r s : List ℕ) (e f : Option CertTextFault) → bytes ≡ heads_text (head_values v c n) ++ rest → bytes ≡ heads_text (head_values w d m) ++ more → AreHeads 1 (head_values v c n) → AreHeads 1 (head_values w d m) → AreLines v xs → AreLines w ys → rest ≡ values_text xs ++ r → more ≡ values_text ys ++ s → TakesAll (body_needs n) xs left → TakesAll (body_needs m) ys mid → IsEnd v left r (FIRST_CUT_LINE + length xs) e → IsEnd w mid s (FIRST_CUT_LINE + length ys) f → e ≡ f
 one_body bytes rest more v w c d n m xs ys left mid r s e f text other heads others a b first second x y p q =
     let (version, same, count, after_heads) = same_heads v w c d n m rest more heads others (sym text ∙ other) in
-    one_end v (body_needs n) 4 xs ys left mid r s e f a (subst (λ k. AreLines k ys) (sym version) b) (sym first ∙ after_heads ∙ second) x (subst (λ k. TakesAll (body_needs k) ys mid) (sym count) y) p (subst (λ k. IsEnd k mid s (4 + length ys) f) (sym version) q)
+    one_end v (body_needs n) FIRST_CUT_LINE xs ys left mid r s e f a (subst (λ k. AreLines k ys) (sym version) b) (sym first ∙ after_heads ∙ second) x (subst (λ k. TakesAll (body_needs k) ys mid) (sym count) y) p (subst (λ k. IsEnd k mid s (FIRST_CUT_LINE + length ys) f) (sym version) q)
 
 one_body_fault : (bytes : List ℕ) (f g : CertTextFault) → f ≢ fault.Memory → g ≢ fault.Memory → IsBodyFault bytes f → IsBodyFault bytes g → f ≡ g
 one_body_fault bytes f g x y a b =

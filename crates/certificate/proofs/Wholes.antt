@@ -5,6 +5,7 @@ use Rattle.cert_lines.specs.declared.limits.TheConstants.{MAX_BRANCHES, MAX_CUTS
 use Rattle.cert_lines.specs.Shapes.{CutShape, EndLine}
 use Rattle.certificate.specs.declared.fault.CertTextFault.{CertTextFault}
 use Rattle.certificate.specs.declared.fault.CertTextFault.TheVariants as fault
+use Rattle.certificate.specs.declared.places.TheConstants.{FIRST_CUT_LINE}
 use Rattle.certificate.specs.declared.rest.Rest.{Rest}
 use Rattle.certificate.specs.Shapes.{Shape, TreeShape}
 use Rattle.certificate.specs.Counts.{longest_path}
@@ -48,7 +49,7 @@ body_fault text (fault.Shape n) b = b
 body_fault text (fault.Deep n) b = b
 body_fault text fault.Memory b = tt
 
-pub cuts_fault : (bytes : List ℕ) (a : Rest) (version : ℕ) (claim : Claim) (count : ℕ) (f : CertTextFault) → bytes ≡ heads_text (head_values version claim count) ++ a.text.now → AreHeads 1 (head_values version claim count) → a.line ≡ 4 → IsFaultFrom version (body_needs count) a.text.now a.line f → IsCertTextFault bytes f
+pub cuts_fault : (bytes : List ℕ) (a : Rest) (version : ℕ) (claim : Claim) (count : ℕ) (f : CertTextFault) → bytes ≡ heads_text (head_values version claim count) ++ a.text.now → AreHeads 1 (head_values version claim count) → a.line ≡ FIRST_CUT_LINE → IsFaultFrom version (body_needs count) a.text.now a.line f → IsCertTextFault bytes f
 cuts_fault bytes a version claim count f text heads four fault = body_fault bytes f (record {
   version = version;
   claim = claim;

@@ -7,31 +7,33 @@
 //! line at which something is wrong. `read_head` reads one of the first three lines by itself, and
 //! `read_line` a later one. That no text means two things is `texts_mean_one_thing`.
 //!
-//! Family: proofs. It stands on `cert_lines`, whose lines it puts together and whose calls it hands on; the
-//! checker of certificates and the search stand on it.
+//! Family: proofs. It stands on `cert_lines`, whose lines it puts together and whose calls it hands on, and on
+//! `lin_rows`; the other crates of proofs above it, the search and `lotplan` stand on it.
 #![tactic(auto)]
 
 mod counts;
+mod dues;
 mod fault;
 mod laws;
 mod limits;
-mod needs;
 mod opening;
+mod places;
 mod reading;
 mod rest;
 mod tree;
 mod writing;
 
 pub use cert_lines::{
-    CertLine, Claim, Cut, HeadLine, Leaf, LineFault, MAX_BRANCHES, MAX_CUTS, MAX_DIVISOR, MAX_LINE,
-    MAX_PARTS, MAX_ROUND_PARTS, MAX_VERSION, Part, copy_cut, copy_leaf, lines_mean_one_thing,
-    read_head, read_line,
+    CertLine, Claim, Cut, FIRST_VERSION, HeadLine, Leaf, LineFault, MAX_BRANCHES, MAX_CUTS,
+    MAX_DIVISOR, MAX_LINE, MAX_PARTS, MAX_ROUND_PARTS, MAX_VERSION, Part, copy_cut, copy_leaf,
+    lines_mean_one_thing, read_head, read_line,
 };
 pub use counts::{cut_lines_count, leaf_lines_count, longest, nodes};
+pub use dues::{Dues, Misfit};
 pub use fault::CertTextFault;
 pub use laws::{shapes_are_counted, shapes_are_same, texts_mean_one_thing};
 pub use limits::is_writable;
-pub use needs::{Misfit, Needs};
+pub use places::{CLAIM_LINE, FIRST_CUT_LINE};
 pub use reading::read_certificate;
 pub use tree::{Certificate, Tree};
 pub use writing::write_certificate;

@@ -3,6 +3,7 @@ ghost use Rattle.std.specs.Prelude.{◌≡◌, ◌≤◌, ◌<◌, ◌+◌, ◌+
 ghost use Rattle.cert_lines.specs.declared.head.HeadLine.{HeadLine};
 ghost use Rattle.cert_lines.specs.declared.head.HeadLine.TheVariants as value;
 ghost use Rattle.cert_lines.specs.Limits.{IsVersion};
+ghost use Rattle.certificate.specs.declared.places.TheConstants.{FIRST_CUT_LINE};
 ghost use Rattle.certificate.specs.Text.{head_text, head_values, heads_text};
 ghost use Rattle.certificate.specs.Faults.{AreHeads, IsCertTextFault, StartsWithHead};
 ghost use Rattle.cert_lines.specs.Head.{IsHead, head_line};
@@ -95,7 +96,7 @@ pub fn read_heads(rest: &mut Rest) -> Result<(u32, Claim, u32), CertTextFault>
     ensures version { IfOk result (λ p. IsVersion p.0) }
     ensures lines { IfOk result (λ p. AreHeads 1 (head_values p.0 p.1 p.2)) }
     ensures text { IfOk result (λ p. rest.old.text.now ≡ heads_text (head_values p.0 p.1 p.2) ++ rest.new.text.now) }
-    ensures number { IfOk result (λ p. rest.new.line ≡ 4) }
+    ensures number { IfOk result (λ p. rest.new.line ≡ FIRST_CUT_LINE) }
     ensures room { IfOk result (λ p. rest.new.line + length rest.new.text.now ≤ rest.old.line + length rest.old.text.now) }
     ensures refused { IfErr result (IsCertTextFault rest.old.text.now) }
 {

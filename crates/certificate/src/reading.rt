@@ -58,7 +58,8 @@ fn read_parts(
     ensures parts { IfOk result (λ parts. AreRead version rest.old rest.new (part_values parts.items)) }
     ensures count { IfOk result (λ parts. length parts.items ≡ count) }
     ensures room { OnOk result (rest.new.line + length rest.new.text.now ≤ rest.old.line + length rest.old.text.now) }
-    ensures refused { IfErr result (λ f. (later : List Due) → IsFaultFrom version (replicate count a_part ++ later) rest.old.text.now rest.old.line f) }
+    ensures refused { IfErr result (λ f. (later : List Due)
+        → IsFaultFrom version (replicate count a_part ++ later) rest.old.text.now rest.old.line f) }
 {
     let mut parts = Vec::new(alloc);
     for _ in 0..count {
@@ -101,7 +102,8 @@ fn read_cuts(
     ensures cuts { IfOk result (λ cuts. AreRead version rest.old rest.new (all_cut_values (map cut_shape cuts.items))) }
     ensures count { IfOk result (λ cuts. length cuts.items ≡ count) }
     ensures room { OnOk result (rest.new.line + length rest.new.text.now ≤ rest.old.line + length rest.old.text.now) }
-    ensures refused { IfErr result (λ f. (later : List Due) → IsFaultFrom version (replicate count a_cut ++ later) rest.old.text.now rest.old.line f) }
+    ensures refused { IfErr result (λ f. (later : List Due)
+        → IsFaultFrom version (replicate count a_cut ++ later) rest.old.text.now rest.old.line f) }
 {
     let mut cuts = Vec::new(alloc);
     for _ in 0..count {

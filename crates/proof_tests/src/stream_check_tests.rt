@@ -163,3 +163,31 @@ fn a_file_of_several_pieces_is_fetched_twice(rt: HostRuntime) -> Result<(), Fail
     assert_eq!(rt; (text.len(), shelf.given), (180_124, 2 * 180_124));
     Ok(())
 }
+
+#[test]
+fn a_fault_of_the_text_is_told_with_its_line(rt: HostRuntime) -> Result<(), Fail> {
+    let alloc = rt.alloc();
+    for (fault, words) in [
+        (
+            CertTextFault::Header(3),
+            "line 3: absent, or not as a certificate begins",
+        ),
+        (
+            CertTextFault::Line(5),
+            "line 5: no line feed, too long, or no form of a line",
+        ),
+        (
+            CertTextFault::Shape(6),
+            "line 6: another line is needed, or none",
+        ),
+        (
+            CertTextFault::Deep(2004),
+            "line 2004: too many branches on a path",
+        ),
+    ] {
+        let told = format!(in alloc; "{}", StreamFault::Text(fault))?;
+        let want = format!(in alloc; "the text is no certificate's: {words}")?;
+        assert_eq!(rt; told.as_str(), want.as_str());
+    }
+    Ok(())
+}

@@ -9,7 +9,8 @@ use Rattle.cert_checker.specs.declared.fault.Why.{Why}
 use Rattle.cert_stream.specs.declared.fault.ClaimFault.{ClaimFault}
 use Rattle.cert_stream.specs.declared.fault.ClaimFault.TheVariants as claim
 use Rattle.cert_stream.specs.Claims.{IsFileFault, IsFileOfClaim, WhenWhole}
-use Rattle.cert_stream.specs.Reader.{IsTooLong as IsLong, bytes_of, most_bytes, rest_in}
+use Rattle.cert_stream.specs.declared.limits.TheConstants.{MAX_BYTES}
+use Rattle.cert_stream.specs.Reader.{IsTooLong as IsLong, bytes_of, rest_in}
 use Rattle.stream_check.specs.declared.fault.StreamFault.{StreamFault}
 use Rattle.stream_check.specs.declared.fault.StreamFault.TheVariants as stream
 use Rattle.certificate.specs.Limits.{IsTextOf}
@@ -24,14 +25,14 @@ use Rattle.stream_check.specs.Streams.{IsStreamFault, IsTooLong, OfBytes, OfCert
 pub bytes_are : (shelf : Shelved) (name bytes : List ℕ) → shelf.file name ≡ Some bytes → bytes_of shelf name ≡ bytes
 bytes_are shelf name bytes is = ap (λ file. unwrap_or file []) is
 
-short_enough : (shelf : Shelved) (name bytes : List ℕ) → shelf.file name ≡ Some bytes → length (bytes_of shelf name) ≤ most_bytes → length bytes < too_many
+short_enough : (shelf : Shelved) (name bytes : List ℕ) → shelf.file name ≡ Some bytes → length (bytes_of shelf name) ≤ MAX_BYTES → length bytes < too_many
 short_enough shelf name bytes is short = omega (arith, short, ap length (bytes_are shelf name bytes is))
 
 long_file : (file : Option (List ℕ)) → IsLong file → IsTooLong file
 long_file file is = (is.bytes, is.is, omega (arith, is.more))
 
 -- the file is the text of a certificate of this claim
-pub claim_file : (name : List ℕ) (old : Shelved) (said : Claim) → IsFileOfClaim (old.file name) said → length (bytes_of old name) ≤ most_bytes → OfCertificate (old.file name) (λ c. c.claim ≡ said)
+pub claim_file : (name : List ℕ) (old : Shelved) (said : Claim) → IsFileOfClaim (old.file name) said → length (bytes_of old name) ≤ MAX_BYTES → OfCertificate (old.file name) (λ c. c.claim ≡ said)
 claim_file name old said is short =
     (is.bytes, is.is, short_enough old name is.bytes is.is short, (is.text.certificate, is.text.text, is.text.claim_is))
 
@@ -39,12 +40,12 @@ claim_file name old said is short =
 pub record AreCauses (name : List ℕ) (old new : Shelved) (result : Result Claim ClaimFault) : Type 0 where
   pub text : (f : CertTextFault) → IsErrOf result (claim.Text f) → IsTrue old.told → IsFileFault (old.file name) f
   pub plain : IsErrOf result (claim.Text fault.Memory) → ⊥
-  pub within : WhenWhole result (IsTrue old.told → length (bytes_of old name) ≤ most_bytes)
+  pub within : WhenWhole result (IsTrue old.told → length (bytes_of old name) ≤ MAX_BYTES)
   pub given : WhenWhole result (IsTrue old.told → GrewBy (length (bytes_of old name)) old.given new.given)
   pub missing : IsErrOf result claim.Missing → Misses old new
   pub absent : IsErrOf result claim.Missing → IsTrue old.told → old.file name ≡ None
   pub failed : IsErrOf result claim.Failed → Fails old new
-  pub too_much : IsErrOf result claim.TooLong → RoseBy (most_bytes + 1) old.given new.given
+  pub too_much : IsErrOf result claim.TooLong → RoseBy (MAX_BYTES + 1) old.given new.given
   pub too_long : IsErrOf result claim.TooLong → IsTrue old.told → IsLong (old.file name)
 
 text_fault : (name : List ℕ) (old new : Shelved) (f : CertTextFault) → AreCauses name old new (Err (claim.Text f)) → IsStreamFault name old new never_refused (stream.Text f)
@@ -99,7 +100,7 @@ later_fault name old mid new at Q stream.Missing zero reads stopped refused =
     (rose_on 1 old.misses mid.misses new.misses reads.misses stopped.cause.0.misses.0, λ told. sym (same_file reads name) ∙ stopped.cause.1 (told_on reads told))
 later_fault name old mid new at Q stream.Failed zero reads stopped refused = rose_on 1 old.faults mid.faults new.faults reads.faults stopped.cause.faults.0
 later_fault name old mid new at Q stream.TooLong zero reads stopped refused =
-    (rose_on too_many old.given mid.given new.given reads.given (subst (λ k. RoseBy (most_bytes + 1 - k) mid.given new.given) zero stopped.cause.1), λ told. subst IsTooLong (same_file reads name) (long_file (mid.file name) (stopped.cause.2 (told_on reads told))))
+    (rose_on too_many old.given mid.given new.given reads.given (subst (λ k. RoseBy (MAX_BYTES + 1 - k) mid.given new.given) zero stopped.cause.1), λ told. subst IsTooLong (same_file reads name) (long_file (mid.file name) (stopped.cause.2 (told_on reads told))))
 later_fault name old mid new at Q (stream.Text f) zero reads stopped refused = (stopped.cause.0, λ told. absurd (refused told).3.2)
 later_fault name old mid new at Q (stream.Rejected r) zero reads stopped refused = refused
 later_fault name old mid new at Q stream.Memory zero reads stopped refused = tt

@@ -89,6 +89,10 @@ IsLeafStop m rows claim path leaf line (stream.Rejected r) =
 IsLeafStop m rows claim path leaf line stream.Memory = ⊤
 IsLeafStop m rows claim path leaf line _ = ⊥
 
+-- a tree that starts on this line isn't good, whatever the largest totals are
+abbrev pub TreeIsRefused : Problem → List LinRow → Claim → TreeShape → (first at : ℕ) → Why → Type 0
+TreeIsRefused m rows claim tree first at w = WithTotals m (λ total. IsTreeFault (ground m total rows claim) [] tree first at w)
+
 -- ---- what is known of plans
 -- the plan costs at least what is claimed; where none is claimed to be feasible, there is none
 abbrev pub IsSafe : Problem → Claim → Plan → Type 0

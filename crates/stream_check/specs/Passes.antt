@@ -6,7 +6,8 @@ use Rattle.certificate.specs.declared.fault.CertTextFault.TheVariants as text
 use Rattle.certificate.specs.Values.{AreLines, Values, values_text}
 use Rattle.cert_checker.specs.declared.fault.Why.{Why}
 use Rattle.cert_stream.specs.declared.lines.LineReader.{LineReader}
-use Rattle.cert_stream.specs.Reader.{GoesOn, IsCause, IsSound, most_bytes, rest_in}
+use Rattle.cert_stream.specs.declared.limits.TheConstants.{MAX_BYTES}
+use Rattle.cert_stream.specs.Reader.{GoesOn, IsCause, IsSound, rest_in}
 use Rattle.stream_check.specs.declared.fault.StreamFault.{StreamFault}
 use Rattle.stream_check.specs.declared.fault.StreamFault.TheVariants as stream
 
@@ -27,7 +28,7 @@ IsStopCause name at old new stream.Memory = IsCause name at old new file.Memory
 -- it has its cause, no more than one piece past the most bytes was given, and nothing was written
 pub record IsStopped (name : List ℕ) (at : ℕ) (old new : Shelved) (f : StreamFault) : Type 0 where
   pub cause : IsStopCause name at old new f
-  pub bound : new.given + at ≤ old.given + most_bytes + piece_size
+  pub bound : new.given + at ≤ old.given + MAX_BYTES + piece_size
   pub reads : OnlyReads old new
 
 -- the shelf tells that just these lines are left

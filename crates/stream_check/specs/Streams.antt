@@ -1,17 +1,22 @@
 -- What the file of a certificate holds, and why it may give nothing to go on with.
-use Rattle.std.specs.Prelude.{◌≡◌, ◌≢◌, ◌+◌, ◌-◌, ◌<◌, ◌^◌, ℕ, List, length, IsTrue, Option, Some, None, Result, Ok, Err, ⊤}
+use Rattle.std.specs.Prelude.{◌≡◌, ◌≢◌, ◌+◌, ◌<◌, ℕ, List, length, IsTrue, Option, Some, None, Result, Ok, Err, ⊤}
 use Rattle.lot_io.specs.Outside.{Fails, Finds, Misses, Rose, RoseBy, Shelved, piece_size}
 use Rattle.certificate.specs.declared.fault.CertTextFault.TheVariants as text
 use Rattle.certificate.specs.Faults.{IsCertTextFault}
 use Rattle.certificate.specs.Limits.{IsTextOf}
 use Rattle.certificate.specs.Shapes.{Shape}
+use Rattle.lot_sizing.specs.Problem.{Problem}
+use Rattle.plan_rules.specs.declared.plan.Plan.{Plan}
 use Rattle.cert_checker.specs.declared.fault.Why.{Why}
+use Rattle.cert_checker.specs.Cuts.{OfProblem}
+use Rattle.cert_checker.specs.Checks.{IsCheckFault}
+use Rattle.cert_stream.specs.declared.limits.TheConstants.{MAX_BYTES}
 use Rattle.stream_check.specs.declared.fault.StreamFault.{StreamFault}
 use Rattle.stream_check.specs.declared.fault.StreamFault.TheVariants as stream
 
 -- the first length, in bytes, at which a file is too long
 abbrev pub too_many : ℕ
-too_many = 2 ^ 63
+too_many = MAX_BYTES + 1
 
 -- the most bytes that a pass over a file is given
 abbrev pub pass_size : ℕ
@@ -21,9 +26,9 @@ pass_size = too_many + piece_size
 abbrev pub OfBytes : Option (List ℕ) → (List ℕ → Type 0) → Type 0
 OfBytes file P = (bytes : List ℕ) × (file ≡ Some bytes) × (length bytes < too_many) × P bytes
 
--- it has too many
+-- it has more bytes than it may have
 abbrev pub IsTooLong : Option (List ℕ) → Type 0
-IsTooLong file = (bytes : List ℕ) × (file ≡ Some bytes) × (too_many - 1 < length bytes)
+IsTooLong file = (bytes : List ℕ) × (file ≡ Some bytes) × (MAX_BYTES < length bytes)
 
 -- they are the text of a certificate of which this holds
 abbrev pub OfCertificate : Option (List ℕ) → (Shape → Type 0) → Type 0
@@ -39,6 +44,10 @@ IsStreamFault name old new P (stream.Text fault) =
     (fault ≢ text.Memory) × (IsTrue old.told → OfBytes (old.file name) (λ bytes. IsCertTextFault bytes fault))
 IsStreamFault name old new P (stream.Rejected r) = P r.line r.why
 IsStreamFault name old new P stream.Memory = ⊤
+
+-- why a certificate is refused with the plan that was given, and on which line, as the checker would say
+abbrev pub IsRefusedWith : Problem → Option Plan → Shape → (at : ℕ) → Why → Type 0
+IsRefusedWith m given c at w = OfProblem m (λ total weight. IsCheckFault m total weight c given at w)
 
 -- how the shelf's counts of failures went: an answer raises none, and of the refusals only an absent file and a failed fetch do, each its own count alone, by one
 abbrev pub CountsOf : {A : Type 0} → Result A StreamFault → Shelved → Shelved → Type 0

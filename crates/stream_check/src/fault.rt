@@ -17,11 +17,11 @@ pub enum StreamFault {
     /// The file could not be read.
     #[error("the file could not be read")]
     Failed,
-    /// The file has 2^63 bytes or more.
+    /// The file has more than `cert_stream::MAX_BYTES` bytes.
     #[error("the file is too long")]
     TooLong,
     /// Its text is no certificate's.
-    #[error("the text is no certificate's")]
+    #[error("the text is no certificate's: {0}")]
     Text(CertTextFault),
     /// The certificate is refused.
     #[error("{0}")]

@@ -12,14 +12,13 @@ ghost use Rattle.certificate.specs.Counts.{longest_path};
 ghost use Rattle.certificate.specs.Shapes.{TreeShape};
 ghost use Rattle.certificate.specs.Values.{tree_values};
 ghost use Rattle.split_trees.specs.Paths.{AreChoices, AreMet};
-ghost use Rattle.split_trees.specs.Ranges.{WithTotals};
 ghost use Rattle.split_trees.specs.Trees.{low_path};
 ghost use Rattle.acceptance.specs.Laws.{HoldAtPlans};
 ghost use Rattle.cert_checker.specs.Named.{IsReadyFor};
 ghost use Rattle.cert_checker.specs.Leaves.{HasDenominator};
-ghost use Rattle.cert_checker.specs.Checks.{IsGoodLeaf, IsGoodTree, IsNodeFault, IsTreeFault, ground};
+ghost use Rattle.cert_checker.specs.Checks.{LeafIsGood, TreeIsGood};
 ghost use Rattle.cert_stream.specs.Reader.{IsSound, left_of};
-ghost use Rattle.stream_check.specs.Nodes.{AreCovered, AreLeft, AreSmall, IsBranchStop, IsLeafStop, IsSafe, Splits, later, needed};
+ghost use Rattle.stream_check.specs.Nodes.{AreCovered, AreLeft, AreSmall, IsBranchStop, IsLeafStop, IsSafe, Splits, TreeIsRefused, later, needed};
 ghost use Rattle.stream_check.specs.Passes.{Awaits, Gives, IsOn, IsStopped};
 
 use crate::StreamFault;
@@ -103,8 +102,9 @@ fn check_leaf(
     requires den { HasDenominator (leaf_shape leaf.now) }
     requires lines { line + length (leaf_parts (leaf_shape leaf.now)) < 2 ^ 64 }
     ensures ready { IsReadyFor instance.now named.new }
-    ensures good { OnOk result (WithTotals instance.now (λ total. IsGoodLeaf (ground instance.now total rows.now claim) path.now (leaf_shape leaf.now))) }
-    ensures safe { OnOk result (HoldAtPlans instance.now rows.now → (p : Plan) → IsFeasible instance.now p → AreMet (value_in p) path.now → IsSafe instance.now claim p) }
+    ensures good { OnOk result (LeafIsGood instance.now rows.now claim path.now (leaf_shape leaf.now)) }
+    ensures safe { OnOk result (HoldAtPlans instance.now rows.now → (p : Plan) → IsFeasible instance.now p
+        → AreMet (value_in p) path.now → IsSafe instance.now claim p) }
     ensures stop { IfErr result (IsLeafStop instance.now rows.now claim path.now (leaf_shape leaf.now) line) }
 {
     let says = leaf_bound_in(alloc, instance, named, rows, path, leaf, line)?;
@@ -141,9 +141,14 @@ fn check_node<S: Shelf>(
     ensures choices { OnOk result (AreChoices instance.now path.new.items) }
     ensures small { OnOk result (AreSmall path.new.items) }
     ensures left { OnOk result (left_of reader.new < left_of reader.old) }
-    ensures covered { IfOk result (λ more. AreCovered instance.now claim (needed true path.old.items) → AreCovered instance.now claim (needed more path.new.items)) }
-    ensures awaited { (whole : TreeShape) (first : ℕ) → AreLeft instance.now rows.now claim whole first (needed true path.old.items) version (S.shown shelf.old) name.now reader.old
-        → Gives (λ more. AreLeft instance.now rows.now claim whole first (needed more path.new.items) version (S.shown shelf.new) name.now reader.new) (λ at why. WithTotals instance.now (λ total. IsTreeFault (ground instance.now total rows.now claim) [] whole first at why)) result }
+    ensures covered { IfOk result (λ more. AreCovered instance.now claim (needed true path.old.items)
+        → AreCovered instance.now claim (needed more path.new.items)) }
+    ensures awaited { (whole : TreeShape) (first : ℕ)
+        → AreLeft instance.now rows.now claim whole first (needed true path.old.items) version
+        (S.shown shelf.old) name.now reader.old
+        → Gives (λ more. AreLeft instance.now rows.now claim whole first (needed more path.new.items) version
+        (S.shown shelf.new) name.now reader.new)
+        (TreeIsRefused instance.now rows.now claim whole first) result }
     ensures on { OnOk result (IsOn name.now (S.shown shelf.old) (S.shown shelf.new) reader.old reader.new) }
     ensures stopped { IfErr result (IsStopped name.now reader.old.at (S.shown shelf.old) (S.shown shelf.new)) }
 {
@@ -176,8 +181,11 @@ pub fn check_tree<S: Shelf>(
     requires sound { IsSound reader.old }
     requires version { IsVersion version }
     ensures safe { OnOk result ((p : Plan) → IsFeasible instance.now p → IsSafe instance.now claim p) }
-    ensures awaited { (tree : TreeShape) → longest_path tree ≤ MAX_BRANCHES → Awaits (S.shown shelf.old) name.now reader.old version (tree_values tree ++ EndLine ∷ [])
-        → Gives (λ _. WithTotals instance.now (λ total. IsGoodTree (ground instance.now total rows.now claim) [] tree) × Awaits (S.shown shelf.new) name.now reader.new version (EndLine ∷ [])) (λ at why. WithTotals instance.now (λ total. IsTreeFault (ground instance.now total rows.now claim) [] tree reader.old.number at why)) result }
+    ensures awaited { (tree : TreeShape) → longest_path tree ≤ MAX_BRANCHES
+        → Awaits (S.shown shelf.old) name.now reader.old version (tree_values tree ++ EndLine ∷ [])
+        → Gives (λ _. TreeIsGood instance.now rows.now claim [] tree
+        × Awaits (S.shown shelf.new) name.now reader.new version (EndLine ∷ []))
+        (TreeIsRefused instance.now rows.now claim tree reader.old.number) result }
     ensures on { OnOk result (IsOn name.now (S.shown shelf.old) (S.shown shelf.new) reader.old reader.new) }
     ensures stopped { IfErr result (IsStopped name.now reader.old.at (S.shown shelf.old) (S.shown shelf.new)) }
 {

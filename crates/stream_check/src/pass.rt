@@ -5,12 +5,11 @@ ghost use Rattle.cert_lines.specs.Shapes.{EndLine};
 ghost use Rattle.certificate.specs.Limits.{IsTextOf};
 ghost use Rattle.certificate.specs.Shapes.{Shape};
 ghost use Rattle.acceptance.specs.Accepts.{IsTrueOf};
-ghost use Rattle.cert_checker.specs.Cuts.{OfProblem};
-ghost use Rattle.cert_checker.specs.Checks.{IsCertified, IsCheckFault, first_line, plan_given};
+ghost use Rattle.cert_checker.specs.Checks.{IsGoodCertificate, first_line, plan_given};
 ghost use Rattle.cert_stream.specs.Reader.{IsSound, rest_in};
 ghost use Rattle.stream_check.specs.Heads.{AreHeadsOf};
 ghost use Rattle.stream_check.specs.Passes.{Awaits, Gives, IsOn, IsStopped};
-ghost use Rattle.stream_check.specs.Streams.{never_refused};
+ghost use Rattle.stream_check.specs.Streams.{IsRefusedWith, never_refused};
 
 use crate::StreamFault;
 use crate::nodes::check_tree;
@@ -86,8 +85,10 @@ pub fn check_text<S: Shelf>(
     requires sound { IsSound reader.old }
     requires first { reader.old.number ≡ 1 }
     ensures claim { IfOk result (λ claim. IsTrueOf instance.now claim (plan_given (option_copied plan.entry))) }
-    ensures awaited { (c : Shape) → IsTrue (S.shown shelf.old).told → IsTextOf (rest_in (S.shown shelf.old) name.now reader.old) c
-        → Gives (λ claim. (c.claim ≡ claim) × OfProblem instance.now (λ total weight. IsCertified instance.now total weight c (option_copied plan.entry))) (λ at why. OfProblem instance.now (λ total weight. IsCheckFault instance.now total weight c (option_copied plan.entry) at why)) result }
+    ensures awaited { (c : Shape) → IsTrue (S.shown shelf.old).told
+        → IsTextOf (rest_in (S.shown shelf.old) name.now reader.old) c
+        → Gives (λ claim. (c.claim ≡ claim) × IsGoodCertificate instance.now c (option_copied plan.entry))
+        (IsRefusedWith instance.now (option_copied plan.entry) c) result }
     ensures on { OnOk result (IsOn name.now (S.shown shelf.old) (S.shown shelf.new) reader.old reader.new) }
     ensures stopped { IfErr result (IsStopped name.now reader.old.at (S.shown shelf.old) (S.shown shelf.new)) }
 {

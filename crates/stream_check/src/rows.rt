@@ -10,11 +10,10 @@ ghost use Rattle.cert_lines.specs.Limits.{IsVersion};
 ghost use Rattle.cert_lines.specs.Shapes.{CutShape};
 ghost use Rattle.certificate.specs.Values.{Values, all_cut_values, cut_values};
 ghost use Rattle.acceptance.specs.Laws.{HoldAtPlans};
-ghost use Rattle.cert_checker.specs.Cuts.{IsCutFault, OfProblem};
-ghost use Rattle.cert_checker.specs.Checks.{AreGoodCuts, IsCutsFault, first_line};
+ghost use Rattle.cert_checker.specs.Checks.{HaveGoodRows, first_line};
 ghost use Rattle.cert_stream.specs.Reader.{IsSound};
 ghost use Rattle.stream_check.specs.Passes.{Awaits, Gives, IsOn, IsStopped};
-ghost use Rattle.stream_check.specs.Rows.{IsRowOf};
+ghost use Rattle.stream_check.specs.Rows.{CutIsRefused, CutsAreRefused, IsRowOf};
 
 use crate::StreamFault;
 use crate::units::read_cut;
@@ -42,10 +41,15 @@ fn read_row<S: Shelf>(
     requires earlier { AreOfProblem instance.now earlier.now }
     requires sound { IsSound reader.old }
     requires version { IsVersion version }
-    ensures holds { IfOk result (λ row. (p : Plan) → IsFeasible instance.now p → AllHold (whole_point (value_in p)) earlier.now → HoldsIn p row) }
+    ensures holds { IfOk result (λ row. (p : Plan) → IsFeasible instance.now p
+        → AllHold (whole_point (value_in p)) earlier.now → HoldsIn p row) }
     ensures columns_exist { IfOk result (λ row. All (λ a. IsColumn instance.now a.column) row.terms) }
-    ensures awaited { (cut : CutShape) (ls : Values) → Awaits (S.shown shelf.old) name.now reader.old version (cut_values cut ++ ls)
-        → Gives (λ row. IsRowOf instance.now earlier.now cut row × (reader.new.number ≡ reader.old.number + length (cut_values cut)) × Awaits (S.shown shelf.new) name.now reader.new version ls) (λ at why. OfProblem instance.now (λ total weight. IsCutFault instance.now total weight earlier.now cut reader.old.number at why)) result }
+    ensures awaited { (cut : CutShape) (ls : Values)
+        → Awaits (S.shown shelf.old) name.now reader.old version (cut_values cut ++ ls)
+        → Gives (λ row. IsRowOf instance.now earlier.now cut row
+        × (reader.new.number ≡ reader.old.number + length (cut_values cut))
+        × Awaits (S.shown shelf.new) name.now reader.new version ls)
+        (CutIsRefused instance.now earlier.now cut reader.old.number) result }
     ensures on { OnOk result (IsOn name.now (S.shown shelf.old) (S.shown shelf.new) reader.old reader.new) }
     ensures stopped { IfErr result (IsStopped name.now reader.old.at (S.shown shelf.old) (S.shown shelf.new)) }
 {
@@ -71,8 +75,12 @@ pub fn read_rows<S: Shelf>(
     requires first { reader.old.number ≡ first_line }
     ensures hold { IfOk result (λ rows. HoldAtPlans instance.now rows.items) }
     ensures columns_exist { IfOk result (λ rows. AreOfProblem instance.now rows.items) }
-    ensures awaited { (cuts : List CutShape) (ls : Values) → length cuts ≡ count → Awaits (S.shown shelf.old) name.now reader.old version (all_cut_values cuts ++ ls)
-        → Gives (λ rows. OfProblem instance.now (λ total weight. AreGoodCuts instance.now total weight cuts rows.items) × (reader.new.number ≡ first_line + length (all_cut_values cuts)) × Awaits (S.shown shelf.new) name.now reader.new version ls) (λ at why. OfProblem instance.now (λ total weight. IsCutsFault instance.now total weight cuts at why)) result }
+    ensures awaited { (cuts : List CutShape) (ls : Values) → length cuts ≡ count
+        → Awaits (S.shown shelf.old) name.now reader.old version (all_cut_values cuts ++ ls)
+        → Gives (λ rows. HaveGoodRows instance.now cuts rows.items
+        × (reader.new.number ≡ first_line + length (all_cut_values cuts))
+        × Awaits (S.shown shelf.new) name.now reader.new version ls)
+        (CutsAreRefused instance.now cuts) result }
     ensures on { OnOk result (IsOn name.now (S.shown shelf.old) (S.shown shelf.new) reader.old reader.new) }
     ensures stopped { IfErr result (IsStopped name.now reader.old.at (S.shown shelf.old) (S.shown shelf.new)) }
 {

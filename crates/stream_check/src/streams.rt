@@ -2,9 +2,8 @@
 ghost use Rattle.std.specs.Prelude.{◌≡◌, ◌≤◌, ◌+◌, ◌*◌, IfErr, IfOk, IsTrue, length, option_copied};
 ghost use Rattle.lot_io.specs.Outside.{GrewBy, OnlyReads};
 ghost use Rattle.acceptance.specs.Accepts.{IsTrueOf};
-ghost use Rattle.cert_checker.specs.Cuts.{OfProblem};
-ghost use Rattle.cert_checker.specs.Checks.{IsCertified, IsCheckFault, plan_given};
-ghost use Rattle.stream_check.specs.Streams.{CountsOf, IsStreamFault, OfBytes, OfCertificate, WhenRead, never_refused, pass_size};
+ghost use Rattle.cert_checker.specs.Checks.{IsGoodCertificate, plan_given};
+ghost use Rattle.stream_check.specs.Streams.{CountsOf, IsRefusedWith, IsStreamFault, OfBytes, OfCertificate, WhenRead, never_refused, pass_size};
 
 use crate::StreamFault;
 use crate::pass::check_text;
@@ -19,13 +18,14 @@ use std::alloc::Global;
 /// for the text, come only where the shelf gave exactly as many bytes as the file has (`whole`).
 ///
 /// The refusals come in this order: `Missing` only where the shelf has no such file, `Failed` only where a fetch failed,
-/// `TooLong` only where the file has 2^63 bytes or more; then `Text` exactly as `read_certificate` refuses the
-/// bytes. It takes time in the length of the file, and memory for one piece of it, one line, and the branches of a path.
+/// `TooLong` only where the file has more than `cert_stream::MAX_BYTES` bytes; then `Text` exactly as `read_certificate`
+/// refuses the bytes. It takes time in the length of the file, and memory for one piece of it, one line, and the branches of a path.
 ///
 /// An answer raises none of the shelf's counts of failures. `Missing` raises the count of names that were not found,
 /// alone and by one, `Failed` that of fetches that failed, alone and by one, and each other refusal none (`counts`).
 pub fn read_claim<S: Shelf>(alloc: Global, shelf: &mut S, name: &str) -> Result<Claim, StreamFault>
-    ensures claim { IfOk result (λ claim. IsTrue (S.shown shelf.old).told → OfCertificate ((S.shown shelf.old).file name.now) (λ c. c.claim ≡ claim)) }
+    ensures claim { IfOk result (λ claim. IsTrue (S.shown shelf.old).told
+        → OfCertificate ((S.shown shelf.old).file name.now) (λ c. c.claim ≡ claim)) }
     ensures fault { IfErr result (IsStreamFault name.now (S.shown shelf.old) (S.shown shelf.new) never_refused) }
     ensures whole { WhenRead result (IsTrue (S.shown shelf.old).told → OfBytes ((S.shown shelf.old).file name.now)
         (λ bytes. GrewBy (length bytes) (S.shown shelf.old).given (S.shown shelf.new).given)) }
@@ -54,8 +54,12 @@ pub fn check_stream<S: Shelf>(
     plan: Option<&Plan>,
 ) -> Result<Claim, StreamFault>
     ensures claim { IfOk result (λ claim. IsTrueOf instance.now claim (plan_given (option_copied plan.entry))) }
-    ensures certified { IfOk result (λ claim. IsTrue (S.shown shelf.old).told → OfCertificate ((S.shown shelf.old).file name.now) (λ c. (c.claim ≡ claim) × OfProblem instance.now (λ total weight. IsCertified instance.now total weight c (option_copied plan.entry)))) }
-    ensures fault { IfErr result (IsStreamFault name.now (S.shown shelf.old) (S.shown shelf.new) (λ at w. IsTrue (S.shown shelf.old).told → OfCertificate ((S.shown shelf.old).file name.now) (λ c. OfProblem instance.now (λ total weight. IsCheckFault instance.now total weight c (option_copied plan.entry) at w)))) }
+    ensures certified { IfOk result (λ claim. IsTrue (S.shown shelf.old).told
+        → OfCertificate ((S.shown shelf.old).file name.now)
+        (λ c. (c.claim ≡ claim) × IsGoodCertificate instance.now c (option_copied plan.entry))) }
+    ensures fault { IfErr result (IsStreamFault name.now (S.shown shelf.old) (S.shown shelf.new)
+        (λ at w. IsTrue (S.shown shelf.old).told → OfCertificate ((S.shown shelf.old).file name.now)
+        (λ c. IsRefusedWith instance.now (option_copied plan.entry) c at w))) }
     ensures counts { CountsOf result (S.shown shelf.old) (S.shown shelf.new) }
     ensures reads { OnlyReads (S.shown shelf.old) (S.shown shelf.new) }
     ensures given { (S.shown shelf.new).given ≤ (S.shown shelf.old).given + 2 * pass_size }

@@ -95,7 +95,8 @@ fn read_parts<S: Shelf>(
     ensures count { IfOk result (λ parts. length parts.items ≡ count) }
     ensures number { OnOk result (reader.new.number ≡ reader.old.number + count) }
     ensures left { OnOk result (left_of reader.new ≤ left_of reader.old) }
-    ensures awaited { (parts : List Part) (ls : Values) → length parts ≡ count → Awaits (S.shown shelf.old) name.now reader.old version (part_values parts ++ ls)
+    ensures awaited { (parts : List Part) (ls : Values) → length parts ≡ count
+        → Awaits (S.shown shelf.old) name.now reader.old version (part_values parts ++ ls)
         → Gives (λ read. (read.items ≡ parts) × Awaits (S.shown shelf.new) name.now reader.new version ls) never_refused result }
     ensures on { OnOk result (IsOn name.now (S.shown shelf.old) (S.shown shelf.new) reader.old reader.new) }
     ensures stopped { IfErr result (IsStopped name.now reader.old.at (S.shown shelf.old) (S.shown shelf.new)) }
@@ -152,7 +153,8 @@ pub fn read_node<S: Shelf>(
     ensures number { IfOk result (λ node. reader.new.number ≡ reader.old.number + length (node_values node)) }
     ensures left { OnOk result (left_of reader.new < left_of reader.old) }
     ensures awaited { (tree : TreeShape) (ls : Values) → Awaits (S.shown shelf.old) name.now reader.old version (tree_values tree ++ ls)
-        → Gives (λ node. (more : Values) × IsFirstOf node tree more × Awaits (S.shown shelf.new) name.now reader.new version (more ++ ls)) never_refused result }
+        → Gives (λ node. (more : Values) × IsFirstOf node tree more
+        × Awaits (S.shown shelf.new) name.now reader.new version (more ++ ls)) never_refused result }
     ensures on { OnOk result (IsOn name.now (S.shown shelf.old) (S.shown shelf.new) reader.old reader.new) }
     ensures stopped { IfErr result (IsStopped name.now reader.old.at (S.shown shelf.old) (S.shown shelf.new)) }
 {

@@ -1,4 +1,4 @@
-use Rattle.std.proofs.Common.{◌≡◌, ℕ, refl, ap, Err}
+use Rattle.std.proofs.Common.{◌≡◌, ℕ, refl, ap, rules, Err}
 use mir.Facts.{to_z-of_z}
 use mir.Val.{of_z, to_z}
 use mir.Syntax.{w128}
@@ -34,3 +34,8 @@ returns-in-None-clause-good c = λ total totals.
     let n = names c.args.instance.now total c.args.cuts.now c.args.path.now in
     let same : to_z w128 (of_z w128 c.args.den) ≡ c.args.den = to_z-of_z c.ranges.den in
     good_sum n c.args.den c.args.parts.now c.sum_parts.new.self.sums (c.in-Ok.ensures.parts total) (c.in-Ok-sum_parts.ensures.small total totals) (c.in-Ok-sum_parts.ensures.sums total totals) (λ column. rw same at c.in-None.ensures.none refl column)
+
+pub returns-in-None-clause-right : goal.returns-in-None-clause-right
+returns-in-None-clause-right c = λ total totals.
+    let right = (c.in-Ok-sum_parts.ensures.sums total totals).right in
+    search rules

@@ -1,5 +1,5 @@
 use Rattle.std.proofs.Common.{subst}
-use Rattle.certificate.specs.Stacks.{needs_in}
+use Rattle.certificate.specs.Stacks.{dues_in}
 use Rattle.cert_stream.specs.Claims.{AreTaken, IsStep}
 use Rattle.cert_stream.specs.Reader.{rest_in}
 use Rattle.cert_stream.proofs.Steps.{goes_on, told_on}
@@ -11,8 +11,8 @@ loop-fault-preserved g c =
     let name = c.args.name.now in
     let a = c.loop-fault.reader in
     let b = c.take_line.new.reader in
-    let before = needs_in c.loop-fault.needs in
-    let after = needs_in c.take_line.new.needs in
+    let before = dues_in c.loop-fault.dues in
+    let after = dues_in c.take_line.new.dues in
     let text = rest_in (g.S.Shelf.shown c.loop-fault.shelf) name a in
     let rest = rest_in (g.S.Shelf.shown c.take_line.new.shelf) name b in
     let known = c.loop-fault.invariant in

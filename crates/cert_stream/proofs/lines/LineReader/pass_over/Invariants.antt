@@ -1,5 +1,6 @@
 use Rattle.std.proofs.Common.{◌≡◌, ◌-◌}
-use Rattle.cert_stream.specs.Reader.{GoesOn, IsSound, most_bytes}
+use Rattle.cert_stream.specs.declared.limits.TheConstants.{MAX_BYTES}
+use Rattle.cert_stream.specs.Reader.{GoesOn, IsSound}
 use Rattle.cert_stream.proofs.lines.LineReader.pass_over.Given as goal
 
 -- the pieces so far were given
@@ -11,4 +12,4 @@ invariant-loop-self g l = record {
 }
 
 abbrev pub decreases-loop-self : goal.decreases-loop-self
-decreases-loop-self g l = most_bytes - l.self.at
+decreases-loop-self g l = MAX_BYTES - l.self.at

@@ -1,19 +1,20 @@
 // What a text needs next, as a value: one line after the other takes from it.
 ghost use Rattle.std.specs.Prelude.{◌≡◌, ◌≤◌, ◌↔◌, [], ◌∷◌, IfOk, IsErrOf, IsTrue, OnOk};
 ghost use Rattle.cert_lines.specs.Shapes.{line_shape};
-ghost use Rattle.certificate.specs.declared.needs.Misfit.TheVariants.{Deep, Unwanted};
+ghost use Rattle.certificate.specs.declared.dues.Misfit.TheVariants.{Deep, Unwanted};
 ghost use Rattle.certificate.specs.Needs.{IsTooDeep, IsUnwanted, TakesAll, a_tree};
 ghost use Rattle.certificate.specs.Faults.{body_needs};
-ghost use Rattle.certificate.specs.Stacks.{needs_in};
+ghost use Rattle.certificate.specs.Stacks.{dues_in};
 
 use crate::CertLine;
 use cert_lines::MAX_BRANCHES;
 use std::alloc::{AllocError, AllocFailed, Global};
+use thiserror::Error;
 
 /// What the lines after the first three need next: parts, then cuts, then trees, and then the end. The reader of
 /// a text that comes in pieces holds it and gives it one line after the other.
 #[derive(Debug, Drop)]
-pub struct Needs {
+pub struct Dues {
     parts: u32,
     cuts: u32,
     // Branches above each tree; the next tree is the last one.
@@ -22,19 +23,22 @@ pub struct Needs {
 }
 
 /// Why a line isn't one that is needed.
-#[derive(Clone, Copy, Debug, PartialEq, Eq)]
+#[derive(Clone, Copy, Debug, PartialEq, Eq, Error)]
 pub enum Misfit {
     /// Another line is needed, or none.
+    #[error("another line is needed, or none")]
     Unwanted,
     /// A branch has `MAX_BRANCHES` branches above it.
+    #[error("too many branches on a path")]
     Deep,
     /// Memory ran out.
+    #[error("out of memory")]
     Memory,
 }
 
 impl From<AllocError> for Misfit {
     ghost use Rattle.std.specs.Prelude.{◌≡◌};
-    ghost use Rattle.certificate.specs.declared.needs.Misfit.TheVariants.{Memory};
+    ghost use Rattle.certificate.specs.declared.dues.Misfit.TheVariants.{Memory};
 
     ghost from_gives = { λ _ e. e ≡ Memory };
 
@@ -45,7 +49,7 @@ impl From<AllocError> for Misfit {
 
 impl<T: Drop> From<AllocFailed<T>> for Misfit {
     ghost use Rattle.std.specs.Prelude.{◌≡◌};
-    ghost use Rattle.certificate.specs.declared.needs.Misfit.TheVariants.{Memory};
+    ghost use Rattle.certificate.specs.declared.dues.Misfit.TheVariants.{Memory};
 
     ghost from_gives = { λ _ e. e ≡ Memory };
 
@@ -54,14 +58,14 @@ impl<T: Drop> From<AllocFailed<T>> for Misfit {
     }
 }
 
-impl Needs {
+impl Dues {
     /// What is needed after the first three lines of a text with so many cuts: the cuts, a tree and the end.
-    pub fn new(alloc: Global, cuts: u32) -> Result<Needs, AllocError>
-        ensures { IfOk result (λ needs. needs_in needs ≡ body_needs cuts) }
+    pub fn new(alloc: Global, cuts: u32) -> Result<Dues, AllocError>
+        ensures { IfOk result (λ dues. dues_in dues ≡ body_needs cuts) }
     {
         let mut trees = Vec::new(alloc);
         trees.push(0)?;
-        Ok(Needs {
+        Ok(Dues {
             parts: 0,
             cuts,
             trees,
@@ -72,9 +76,9 @@ impl Needs {
     /// Takes the next line: what it needs itself comes first then. The line is another one than is needed, or a
     /// branch too deep, exactly where this is the answer. Memory is taken for a branch alone.
     pub fn take(&mut self, line: &CertLine) -> Result<(), Misfit>
-        ensures taken { OnOk result (TakesAll (needs_in self.old) (line_shape line.now ∷ []) (needs_in self.new)) }
-        ensures unwanted { IsErrOf result Unwanted → IsUnwanted (needs_in self.old) (line_shape line.now) }
-        ensures deep { IsErrOf result Deep → IsTooDeep (needs_in self.old) (line_shape line.now) }
+        ensures taken { OnOk result (TakesAll (dues_in self.old) (line_shape line.now ∷ []) (dues_in self.new)) }
+        ensures unwanted { IsErrOf result Unwanted → IsUnwanted (dues_in self.old) (line_shape line.now) }
+        ensures deep { IsErrOf result Deep → IsTooDeep (dues_in self.old) (line_shape line.now) }
     {
         if self.parts > 0 {
             return self.take_part(line);
@@ -90,7 +94,7 @@ impl Needs {
 
     /// Whether nothing is needed any more.
     pub fn are_met(&self) -> bool
-        ensures { IsTrue result ↔ (needs_in self.now ≡ []) }
+        ensures { IsTrue result ↔ (dues_in self.now ≡ []) }
     {
         if self.parts > 0 {
             return false;
@@ -107,8 +111,8 @@ impl Needs {
     // A line where a part is needed.
     fn take_part(&mut self, line: &CertLine) -> Result<(), Misfit>
         requires some { 1 ≤ self.old.parts }
-        ensures taken { OnOk result (TakesAll (needs_in self.old) (line_shape line.now ∷ []) (needs_in self.new)) }
-        ensures unwanted { IsErrOf result Unwanted → IsUnwanted (needs_in self.old) (line_shape line.now) }
+        ensures taken { OnOk result (TakesAll (dues_in self.old) (line_shape line.now ∷ []) (dues_in self.new)) }
+        ensures unwanted { IsErrOf result Unwanted → IsUnwanted (dues_in self.old) (line_shape line.now) }
         ensures deep { IsErrOf result Deep → ⊥ }
     {
         match line {
@@ -124,8 +128,8 @@ impl Needs {
     fn take_cut(&mut self, line: &CertLine) -> Result<(), Misfit>
         requires none { self.old.parts ≡ 0 }
         requires some { 1 ≤ self.old.cuts }
-        ensures taken { OnOk result (TakesAll (needs_in self.old) (line_shape line.now ∷ []) (needs_in self.new)) }
-        ensures unwanted { IsErrOf result Unwanted → IsUnwanted (needs_in self.old) (line_shape line.now) }
+        ensures taken { OnOk result (TakesAll (dues_in self.old) (line_shape line.now ∷ []) (dues_in self.new)) }
+        ensures unwanted { IsErrOf result Unwanted → IsUnwanted (dues_in self.old) (line_shape line.now) }
         ensures deep { IsErrOf result Deep → ⊥ }
     {
         match line {
@@ -146,9 +150,9 @@ impl Needs {
     fn take_tree(&mut self, line: &CertLine, above: u32) -> Result<(), Misfit>
         requires parts { self.old.parts ≡ 0 }
         requires cuts { self.old.cuts ≡ 0 }
-        ensures taken { OnOk result (TakesAll (a_tree above ∷ needs_in self.old) (line_shape line.now ∷ []) (needs_in self.new)) }
-        ensures unwanted { IsErrOf result Unwanted → IsUnwanted (a_tree above ∷ needs_in self.old) (line_shape line.now) }
-        ensures deep { IsErrOf result Deep → IsTooDeep (a_tree above ∷ needs_in self.old) (line_shape line.now) }
+        ensures taken { OnOk result (TakesAll (a_tree above ∷ dues_in self.old) (line_shape line.now ∷ []) (dues_in self.new)) }
+        ensures unwanted { IsErrOf result Unwanted → IsUnwanted (a_tree above ∷ dues_in self.old) (line_shape line.now) }
+        ensures deep { IsErrOf result Deep → IsTooDeep (a_tree above ∷ dues_in self.old) (line_shape line.now) }
     {
         match line {
             CertLine::Branch { .. } => {
@@ -177,8 +181,8 @@ impl Needs {
         requires parts { self.old.parts ≡ 0 }
         requires cuts { self.old.cuts ≡ 0 }
         requires trees { self.old.trees.items ≡ [] }
-        ensures taken { OnOk result (TakesAll (needs_in self.old) (line_shape line.now ∷ []) (needs_in self.new)) }
-        ensures unwanted { IsErrOf result Unwanted → IsUnwanted (needs_in self.old) (line_shape line.now) }
+        ensures taken { OnOk result (TakesAll (dues_in self.old) (line_shape line.now ∷ []) (dues_in self.new)) }
+        ensures unwanted { IsErrOf result Unwanted → IsUnwanted (dues_in self.old) (line_shape line.now) }
         ensures deep { IsErrOf result Deep → ⊥ }
     {
         if !self.end {

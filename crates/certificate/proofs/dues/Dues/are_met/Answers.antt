@@ -1,6 +1,6 @@
 use Rattle.std.proofs.Common.{arith}
 use Rattle.certificate.proofs.Piles.{all_met, some_cut, some_part, some_tree}
-use Rattle.certificate.proofs.needs.Needs.are_met.Goals as goal
+use Rattle.certificate.proofs.dues.Dues.are_met.Goals as goal
 
 pub returns-then-self-gt0 : goal.returns-then-self-gt0
 returns-then-self-gt0 c = let s = c.args.self.now in (λ no. cc no, λ none. absurd (some_part s.parts s.cuts s.trees.items s.end c.if-self-gt0.true none))
