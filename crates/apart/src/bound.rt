@@ -13,8 +13,9 @@ ghost use Rattle.apart.specs.Cuts.{AreCutsAnywhere, SayAnywhere, leaf_from};
 ghost use Rattle.apart.specs.Steps.{AreApartTo};
 
 use crate::Apart;
-use crate::item::{OwnCut, echelon_for, own_cut};
+use crate::item::{OwnCut, own_cut};
 use acceptance::leaves_bound;
+use cert_checker::echelon_for;
 use certificate::{Cut, Leaf, Part};
 use echelon::Explosion;
 use lin_rows::{Row, RowName};
@@ -64,7 +65,7 @@ fn add_item(
 /// that takes each of them once says the amount (`leaf`): `apart_leaf` makes it.
 ///
 /// It takes time in the number of items times that of periods times that of items and periods, and
-/// memory for the cuts and their rows. The error is want of memory.
+/// memory for the cuts and their rows. The error is that memory ran out.
 pub fn apart(alloc: Global, instance: &Instance) -> Result<Apart, AllocError>
     ensures amount { IfOk result (λ found. IsApart instance.now found.amount) }
     ensures floor { IfOk result (λ found. IsFloor instance.now found.amount) }
@@ -91,7 +92,7 @@ pub fn apart(alloc: Global, instance: &Instance) -> Result<Apart, AllocError>
 
 /// The leaf that takes each of so many cuts once, which stand after so many other cuts: `before` is
 /// 0 where the first of them is the first cut of all. It has lines in texts of every version, where
-/// it has no more parts than a leaf may have (`lines`). The error is want of memory.
+/// it has no more parts than a leaf may have (`lines`). The error is that memory ran out.
 pub fn apart_leaf(alloc: Global, before: u32, count: u32) -> Result<Leaf, AllocError>
     requires { before + count < 2 ^ 32 }
     ensures shape { IfOk result (λ leaf. leaf_shape leaf ≡ leaf_from before count) }

@@ -1,43 +1,21 @@
 // The item apart, and the block cut that says what it costs.
-ghost use Rattle.std.specs.Prelude.{◌≡◌, IfOk, IfSome, IsNone, option_map, if◌then◌else◌};
+ghost use Rattle.std.specs.Prelude.{◌≡◌, IfOk, IfSome, option_map, if◌then◌else◌};
 ghost use Rattle.lot_sizing.specs.Problem.{IsSeries};
 ghost use Rattle.lot_sizing.specs.Single.{IsWithinBounds};
 ghost use Rattle.lot_sizing.specs.declared.limits.TheConstants.{MAX_AMOUNT};
 ghost use Rattle.echelon.specs.Views.{single_of_item};
-ghost use Rattle.echelon.specs.Weights.{IsExplosionOf};
 ghost use Rattle.lin_rows.specs.declared.fault.CutFault.TheVariants.{Memory};
-ghost use Rattle.cert_checker.specs.Cuts.{IsItem, IsNotLeadFree};
+ghost use Rattle.cert_checker.specs.Cuts.{IsItem};
 ghost use Rattle.apart.specs.Apart.{held_apart, is_component, no_costs, owed_apart};
 ghost use Rattle.apart.specs.Steps.{IsOwnCut, IsOwnEchelon, own_single};
 
 use acceptance::echelon_rows_are_one;
 use backlog_dp::laws::solutions_are_allowed;
 use backlog_dp::{block_row, solve};
-use echelon::{EchelonItem, Explosion, Net, SingleItem, echelon_of, lead_free, net_of};
+use echelon::{EchelonItem, Net, SingleItem, net_of};
 use lin_rows::{CutFault, Potentials, Row};
 use lot_model::Instance;
-use lot_sizing::weights_are_one;
 use std::alloc::{AllocError, Global};
-
-// The echelon of an item, and none where the item isn't lead-free.
-pub(crate) fn echelon_for(
-    alloc: Global,
-    instance: &Instance,
-    explosion: &Explosion,
-    item: u32,
-) -> Result<Option<EchelonItem>, AllocError>
-    requires explosion { IsExplosionOf instance.now explosion.now }
-    requires item { IsItem instance.now item }
-    ensures some { IfOk result (λ found. IfSome found (IsOwnEchelon instance.now item)) }
-    ensures none { IfOk result (λ found. IsNone found → IsNotLeadFree instance.now item) }
-{
-    weights_are_one();
-    if !lead_free(instance, explosion, item) {
-        return Ok(None);
-    }
-    let echelon = echelon_of(alloc, instance, explosion, item)?;
-    Ok(Some(echelon))
-}
 
 // Whether an item goes into some item.
 fn is_component(instance: &Instance, item: u32) -> bool
@@ -133,7 +111,7 @@ pub(crate) struct OwnCut {
     pub(crate) row: Row,
 }
 
-// A fault that can only be want of memory.
+// A fault that can only be out of memory.
 fn want_of_memory(_fault: CutFault) -> AllocError
     requires { _fault ≡ Memory }
 {

@@ -68,7 +68,7 @@ fn solved(alloc: Global, lp: &Lp) -> Result<BoundSays, AllocError>
 ///
 /// It is skipped where the tableau of these rows has more than `MAX_CELLS` cells. An equal row has two rows of the tableau.
 /// The run by the least-index rule may pass 128 bits. It takes time in the number of cells for each pivot, and there is
-/// no useful limit on their number. The error is want of memory.
+/// no useful limit on their number. The error is that memory ran out.
 pub fn base_bound(alloc: Global, instance: &Instance) -> Result<BoundSays, AllocError>
     ensures bound { IfOk result (IfBound (IsBaseBound instance.now)) }
     ensures floor { IfOk result (IfBound (IsFloor instance.now)) }

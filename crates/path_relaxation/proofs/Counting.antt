@@ -12,6 +12,7 @@ use Rattle.lin_rows.specs.declared.base.RowName.TheVariants.{Balance, Link, Capa
 use Rattle.lin_rows.specs.declared.bound.Bound.{Bound}
 use Rattle.lin_rows.specs.Columns.{column_count, owes, owing_count}
 use Rattle.lin_rows.specs.Rows.{LinRow}
+use Rattle.cert_lines.specs.declared.limits.TheConstants.{MAX_BRANCHES}
 use Rattle.tableau.specs.Program.{Program, column_count as width_of, row_count}
 use Rattle.acceptance.specs.Named.{row_named}
 use Rattle.root_rows.specs.declared.limits.TheConstants.{MAX_ROUND_SIZE}
@@ -118,7 +119,7 @@ module _ (m : Problem) (total : ℕ → ℕ) (path : List Bound) (n : ℕ) (p : 
       let row = row_named (on_path m total path) in
       omega (arith, ap length is.sides_are, sides_few row (path_names m n), length-append (base_names m) (names_to n (λ k. Path k)), base_few m within, to_count n (λ k. Path k))
 
-  pub few_all : IsWithinLimits m → n ≤ 2000 → width_of p + row_count p ≤ MAX_ROUND_SIZE
+  pub few_all : IsWithinLimits m → n ≤ MAX_BRANCHES → width_of p + row_count p ≤ MAX_ROUND_SIZE
   few_all within few = omega (arith, is.program.costs_are.size, columns_few m within, one_side_each, few_sides within, few)
 
 -- ---- parts

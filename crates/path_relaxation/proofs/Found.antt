@@ -9,7 +9,7 @@ use Rattle.lot_sizing.specs.Problem.{Problem}
 use Rattle.lot_sizing.specs.Totals.{AreLargestTotals}
 use Rattle.lot_model.specs.Views.{IsInstance}
 use Rattle.lin_rows.specs.declared.bound.Bound.{Bound}
-use Rattle.cert_lines.specs.declared.limits.TheConstants.{MAX_PARTS}
+use Rattle.cert_lines.specs.declared.limits.TheConstants.{MAX_BRANCHES, MAX_PARTS}
 use Rattle.cert_lines.specs.declared.parts.Part.{Part}
 use Rattle.tableau.specs.declared.outcome.Outcome.{Outcome}
 use Rattle.tableau.specs.Denominators.{PassWhole}
@@ -23,6 +23,7 @@ use Rattle.acceptance.specs.Parts.{AreParts, AreSmall}
 use Rattle.acceptance.specs.Says.{IsFarkas, IsLinear}
 use Rattle.root_rows.specs.declared.program.Side.{Side}
 use Rattle.root_rows.specs.declared.rounds.RoundProgram.{RoundProgram}
+use Rattle.root_rows.specs.Leaves.{AreWhole, farkas, linear}
 use Rattle.root_rows.specs.Names.{BaseNamesAreAll}
 use Rattle.root_rows.specs.Says.{EmptyIsSaid, LeastIsSaid, LeastSays}
 use Rattle.root_rows.specs.Sides.{parts_of}
@@ -31,7 +32,7 @@ use Rattle.path_relaxation.specs.declared.says.Exempt.TheVariants.{Pivots, Cell,
 use Rattle.path_relaxation.specs.declared.says.PathSays.{PathSays}
 use Rattle.path_relaxation.specs.declared.says.PathSays.TheVariants.{AtLeast, NoPoint, Exempt as ExemptFor}
 use Rattle.path_relaxation.specs.Path.{EndsPathRun, HasMultipliers, IfAtLeast, IfExempt, IfNoPoint, IsExempt, IsGoodLeaf, IsLargeLeaf, IsMetAt, SaysAtLeast, SaysNone, on_path, path_names, path_sides}
-use Rattle.path_relaxation.specs.Steps.{AreWhole, EndsEmpty, EndsLeast, IsFarkasFound, IsLinearFound, IsReady, IsRefused, IsSaid, SaysSmall, farkas, linear}
+use Rattle.path_relaxation.specs.Steps.{EndsEmpty, EndsLeast, IsFarkasFound, IsLinearFound, IsReady, IsRefused, IsSaid, SaysSmall}
 use Rattle.path_relaxation.proofs.Counting.{few_sides, one_side_each, parts_few}
 use Rattle.path_relaxation.proofs.Points.{are_rows, met_by}
 use Rattle.path_relaxation.proofs.Refusals.{farkas_is_large, linear_is_large, one_amount}
@@ -48,7 +49,7 @@ module _ (m : Problem) (path : List Bound) (program : RoundProgram) (ready : IsR
   same_sides : (total : ℕ → ℕ) → AreLargestTotals m total → path_sides m total path ≡ sides
   same_sides total totals = sym (ready.made total totals).sides_are
 
-  few_parts : length path ≤ 2000 → (z : ℕ → ℤ) → length (parts_of sides z) ≤ MAX_PARTS
+  few_parts : length path ≤ MAX_BRANCHES → (z : ℕ → ℤ) → length (parts_of sides z) ≤ MAX_PARTS
   few_parts short z =
       let (total, totals, small) = instance.totals in
       omega (arith, parts_few sides z, few_sides m total path (length path) program.lp sides (ready.made total totals) instance.limits, short)
@@ -68,7 +69,7 @@ module _ (m : Problem) (path : List Bound) (program : RoundProgram) (ready : IsR
       large = large total totals;
     }
 
-  module _ (names : BaseNamesAreAll) (choices : AreChoices m path) (short : length path ≤ 2000) (ys : List ℚ) (size : length ys ≡ row_count program.lp) where
+  module _ (names : BaseNamesAreAll) (choices : AreChoices m path) (short : length path ≤ MAX_BRANCHES) (ys : List ℚ) (size : length ys ≡ row_count program.lp) where
     of_rows : (den : ℕ) (z : ℕ → ℤ) → AreOfLeaf (length ys) (number_at ys) den z → AreOfLeaf (row_count program.lp) (number_at ys) den z
     of_rows den z of_leaf = subst (λ k. AreOfLeaf k (number_at ys) den z) size of_leaf
 

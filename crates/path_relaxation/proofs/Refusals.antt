@@ -15,10 +15,11 @@ use Rattle.acceptance.specs.Says.{IsFarkas, IsLinear, IsRoundedUp}
 use Rattle.cert_checker.specs.declared.fault.Why.{Why}
 use Rattle.cert_checker.specs.declared.fault.Why.TheVariants as why
 use Rattle.cert_checker.specs.Leaves.{IsFarkasFault, IsFirstWrong, IsSumFault, farkas_most, linear_most, no_part}
+use Rattle.root_rows.specs.declared.leaf.WholeLeaf.{WholeLeaf}
 use Rattle.root_rows.specs.declared.program.Side.{Side}
+use Rattle.root_rows.specs.Leaves.{IsWholeLeaf, farkas, linear}
 use Rattle.root_rows.specs.Sides.{parts_of}
-use Rattle.path_relaxation.specs.declared.leaf.WholeLeaf.{WholeLeaf}
-use Rattle.path_relaxation.specs.Steps.{HasNoLeaf, IsRefused, IsWholeLeaf, farkas, linear}
+use Rattle.path_relaxation.specs.Steps.{HasNoLeaf, IsRefused}
 
 -- a number is rounded up to one number
 pub one_amount : (den a : ℤ) (n k : ℕ) → IsRoundedUp den a n → IsRoundedUp den a k → n ≡ k

@@ -11,7 +11,7 @@ use Rattle.lot_sizing.specs.Problem.{IsPlain, IsWithinLimits, Problem}
 use Rattle.lin_rows.specs.declared.base.RowName.{RowName}
 use Rattle.lin_rows.specs.declared.base.RowName.TheVariants.{Balance, Link, Capacity, EndMin, EndMax, Top, Least, Late, Path, Cut}
 use Rattle.lin_rows.specs.Texts.{name_text, one_text}
-use Rattle.cert_lines.specs.declared.limits.TheConstants.{MAX_LINE, MAX_PARTS}
+use Rattle.cert_lines.specs.declared.limits.TheConstants.{MAX_BRANCHES, MAX_LINE, MAX_PARTS}
 use Rattle.cert_lines.specs.declared.parts.Part.{Part}
 use Rattle.cert_lines.specs.Line.{HasLine, IsFirstName, IsSmallName}
 use Rattle.cert_lines.specs.Shapes.{FarkasLeaf, LinearLeaf, PartLine}
@@ -64,7 +64,7 @@ single word name a most few small is = record {
   text = omega (arith, is, single_short word a few most);
 }
 
-module _ (m : Problem) (limits : IsWithinLimits m) (bounds : ℕ) (few : bounds ≤ 2000) where
+module _ (m : Problem) (limits : IsWithinLimits m) (bounds : ℕ) (few : bounds ≤ MAX_BRANCHES) where
   name_short : (name : RowName) → HasName m 0 bounds name → IsShortName name
   name_short (Balance i t) has = pair (codes "balance") (Balance i t) i t (omega (arith, has.1, limits.items)) (omega (arith, has.3, limits.periods)) (omega arith) (λ a b. (a, b)) refl
   name_short (Link i t) has = pair (codes "link") (Link i t) i t (omega (arith, has.1, limits.items)) (omega (arith, has.3, limits.periods)) (omega arith) (λ a b. (a, b)) refl

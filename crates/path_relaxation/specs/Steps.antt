@@ -1,12 +1,10 @@
 -- The steps to what is said of the relaxation on a path.
-use Rattle.std.specs.Prelude.{◌≡◌, ◌⊎◌, ℕ, ◌<◌, ℤ, pos, List, [], length}
+use Rattle.std.specs.Prelude.{◌≡◌, ◌⊎◌, ℕ, ℤ, List, [], length}
 use Rattle.rational.specs.Rational.{ℚ}
-use Rattle.frac128.specs.Limits.{IsSmall}
 use Rattle.lot_sizing.specs.Problem.{Problem}
 use Rattle.lin_rows.specs.declared.bound.Bound.{Bound}
 use Rattle.lin_rows.specs.Columns.{column_count}
-use Rattle.cert_lines.specs.declared.parts.Part.{Part}
-use Rattle.cert_lines.specs.Shapes.{LeafShape, LinearLeaf, FarkasLeaf, leaf_shape}
+use Rattle.cert_lines.specs.Shapes.{LeafShape, leaf_shape}
 use Rattle.tableau.specs.declared.outcome.Outcome.{Outcome}
 use Rattle.tableau.specs.Denominators.{PassWhole}
 use Rattle.tableau.specs.Leaves.{AreOfLeaf}
@@ -20,9 +18,10 @@ use Rattle.cert_checker.specs.declared.fault.Why.{Why}
 use Rattle.cert_checker.specs.Leaves.{IsLeafFault, LeafIsSmall, LeafSaysThis, WithNames}
 use Rattle.root_rows.specs.declared.program.Side.{Side}
 use Rattle.root_rows.specs.declared.rounds.RoundProgram.{RoundProgram}
+use Rattle.root_rows.specs.declared.leaf.TheConstants.{LEAF_LINE}
+use Rattle.root_rows.specs.Leaves.{AreWhole, Making, farkas, linear}
 use Rattle.root_rows.specs.Says.{IsProgramOf, sides_named}
 use Rattle.root_rows.specs.Sides.{parts_of}
-use Rattle.path_relaxation.specs.declared.leaf.WholeLeaf.{WholeLeaf}
 use Rattle.root_rows.specs.declared.limits.TheConstants.{MAX_PIVOTS}
 use Rattle.path_relaxation.specs.declared.says.Exempt.TheVariants.{Pivots, Cell, Leaf}
 use Rattle.path_relaxation.specs.declared.says.PathSays.{PathSays}
@@ -65,30 +64,6 @@ pub record EndsEmpty (p : Program) (ys : List ℚ) : Type 0 where
   pub empty : AreEmpty p (number_at ys)
 
 -- ---- the leaf
--- how a leaf is made of a denominator and parts
-abbrev pub Making : Type 0
-Making = ℕ → List Part → LeafShape
-
-abbrev pub linear : Making
-linear den parts = LinearLeaf (pos den) parts
-
-abbrev pub farkas : Making
-farkas den parts = FarkasLeaf parts
-
--- multipliers over their least common denominator, all of them small
-pub record AreWhole (ys : List ℚ) (den : ℕ) (z : ℕ → ℤ) : Type 0 where
-  pub leaf : AreOfLeaf (length ys) (number_at ys) den z
-  pub den_small : IsSmall (pos den)
-  pub small : (k : ℕ) → k < length ys → IsSmall (z k)
-
--- these, and the parts that they make of sides
-pub record IsWholeLeaf (sides : List Side) (ys : List ℚ) (whole : WholeLeaf) : Type 0 where
-  pub den : ℕ
-  pub numerators : ℕ → ℤ
-  pub are : AreWhole ys den numerators
-  pub den_is : pos den ≡ whole.den
-  pub parts_are : whole.parts.items ≡ parts_of sides numerators
-
 -- what a leaf says without cuts, with small sums
 pub record SaysSmall (m : Problem) (path : List Bound) (leaf : LeafShape) (says : LeafSays) : Type 0 where
   pub said : LeafSaysThis m [] path leaf says
@@ -96,7 +71,7 @@ pub record SaysSmall (m : Problem) (path : List Bound) (leaf : LeafShape) (says 
 
 -- or it is refused
 abbrev pub IsRefused : Problem → List Bound → LeafShape → Type 0
-IsRefused m path leaf = (at : ℕ) × (w : Why) × WithNames m [] path (λ n ranges. IsLeafFault n ranges leaf 1 at w)
+IsRefused m path leaf = (at : ℕ) × (w : Why) × WithNames m [] path (λ n ranges. IsLeafFault n ranges leaf LEAF_LINE at w)
 
 -- the leaf that whole multipliers make says something
 pub record IsLeafOf (m : Problem) (path : List Bound) (sides : List Side) (ys : List ℚ) (make : Making) (shape : LeafShape) (says : LeafSays) : Type 0 where

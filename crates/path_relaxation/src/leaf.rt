@@ -2,52 +2,19 @@
 ghost use Rattle.std.specs.Prelude.{◌≡◌, length, IfOk, MatchOption};
 ghost use Rattle.cert_lines.specs.Shapes.{leaf_shape};
 ghost use Rattle.split_trees.specs.Paths.{AreChoices};
-ghost use Rattle.tableau.specs.Denominators.{PassWhole};
 ghost use Rattle.cert_checker.specs.Leaves.{HasDenominator};
-ghost use Rattle.path_relaxation.specs.Steps.{IsFarkasFound, IsLinearFound, IsRefused, IsWholeLeaf, SaysSmall};
+ghost use Rattle.path_relaxation.specs.Steps.{IsFarkasFound, IsLinearFound, IsRefused, SaysSmall};
 
 use crate::program::is_instance;
 use crate::{Exempt, PathSays};
 use acceptance::LeafSays;
 use cert_checker::{CheckFault, leaf_bound};
-use cert_lines::{Leaf, Part};
+use cert_lines::Leaf;
 use frac128::Frac;
 use lin_rows::Bound;
 use lot_model::Instance;
-use root_rows::{Side, leaf_parts};
+use root_rows::{LEAF_LINE, Side, WholeLeaf, whole_leaf};
 use std::alloc::{AllocError, Global};
-use tableau::whole_multipliers;
-
-// The line of a leaf: refusals name it, and only whether there is one is looked at.
-const LEAF_LINE: u64 = 1;
-
-// The multipliers of a program's rows over their least common denominator, as parts.
-#[derive(Debug, Drop)]
-struct WholeLeaf {
-    den: i128,
-    parts: Vec<Part>,
-}
-
-// These, and None where the denominator or a multiplier times it is 2^127 or more.
-fn whole_leaf(
-    alloc: Global,
-    sides: &[Side],
-    multipliers: &[Frac],
-) -> Result<Option<WholeLeaf>, AllocError>
-    requires { length multipliers.now ≡ length sides.now }
-    ensures { IfOk result (λ found. MatchOption found (PassWhole multipliers.now) (IsWholeLeaf sides.now multipliers.now)) }
-{
-    match whole_multipliers(alloc, multipliers)? {
-        Some(whole) => {
-            let parts = leaf_parts(alloc, sides, &whole.numerators)?;
-            Ok(Some(WholeLeaf {
-                den: whole.den,
-                parts,
-            }))
-        }
-        None => Ok(None),
-    }
-}
 
 // What a leaf says on the path, without cuts; and None where it is refused.
 fn said(

@@ -93,7 +93,7 @@ fn program_says(
 /// | `Exempt` | the run has more pivots than it may, a number of it doesn't fit 128 bits, or a number of the leaf that its multipliers make, or a sum of absolute values in it, is 2^127 or more |
 ///
 /// The leaves name rows of the instance and bounds of the path, which are counted from 1, and no cuts. Each can be
-/// written. Bounds are of quantities and setups of the instance. The error is want of memory.
+/// written. Bounds are of quantities and setups of the instance. The error is that memory ran out.
 ///
 /// It keeps one program and its tableau, which takes time in the number of cells for each pivot.
 pub fn path_relaxation(

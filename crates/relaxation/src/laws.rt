@@ -32,7 +32,8 @@ pub fn empty_is_impossible()
     plans_are_relaxed();
 }
 
-/// A relaxation closes to at most one value, and one that closes to a value has a point.
+/// The least cost of a relaxation, rounded up, is one number: it has at most one closed value, and one that has it has a
+/// point.
 pub fn closed_values_are_one()
     ensures { ClosedValuesAreOne }
 {}

@@ -1,4 +1,3 @@
-mod Weighing
 mod RootCuts
 mod RootCounts
 mod RootLeaves

@@ -36,6 +36,7 @@ use Rattle.relaxation.specs.Relaxation.{Closes, HasNoPoint, WithFigures}
 use Rattle.root_rows.specs.declared.program.Side.{Side}
 use Rattle.root_rows.specs.declared.rounds.RoundProgram.{RoundProgram}
 use Rattle.root_rows.specs.Laws.{RoundsAreFew}
+use Rattle.root_rows.specs.Leaves.{AreWhole, farkas, linear}
 use Rattle.root_rows.specs.Rounds.{AreRead, IsRootRound, IsRound, NoneIsViolated, RoundsClose, RoundsRefute, at_root, round_sides}
 use Rattle.root_rows.specs.Sides.{parts_of, side_inequality, turned_row}
 use Rattle.root_rows.specs.declared.limits.TheConstants.{MAX_PIVOTS, MAX_ROUND_CUTS, MAX_ROUND_SIZE}
@@ -48,7 +49,7 @@ use Rattle.root_rounds.specs.declared.round_leaf.Verdict.{Verdict}
 use Rattle.root_rounds.specs.declared.separation.RootCuts.{RootCuts}
 use Rattle.root_rounds.specs.Root.{EndsRound, HasFigures, HasLeafLines, IsLargeLeaf, IsVersionFor, MakesLeaf, RoundsSay, SaysAmount, SaysNone, SaysSmall}
 use Rattle.root_rounds.specs.Rounds.{AreCutsAfter, AreCutsAt, AreCutsFound, AreCutsOf, AreJoined, AtLeastPoint, EndsRun, PassesFirst}
-use Rattle.root_rounds.specs.RootSteps.{AreRootCuts, AreRounds, AreSmallWhole, EndsRounds, IsJudged, IsLeafOf, IsReady, IsRefused, IsRootCut, Puts, WithWeights, farkas, linear, shapes}
+use Rattle.root_rounds.specs.RootSteps.{AreRootCuts, AreRounds, EndsRounds, IsJudged, IsLeafOf, IsReady, IsRefused, IsRootCut, Puts, WithWeights, shapes}
 use Rattle.root_rounds.proofs.RootCounts.{after_long, found_long, passes_long}
 use Rattle.root_rounds.proofs.RootCuts.{put_all, root_at, root_ls, root_many, root_rows}
 use Rattle.root_rounds.proofs.RootLeaves.{farkas_is_large, kept_leaf, linear_is_large, one_amount, rounded_up}
@@ -245,12 +246,12 @@ module _ (m : Problem) (round : ℕ) (low : 1 ≤ round) (high : round ≤ MAX_R
     same_sides total totals = sides_are ∙ (are.ready.round total totals).sides_are
 
     -- the parts of whole multipliers are small and few
-    module _ (den : ℕ) (z : ℕ → ℤ) (whole : AreSmallWhole ys den z) where
+    module _ (den : ℕ) (z : ℕ → ℤ) (whole : AreWhole ys den z) where
       whole_small : All IsSmallPart (parts_of sides z)
       whole_small =
           let (total, weight, totals, weights) = figures in
           let count = sides_long m total rows state.program.lp state.program.sides.items (are.ready.round total totals) in
-          parts_small sides z (λ k less. whole.each_small k (omega (arith, less, ap length sides_are, count, long)))
+          parts_small sides z (λ k less. whole.small k (omega (arith, less, ap length sides_are, count, long)))
 
       whole_few : (total : ℕ → ℕ) → AreLargestTotals m total → length (parts_of sides z) ≤ length (round_sides m total rows)
       whole_few total totals = omega (arith, parts_few sides z, ap length (same_sides total totals))

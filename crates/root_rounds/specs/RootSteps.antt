@@ -1,7 +1,6 @@
 -- What the steps of the root's rounds come to.
-use Rattle.std.specs.Prelude.{◌≡◌, ◌⊎◌, ℕ, ◌+◌, ◌-◌, ◌*◌, ◌≤◌, ◌<◌, Bool, true, false, ℤ, pos, List, [], ◌∷◌, ◌++◌, length, map, Option, Some, None, IsNone, IsSomeAnd, ⊤}
+use Rattle.std.specs.Prelude.{◌≡◌, ◌⊎◌, ℕ, ◌+◌, ◌-◌, ◌*◌, ◌≤◌, Bool, true, false, ℤ, List, [], ◌∷◌, ◌++◌, length, map, Option, Some, None, IsNone, IsSomeAnd, ⊤}
 use Rattle.rational.specs.Rational.{ℚ}
-use Rattle.frac128.specs.Limits.{IsSmall}
 use Rattle.lot_sizing.specs.Problem.{Problem, item_count}
 use Rattle.lot_sizing.specs.Bill.{AreWeights, bill_of}
 use Rattle.echelon.specs.declared.net.EchelonItem.{EchelonItem}
@@ -11,12 +10,8 @@ use Rattle.echelon_rows.specs.Rows.{echelon_in}
 use Rattle.ls_cuts.specs.Points.{Fractions}
 use Rattle.ls_cuts.specs.Steps.{SomePasses}
 use Rattle.cert_lines.specs.declared.limits.TheConstants.{MAX_CUTS}
-use Rattle.cert_lines.specs.declared.parts.Part.{Part}
-use Rattle.cert_lines.specs.Limits.{Is127}
-use Rattle.cert_lines.specs.Shapes.{CutShape, LeafShape, LinearLeaf, FarkasLeaf, cut_shape, leaf_shape}
+use Rattle.cert_lines.specs.Shapes.{CutShape, LeafShape, cut_shape, leaf_shape}
 use Rattle.tableau.specs.Denominators.{PassWhole}
-use Rattle.tableau.specs.Leaves.{AreOfLeaf}
-use Rattle.tableau.specs.Outcomes.{number_at}
 use Rattle.tableau.specs.Program.{IsProgram, column_count as width_of}
 use Rattle.split_trees.specs.Ranges.{WithTotals}
 use Rattle.acceptance.specs.declared.says.LeafSays.TheVariants.{NoPlan, AtLeast}
@@ -26,7 +21,9 @@ use Rattle.cert_checker.specs.Leaves.{IsLeafFault, WithNames}
 use Rattle.relaxation.specs.Relaxation.{WithFigures}
 use Rattle.root_rows.specs.declared.program.Side.{Side}
 use Rattle.root_rows.specs.declared.rounds.RoundProgram.{RoundProgram}
+use Rattle.root_rows.specs.declared.leaf.TheConstants.{LEAF_LINE}
 use Rattle.root_rows.specs.Laws.{HasSmallNumbers}
+use Rattle.root_rows.specs.Leaves.{AreWhole, Making}
 use Rattle.root_rows.specs.Rounds.{IsLs, IsRound}
 use Rattle.root_rows.specs.Sides.{parts_of}
 use Rattle.root_rounds.specs.declared.at_root.TheConstants.{MAX_ROUNDS}
@@ -36,8 +33,7 @@ use Rattle.branching.specs.declared.found.RootSays.{RootSays}
 use Rattle.branching.specs.declared.found.RootSays.TheVariants as root
 use Rattle.root_rounds.specs.declared.round.Rounds.{Rounds}
 use Rattle.root_rounds.specs.declared.round_leaf.Verdict.{Verdict}
-use Rattle.root_rounds.specs.declared.round_leaf.WholeLeaf.{WholeLeaf}
-use Rattle.root_rounds.specs.declared.separation.Place.{Place}
+use Rattle.root_rounds.specs.declared.separation.LastPeriod.{LastPeriod}
 use Rattle.root_rounds.specs.declared.separation.RootCuts.{RootCuts}
 use Rattle.root_rounds.specs.Root.{HasLeafLines, RoundsSay, SaysSmall}
 use Rattle.root_rounds.specs.Rounds.{AreCutsAfter, AreCutsAt, AreCutsFound, AreCutsOf, AreJoined, PassesAt, PassesFirst}
@@ -90,24 +86,14 @@ PutsItem m read i None old new = Puts m (λ cuts. WithWeights m (λ weight. AreC
 PutsItem m read i (Some l) old new = Puts m (λ cuts. WithWeights m (λ weight. PassesAt m weight read i l cuts)) old new
 
 -- and those of all items
-abbrev pub PutsAll : Problem → Fractions → Option Place → RootCuts → RootCuts → Type 0
+abbrev pub PutsAll : Problem → Fractions → Option LastPeriod → RootCuts → RootCuts → Type 0
 PutsAll m read None old new = Puts m (λ cuts. WithWeights m (λ weight. AreCutsFound m weight read cuts)) old new
-PutsAll m read (Some place) old new = Puts m (λ cuts. WithWeights m (λ weight. PassesFirst m weight read place.item place.l cuts)) old new
+PutsAll m read (Some end) old new = Puts m (λ cuts. WithWeights m (λ weight. PassesFirst m weight read end.item end.l cuts)) old new
 
 -- ---- leaves
--- how a leaf is made of a denominator and parts
-abbrev pub Making : Type 0
-Making = ℕ → List Part → LeafShape
-
-abbrev pub linear : Making
-linear den parts = LinearLeaf (pos den) parts
-
-abbrev pub farkas : Making
-farkas den parts = FarkasLeaf parts
-
 -- a leaf is refused on its line
 abbrev pub IsRefused : Problem → List LinRow → LeafShape → Type 0
-IsRefused m rows leaf = (at : ℕ) × (w : Why) × WithNames m rows [] (λ n ranges. IsLeafFault n ranges leaf 1 at w)
+IsRefused m rows leaf = (at : ℕ) × (w : Why) × WithNames m rows [] (λ n ranges. IsLeafFault n ranges leaf LEAF_LINE at w)
 
 -- what the leaf says is said, or the leaf is refused
 abbrev pub IsJudged : Problem → List LinRow → LeafShape → ℕ → RootSays → Option Leaf → Type 0
@@ -118,25 +104,11 @@ IsJudged m rows shape round root.Empty leaf = SaysSmall m rows shape NoPlan × I
 IsJudged m rows shape round (root.Stopped at) leaf = ⊥
 IsJudged m rows shape round (root.Passed at place) leaf = (at ≡ round) × (place ≡ passed.Leaf) × IsRefused m rows shape × IsNone leaf
 
--- multipliers times their least common denominator, none of these numbers large
-pub record AreSmallWhole (ys : List ℚ) (den : ℕ) (z : ℕ → ℤ) : Type 0 where
-  pub leaf : AreOfLeaf (length ys) (number_at ys) den z
-  pub den_small : Is127 den
-  pub each_small : (k : ℕ) → k < length ys → IsSmall (z k)
-
--- whole multipliers of sides, and the parts that they make
-pub record IsWholeLeaf (sides : List Side) (ys : List ℚ) (whole : WholeLeaf) : Type 0 where
-  pub den : ℕ
-  pub numerators : ℕ → ℤ
-  pub leaf : AreSmallWhole ys den numerators
-  pub den_is : pos den ≡ whole.den
-  pub parts_are : whole.parts.items ≡ parts_of sides numerators
-
 -- the multipliers have no small whole ones, or the leaf of these is judged
 abbrev pub IsLeafOf : Problem → List LinRow → List Side → List ℚ → Making → ℕ → Verdict → Type 0
 IsLeafOf m rows sides ys make round v =
     (PassWhole ys × (v.says ≡ root.Passed round passed.Leaf) × IsNone v.leaf)
-    ⊎ ((den : ℕ) × (z : ℕ → ℤ) × AreSmallWhole ys den z × IsJudged m rows (make den (parts_of sides z)) round v.says v.leaf)
+    ⊎ ((den : ℕ) × (z : ℕ → ℤ) × AreWhole ys den z × IsJudged m rows (make den (parts_of sides z)) round v.says v.leaf)
 
 -- ---- rounds
 -- a program of a round, whatever the largest totals are

@@ -18,7 +18,7 @@ ghost use Rattle.branching.specs.declared.found.RootSays.TheVariants.{Passed};
 ghost use Rattle.root_rounds.specs.RootSteps.{AreRootCuts, AreRounds, EndsRounds, GrowsRound, IsReady, shapes};
 
 use crate::round_leaf::{Verdict, farkas_leaf, linear_leaf, without_leaf};
-use crate::separation::{Place, RootCuts, separate_all};
+use crate::separation::{LastPeriod, RootCuts, separate_all};
 use branching::{PassedAt, RootSays};
 use echelon::Explosion;
 use frac128::Frac;
@@ -87,11 +87,11 @@ fn push_rows(
 }
 
 // What is said where a step of the separation doesn't fit.
-fn separation_passed(round: u32, place: Place) -> Verdict
-    ensures says { result.says ≡ Passed round (Separation place.item place.l) }
+fn separation_passed(round: u32, end: LastPeriod) -> Verdict
+    ensures says { result.says ≡ Passed round (Separation end.item end.l) }
     ensures leaf { IsNone result.leaf }
 {
-    let Place { item, l } = place;
+    let LastPeriod { item, l } = end;
     let at = PassedAt::Separation { item, l };
     without_leaf(RootSays::Passed { round, at })
 }
@@ -121,8 +121,8 @@ fn least_round(
     let _periods = instance.periods();
     let before = state.list.rows.len();
     let point = Point::new(instance, point);
-    if let Some(place) = separate_all(alloc, instance, explosion, &point, &mut state.list)? {
-        return Ok(Some(separation_passed(round, place)));
+    if let Some(end) = separate_all(alloc, instance, explosion, &point, &mut state.list)? {
+        return Ok(Some(separation_passed(round, end)));
     }
     if state.list.rows.len() > before {
         push_rows(

@@ -1,26 +1,22 @@
 // The leaf of a round, and what it says.
-ghost use Rattle.std.specs.Prelude.{◌≡◌, length, IfOk, IsNone, MatchOption};
+ghost use Rattle.std.specs.Prelude.{◌≡◌, length, IfOk, IsNone};
 ghost use Rattle.lin_rows.specs.Combining.{AreOfProblem};
 ghost use Rattle.cert_lines.specs.Shapes.{leaf_shape};
-ghost use Rattle.tableau.specs.Denominators.{PassWhole};
 ghost use Rattle.cert_checker.specs.Leaves.{HasDenominator};
 ghost use Rattle.branching.specs.declared.found.PassedAt.TheVariants as passed;
 ghost use Rattle.branching.specs.declared.found.RootSays.TheVariants.{Passed};
-ghost use Rattle.root_rounds.specs.RootSteps.{IsJudged, IsLeafOf, IsWholeLeaf, farkas, linear};
+ghost use Rattle.root_rows.specs.Leaves.{farkas, linear};
+ghost use Rattle.root_rounds.specs.RootSteps.{IsJudged, IsLeafOf};
 
 use acceptance::LeafSays;
 use branching::{PassedAt, RootSays};
 use cert_checker::{CheckFault, leaf_bound};
-use certificate::{Cut, Leaf, Part};
+use certificate::{Cut, Leaf};
 use frac128::Frac;
 use lin_rows::Row;
 use lot_model::Instance;
-use root_rows::{Side, leaf_parts};
+use root_rows::{LEAF_LINE, Side, WholeLeaf, whole_leaf};
 use std::alloc::{AllocError, Global};
-use tableau::whole_multipliers;
-
-// The line of a leaf: refusals name it, and only whether there is one is looked at.
-const LEAF_LINE: u64 = 1;
 
 /// What is said at the root, with what proves it.
 #[derive(Debug, Drop)]
@@ -79,34 +75,6 @@ fn judge(
         says,
         leaf: Some(leaf),
     })
-}
-
-// The multipliers of a program's rows over their least common denominator, as parts.
-#[derive(Debug, Drop)]
-pub(crate) struct WholeLeaf {
-    pub(crate) den: i128,
-    pub(crate) parts: Vec<Part>,
-}
-
-// These, and None where the denominator or a multiplier times it is 2^127 or more.
-fn whole_leaf(
-    alloc: Global,
-    sides: &[Side],
-    multipliers: &[Frac],
-) -> Result<Option<WholeLeaf>, AllocError>
-    requires { length multipliers.now ≡ length sides.now }
-    ensures { IfOk result (λ found. MatchOption found (PassWhole multipliers.now) (IsWholeLeaf sides.now multipliers.now)) }
-{
-    match whole_multipliers(alloc, multipliers)? {
-        Some(whole) => {
-            let parts = leaf_parts(alloc, sides, &whole.numerators)?;
-            Ok(Some(WholeLeaf {
-                den: whole.den,
-                parts,
-            }))
-        }
-        None => Ok(None),
-    }
 }
 
 // What the leaf by linear duality of multipliers says.

@@ -1,17 +1,17 @@
 // Which (l,S) rows the least point of a round violates.
-ghost use Rattle.std.specs.Prelude.{◌≡◌, ◌≤◌, IfOk, IfSome, IsNone, length};
+ghost use Rattle.std.specs.Prelude.{◌≡◌, ◌≤◌, IfOk, length};
 ghost use Rattle.echelon.specs.Weights.{IsExplosionOf};
 ghost use Rattle.lin_rows.specs.Points.{read_at};
 ghost use Rattle.cert_lines.specs.Shapes.{LsCut};
-ghost use Rattle.cert_checker.specs.Cuts.{IsCutEchelon, IsItem, IsNotLeadFree};
+ghost use Rattle.cert_checker.specs.Cuts.{IsCutEchelon, IsItem};
 ghost use Rattle.root_rounds.specs.RootSteps.{IsRootCut, PutsAll, PutsAt, PutsEchelon, PutsItem};
 
 use acceptance::echelon_rows_are_one;
+use cert_checker::echelon_for;
 use certificate::Cut;
-use echelon::{EchelonItem, Explosion, echelon_of, lead_free};
+use echelon::{EchelonItem, Explosion};
 use lin_rows::{Point, Row, RowFault};
 use lot_model::Instance;
-use lot_sizing::weights_are_one;
 use ls_cuts::{SepFault, ls_row, separate};
 use root_rows::rows_are_small;
 use std::alloc::{AllocError, Global};
@@ -23,9 +23,9 @@ pub(crate) struct RootCuts {
     pub(crate) rows: Vec<Row>,
 }
 
-// An item, and the last period of its (l,S) rows.
+// The last period l of (l,S) rows, with the item of whose echelon they are.
 #[derive(Clone, Copy, Debug)]
-pub(crate) struct Place {
+pub(crate) struct LastPeriod {
     pub(crate) item: u32,
     pub(crate) l: u32,
 }
@@ -105,26 +105,6 @@ fn separate_echelon(
     Ok(None)
 }
 
-// The echelon of an item, and none where the item isn't lead-free.
-fn echelon_for(
-    alloc: Global,
-    instance: &Instance,
-    explosion: &Explosion,
-    item: u32,
-) -> Result<Option<EchelonItem>, AllocError>
-    requires explosion { IsExplosionOf instance.now explosion.now }
-    requires item { IsItem instance.now item }
-    ensures some { IfOk result (λ found. IfSome found (λ e. (e.item ≡ item) × IsCutEchelon instance.now item e)) }
-    ensures none { IfOk result (λ found. IsNone found → IsNotLeadFree instance.now item) }
-{
-    weights_are_one();
-    if !lead_free(instance, explosion, item) {
-        return Ok(None);
-    }
-    let echelon = echelon_of(alloc, instance, explosion, item)?;
-    Ok(Some(echelon))
-}
-
 // The same for an item, which has no cut where it isn't lead-free.
 fn separate_item(
     alloc: Global,
@@ -144,21 +124,21 @@ fn separate_item(
     }
 }
 
-// The cuts of all items, each put after the others. The answer is the first place at which some step
-// of the separation doesn't fit.
+// The cuts of all items, each put after the others. The answer is the first item and last period
+// at which some step of the separation doesn't fit.
 pub(crate) fn separate_all(
     alloc: Global,
     instance: &Instance,
     explosion: &Explosion,
     point: &Point,
     list: &mut RootCuts,
-) -> Result<Option<Place>, AllocError>
+) -> Result<Option<LastPeriod>, AllocError>
     requires explosion { IsExplosionOf instance.now explosion.now }
     ensures { IfOk result (λ end. PutsAll instance.now (read_at point.now) end list.old list.new) }
 {
     for item in 1..instance.items() + 1 {
         if let Some(l) = separate_item(alloc, instance, explosion, point, item, list)? {
-            return Ok(Some(Place { item, l }));
+            return Ok(Some(LastPeriod { item, l }));
         }
     }
     Ok(None)

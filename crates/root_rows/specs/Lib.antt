@@ -1,5 +1,6 @@
 pub mod Names
 pub mod Sides
+pub mod Leaves
 pub mod Costs
 pub mod Made
 pub mod Says

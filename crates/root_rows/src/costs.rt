@@ -23,7 +23,7 @@ fn cost_at(instance: &Instance, number: u32) -> u64
 }
 
 /// What one of each column costs, by the columns' numbers. It takes time in the number of columns times that of
-/// items; the error is want of memory.
+/// items; the error is that memory ran out.
 pub fn column_costs(alloc: Global, instance: &Instance) -> Result<Vec<u64>, AllocError>
     ensures { IfOk result (λ costs. AreCosts instance.now costs.items) }
 {

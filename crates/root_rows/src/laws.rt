@@ -74,8 +74,8 @@ pub fn sides_are_rows()
     ensures { SidesAreRows }
 {}
 
-/// The program of a round has one side for each of its rows and, with up to a million cuts, at most three million columns
-/// and rows, so that `Lp::new` and `push_row` can take them.
+/// The program of a round has one side for each of its rows and, with up to `MAX_ROUND_CUTS` cuts, at most
+/// `MAX_ROUND_SIZE` columns and rows, so that `Lp::new` and `push_row` can take them.
 pub fn rounds_are_few()
     ensures { RoundsAreFew }
 {}

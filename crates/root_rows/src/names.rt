@@ -129,7 +129,7 @@ fn put_ends(instance: &Instance, largest: bool, names: &mut Vec<RowName>) -> Res
 /// The names of all rows that the rules of plans make, in the order in which they stand in the root's program:
 /// balances, links, capacities, least and largest last stocks, tops, least lots and late lots; each by item or
 /// resource, and then by period. An item without a least lot has no rows of it, and a lot that arrives by the last
-/// period has no late row. The error is want of memory.
+/// period has no late row. The error is that memory ran out.
 pub fn base_names(alloc: Global, instance: &Instance) -> Result<Vec<RowName>, AllocError>
     ensures { IfOk result (λ names. names.items ≡ base_names instance.now) }
 {

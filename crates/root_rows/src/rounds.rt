@@ -76,7 +76,7 @@ fn put_named(
 }
 
 /// The program of the first round: all rows that the rules of plans make, in the order of `base_names`, an equal one
-/// twice. The error is want of memory.
+/// twice. The error is that memory ran out.
 pub fn base_program(alloc: Global, instance: &Instance) -> Result<RoundProgram, AllocError>
     ensures round { IfOk result (λ found. IsFirstRound instance.now found.lp found.sides.items) }
     ensures fits { IfOk result (λ found. IsProgram found.lp) }
@@ -99,7 +99,7 @@ pub fn base_program(alloc: Global, instance: &Instance) -> Result<RoundProgram, 
 
 /// Adds a row that isn't equal after the others, as a cut. The program, which can be given to `Lp::new`, has at most
 /// `MAX_ROUND_SIZE` columns and rows so far. With the name of the next cut it is that of the next round, as `rounds_grow`
-/// says. The error is want of memory; the round is no further use then.
+/// says. The error is that memory ran out; the round is no further use then.
 pub fn push_row(
     alloc: Global,
     instance: &Instance,

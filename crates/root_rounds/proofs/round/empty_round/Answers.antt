@@ -2,7 +2,8 @@ use Rattle.std.proofs.Common.{◌∙◌, ap, length, refl, sym, subst}
 use Rattle.std.proofs.lemmas.Result.{IfOk-weaker}
 use Rattle.lin_rows.specs.Combining.{AreOfProblem}
 use Rattle.tableau.specs.declared.outcome.Outcome.TheVariants as outcome
-use Rattle.root_rounds.specs.RootSteps.{IsLeafOf, farkas, shapes}
+use Rattle.root_rows.specs.Leaves.{farkas}
+use Rattle.root_rounds.specs.RootSteps.{IsLeafOf, shapes}
 use Rattle.root_rounds.proofs.RootCuts.{root_columns}
 use Rattle.root_rounds.proofs.RootRounds.{farkas_ends, figured, sides_long}
 use Rattle.root_rounds.proofs.round.empty_round.Goals as goal

@@ -3,8 +3,9 @@ use Rattle.lin_rows.specs.Combining.{AreOfProblem}
 use Rattle.lin_rows.specs.Points.{read_at}
 use Rattle.tableau.specs.declared.outcome.Outcome.TheVariants as outcome
 use Rattle.tableau.specs.Outcomes.{number_at}
+use Rattle.root_rows.specs.Leaves.{linear}
 use Rattle.root_rounds.specs.Rounds.{AreCutsFound}
-use Rattle.root_rounds.specs.RootSteps.{AreRootCuts, EndsRounds, IsLeafOf, IsReady, PutsAll, linear, shapes}
+use Rattle.root_rounds.specs.RootSteps.{AreRootCuts, EndsRounds, IsLeafOf, IsReady, PutsAll, shapes}
 use Rattle.root_rounds.proofs.RootCuts.{put_all, root_columns}
 use Rattle.root_rounds.proofs.RootRounds.{few_rows, figured, grown, linear_ends, none_violated, nothing_more, separation_passes, sides_long}
 use Rattle.root_rounds.proofs.round.least_round.Goals as goal
@@ -15,17 +16,17 @@ returns-in-Some-clause-ends c =
     let old = c.args.state.now in
     let list = c.separate_all.new.list in
     let read = read_at c.new-point.result in
-    let place = c.in-Some.place in
+    let end = c.in-Some.end in
     let (value, run, certain) = c.requires.least in
-    let puts = subst (λ end. PutsAll m read end old.list list) c.in-Some.is c.in_ok-place.ensures in
-    separation_passes m c.args.round c.requires.low c.requires.high old c.requires.rounds (outcome.Least c.args.point c.args.multipliers value) run read (λ P is. (read, c.new-point.ensures.point.value, is)) list (figured m c.args.explosion.now c.requires.explosion) c.separation_passed.result place.item place.l c.separation_passed.ensures.says c.separation_passed.ensures.leaf puts
+    let puts = subst (λ end. PutsAll m read end old.list list) c.in-Some.is c.in_ok-end.ensures in
+    separation_passes m c.args.round c.requires.low c.requires.high old c.requires.rounds (outcome.Least c.args.point c.args.multipliers value) run read (λ P is. (read, c.new-point.ensures.point.value, is)) list (figured m c.args.explosion.now c.requires.explosion) c.separation_passed.result end.item end.l c.separation_passed.ensures.says c.separation_passed.ensures.leaf puts
 
 pub push_rows-requires-clause-rows : goal.push_rows-requires-clause-rows
 push_rows-requires-clause-rows c =
     let m = c.args.instance.now in
     let old = c.args.state.now in
     let list = c.separate_all.new.list in
-    let puts = subst (λ end. PutsAll m (read_at c.new-point.result) end old.list list) c.in_default.is c.in_ok-place.ensures in
+    let puts = subst (λ end. PutsAll m (read_at c.new-point.result) end old.list list) c.in_default.is c.in_ok-end.ensures in
     (shapes list, subst (AreRootCuts m (shapes list)) (sym c.deref.ensures.value) (put_all m _ old.list list c.requires.rounds.cuts puts))
 
 pub push_rows-requires-clause-few : goal.push_rows-requires-clause-few
@@ -35,7 +36,7 @@ push_rows-requires-clause-few c =
     let list = c.separate_all.new.list in
     let read = read_at c.new-point.result in
     let (value, run, certain) = c.requires.least in
-    let puts = subst (λ end. PutsAll m read end old.list list) c.in_default.is c.in_ok-place.ensures in
+    let puts = subst (λ end. PutsAll m read end old.list list) c.in_default.is c.in_ok-end.ensures in
     let few = few_rows m c.args.round c.requires.low c.requires.high old c.requires.rounds (outcome.Least c.args.point c.args.multipliers value) run read (λ P is. (read, c.new-point.ensures.point.value, is)) list c.requires.explosion.instance.limits (figured m c.args.explosion.now c.requires.explosion) puts in
     omega (arith, few, ap length c.deref.ensures.value)
 
@@ -46,7 +47,7 @@ returns-then-len-before-clause-goes c = λ _.
     let list = c.separate_all.new.list in
     let read = read_at c.new-point.result in
     let (value, run, certain) = c.requires.least in
-    let puts = subst (λ end. PutsAll m read end old.list list) c.in_default.is c.in_ok-place.ensures in
+    let puts = subst (λ end. PutsAll m read end old.list list) c.in_default.is c.in_ok-end.ensures in
     let more : length old.list.rows.items < length list.rows.items = omega (arith, c.if-len-before.true, c.len-before.ensures, c.len.ensures) in
     let program = c.push_rows.new.program in
     grown m c.args.round c.requires.low c.requires.high old c.requires.rounds (outcome.Least c.args.point c.args.multipliers value) run read (λ P is. (read, c.new-point.ensures.point.value, is)) list puts more program (subst (λ rows. IsReady m rows program) c.deref.ensures.value c.in_ok-push_rows.ensures.ready)
@@ -56,7 +57,7 @@ linear_leaf-requires-clause-columns c =
     let m = c.args.instance.now in
     let old = c.args.state.now in
     let list = c.separate_all.new.list in
-    let puts = subst (λ end. PutsAll m (read_at c.new-point.result) end old.list list) c.in_default.is c.in_ok-place.ensures in
+    let puts = subst (λ end. PutsAll m (read_at c.new-point.result) end old.list list) c.in_default.is c.in_ok-end.ensures in
     subst (AreOfProblem m) (sym c.deref-2.ensures.value) (root_columns m (shapes list) list.rows.items (put_all m _ old.list list c.requires.rounds.cuts puts))
 
 pub linear_leaf-requires-clause-size : goal.linear_leaf-requires-clause-size
@@ -81,7 +82,7 @@ returns-clause-ends c =
     let (value, run, certain) = c.requires.least in
     let (d, reached, is) = run in
     let end = outcome.Least c.args.point c.args.multipliers value in
-    let puts = subst (λ end. PutsAll m read end old.list list) c.in_default.is c.in_ok-place.ensures in
+    let puts = subst (λ end. PutsAll m read end old.list list) c.in_default.is c.in_ok-end.ensures in
     let few : length list.rows.items ≤ length old.list.rows.items = omega (arith, c.if-len-before.false, c.len-before.ensures, c.len.ensures) in
     let (none, same_cuts, same_rows) = nothing_more m c.args.round c.requires.low c.requires.high old c.requires.rounds end run read (λ P is. (read, c.new-point.ensures.point.value, is)) list _ puts few in
     let judged = subst (λ rows. IsLeafOf m rows old.program.sides.items ys linear c.args.round v) same_rows (rw (c.deref-2.ensures.value, c.deref-3.ensures.value, c.deref-4.ensures.value) at c.in_ok-verdict.ensures) in

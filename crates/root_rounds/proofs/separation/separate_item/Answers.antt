@@ -1,4 +1,4 @@
-use Rattle.std.proofs.Common.{◌≡◌, subst, rules}
+use Rattle.std.proofs.Common.{◌≡◌, subst, sym, rules}
 use Rattle.std.specs.Prelude.{IfSome}
 use Rattle.std.proofs.lemmas.Result.{IfOk-weaker}
 use Rattle.echelon.specs.declared.net.EchelonItem.{EchelonItem}
@@ -8,17 +8,28 @@ use Rattle.root_rounds.specs.RootSteps.{PutsEchelon}
 use Rattle.root_rounds.proofs.RootCuts.{item_puts, none_of_item}
 use Rattle.root_rounds.proofs.separation.separate_item.Goals as goal
 
+pub separate_echelon-requires : goal.separate_echelon-requires
+separate_echelon-requires c =
+    let m = c.args.instance.now in
+    let i = c.args.item in
+    let e = c.in-Some.echelon in
+    let P = IsCutEchelon m i in
+    let Q = λ (a : EchelonItem). a.item ≡ i in
+    let has : P e = subst (λ found. IfSome found P) c.in-Some.is c.in_ok-echelon.ensures.some in
+    let same : Q e = subst (λ found. IfSome found Q) c.in-Some.is c.in_ok-echelon.ensures.item in
+    record { echelon = subst (λ k. IsCutEchelon m k e) (sym same) has }
+
 pub returns-in-Some : goal.returns-in-Some
 returns-in-Some c =
     let m = c.args.instance.now in
     let i = c.args.item in
     let e = c.in-Some.echelon in
     let read = read_at c.args.point.now in
-    let P = λ (a : EchelonItem). (a.item ≡ i) × IsCutEchelon m i a in
+    let P = IsCutEchelon m i in
     let has : P e = subst (λ found. IfSome found P) c.in-Some.is c.in_ok-echelon.ensures.some in
     let old = c.args.list.now in
     let new = c.separate_echelon.new.list in
-    IfOk-weaker c.separate_echelon.result (λ end. PutsEchelon m e read end old new) _ (λ end puts. item_puts m read i e has.1 end old new puts) c.separate_echelon.ensures
+    IfOk-weaker c.separate_echelon.result (λ end. PutsEchelon m e read end old new) _ (λ end puts. item_puts m read i e has end old new puts) c.separate_echelon.ensures
 
 pub returns-in-None : goal.returns-in-None
 returns-in-None c =
