@@ -91,6 +91,7 @@ pub(crate) fn is_wanted(
     requires low { 1 ≤ period }
     requires high { period ≤ instance.now.periods }
 {
-    let _used = instance;
+    // Its clauses speak of the instance, whose grids these are.
+    let _of = instance;
     wanted.get(item, period) == 1 || built.earlier.get(item, period) == 1
 }

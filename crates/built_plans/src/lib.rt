@@ -24,4 +24,4 @@ pub use building::built_plan;
 pub use laws::own_period_is_one;
 pub use nets::net_demands;
 pub use own_period::own_period_plan;
-pub use patterns::{wanted_apart, wanted_spread};
+pub use patterns::{PARTS, wanted_apart, wanted_spread};

@@ -13,8 +13,8 @@ use lot_sizing::limits::MAX_AMOUNT;
 use plan_rules::Grid;
 use std::alloc::{AllocError, Global};
 
-// So many parts are the costs counted in.
-const PARTS: u64 = 4;
+/// So many parts are the costs counted in.
+pub const PARTS: u64 = 4;
 
 // What a unit in stock costs, in parts: its holding cost, less so many parts of the components' holding costs.
 fn stock_price(instance: &Instance, item: u32, period: u32, less: u64) -> u64
@@ -47,7 +47,7 @@ fn stock_prices(
     Ok(list)
 }
 
-// Costs counted in parts, none above a billion.
+// Costs counted in parts, none above `MAX_AMOUNT`.
 fn in_parts(alloc: Global, costs: &[u64]) -> Result<Vec<u64>, AllocError> {
     let mut list = Vec::new(alloc);
     for cost in costs {
@@ -92,6 +92,7 @@ fn want_servers(single: &SingleItem, blocks: &[Block], item: u32, wanted: &mut G
     ensures items { wanted.new.items ≡ wanted.old.items }
     ensures periods { wanted.new.periods ≡ wanted.old.periods }
 {
+    // Its clauses speak of the item, whose blocks these are.
     let _of = single;
     for block in blocks {
         wanted.set(item, block.server, 1);
@@ -174,7 +175,7 @@ fn want_rank(
 
 /// The setups of a plan in which each item is served as cheaply as it can be by itself, items before their
 /// components: 1 where there is one, else 0. From the cost of a unit in stock so many quarters are taken off of
-/// what its components would cost there, none to 4.
+/// what its components would cost there, none to `PARTS`.
 pub fn wanted_apart(alloc: Global, instance: &Instance, less: u64) -> Result<Grid, AllocError>
     ensures { IfOk result (Fits instance.now) }
 {

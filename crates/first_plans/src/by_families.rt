@@ -21,7 +21,7 @@ const ROUNDS: u32 = 6;
 const FAMILY_WORK: u64 = 800_000_000;
 
 // How often a family is improved once more, each time after some changes of its setups.
-const KICKS: u32 = 40;
+const FAMILY_KICKS: u32 = 40;
 
 // The most items times periods of a family of which that is done. A larger one takes too long for what it gains.
 const KICKED_CELLS: u32 = 100;
@@ -29,7 +29,11 @@ const KICKED_CELLS: u32 = 100;
 // How often that is done: never with an item alone, for which the recursion finds the best lots.
 fn kicks_of(alone: &Instance) -> u32 {
     let small = alone.items() * alone.periods() <= KICKED_CELLS;
-    if alone.items() > 1 && small { KICKS } else { 0 }
+    if alone.items() > 1 && small {
+        FAMILY_KICKS
+    } else {
+        0
+    }
 }
 
 // What a plan takes to be built.

@@ -15,24 +15,29 @@ pub struct Families {
 }
 
 impl Families {
-    /// The families of a model.
-    pub(crate) fn of(alloc: Global, instance: &Instance) -> Result<Families, AllocError> {
+    // Each item is a family of its own.
+    fn apart(alloc: Global, instance: &Instance) -> Result<Families, AllocError> {
         let mut marks = Vec::new(alloc);
         for item in 1..instance.items() + 1 {
             marks.push(item)?;
         }
-        let mut families = Families { marks };
+        Ok(Families { marks })
+    }
+
+    /// The families of a model.
+    pub(crate) fn of(alloc: Global, instance: &Instance) -> Result<Families, AllocError> {
+        let mut families = Families::apart(alloc, instance)?;
         for _round in 0..instance.items() {
             families.tie(instance);
         }
         Ok(families)
     }
 
-    // The mark of an item.
-    fn mark(&self, item: u32) -> u32 {
+    // The mark of an item, if there is such an item.
+    fn mark(&self, item: u32) -> Option<u32> {
         match self.marks.get(item.wrapping_sub(1) as usize) {
-            Some(mark) => *mark,
-            None => 0,
+            Some(mark) => Some(*mark),
+            None => None,
         }
     }
 
@@ -49,9 +54,11 @@ impl Families {
         requires high { item ≤ item_count instance.now }
     {
         for need in instance.needs(item) {
-            let least = self.mark(item).min(self.mark(need.item));
-            self.set(item, least);
-            self.set(need.item, least);
+            if let (Some(own), Some(other)) = (self.mark(item), self.mark(need.item)) {
+                let least = own.min(other);
+                self.set(item, least);
+                self.set(need.item, least);
+            }
         }
     }
 
@@ -65,7 +72,7 @@ impl Families {
     /// Whether all items are of one family.
     pub(crate) fn is_one(&self, instance: &Instance) -> bool {
         for item in 1..instance.items() + 1 {
-            if self.mark(item) != 1 {
+            if self.mark(item) != Some(1) {
                 return false;
             }
         }
@@ -74,7 +81,7 @@ impl Families {
 
     /// Whether an item is of a family, by the least number of an item there.
     pub(crate) fn has(&self, family: u32, item: u32) -> bool {
-        self.mark(item) == family
+        self.mark(item) == Some(family)
     }
 }
 

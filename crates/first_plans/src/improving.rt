@@ -32,6 +32,7 @@ fn keep_cheaper(instance: &Instance, state: &mut Improving, found: Option<Planne
     requires found { IfSome found (IsMade instance.now) }
     ensures { IsImproved instance.now state.old state.new }
 {
+    // Its clauses speak of the instance, which nothing else reads.
     let _of = instance;
     if let Some(planned) = found {
         if planned.cost < state.best.cost {

@@ -20,5 +20,5 @@ mod trials;
 pub use built_plans::{built_plan, own_period_is_one, own_period_plan};
 pub use by_families::improved_by_families;
 pub use improving::improved;
-pub use listing::{BUILDING_WORK, candidates};
+pub use listing::{BUILDING_WORK, candidates, tries_for};
 pub use plan_rules::{Grid, Planned};

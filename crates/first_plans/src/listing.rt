@@ -1,13 +1,15 @@
 // Feasible plans to begin with.
-ghost use Rattle.std.specs.Prelude.{◌≡◌, ◌≤◌, ◌<◌, ◌++◌, All, IfOk, OnOk, length};
+ghost use Rattle.std.specs.Prelude.{◌≡◌, ◌≤◌, ◌<◌, ◌*◌, ◌++◌, All, IfOk, OnOk, length};
+ghost use Rattle.lot_sizing.specs.Problem.{item_count};
 ghost use Rattle.plan_rules.specs.Cells.{Fits};
 ghost use Rattle.plan_rules.specs.Rows.{IfFound};
+ghost use Rattle.first_plans.specs.declared.listing.TheConstants.{BUILDING_WORK};
 ghost use Rattle.first_plans.specs.Made.{HasOwn, IsEmptyUnlessPlain, IsMade, IsLonger, those};
 
 use crate::by_families::{improved_by_families, tries_within};
 use crate::improving::improved;
 use crate::kicks::kicked;
-use built_plans::{built_plan, own_period_plan, wanted_apart, wanted_spread};
+use built_plans::{PARTS, built_plan, own_period_plan, wanted_apart, wanted_spread};
 use lot_model::{Instance, is_plain};
 use plan_rules::{Grid, Planned};
 use std::alloc::{AllocError, Global};
@@ -19,12 +21,17 @@ pub const BUILDING_WORK: u32 = 4_000_000;
 // is compared with the other items and periods.
 const KICK_WORK: u64 = 400_000_000;
 
-// So often that is done at most.
-const KICKS: u32 = 100;
+// So often that is done at most with the plan of a whole model.
+const MODEL_KICKS: u32 = 100;
 
-// So many patterns of setups are those of items by themselves, and so many are there in all.
-const QUARTERS: u64 = 5;
+// That is done where so many plans may be built for each item and period.
+const KICK_SWEEPS: u32 = 32;
 
+// So many patterns of setups are those of items by themselves: without a part of the components' costs, and with each number
+// of parts.
+const QUARTERS: u64 = PARTS + 1;
+
+// So many patterns are there in all.
 const PATTERNS: u64 = 8;
 
 // Puts a plan to a list, if there is one.
@@ -95,10 +102,16 @@ fn keep_everywhere(
     keep_built(alloc, instance, &wanted, list)
 }
 
-// How many plans may be built to improve one: fewer of a large instance, each of which takes longer.
-fn tries_for(instance: &Instance) -> u32 {
+/// How many plans may be built to improve one within `BUILDING_WORK`: fewer of a large instance, each of which takes longer.
+#[tactic(auto, using(crate::proofs::Tries::tries_fit))]
+pub fn tries_for(instance: &Instance) -> u32
+    ensures { result * (item_count instance.now * item_count instance.now * instance.now.periods) ≤ BUILDING_WORK }
+{
     let size = instance.items() * instance.items() * instance.periods();
-    BUILDING_WORK / size.max(1)
+    match BUILDING_WORK.checked_div(size) {
+        Some(tries) => tries,
+        None => BUILDING_WORK,
+    }
 }
 
 // The best plan that is found after random changes of a plan's setups, where enough plans may be built to try all other changes
@@ -112,10 +125,10 @@ fn kicked_within(
     ensures made { IfOk result (IsMade instance.now) }
 {
     let tries = tries_within(instance, KICK_WORK);
-    if tries / 32 < instance.items() * instance.periods() {
+    if tries / KICK_SWEEPS < instance.items() * instance.periods() {
         return Ok(planned);
     }
-    kicked(alloc, instance, planned, KICKS, tries)
+    kicked(alloc, instance, planned, MODEL_KICKS, tries)
 }
 
 // The cheapest plan that is found by changing these setups.

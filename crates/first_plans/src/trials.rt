@@ -26,6 +26,7 @@ fn change_item(instance: &Instance, wanted: &mut Grid, item: u32, trial: Trial, 
     requires high { item ≤ item_count instance.now }
     ensures { Fits instance.now wanted.new }
 {
+    // Its clauses speak of the instance, which nothing else reads.
     let _of = instance;
     if trial.from == trial.to {
         wanted.set(item, trial.from, setup);

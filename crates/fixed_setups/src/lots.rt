@@ -47,6 +47,7 @@ fn put_lot(
     ensures setup { Fits instance.now setup.new }
     ensures within { IsSetUpWithin instance.now high.now setup.new }
 {
+    // Its clauses speak of the instance, which nothing else reads.
     let _of = instance;
     if lot > 0 && high.get(item, period) > 0 {
         make.set(item, period, lot);
@@ -54,12 +55,13 @@ fn put_lot(
     }
 }
 
-// Units of an item that are made up to a period, rounded up.
-fn rounded(total: Frac) -> u64 {
-    u64::try_from(total.ceil()).unwrap_or(0)
+// Units of an item that are made up to a period, rounded up; None where that doesn't fit.
+fn rounded(total: Frac) -> Option<u64> {
+    u64::try_from(total.ceil()).ok()
 }
 
-// Puts the lots of an item: so many that their sum up to each period is that of the point, rounded up.
+// Puts the lots of an item: so many that their sum up to each period is that of the point, rounded up. None where a sum
+// doesn't fit: some lots are put then, and others aren't.
 fn put_item(
     instance: &Instance,
     high: &Grid,
@@ -67,7 +69,7 @@ fn put_item(
     item: u32,
     make: &mut Grid,
     setup: &mut Grid,
-)
+) -> Option<()>
     requires high_fits { Fits instance.now high.now }
     requires make { Fits instance.now make.old }
     requires setup { Fits instance.now setup.old }
@@ -82,15 +84,16 @@ fn put_item(
     let mut made = 0u64;
     for period in 1..instance.periods() + 1 {
         let value = value_at(instance, solved, Column::X { item, period });
-        total = total.add(value).unwrap_or(total);
-        let lot = rounded(total).saturating_sub(made);
+        total = total.add(value)?;
+        let lot = rounded(total)?.saturating_sub(made);
         put_lot(instance, high, item, period, lot, make, setup);
         made = made.saturating_add(lot);
     }
+    Some(())
 }
 
 /// The plan of a point: its quantities, rounded up along their sums, each with a setup; with no setup where none may be.
-/// None where it isn't feasible.
+/// None where it isn't feasible, and where a sum doesn't fit.
 pub(crate) fn plan_of(
     alloc: Global,
     instance: &Instance,
@@ -104,7 +107,9 @@ pub(crate) fn plan_of(
     let mut make = Grid::filled(alloc, instance.items(), instance.periods(), 0)?;
     let mut setup = Grid::filled(alloc, instance.items(), instance.periods(), 0)?;
     for item in 1..instance.items() + 1 {
-        put_item(instance, high, solved, item, &mut make, &mut setup);
+        if put_item(instance, high, solved, item, &mut make, &mut setup).is_none() {
+            return Ok(None);
+        }
     }
     complete_at_cost(alloc, instance, make, setup)
 }

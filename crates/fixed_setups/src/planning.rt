@@ -6,16 +6,13 @@ ghost use Rattle.plan_rules.specs.Rows.{IfFound};
 ghost use Rattle.built_plans.specs.Made.{IsMade};
 ghost use Rattle.fixed_setups.specs.Within.{IsFew, SetsUpWithin};
 
-use crate::limits::MAX_PLACES;
+use crate::limits::{MAX_PLACES, MAX_TIMES};
 use crate::lots::{plan_of, value_at};
 use crate::program::{Base, Solved};
 use lin_rows::{Bound, Column};
 use lot_model::Instance;
 use plan_rules::{Grid, Planned};
 use std::alloc::{AllocError, Global};
-
-// So many times the program is solved, each time but the first with a further bound of a quantity that wasn't whole.
-const TIMES: u32 = 12;
 
 // A plan, if one was found, and whether there is more to be tried.
 #[derive(Drop)]
@@ -31,7 +28,7 @@ pub(crate) fn is_few(instance: &Instance) -> bool
     instance.items() * instance.periods() <= MAX_PLACES
 }
 
-// The bound of the first quantity of a period that isn't whole: at least that, rounded up.
+// The bound of the first quantity of a period that isn't whole: at least that, rounded up. None too where that doesn't fit.
 fn part_in(instance: &Instance, solved: &Solved, period: u32) -> Option<Bound> {
     for item in 1..instance.items() + 1 {
         let column = Column::X { item, period };
@@ -40,7 +37,7 @@ fn part_in(instance: &Instance, solved: &Solved, period: u32) -> Option<Bound> {
             return Some(Bound {
                 column,
                 most: false,
-                number: u64::try_from(value.ceil()).unwrap_or(0),
+                number: u64::try_from(value.ceil()).ok()?,
             });
         }
     }
@@ -158,5 +155,5 @@ pub fn planned(
         return Ok(None);
     }
     let base = Base::of(alloc, instance)?;
-    planned_on(alloc, instance, &base, low, high, TIMES)
+    planned_on(alloc, instance, &base, low, high, MAX_TIMES)
 }

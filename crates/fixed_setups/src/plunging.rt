@@ -7,7 +7,7 @@ ghost use Rattle.built_plans.specs.Made.{IsMade};
 ghost use Rattle.fixed_setups.specs.Within.{IsFew};
 ghost use Rattle.fixed_setups.specs.Plunging.{HasShape, IsAfter};
 
-use crate::columns::read;
+use crate::limits::MAX_STEP_TIMES;
 use crate::lots::{plan_of, value_at};
 use crate::planning::{is_few, planned_on};
 use crate::program::{Base, Solved};
@@ -18,9 +18,6 @@ use lot_model::Instance;
 use plan_rules::{Grid, Planned};
 use std::alloc::{AllocError, Global};
 use std::cmp::Ordering;
-
-// So many times the program of some setups is solved.
-const TIMES: u32 = 6;
 
 // A setup that is given on the way down.
 #[derive(Clone, Copy, Debug)]
@@ -100,6 +97,7 @@ fn go_back(instance: &Instance, dive: &mut Dive) -> Result<After, AllocError>
     ensures shape { HasShape instance.now dive.new }
     ensures after { IfOk result (IsAfter instance.now) }
 {
+    // Its clauses speak of the instance, which nothing else reads.
     let _of = instance;
     for _step in 0..dive.way.len() {
         if let Some(choice) = dive.way.pop() {
@@ -221,7 +219,7 @@ fn plan_near(
         return Ok(Some(planned));
     }
     let setup = some_setups(alloc, instance, solved)?;
-    planned_on(alloc, instance, base, &setup, &setup, TIMES)
+    planned_on(alloc, instance, base, &setup, &setup, MAX_STEP_TIMES)
 }
 
 // Goes on below a node, or back where all of its setups are whole.

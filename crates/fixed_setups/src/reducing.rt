@@ -47,19 +47,28 @@ fn largest_lot(instance: &Instance, item: u32, period: u32) -> u64
     most
 }
 
-// So often at most a row takes a column: a link takes a setup no more often than the largest lot for which there is time.
-fn most_of(instance: &Instance, name: RowName) -> i128 {
+// So often at most a row takes a column, if there is such a bound: a link takes a setup no more often than the largest lot
+// for which there is time.
+fn most_of(instance: &Instance, name: RowName) -> Option<i128> {
     match name {
         RowName::Link(item, period) => {
             if item == 0 || item > instance.items() {
-                return 0;
+                return None;
             }
             if period == 0 || period > instance.periods() {
-                return 0;
+                return None;
             }
-            i128::from(largest_lot(instance, item, period))
+            Some(i128::from(largest_lot(instance, item, period)))
         }
-        _ => i128::MAX,
+        _ => None,
+    }
+}
+
+// So often, but no more often than a bound.
+fn bounded(times: i128, most: Option<i128>) -> i128 {
+    match most {
+        Some(most) => times.min(most),
+        None => times,
     }
 }
 
@@ -90,7 +99,7 @@ fn reduced(
         match role_of(instance, roles, term.column) {
             Role::Column(column) => terms.push(LpTerm {
                 column,
-                times: term.times.min(most),
+                times: bounded(term.times, most),
             })?,
             Role::Value(value) => right = right.saturating_sub(term.times.saturating_mul(value)),
         }

@@ -6,6 +6,7 @@ ghost use Rattle.plan_rules.specs.Rows.{IfFound};
 ghost use Rattle.built_plans.specs.Made.{IsMade};
 ghost use Rattle.fixed_setups.specs.Within.{IsCheaper, IsFew};
 
+use crate::limits::MAX_STEP_TIMES;
 use crate::planning::{is_few, planned_on};
 use crate::program::Base;
 use item_lots::copy_grid;
@@ -20,9 +21,6 @@ const STREAM: u64 = 54;
 
 // So many setups are changed at most at a time.
 const CHANGES: u32 = 3;
-
-// So many times the program of some setups is solved.
-const TIMES: u32 = 6;
 
 // A random number from 1 to so much.
 fn draw(words: &mut Lcg64Xsh32, most: u32) -> u32
@@ -104,7 +102,7 @@ fn changed(
 {
     let mut other = copy(alloc, instance, setup)?;
     change_some(instance, &mut other, words);
-    planned_on(alloc, instance, base, &other, &other, TIMES)
+    planned_on(alloc, instance, base, &other, &other, MAX_STEP_TIMES)
 }
 
 // Keeps a plan that was found, if it costs less than the best one so far, and than this.
@@ -113,6 +111,7 @@ fn keep_below(instance: &Instance, limit: u128, best: &mut Option<Planned>, foun
     requires best { IfSome best.old (IsCheaper instance.now limit) }
     ensures { IfSome best.new (IsCheaper instance.now limit) }
 {
+    // Its clauses speak of the instance, which nothing else reads.
     let _of = instance;
     if let Some(planned) = found {
         let least = match best {
@@ -164,7 +163,7 @@ fn walked_on(
     let limit = planned.cost;
     let setup = &planned.plan.setup;
     let mut best = None;
-    let same = planned_on(alloc, instance, base, setup, setup, TIMES)?;
+    let same = planned_on(alloc, instance, base, setup, setup, MAX_STEP_TIMES)?;
     keep_below(instance, limit, &mut best, same);
     let mut words = Lcg64Xsh32::new(seed, STREAM);
     for _try in 0..tries {

@@ -8,8 +8,8 @@ struct Way {
     cost: i128,
     // The last period that the lots before meet.
     before: u32,
-    // The period of the lot, or 0 where nothing is needed in the rest.
-    server: u32,
+    // The period of the lot, if something is needed in the rest.
+    server: Option<u32>,
 }
 
 // The cheaper one of two ways.
@@ -67,7 +67,7 @@ impl Task {
         Some(Way {
             cost: way.cost.saturating_add(self.lot_cost(server, before, last)),
             before,
-            server,
+            server: Some(server),
         })
     }
 
@@ -128,7 +128,7 @@ impl Task {
             return Some(Way {
                 cost: way.cost,
                 before,
-                server: 0,
+                server: None,
             });
         }
         let best = self.way_in_time(ways, last);
@@ -144,7 +144,7 @@ impl Task {
         let none = Way {
             cost: 0,
             before: 0,
-            server: 0,
+            server: None,
         };
         let mut ways = Vec::new(alloc);
         ways.push(Some(none))?;
@@ -153,6 +153,15 @@ impl Task {
             ways.push(way)?;
         }
         Ok(ways)
+    }
+
+    // Puts the lot of a way up to a period, if it has one.
+    fn put_lot(&self, way: Way, last: u32, lots: &mut [u64]) {
+        if let Some(server) = way.server {
+            if let Some(lot) = lots.get_mut(server as usize) {
+                *lot = lot.saturating_add(self.units(way.before, last));
+            }
+        }
     }
 
     /// The lots of a cheapest way to meet all that is needed, each for whole periods one after the other, by period, after an
@@ -165,9 +174,7 @@ impl Task {
             let Some(way) = way_at(&ways, last) else {
                 return Ok(None);
             };
-            if let Some(lot) = lots.get_mut(way.server as usize) {
-                *lot = lot.saturating_add(self.units(way.before, last));
-            }
+            self.put_lot(way, last, &mut lots);
             last = way.before;
         }
         Ok(Some(lots))

@@ -15,4 +15,4 @@ mod slopes;
 mod valuing;
 
 pub use lots::Average;
-pub use rounds::{Improved, Reached, Rounds};
+pub use rounds::{GROWTH_PARTS, Improved, Reached, Rounds};

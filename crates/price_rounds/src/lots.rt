@@ -1,6 +1,6 @@
 // Quantities, setups, stocks and backlogs of single-item plans.
 use priced_items::numbers::{UNIT, at, less, plus, times, write};
-use priced_items::{Fixed, Held, IntegerGrid, Item, Served};
+use priced_items::{Fixed, Held, IntegerGrid, Item, Served, clear};
 use std::alloc::{AllocError, Global};
 
 /// Averages of single-item plans, by item and period, in units of 1/`UNIT`.
@@ -16,7 +16,7 @@ pub struct Average {
 /// Units that are made beyond all demand, and when.
 #[derive(Clone, Copy, Debug)]
 pub(crate) struct Spare {
-    /// The period, 0 for none.
+    /// The period.
     pub(crate) period: u32,
     /// The units.
     pub(crate) units: i64,
@@ -24,9 +24,7 @@ pub(crate) struct Spare {
 
 // No units, and the setups that the path fixes.
 fn write_fixed(units: &mut [i64], setups: &mut [i64], held: &[Held]) {
-    for cell in units.iter_mut() {
-        *cell = 0;
-    }
+    clear(units);
     for (cell, held) in setups.iter_mut().zip(held) {
         *cell = match held {
             Held::AtLeastOne(_) => UNIT,
@@ -37,18 +35,18 @@ fn write_fixed(units: &mut [i64], setups: &mut [i64], held: &[Held]) {
 
 // The lots of an item, from the last position to the first: each server makes all that its block asks for.
 fn write_lots(units: &mut [i64], setups: &mut [i64], item: &Item, places: &[Served]) {
-    let mut server = 0;
-    let mut start = u32::MAX;
+    let mut block: Option<Served> = None;
     let mut position = u32::try_from(places.len()).unwrap_or(0);
     for place in places.iter().rev() {
-        if position < start {
-            server = place.server;
-            start = place.start;
-        }
+        let last = match block {
+            Some(served) if position >= served.start => served,
+            _ => *place,
+        };
+        block = Some(last);
         let more = times(at(&item.net, place.period), UNIT);
-        let made = plus(at(units, server), more);
-        write(units, server, made);
-        write(setups, server, UNIT);
+        let made = plus(at(units, last.server), more);
+        write(units, last.server, made);
+        write(setups, last.server, UNIT);
         position = position.saturating_sub(1);
     }
 }
@@ -89,7 +87,7 @@ impl Average {
         })
     }
 
-    /// The same averages once more. The error is want of memory.
+    /// The same averages once more. The error is that memory ran out.
     pub fn copy(&self, alloc: Global) -> Result<Average, AllocError> {
         Ok(Average {
             units: self.units.copy(alloc)?,
@@ -104,13 +102,8 @@ impl Average {
         i128::from(self.setups.get(item, period))
     }
 
-    /// How many units of an item are made in a period, in units of 1/`UNIT`.
-    pub fn made(&self, item: u32, period: u32) -> i128 {
-        i128::from(self.units.get(item, period))
-    }
-
-    // The lots of an item, by the servers of its positions, with what is made beyond them.
-    fn write_made(&mut self, item: &Item, places: &[Served], spare: Spare, fixed: &Fixed) {
+    // The lots of an item, by the servers of its positions, with what is made beyond them, if anything is.
+    fn write_made(&mut self, item: &Item, places: &[Served], spare: Option<Spare>, fixed: &Fixed) {
         let Some(units) = self.units.line_mut(item.number) else {
             return;
         };
@@ -119,8 +112,10 @@ impl Average {
         };
         write_fixed(units, setups, fixed.line(item.number));
         write_lots(units, setups, item, places);
-        let more = plus(at(units, spare.period), times(spare.units, UNIT));
-        write(units, spare.period, more);
+        if let Some(spare) = spare {
+            let more = plus(at(units, spare.period), times(spare.units, UNIT));
+            write(units, spare.period, more);
+        }
     }
 
     // The plan of an item, by the servers of its positions.
@@ -128,7 +123,7 @@ impl Average {
         &mut self,
         item: &Item,
         places: &[Served],
-        spare: Spare,
+        spare: Option<Spare>,
         fixed: &Fixed,
     ) {
         self.write_made(item, places, spare, fixed);

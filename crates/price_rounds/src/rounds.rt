@@ -1,5 +1,5 @@
 // Rounds that improve prices.
-ghost use Rattle.std.specs.Prelude.{◌≡◌};
+ghost use Rattle.std.specs.Prelude.{◌≡◌, IfOk};
 
 use crate::lots::Average;
 use crate::slopes::Slopes;
@@ -10,25 +10,45 @@ use priced_items::{DualPrices, Fixed, Pricing, settle};
 use std::alloc::{AllocError, Global};
 use std::marker::Model;
 
-// The first step at the root and below, the whole step, the largest and the least one; after how many rounds without
-// growth it shrinks.
-const ROOT_STEP: i128 = 500_000;
-
-const NODE_STEP: i128 = 100_000;
-
+// The whole step, by which the number would grow as much as it is to if no plan changed: steps are counted in parts of it.
 const WHOLE_STEP: i128 = 1_000_000;
 
+// The first step of rounds without an average of the node above, in parts of the whole step.
+const ROOT_STEP: i128 = 500_000;
+
+// The first step of rounds that begin with such an average, in the same parts.
+const NODE_STEP: i128 = 100_000;
+
+// The largest step, in the same parts.
 const MOST_STEP: i128 = 2_000_000;
 
+// The least step, in the same parts.
 const LEAST_STEP: i128 = 1_000;
 
+// How long a step is after a round by which the number grew, in hundredths of the one before.
+const LONGER: i128 = 115;
+
+// How long it is after `PATIENCE` rounds by which it didn't, in the same hundredths.
+const SHORTER: i128 = 70;
+
+// How long it is after a round in which the average missed nothing and the plans at the best prices took its place, in the
+// same hundredths.
+const HALVED: i128 = 50;
+
+// After so many rounds without growth steps get shorter.
 const PATIENCE: u32 = 4;
-// The least and the largest weight of a plan in the average, in units of 1/`UNIT`.
+
+// The least weight of a plan in the average, in units of 1/`UNIT`: a twenty-fifth.
 const LEAST_WEIGHT: i64 = 164;
 
+// The largest weight of a plan in the average, in units of 1/`UNIT`: two fifths.
 const MOST_WEIGHT: i64 = 1638;
-// After how many rounds the costs are dropped on trial.
+
+// After so many rounds the costs are dropped on trial.
 const TRIAL: u32 = 10;
+
+/// Where no plan is known, the number of prices is taken to grow by one part of it in so many, a twentieth.
+pub const GROWTH_PARTS: i128 = 20;
 
 /// What rounds come to.
 #[derive(Clone, Copy, Debug, PartialEq, Eq)]
@@ -101,9 +121,14 @@ fn scaled(scale: u64, plan_cost: Option<u128>) -> Option<i128> {
     }
 }
 
-// By how much the number is to grow: up to what the plan costs, but by no more than a twentieth.
+// A step that is so many hundredths of another one.
+fn scaled_step(step: i128, hundredths: i128) -> i128 {
+    step.saturating_mul(hundredths) / 100
+}
+
+// By how much the number is to grow: up to what the plan costs, but by no more than where none is known.
 fn gap_to(number: i128, scale: u64, plan_cost: Option<u128>) -> i128 {
-    let near = (number.max(0) / 20).saturating_add(i128::from(scale));
+    let near = (number.max(0) / GROWTH_PARTS).saturating_add(i128::from(scale));
     match scaled(scale, plan_cost) {
         Some(cost) => near.min(cost.saturating_sub(number)),
         None => near,
@@ -129,7 +154,7 @@ fn weight_of(square: i128, both: i128, other: i128) -> i64 {
 
 impl Rounds {
     /// The state before the first round. `average` is that of the node above, where there is one: then the steps begin
-    /// shorter. The error is want of memory.
+    /// shorter. The error is that memory ran out.
     pub fn start(
         alloc: Global,
         instance: &Instance,
@@ -137,7 +162,9 @@ impl Rounds {
         prices: DualPrices,
         average: Option<Average>,
         fixed: &Fixed,
-    ) -> Result<Rounds, AllocError> {
+    ) -> Result<Rounds, AllocError>
+        ensures prices { IfOk result (λ rounds. rounds.prices ≡ prices) }
+    {
         let (items, periods) = (instance.items(), instance.periods());
         let mut planning = Planning::new(alloc);
         let mut best_plan = Average::zero(alloc, items, periods)?;
@@ -182,13 +209,13 @@ impl Rounds {
             self.is_tried = false;
             self.stood = 0;
             if may_grow {
-                self.step = (self.step.saturating_mul(115) / 100).min(MOST_STEP);
+                self.step = scaled_step(self.step, LONGER).min(MOST_STEP);
             }
         } else {
             self.stood = self.stood.saturating_add(1);
         }
         if self.stood >= PATIENCE {
-            self.step = (self.step.saturating_mul(7) / 10).max(LEAST_STEP);
+            self.step = scaled_step(self.step, SHORTER).max(LEAST_STEP);
             self.stood = 0;
         }
     }
@@ -209,7 +236,7 @@ impl Rounds {
         let square = self.slopes.dot(&self.slopes);
         if square == 0 {
             self.average.take_from(&self.best_plan);
-            self.step = (self.step / 2).max(LEAST_STEP);
+            self.step = scaled_step(self.step, HALVED).max(LEAST_STEP);
             return Ok(());
         }
         self.try_prices(given, square);
@@ -266,7 +293,7 @@ impl Rounds {
     /// at hand costs, or where the same leaf without costs says that there is no plan. It can be called again, and goes
     /// on with steps and average as they are.
     ///
-    /// The error is want of memory, and the state is then that after the rounds made. Each round takes time in the number
+    /// The error is that memory ran out, and the state is then that after the rounds made. Each round takes time in the number
     /// of items times the square of that of the periods.
     pub fn go_on(
         &mut self,

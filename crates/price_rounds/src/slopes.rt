@@ -83,16 +83,26 @@ impl Slopes {
         }
     }
 
-    // By how much the plans use more than there is of each resource.
-    fn write_capacity(&mut self, instance: &Instance, prices: &DualPrices, plan: &Average) {
+    // What there is of all resources, below 0.
+    fn write_rooms(&mut self, instance: &Instance) {
         for resource in 1..instance.resources() + 1 {
             if let Some(line) = self.capacity.line_mut(resource) {
                 write_room(line, instance.capacities(resource));
             }
         }
+    }
+
+    // The time that all items take of each resource.
+    fn add_items(&mut self, instance: &Instance, plan: &Average) {
         for item in 1..instance.items() + 1 {
             self.add_item(instance, plan, item);
         }
+    }
+
+    // By how much the plans use more than there is of each resource.
+    fn write_capacity(&mut self, instance: &Instance, prices: &DualPrices, plan: &Average) {
+        self.write_rooms(instance);
+        self.add_items(instance, plan);
         for resource in 1..instance.resources() + 1 {
             if let Some(line) = self.capacity.line_mut(resource) {
                 stay_positive(line, prices.capacity.line(resource));
@@ -133,6 +143,13 @@ impl Slopes {
         }
     }
 
+    // The same of all items.
+    fn take_all_stocks(&mut self, instance: &Instance, plan: &Average) {
+        for item in 1..instance.items() + 1 {
+            self.take_stocks(instance, plan, item);
+        }
+    }
+
     // What of each echelon isn't in those of the items that it goes into.
     fn write_stock(
         &mut self,
@@ -142,9 +159,7 @@ impl Slopes {
         plan: &Average,
     ) {
         self.stock.take_from(&plan.stocks);
-        for item in 1..instance.items() + 1 {
-            self.take_stocks(instance, plan, item);
-        }
+        self.take_all_stocks(instance, plan);
         for item in 1..instance.items() + 1 {
             self.keep_stock(instance, pricing, prices, item);
         }
@@ -176,6 +191,15 @@ impl Slopes {
         }
     }
 
+    // The same of all end products.
+    fn take_all_owed(&mut self, instance: &Instance, pricing: &Pricing, plan: &Average) {
+        for end in 1..instance.items() + 1 {
+            if instance.has_backlog_cost(end) {
+                self.take_owed(instance, pricing, plan, end);
+            }
+        }
+    }
+
     // What is owed of each echelon and of none of the end products that it goes into.
     fn write_back(
         &mut self,
@@ -185,11 +209,7 @@ impl Slopes {
         plan: &Average,
     ) {
         self.back.take_from(&plan.owed);
-        for end in 1..instance.items() + 1 {
-            if instance.has_backlog_cost(end) {
-                self.take_owed(instance, pricing, plan, end);
-            }
-        }
+        self.take_all_owed(instance, pricing, plan);
         for item in 1..instance.items() + 1 {
             self.keep_back(instance, pricing, prices, item);
         }

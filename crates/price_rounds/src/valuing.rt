@@ -26,16 +26,16 @@ fn fixed_value(fees: &[i64], held: &[Held]) -> i128 {
     sum
 }
 
-// The first period in which a unit costs nothing, and 0 where there is none.
-fn first_free(unit: &[i64]) -> u32 {
+// The first period in which a unit costs nothing.
+fn first_free(unit: &[i64]) -> Option<u32> {
     let mut period = 0u32;
     for cost in unit {
         period = period.saturating_add(1);
         if *cost == 0 {
-            return period;
+            return Some(period);
         }
     }
-    0
+    None
 }
 
 // The right sides of all capacities.
@@ -57,7 +57,8 @@ impl Planning {
         }
     }
 
-    // The right side of an item's cut, with that of the balances by which prices were moved.
+    // The right side of an item's cut, with that of the balances by which prices were moved. What doesn't fit stays at the
+    // largest number: then there is no such cut.
     fn item_value(&self, item: &Item) -> i128 {
         let costs = &self.costs;
         let held = dot(&costs.hold, &item.left);
@@ -66,6 +67,7 @@ impl Planning {
         let ended = wide(costs.lift, item.end_max);
         self.serving
             .cost()
+            .unwrap_or(i128::MAX)
             .saturating_add(held)
             .saturating_sub(asked)
             .saturating_sub(ended)
@@ -73,17 +75,15 @@ impl Planning {
     }
 
     // What is made beyond all demand, up to the largest end stock, where the cheapest unit would cost less than nothing.
-    fn spare(&self, item: &Item) -> Spare {
+    fn spare(&self, item: &Item) -> Option<Spare> {
         let costs = &self.costs;
-        let last = u32::try_from(item.left.len()).unwrap_or(0);
-        Spare {
-            period: if costs.lift > 0 {
-                first_free(&costs.unit)
-            } else {
-                0
-            },
-            units: less(item.end_max, at(&item.left, last)).max(0),
+        if costs.lift <= 0 {
+            return None;
         }
+        let period = first_free(&costs.unit)?;
+        let last = u32::try_from(item.left.len()).unwrap_or(0);
+        let units = less(item.end_max, at(&item.left, last)).max(0);
+        Some(Spare { period, units })
     }
 
     // What an item adds to the right side of the leaf. Its plan is written where it has one.

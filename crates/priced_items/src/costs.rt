@@ -5,7 +5,7 @@ ghost use Rattle.lot_sizing.specs.Problem.{item_count};
 use crate::fixed::{Fixed, Held};
 use crate::grid::clear;
 use crate::numbers::{
-    add_times, are_positive, less, of_amount, plus, refill, refill_scaled, times,
+    add_times, less, none_is_negative, of_amount, plus, refill, refill_scaled, sum_of, times,
 };
 use crate::prices::DualPrices;
 use crate::pricing::Item;
@@ -81,7 +81,7 @@ impl Costs {
         }
     }
 
-    /// What setups of an item cost, with the time that they take. The error is want of memory.
+    /// What setups of an item cost, with the time that they take. The error is that memory ran out.
     pub fn write_fees(
         &mut self,
         instance: &Instance,
@@ -126,10 +126,7 @@ impl Costs {
 
     // Prices of stock from each period on, added.
     fn write_tails(&mut self) -> Result<(), AllocError> {
-        let mut rest = 0;
-        for price in self.hold.iter() {
-            rest = plus(rest, *price);
-        }
+        let mut rest = sum_of(&self.hold);
         self.shift.clear();
         for price in self.hold.iter() {
             self.shift.push(rest)?;
@@ -153,7 +150,7 @@ impl Costs {
         Ok(())
     }
 
-    /// What an item of the instance costs at prices, where a path fixes some setups. The error is want of memory, of
+    /// What an item of the instance costs at prices, where a path fixes some setups. The error is that memory ran out, of
     /// which none is taken where as many costs were written before. It takes time in the number of periods times that of
     /// resources and components.
     pub fn write(
@@ -175,7 +172,7 @@ impl Costs {
         self.write_stocks(instance, prices, number)?;
         self.lift = 0;
         self.shift.clear();
-        if !are_positive(&self.hold) {
+        if !none_is_negative(&self.hold) {
             self.move_stocks(item.backlogged)?;
         }
         Ok(())

@@ -141,7 +141,7 @@ fn free_setups(alloc: Global, items: u32, periods: u32) -> Result<Fixed, AllocEr
     Ok(Fixed { items: all })
 }
 
-/// What the bounds of a path say of each setup. The error is want of memory. It takes time in the number of cells and
+/// What the bounds of a path say of each setup. The error is that memory ran out. It takes time in the number of cells and
 /// in the length of the path.
 pub fn fixed_setups(alloc: Global, instance: &Instance, path: &[Bound]) -> Result<Fixed, AllocError>
     ensures last { length path.now < 2 ^ 32 → IfOk result (λ fixed. (i t : ℕ) → IsCell instance.now i t → AreTold path.now fixed i t) }

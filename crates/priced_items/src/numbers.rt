@@ -1,12 +1,20 @@
 //! Whole numbers with a sign. What doesn't fit stays at the largest or the least one: such a number is past all limits of
 //! cuts and leaves, or makes a leaf that isn't taken.
+ghost use Rattle.std.specs.Prelude.{◌↔◌, ◌≤ℤ◌, IsTrue, pos};
+ghost use Rattle.std.specs.List.{All};
+
 use std::alloc::AllocError;
 
-/// One in averages.
-pub const ONE: i128 = 4096;
-
-/// The same number in 64 bits.
+/// One in averages: they are counted in parts of it.
 pub const UNIT: i64 = 4096;
+
+/// The same number in 128 bits.
+pub const ONE: i128 = UNIT as i128;
+
+// A rate is counted in parts of 2 to this power, where that fits, or else to the next one.
+const FINE_POWER: u32 = 60;
+
+const MIDDLE_POWER: u32 = 30;
 
 /// The sum.
 pub fn plus(a: i64, b: i64) -> i64 {
@@ -51,7 +59,9 @@ pub(crate) fn share(a: i64, b: i64, c: i64) -> i64 {
 }
 
 /// The same number with a sign.
-pub fn of_amount(number: u64) -> i64 {
+pub fn of_amount(number: u64) -> i64
+    ensures { pos 0 ≤ℤ result }
+{
     match i64::try_from(number) {
         Ok(small) => small,
         Err(_) => i64::MAX,
@@ -87,10 +97,10 @@ impl Rate {
 
     /// `part / whole`, as finely as it fits; 0 where the whole isn't above 0.
     pub fn new(part: i128, whole: i128) -> Rate {
-        if let Some(fine) = Rate::try_new(part, whole, 60) {
+        if let Some(fine) = Rate::try_new(part, whole, FINE_POWER) {
             return fine;
         }
-        match Rate::try_new(part, whole, 30) {
+        match Rate::try_new(part, whole, MIDDLE_POWER) {
             Some(middle) => middle,
             None => Rate {
                 factor: narrow(part.wrapping_div(whole.max(1))),
@@ -146,8 +156,19 @@ pub fn dot_amounts(a: &[i64], b: &[u64]) -> i128 {
 }
 
 /// Whether no number is below 0.
-pub fn are_positive(list: &[i64]) -> bool {
+pub fn none_is_negative(list: &[i64]) -> bool
+    ensures { IsTrue result ↔ All (λ number. pos 0 ≤ℤ number) list.now }
+{
     list.iter().all(|number| *number >= 0)
+}
+
+// The sum of numbers.
+pub(crate) fn sum_of(list: &[i64]) -> i64 {
+    let mut sum = 0;
+    for number in list {
+        sum = plus(sum, *number);
+    }
+    sum
 }
 
 // A list is a copy of another one.

@@ -39,7 +39,7 @@ impl DualPrices {
         })
     }
 
-    /// The same prices once more. The error is want of memory.
+    /// The same prices once more. The error is that memory ran out.
     pub fn copy(&self, alloc: Global) -> Result<DualPrices, AllocError> {
         Ok(DualPrices {
             scale: self.scale,
@@ -49,30 +49,16 @@ impl DualPrices {
         })
     }
 
-    /// The price of a time unit of a resource in a period, times the scale.
-    pub fn of_capacity(&self, resource: u32, period: u32) -> i128 {
-        i128::from(self.capacity.get(resource, period))
-    }
-
-    /// The price of a unit of an item in stock at the end of a period, times the scale. It may be below 0.
-    pub fn of_stock(&self, item: u32, period: u32) -> i128 {
-        i128::from(self.stock.get(item, period))
-    }
-
-    /// Another price of a time unit of a resource in a period, times the scale.
-    pub fn set_capacity(&mut self, resource: u32, period: u32, price: u64) {
-        self.capacity.put(resource, period, of_amount(price));
-    }
-
     /// These prices are those of another list, of the same problem.
     pub fn take_from(&mut self, other: &DualPrices) {
+        self.scale = other.scale;
         self.capacity.take_from(&other.capacity);
         self.stock.take_from(&other.stock);
         self.back.take_from(&other.back);
     }
 
     /// The same prices with all costs dropped: their scale is 0, and what a unit in stock costs is taken off its price.
-    /// The error is want of memory.
+    /// The error is that memory ran out.
     pub fn dropped(
         &self,
         alloc: Global,

@@ -52,7 +52,7 @@ pub struct Pricing {
 }
 
 impl Pricing {
-    /// The items of an instance. The error is want of memory. It takes time in the square of their number times that of
+    /// The items of an instance. The error is that memory ran out. It takes time in the square of their number times that of
     /// the periods.
     pub fn new(
         alloc: Global,

@@ -4,7 +4,9 @@ use crate::numbers::{add_times, at, less, plus, refill, wide};
 use crate::pricing::Item;
 use std::alloc::{AllocError, Global};
 
-// A server that is open: what all positions so far cost with it, and the first position that it serves.
+// A server that is open: what all positions so far cost with it, and the first position that it serves. One that isn't
+// open yet costs the largest number, so that it begins wherever that costs less: this is the innermost loop, and an Option
+// would be one more comparison in each of its steps.
 #[derive(Clone, Copy, Debug)]
 struct Open {
     cost: i128,
@@ -36,8 +38,11 @@ struct Position {
 /// A cheapest way to serve an item by itself: one entry for each position, and the lists that are needed to find it.
 #[derive(Debug, Drop)]
 pub struct Serving {
-    /// The positions served, in order: the periods that ask for something.
+    /// The positions served, in order: the periods that ask for something, up to the first one that can't be served at a
+    /// cost that fits.
     pub places: Vec<Served>,
+    // Whether these are all positions.
+    is_whole: bool,
     // The servers, one for each period.
     open: Vec<Open>,
     // What a unit costs that a server makes for a period on, less what it costs to hold, or owe, from the first one.
@@ -81,7 +86,7 @@ fn next_open(open: Open, begun: i128, position: u32, serving: i128) -> Open {
 }
 
 // A position is served by some servers, the first of which comes after a period: all of them go on or begin, and the
-// cheapest one is taken, where it is cheaper than the one at hand.
+// cheapest one is taken, where it is cheaper than the one at hand. None where there is none whose cost fits.
 fn serve(
     open: &mut [Open],
     units: &[i64],
@@ -89,9 +94,13 @@ fn serve(
     more: i64,
     position: Position,
     first: u32,
-    best: Served,
-) -> Served {
+    best: Option<Served>,
+) -> Option<Served> {
     let mut best = best;
+    let mut least = match best {
+        Some(served) => served.cost,
+        None => i128::MAX,
+    };
     let mut server = first;
     for ((now, unit), setup) in open.iter_mut().zip(units).zip(setups) {
         server = server.saturating_add(1);
@@ -99,10 +108,14 @@ fn serve(
         let begun = position.before.saturating_add(i128::from(*setup));
         let next = next_open(*now, begun, position.number, serving);
         *now = next;
-        if next.cost < best.cost {
-            best.server = server;
-            best.start = next.start;
-            best.cost = next.cost;
+        if next.cost < least {
+            least = next.cost;
+            best = Some(Served {
+                period: position.period,
+                server,
+                start: next.start,
+                cost: least,
+            });
         }
     }
     best
@@ -113,6 +126,7 @@ impl Serving {
     pub fn new(alloc: Global) -> Serving {
         Serving {
             places: Vec::new(alloc),
+            is_whole: false,
             open: Vec::new(alloc),
             early: Vec::new(alloc),
             late: Vec::new(alloc),
@@ -136,21 +150,16 @@ impl Serving {
         self.open.clear();
         self.open.resize(costs.unit.len(), closed)?;
         self.places.clear();
+        self.is_whole = false;
         Ok(())
     }
 
-    // A position is served by the periods up to it, and by later ones where it may be owed.
-    fn serve_one(&mut self, costs: &Costs, position: Position, may_wait: bool) -> Served {
+    // A position is served by the periods up to it, and by later ones where it may be owed. None where no cost fits.
+    fn serve_one(&mut self, costs: &Costs, position: Position, may_wait: bool) -> Option<Served> {
         let split = (position.period as usize).min(self.open.len());
-        let none = Served {
-            period: position.period,
-            server: 0,
-            start: position.number,
-            cost: i128::MAX,
-        };
         let (first, last) = self.open.split_at_mut(split);
         let held = at(&self.held, position.period);
-        let best = serve(first, &self.early, &costs.setup, held, position, 0, none);
+        let best = serve(first, &self.early, &costs.setup, held, position, 0, None);
         if !may_wait {
             return best;
         }
@@ -160,7 +169,7 @@ impl Serving {
         serve(last, units, setups, owed, position, position.period, best)
     }
 
-    /// A cheapest way to serve what remains to be made of an item at its costs. The error is want of memory, of which
+    /// A cheapest way to serve what remains to be made of an item at its costs. The error is that memory ran out, of which
     /// none is taken where as much was served before. It takes time in the square of the number of periods.
     pub fn serve_all(&mut self, item: &Item, costs: &Costs) -> Result<(), AllocError> {
         self.begin(costs)?;
@@ -178,18 +187,24 @@ impl Serving {
                 asked: *asked,
                 before,
             };
-            let best = self.serve_one(costs, position, item.backlogged);
+            let Some(best) = self.serve_one(costs, position, item.backlogged) else {
+                return Ok(());
+            };
             before = best.cost;
             self.places.push(best)?;
         }
+        self.is_whole = true;
         Ok(())
     }
 
-    /// What all positions cost, times the scale of the prices.
-    pub fn cost(&self) -> i128 {
+    /// What all positions cost, times the scale of the prices; None where that doesn't fit.
+    pub fn cost(&self) -> Option<i128> {
+        if !self.is_whole {
+            return None;
+        }
         match self.places.last() {
-            Some(place) => place.cost,
-            None => 0,
+            Some(place) => Some(place.cost),
+            None => Some(0),
         }
     }
 }

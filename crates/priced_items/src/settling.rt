@@ -159,14 +159,18 @@ fn owed_cost(
     }
 }
 
-// Prices of backlog are at least 0, and 0 where nothing may be owed.
+// Prices of backlog of an item are at least 0, and 0 where nothing may be owed.
+fn bound_back(instance: &Instance, prices: &mut DualPrices, item: u32, owing: bool) {
+    for period in 1..instance.periods() + 1 {
+        let price = prices.back.get(item, period).max(0);
+        prices.back.put(item, period, if owing { price } else { 0 });
+    }
+}
+
+// The same of all items.
 fn bound_backs(instance: &Instance, pricing: &Pricing, prices: &mut DualPrices) {
     for item in 1..instance.items() + 1 {
-        for period in 1..instance.periods() + 1 {
-            let price = prices.back.get(item, period).max(0);
-            let owing = pricing.is_backlogged(item);
-            prices.back.put(item, period, if owing { price } else { 0 });
-        }
+        bound_back(instance, prices, item, pricing.is_backlogged(item));
     }
 }
 
@@ -187,13 +191,17 @@ fn keep_rest(instance: &Instance, pricing: &Pricing, prices: &mut DualPrices, en
     }
 }
 
-// Prices of backlog are kept within the backlog costs of the end products.
-fn order_backs(instance: &Instance, pricing: &Pricing, prices: &mut DualPrices) {
+// Components leave something of all end products.
+fn lower_all_backs(instance: &Instance, pricing: &Pricing, prices: &mut DualPrices) {
     for end in 1..instance.items() + 1 {
         if instance.has_backlog_cost(end) {
             lower_backs(instance, pricing, prices, end);
         }
     }
+}
+
+// All end products keep what their components leave.
+fn keep_rests(instance: &Instance, pricing: &Pricing, prices: &mut DualPrices) {
     for end in 1..instance.items() + 1 {
         if instance.has_backlog_cost(end) {
             keep_rest(instance, pricing, prices, end);
@@ -205,7 +213,8 @@ fn order_backs(instance: &Instance, pricing: &Pricing, prices: &mut DualPrices) 
 pub fn settle(instance: &Instance, pricing: &Pricing, prices: &mut DualPrices) {
     if pricing.may_owe() {
         bound_backs(instance, pricing, prices);
-        order_backs(instance, pricing, prices);
+        lower_all_backs(instance, pricing, prices);
+        keep_rests(instance, pricing, prices);
     }
     for item in 1..instance.items() + 1 {
         bound_stock(instance, pricing, prices, item);
@@ -225,23 +234,36 @@ fn echelons_with(instance: &Instance, pricing: &Pricing, end: u32) -> i64 {
 }
 
 // A component gets a part of what an end product costs that is owed, or keeps a smaller one of another end product.
+fn give_part(prices: &mut DualPrices, item: u32, period: u32, part: i64) {
+    let before = prices.back.get(item, period);
+    if before == 0 || part < before {
+        prices.back.put(item, period, part);
+    }
+}
+
+// Each component of an end product gets its part in a period, where so many echelons share what the end product costs.
 fn split_back(
     instance: &Instance,
     pricing: &Pricing,
     prices: &mut DualPrices,
-    item: u32,
     end: u32,
+    period: u32,
+    echelons: i64,
 ) {
-    let parts = times(
-        echelons_with(instance, pricing, end),
-        pricing.weight(item, end),
-    );
-    for period in 1..instance.periods() + 1 {
-        let part = over(owed_cost(instance, pricing, prices, end, period), parts);
-        let before = prices.back.get(item, period);
-        if before == 0 || part < before {
-            prices.back.put(item, period, part);
+    let cost = owed_cost(instance, pricing, prices, end, period);
+    for item in 1..instance.items() + 1 {
+        let weight = pricing.weight(item, end);
+        if item != end && weight > 0 {
+            give_part(prices, item, period, over(cost, times(echelons, weight)));
         }
+    }
+}
+
+// The same in each period.
+fn split_all(instance: &Instance, pricing: &Pricing, prices: &mut DualPrices, end: u32) {
+    let echelons = echelons_with(instance, pricing, end);
+    for period in 1..instance.periods() + 1 {
+        split_back(instance, pricing, prices, end, period, echelons);
     }
 }
 
@@ -249,11 +271,7 @@ fn split_back(
 pub(crate) fn split_backs(instance: &Instance, pricing: &Pricing, prices: &mut DualPrices) {
     for end in 1..instance.items() + 1 {
         if instance.has_backlog_cost(end) {
-            for item in 1..instance.items() + 1 {
-                if item != end && pricing.weight(item, end) > 0 {
-                    split_back(instance, pricing, prices, item, end);
-                }
-            }
+            split_all(instance, pricing, prices, end);
         }
     }
 }

@@ -2,15 +2,18 @@
 use crate::grid::IntegerGrid;
 use crate::numbers::{less, of_amount, over, plus, times};
 use crate::prices::DualPrices;
-use crate::pricing::Pricing;
+use crate::pricing::{Item, Pricing};
 use crate::settling::{settle, split_backs};
 use lot_model::Instance;
 use std::alloc::{AllocError, Global};
 
-// The largest price that a cost gets by the scale, and the largest scale.
+// The largest price that a cost gets by the scale, in money times the scale.
 const MOST_SCALED: u64 = 100_000_000;
 
-const MOST_SCALE: u64 = 4096;
+// The largest scale is 2 to this power, in prices for a unit of money.
+const MOST_SCALE_POWER: u32 = 12;
+
+const MOST_SCALE: u64 = 1 << MOST_SCALE_POWER;
 
 // The largest of numbers and a first one.
 fn largest(first: u64, list: &[u64]) -> u64 {
@@ -38,7 +41,7 @@ fn largest_cost(instance: &Instance) -> u64 {
 // The largest power of two by which no cost gets too large, and 1 where there is none.
 fn scale_for(cost: u64) -> u64 {
     let mut scale = MOST_SCALE;
-    for _ in 0..12 {
+    for _ in 0..MOST_SCALE_POWER {
         if scale <= 1 || scale.saturating_mul(cost) <= MOST_SCALED {
             return scale.max(1);
         }
@@ -47,38 +50,67 @@ fn scale_for(cost: u64) -> u64 {
     1
 }
 
-// What is left of the price of stock of an item, for each of another one in it.
-fn share_of(left: &IntegerGrid, pricing: &Pricing, item: u32, count: u32, period: u32) -> i64 {
-    let mut least = i64::MAX;
-    if let Some(found) = pricing.get(item) {
-        for place in 0..count {
-            let other = place.wrapping_add(1);
-            let weight = found.weight_in(other);
-            if weight > 0 {
-                least = least.min(over(left.get(other, period), weight));
-            }
+// The lower one of two parts, the first of which there may not be.
+fn lower(one: Option<i64>, other: i64) -> i64 {
+    match one {
+        Some(part) => part.min(other),
+        None => other,
+    }
+}
+
+// What is left of the prices of stock of the items that one is in, for each of it in them: at least 0. None where it is in
+// none.
+fn share_of(left: &IntegerGrid, found: &Item, count: u32, period: u32) -> Option<i64> {
+    let mut least = None;
+    for place in 0..count {
+        let other = place.wrapping_add(1);
+        let weight = found.weight_in(other);
+        if weight > 0 {
+            let part = over(left.get(other, period), weight).max(0);
+            least = Some(lower(least, part));
         }
     }
-    least.max(0)
+    least
 }
 
 // The echelon of an item takes its share of the price of stock of each item in it.
 fn take_share(
     left: &mut IntegerGrid,
     stock: &mut IntegerGrid,
-    pricing: &Pricing,
-    item: u32,
+    found: &Item,
     count: u32,
     period: u32,
 ) {
-    let part = share_of(left, pricing, item, count, period);
-    if let Some(found) = pricing.get(item) {
-        for place in 0..count {
-            let other = place.wrapping_add(1);
-            let price = times(found.weight_in(other), part);
-            stock.put(other, period, plus(stock.get(other, period), price));
-            left.put(other, period, less(left.get(other, period), price));
-        }
+    let Some(part) = share_of(left, found, count, period) else {
+        return;
+    };
+    for place in 0..count {
+        let other = place.wrapping_add(1);
+        let price = times(found.weight_in(other), part);
+        stock.put(other, period, plus(stock.get(other, period), price));
+        left.put(other, period, less(left.get(other, period), price));
+    }
+}
+
+// The same in each period.
+fn take_shares(
+    left: &mut IntegerGrid,
+    stock: &mut IntegerGrid,
+    found: &Item,
+    count: u32,
+    periods: u32,
+) {
+    for place in 0..periods {
+        take_share(left, stock, found, count, place.wrapping_add(1));
+    }
+}
+
+// Costs of an item by period, times the scale.
+fn put_scaled(grid: &mut IntegerGrid, item: u32, costs: &[u64], scale: i64) {
+    let mut period = 0u32;
+    for cost in costs {
+        period = period.saturating_add(1);
+        grid.put(item, period, times(scale, of_amount(*cost)));
     }
 }
 
@@ -86,11 +118,7 @@ fn take_share(
 fn scaled_costs(alloc: Global, instance: &Instance, scale: u64) -> Result<IntegerGrid, AllocError> {
     let mut grid = IntegerGrid::zero(alloc, instance.items(), instance.periods())?;
     for item in 1..instance.items() + 1 {
-        let mut period = 0u32;
-        for cost in instance.hold_costs(item) {
-            period = period.saturating_add(1);
-            grid.put(item, period, times(of_amount(scale), of_amount(*cost)));
-        }
+        put_scaled(&mut grid, item, instance.hold_costs(item), of_amount(scale));
     }
     Ok(grid)
 }
@@ -103,11 +131,10 @@ fn split_stocks(
     prices: &mut DualPrices,
 ) -> Result<(), AllocError> {
     let mut left = scaled_costs(alloc, instance, prices.scale)?;
-    let count = instance.items();
+    let (count, periods) = (instance.items(), instance.periods());
     for item in pricing.order().iter().rev() {
-        for place in 0..instance.periods() {
-            let period = place.wrapping_add(1);
-            take_share(&mut left, &mut prices.stock, pricing, *item, count, period);
+        if let Some(found) = pricing.get(*item) {
+            take_shares(&mut left, &mut prices.stock, found, count, periods);
         }
     }
     Ok(())
@@ -117,7 +144,7 @@ fn split_stocks(
 /// they are in: from the raw components up each echelon holds stock at all that the items in it leave to it. The scale is
 /// the largest power of two up to `MOST_SCALE` by which no cost gets past `MOST_SCALED`, or 1.
 ///
-/// The error is want of memory. It takes time in the square of the number of items times that of the periods.
+/// The error is that memory ran out. It takes time in the square of the number of items times that of the periods.
 pub fn split_prices(
     alloc: Global,
     instance: &Instance,

@@ -2,8 +2,8 @@
 use cert_lines::Cut;
 use echelon_rows::limits::{MAX_PRICE, MAX_STEP};
 use lin_rows::Potentials;
-use priced_items::numbers::are_positive;
-use priced_items::{Costs, Item, Served};
+use priced_items::numbers::none_is_negative;
+use priced_items::{Costs, Item, Served, Serving};
 use std::alloc::{AllocError, Global};
 
 // Prices as a cut has them; None where one is below 0 or past the largest one.
@@ -30,14 +30,15 @@ fn cut_steps(alloc: Global, places: &[Served]) -> Result<Option<Vec<u128>>, Allo
     Ok(Some(found))
 }
 
-// The block cut of an item by its costs and the potentials that the recursion gives; None where a number is past its limit.
+// The block cut of an item by its costs and the potentials that the recursion gives; None where a number is past its limit
+// or doesn't fit.
 pub(crate) fn item_cut(
     alloc: Global,
     item: &Item,
     costs: &Costs,
-    places: &[Served],
+    serving: &Serving,
 ) -> Result<Option<Cut>, AllocError> {
-    if !are_positive(&costs.hold) {
+    if !none_is_negative(&costs.hold) || serving.cost().is_none() {
         return Ok(None);
     }
     let Some(setup) = cut_prices(alloc, &costs.setup)? else {
@@ -52,7 +53,7 @@ pub(crate) fn item_cut(
     let Some(back) = cut_prices(alloc, &costs.back)? else {
         return Ok(None);
     };
-    let Some(steps) = cut_steps(alloc, places)? else {
+    let Some(steps) = cut_steps(alloc, &serving.places)? else {
         return Ok(None);
     };
     let potentials = Potentials {

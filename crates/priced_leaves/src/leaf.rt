@@ -109,21 +109,47 @@ impl Making {
         Ok(())
     }
 
+    // The capacities of a resource, as often as its time is priced.
+    fn put_capacity(
+        &mut self,
+        instance: &Instance,
+        prices: &DualPrices,
+        resource: u32,
+    ) -> Result<(), AllocError> {
+        for period in 1..instance.periods() + 1 {
+            let price = prices.capacity.get(resource, period);
+            self.put(RowName::Capacity(resource, period), price)?;
+        }
+        Ok(())
+    }
+
+    // Those of all resources.
+    fn put_capacities(
+        &mut self,
+        instance: &Instance,
+        prices: &DualPrices,
+    ) -> Result<(), AllocError> {
+        for resource in 1..instance.resources() + 1 {
+            self.put_capacity(instance, prices, resource)?;
+        }
+        Ok(())
+    }
+
+    // The balances of an item, and its largest end stock.
+    fn put_balances(&mut self, instance: &Instance, item: u32) -> Result<(), AllocError> {
+        for period in 1..instance.periods() + 1 {
+            let number = self.balances.get(item, period);
+            self.put(RowName::Balance(item, period), number)?;
+        }
+        let number = self.ends.get(item, 1);
+        self.put(RowName::EndMax(item), number)
+    }
+
     // The rows that are taken for all items together.
     fn put_rows(&mut self, instance: &Instance, prices: &DualPrices) -> Result<(), AllocError> {
-        for resource in 1..instance.resources() + 1 {
-            for period in 1..instance.periods() + 1 {
-                let price = prices.capacity.get(resource, period);
-                self.put(RowName::Capacity(resource, period), price)?;
-            }
-        }
+        self.put_capacities(instance, prices)?;
         for item in 1..instance.items() + 1 {
-            for period in 1..instance.periods() + 1 {
-                let number = self.balances.get(item, period);
-                self.put(RowName::Balance(item, period), number)?;
-            }
-            let number = self.ends.get(item, 1);
-            self.put(RowName::EndMax(item), number)?;
+            self.put_balances(instance, item)?;
         }
         Ok(())
     }
@@ -164,7 +190,7 @@ fn put_item(
     };
     costs.write(given.instance, item, given.prices, given.fixed)?;
     planning.serving.serve_all(item, costs)?;
-    match item_cut(alloc, item, costs, &planning.serving.places)? {
+    match item_cut(alloc, item, costs, &planning.serving)? {
         Some(cut) => making.put_cut(cut, first_cut)?,
         None => {
             making.is_whole = false;
@@ -209,7 +235,7 @@ fn leaf_at(
 /// where a number is past its limit. The parts name the cuts `first_cut`, `first_cut + 1` and so on: that is one more than
 /// the number of cuts before these, and the bounds by their numbers in `fixed`.
 ///
-/// The error is want of memory. It takes time in the square of the number of items times that of the periods, and in the
+/// The error is that memory ran out. It takes time in the square of the number of items times that of the periods, and in the
 /// number of items times the square of that of the periods.
 pub fn priced_leaf(
     alloc: Global,

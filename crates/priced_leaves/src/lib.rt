@@ -19,6 +19,6 @@ mod leaf;
 mod writable;
 
 pub use leaf::{Priced, dropped_leaf, priced_leaf};
-pub use price_rounds::{Average, Improved, Reached, Rounds};
+pub use price_rounds::{Average, GROWTH_PARTS, Improved, Reached, Rounds};
 pub use priced_items::numbers::ONE;
 pub use priced_items::{DualPrices, Fixed, Held, Pricing, fixed_setups, split_prices};
