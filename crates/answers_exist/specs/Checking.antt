@@ -15,7 +15,7 @@ use Rattle.cert_checker.specs.declared.fault.Why.{Why}
 use Rattle.cert_checker.specs.Cuts.{OfProblem}
 use Rattle.cert_checker.specs.Checks.{IsCertified, IsCheckFault}
 
--- bytes are the text of a certificate, or have a first fault that isn't want of memory
+-- bytes are the text of a certificate, or have a first fault that isn't out of memory
 abbrev pub TextsComeOut : Type 0
 TextsComeOut = (bytes : List ℕ) → ((c : Shape) × IsTextOf bytes c) ⊎ ((f : CertTextFault) × (f ≢ Memory) × IsCertTextFault bytes f)
 

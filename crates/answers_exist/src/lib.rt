@@ -34,7 +34,7 @@ pub fn bounds_come_out()
     base_bounds_are_floors();
 }
 
-/// All bytes are the text of a certificate within the limits, or have a first fault that isn't want of memory.
+/// All bytes are the text of a certificate within the limits, or have a first fault that isn't out of memory.
 pub fn texts_come_out()
     ensures { TextsComeOut }
 {

@@ -1,5 +1,5 @@
 -- Laws of nodes and of trees below them while they are searched.
-use Rattle.std.proofs.Common.{◌≡◌, ◌-◌, ◌∙◌, ℕ, Bool, true, false, sym, ap, List, length, take, set, Option}
+use Rattle.std.proofs.Common.{◌≡◌, ◌-◌, ◌∙◌, ℕ, Bool, true, false, sym, ap, List, length, take, set, Option, Result, Ok, Err, OnOk}
 use Rattle.lin_rows.specs.declared.bound.Bound.{Bound}
 use Rattle.branch_and_bound.specs.declared.proposal.Proposal.{Proposal as Leaf}
 use Rattle.branch_and_bound.specs.declared.proposal.Split.{Split}
@@ -13,6 +13,7 @@ use Rattle.branch_and_bound.specs.Sides.{side_path, side_ranges}
 use Rattle.branch_and_bound.specs.Growing.{IsMarkedDeep, IsSound}
 use Rattle.branch_and_bound.specs.Guided.{AtNode, AtSide, IsBranchOf, AreDeep, IsLater, IsSameNode, IsSoundTree}
 use Rattle.branch_and_bound.specs.Joined.{IsBranch}
+use Rattle.branch_and_bound.proofs.Endless.{at_most-trans}
 use Rattle.branch_and_bound.proofs.Ends.{branches_joined, deep_later, ends_joined, moved, sound_later}
 use Rattle.branch_and_bound.proofs.Sides.{back_path, back_ranges}
 
@@ -33,6 +34,19 @@ back_node most old mid new split range is down way back up = record {
   ranges = back ∙ (ap (λ r. set mid.ranges.items split.place r) is ∙ back_ranges most old.ranges.items mid.ranges.items split.place split.at down);
   path = up ∙ back_path most old.path.items mid.path.items split.column split.at way;
 }
+
+-- what comes after a later state comes after the first one
+pub later_on : {Self S : Type 0} (G : Ghosts Self S) (guide : Self) (a b c : S) → (G.Grows a b → G.Grows b c → G.Grows a c) → IsLater G guide a b → IsLater G guide b c → IsLater G guide a c
+later_on G guide a b c grows_on first next = record {
+  state = next.state;
+  grows = grows_on first.grows next.grows;
+  kept = at_most-trans (G.cost c) (G.cost b) (G.cost a) next.kept first.kept;
+}
+
+-- the same of a step that may want memory
+pub later_if : {T E Self S : Type 0} (r : Result T E) (G : Ghosts Self S) (guide : Self) (a b c : S) → (G.Grows a b → G.Grows b c → G.Grows a c) → IsLater G guide a b → OnOk r (IsLater G guide b c) → OnOk r (IsLater G guide a c)
+later_if (Ok x) G guide a b c grows_on first next = later_on G guide a b c grows_on first next
+later_if (Err e) G guide a b c grows_on first next = next
 
 -- a tree stays one in a later state
 pub tree_later : {Self S : Type 0} (G : Ghosts Self S) (guide : Self) (before after : S) → IsLater G guide before after → ((rs : List Range) (path : List Bound) (leaf : Leaf) → G.Holds guide before rs path leaf → G.Holds guide after rs path leaf) → (tree : Tree) (rs : List Range) (path : List Bound) → IsSoundTree G guide before tree rs path → IsSoundTree G guide after tree rs path

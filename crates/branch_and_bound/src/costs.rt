@@ -2,7 +2,7 @@
 ghost use Rattle.std.specs.Prelude.{◌≡◌, ◌↔◌, IsTrue};
 ghost use Rattle.branch_and_bound.specs.Costs.{IsBelow, lesser};
 
-// Whether the first cost is less.
+/// Whether the first cost is less. None stands for no plan, so that each cost is less than it.
 pub fn is_below(cost: Option<u128>, other: Option<u128>) -> bool
     ensures { IsTrue result ↔ IsBelow cost other }
 {

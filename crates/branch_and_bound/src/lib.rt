@@ -5,10 +5,11 @@
 //! `MAX_BRANCHES` branches on a path is used up, and gives the `Claim` that the leaves show, with the tree of leaves
 //! that say so. Where it claims a bound, evidence was asked for at each leaf that says just this number.
 //! `strip` gives the tree of a certificate. `open_place` and `middle` are for guides that branch in the middle
-//! of a range, and `whole_is_measured` counts the choices of a whole problem.
+//! of a range, `is_below` compares costs, and `whole_is_measured` counts the choices of a whole problem.
 //!
-//! Family: search. It stands on `lin_rows`, whose columns are branched on, and on `cert_lines` and
-//! `certificate`, whose leaves and trees it gives; `branch_and_cut` stands on it.
+//! Family: search. It stands on `lin_rows`, whose columns are branched on, on `cert_lines` and `certificate`, whose
+//! leaves and trees it gives, and on the sums of `lot_sizing`; `branch_and_cut` and, in proofs alone, `lotplan` stand
+//! on it.
 #![tactic(auto)]
 
 mod asking;
@@ -29,6 +30,7 @@ mod splitting;
 mod stripping;
 
 pub use choice::{middle, open_place};
+pub use costs::is_below;
 pub use laws::whole_is_measured;
 pub use node::{Node, Range};
 pub use proposal::{Proposal, Split};

@@ -12,8 +12,8 @@ pub struct Proposal {
     pub says: Option<u128>,
     /// Whether evidence was asked for that no more can be said here.
     pub asked: bool,
-    /// By which the guide finds what it remembers of the node.
-    pub note: usize,
+    /// The place of what the guide remembers of the node, counted from 0; None where it remembers nothing.
+    pub note: Option<usize>,
 }
 
 /// A branch.

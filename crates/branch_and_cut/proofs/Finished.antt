@@ -9,6 +9,7 @@ use Rattle.plan_rules.specs.Held.{plan_of}
 use Rattle.lin_rows.specs.declared.bound.Bound.{Bound}
 use Rattle.lin_rows.specs.declared.column.Column.{Column}
 use Rattle.lin_rows.specs.Rows.{LinRow}
+use Rattle.cert_lines.specs.declared.limits.TheConstants.{MAX_BRANCHES}
 use Rattle.cert_lines.specs.declared.parts.Claim.{Claim}
 use Rattle.cert_lines.specs.declared.parts.Claim.TheVariants.{Optimal, Infeasible, Bound as BoundOf}
 use Rattle.cert_lines.specs.Limits.{IsSmallClaim}
@@ -131,7 +132,7 @@ module _ (m : Problem) (ranges : Ranges) (version least : ℕ) (rows : List LinR
   claimed_least best (BoundOf amount) made floor each is = least_bound amount each is.2
 
   -- each leaf of the certificate's tree says enough
-  pub all_enough : (best : Option ℕ) (claim : Claim) (t : Tree) → IsNodeOf m ranges rs [] → longest sought ≤ 2000 → IsSplitTree (choice_place m) rs sought → IsStripped sought t → EachLeaf (choice_place m) (λ rs path p. IsKept m ranges version least rows rs path p) rs [] sought → IsShown (choice_rules m) best rs sought claim → split.EachLeaf (IsEnoughAt m ranges version rows claim) [] (tree_shape t)
+  pub all_enough : (best : Option ℕ) (claim : Claim) (t : Tree) → IsNodeOf m ranges rs [] → longest sought ≤ MAX_BRANCHES → IsSplitTree (choice_place m) rs sought → IsStripped sought t → EachLeaf (choice_place m) (λ rs path p. IsKept m ranges version least rows rs path p) rs [] sought → IsShown (choice_rules m) best rs sought claim → split.EachLeaf (IsEnoughAt m ranges version rows claim) [] (tree_shape t)
   all_enough best claim t node short is same each shows =
       each_on m ranges
       (λ rs path p. IsKept m ranges version least rows rs path p × IsAtMost (limit_of claim) p.says)
@@ -149,7 +150,7 @@ module _ (m : Problem) (ranges : Ranges) (version least : ℕ) (rows : List LinR
       from_said None n e = cc e
       from_said (Some k) n e = let same : k ≡ n = cc e in ap Some same
 
-  pub all_evidence : SaysAreOne → (total : ℕ → ℕ) → AreLargestTotals m total → (root : RootSays) (bound : ℕ) (t : Tree) → IsNodeOf m ranges rs [] → longest sought ≤ 2000 → IsSplitTree (choice_place m) rs sought → IsStripped sought t → EachLeaf (choice_place m) (λ rs path p. IsKept m ranges version least rows rs path p) rs [] sought → EachLeaf (choice_place m) (λ rs path p. p.says ≡ Some bound → IsToldAt m root path p) rs [] sought → split.EachLeaf (λ path leaf. SaysAmountWithin m ranges rows bound path leaf → IsEvidence m root path bound) [] (tree_shape t)
+  pub all_evidence : SaysAreOne → (total : ℕ → ℕ) → AreLargestTotals m total → (root : RootSays) (bound : ℕ) (t : Tree) → IsNodeOf m ranges rs [] → longest sought ≤ MAX_BRANCHES → IsSplitTree (choice_place m) rs sought → IsStripped sought t → EachLeaf (choice_place m) (λ rs path p. IsKept m ranges version least rows rs path p) rs [] sought → EachLeaf (choice_place m) (λ rs path p. p.says ≡ Some bound → IsToldAt m root path p) rs [] sought → split.EachLeaf (λ path leaf. SaysAmountWithin m ranges rows bound path leaf → IsEvidence m root path bound) [] (tree_shape t)
   all_evidence one total totals root bound t node short is same each told =
       each_on m ranges
       (λ rs path p. IsKept m ranges version least rows rs path p × (p.says ≡ Some bound → IsToldAt m root path p))
@@ -175,7 +176,7 @@ module _ (m : Problem) (ranges : Ranges) (version least : ℕ) (rows : List LinR
   below_kept None amount made below = tt
   below_kept (Some p) amount made below = omega (arith, below, made.cost)
 
-  pub all_deep : SaysAreOne → (total : ℕ → ℕ) → AreLargestTotals m total → (best : Option Planned) (t : Tree) → IfSome best (IsMade m) → IsNodeOf m ranges rs [] → longest sought ≤ 2000 → IsSplitTree (choice_place m) rs sought → IsStripped sought t → EachLeaf (choice_place m) (λ rs path p. IsKept m ranges version least rows rs path p) rs [] sought → EachLeaf (choice_place m) (IsOpenDeep (choice_rules m) (cost_kept best)) rs [] sought → split.EachLeaf (IsDeepIfOpenWithin m ranges (plan_kept best) rows) [] (tree_shape t)
+  pub all_deep : SaysAreOne → (total : ℕ → ℕ) → AreLargestTotals m total → (best : Option Planned) (t : Tree) → IfSome best (IsMade m) → IsNodeOf m ranges rs [] → longest sought ≤ MAX_BRANCHES → IsSplitTree (choice_place m) rs sought → IsStripped sought t → EachLeaf (choice_place m) (λ rs path p. IsKept m ranges version least rows rs path p) rs [] sought → EachLeaf (choice_place m) (IsOpenDeep (choice_rules m) (cost_kept best)) rs [] sought → split.EachLeaf (IsDeepIfOpenWithin m ranges (plan_kept best) rows) [] (tree_shape t)
   all_deep one total totals best t made node short is same each deep =
       each_on m ranges
       (λ rs path p. IsKept m ranges version least rows rs path p × IsOpenDeep (choice_rules m) (cost_kept best) rs path p)

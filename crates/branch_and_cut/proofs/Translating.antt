@@ -4,6 +4,7 @@ use Rattle.std.proofs.lemmas.List.{length-append}
 use Rattle.lot_sizing.specs.Problem.{Problem}
 use Rattle.lin_rows.specs.declared.bound.Bound.{Bound}
 use Rattle.lin_rows.specs.declared.column.Column.{Column}
+use Rattle.cert_lines.specs.declared.limits.TheConstants.{MAX_BRANCHES}
 use Rattle.cert_lines.specs.declared.parts.Leaf.{Leaf as LeafValue}
 use Rattle.cert_lines.specs.Shapes.{LeafShape, leaf_shape}
 use Rattle.certificate.specs.declared.tree.Tree.{Tree}
@@ -76,7 +77,7 @@ module _ (m : Problem) (ranges : Ranges) where
   split_tree rs path (Leaf p) (tree.Leaf leaf) node is same = tt
 
   -- what follows at each leaf, whose path has no more branches than it may
-  pub each_on : (P : AtLeaf) (Q : OnPath) → ((rs : List Range) (path : List Bound) (p : Proposal) → IsNodeOf m ranges rs path → length path ≤ 2000 → P rs path p → Q path (leaf_shape p.leaf)) → (rs : List Range) (path : List Bound) (sought : Sought) (t : Tree) → IsNodeOf m ranges rs path → length path + longest sought ≤ 2000 → IsSplitTree (choice_place m) rs sought → IsStripped sought t → EachLeaf (choice_place m) P rs path sought → split.EachLeaf Q path (tree_shape t)
+  pub each_on : (P : AtLeaf) (Q : OnPath) → ((rs : List Range) (path : List Bound) (p : Proposal) → IsNodeOf m ranges rs path → length path ≤ MAX_BRANCHES → P rs path p → Q path (leaf_shape p.leaf)) → (rs : List Range) (path : List Bound) (sought : Sought) (t : Tree) → IsNodeOf m ranges rs path → length path + longest sought ≤ MAX_BRANCHES → IsSplitTree (choice_place m) rs sought → IsStripped sought t → EachLeaf (choice_place m) P rs path sought → split.EachLeaf Q path (tree_shape t)
   each_on P Q f rs path (Branch' c spot at p low q high) (tree.Branch' column number s left u right) node short is same each =
       let F : Column → ℕ → Type 0 = λ d n. split.EachLeaf Q (split.low_path path d n) (tree_shape left) × split.EachLeaf Q (split.high_path path d n) (tree_shape right) in
       let here : F c at = (

@@ -19,7 +19,9 @@ use Rattle.branch_and_bound.specs.declared.proposal.Proposal.{Proposal}
 use Rattle.branch_and_cut.specs.Begun.{AreKnownCuts, IsBegun}
 use Rattle.branch_and_cut.specs.Nodes.{IsKept, IsLasting, IsNodeOf, IsToldAt}
 use Rattle.branch_and_cut.specs.Search.{cost_of}
-use Rattle.branch_and_cut.specs.Within.{AreGiven, IsMadeWithin, given_ranges}
+use Rattle.branch_and_cut.specs.Adding.{IsJudged}
+use Rattle.branch_and_cut.specs.Within.{AllLieWithin, AreGiven, HaveShape, IsMadeWithin, given_ranges}
+use Rattle.branch_and_cut.specs.declared.within.Ranges.{Ranges as Given}
 
 -- ---- the best plan so far
 -- its cost, and none where there is no plan
@@ -46,6 +48,22 @@ KeepsGiven m first best = IfSome first (λ p. CostsNoMore best (cost_of m p))
 
 abbrev pub KeepsOwnMade : Problem → Option Planned → Type 0
 KeepsOwnMade m best = (q : terms.Plan) → IsOwnPeriod m q → terms.IsFeasible m q → CostsNoMore best (terms.cost m q)
+
+-- the ranges have the problem's shape, and the best plan so far was made within them, if there is one
+pub record IsBestSoFar (m : Problem) (r : Given) (best : Option Planned) : Type 0 where
+  pub shape : HaveShape m r
+  pub made : IfSome best (IsMadeWithin m (given_ranges r))
+
+-- so was the new one, which is at least as good as the old one
+pub record IsNoWorseBest (m : Problem) (r : Given) (new old : Option Planned) : Type 0 where
+  pub made : IfSome new (IsMadeWithin m (given_ranges r))
+  pub kept : IsNoWorse new old
+
+-- the best plan to begin with is within the ranges, and costs no more than the plan that was given, and than the own-period plan where all plans are within the ranges
+pub record IsFirstBest (m : Problem) (r : Given) (first : Option Plan) (best : Option Planned) : Type 0 where
+  pub made : IfSome best (IsMadeWithin m (given_ranges r))
+  pub kept : KeepsGiven m first best
+  pub own : AllLieWithin m (given_ranges r) → KeepsOwnMade m best
 
 -- ---- cuts
 abbrev pub shapes : Known → List CutShape
@@ -74,11 +92,22 @@ pub record IsKnown (g : Model) (k : Known) : Type 0 where
 abbrev pub IsLastingIn : Model → Known → List Bound → Proposal → Type 0
 IsLastingIn g k path p = IsLasting g.instance.now g.version g.least k.rows.items path p
 
+-- what the checker judged over the rows that are known
+abbrev pub IsJudgedIn : Model → Known → List Bound → Proposal → Type 0
+IsJudgedIn g k path p = IsJudged g.instance.now g.version k.rows.items path p
+
 abbrev pub IsNodeIn : Model → List Range → List Bound → Type 0
 IsNodeIn g rs path = IsNodeOf g.instance.now (ranges_in g) rs path
 
 abbrev pub IsKeptIn : Model → Known → List Range → List Bound → Proposal → Type 0
 IsKeptIn g k rs path p = IsKept g.instance.now (ranges_in g) g.version g.least k.rows.items rs path p
+
+-- it is kept wherever another proposal is, whatever is known there
+abbrev pub IsKeptAs : Model → List Range → List Bound → Proposal → Proposal → Type 0
+IsKeptAs g rs path old new =
+    (least : ℕ) (rows : List LinRow)
+    → IsKept g.instance.now (ranges_in g) g.version least rows rs path old
+    → IsKept g.instance.now (ranges_in g) g.version least rows rs path new
 
 abbrev pub IsToldIn : Model → List Bound → Proposal → Type 0
 IsToldIn g path p = IsToldAt g.instance.now g.root path p

@@ -5,8 +5,8 @@ pub mod Listed
 pub mod Nodes
 pub mod Begun
 pub mod Beginning
-pub mod Knowing
 pub mod Adding
+pub mod Knowing
 pub mod Finishing
 pub mod Answer
 pub mod Numbering

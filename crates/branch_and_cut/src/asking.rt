@@ -1,10 +1,9 @@
 // Evidence that no more could be said of a node without cuts.
-ghost use Rattle.std.specs.Prelude.{◌≡◌, ℕ, List, true, IfOk, Some};
-ghost use Rattle.lin_rows.specs.Rows.{LinRow};
+ghost use Rattle.std.specs.Prelude.{◌≡◌, true, IfOk, Some};
 ghost use Rattle.leaf_growth.specs.Written.{HasVersion};
 ghost use Rattle.branch_and_bound.specs.Costs.{IsAtMost};
-ghost use Rattle.branch_and_cut.specs.Knowing.{IsNodeIn, ranges_in};
-ghost use Rattle.branch_and_cut.specs.Nodes.{IsKept, IsRaised, IsToldAt, marked_asked};
+ghost use Rattle.branch_and_cut.specs.Knowing.{IsKeptAs, IsNodeIn, IsToldIn};
+ghost use Rattle.branch_and_cut.specs.Nodes.{IsRaised, marked_asked};
 
 use crate::guiding::Model;
 use branch_and_bound::{Node, Proposal};
@@ -51,8 +50,8 @@ pub(crate) fn told(
 ) -> Result<Proposal, AllocError>
     requires version { HasVersion model.now.instance.now model.now.version }
     requires node { IsNodeIn model.now node.now.ranges.items node.now.path.items }
-    ensures kept { IfOk result (λ p. (least : ℕ) (rows : List LinRow) → IsKept model.now.instance.now (ranges_in model.now) model.now.version least rows node.now.ranges.items node.now.path.items proposal → IsKept model.now.instance.now (ranges_in model.now) model.now.version least rows node.now.ranges.items node.now.path.items p) }
-    ensures told { IfOk result (IsToldAt model.now.instance.now model.now.root node.now.path.items) }
+    ensures kept { IfOk result (IsKeptAs model.now node.now.ranges.items node.now.path.items proposal) }
+    ensures told { IfOk result (IsToldIn model.now node.now.path.items) }
     ensures asked { IfOk result (λ p. p.asked ≡ true) }
     ensures more { IfOk result (λ p. IsAtMost proposal.says p.says) }
 {
@@ -71,7 +70,7 @@ pub(crate) fn told(
             leaf,
             says: None,
             asked: true,
-            note: 0,
+            note: None,
         }),
         PathSays::Exempt(_) => Ok(asked(proposal)),
     }

@@ -47,7 +47,7 @@ fn proposal_of(leaf: Leaf, amount: u128) -> Proposal
         leaf,
         says: Some(amount),
         asked: false,
-        note: 0,
+        note: None,
     }
 }
 

@@ -1,7 +1,7 @@
 // On which setup a node is branched: some are tried with a few rounds of prices on both sides. Nothing is claimed of it.
 use crate::guiding::Model;
 use lot_model::Instance;
-use priced_leaves::{Average, Fixed, Held, ONE, Reached, Rounds};
+use priced_leaves::{Average, Fixed, GROWTH_PARTS, Held, ONE, Reached, Rounds};
 use std::alloc::{AllocError, Global};
 
 // How many setups are tried, and with how many rounds on each side.
@@ -24,17 +24,19 @@ pub(crate) fn worth_of(average: &Average, cost: u64, item: u32, period: u32) -> 
     apart.saturating_mul(i128::from(cost).saturating_add(1))
 }
 
-// The place in a list of the choice that is worth least.
-fn least_place(list: &[Choice]) -> usize {
-    let mut least = 0;
-    let mut worth = i128::MAX;
+// The first place in a list of a choice that is worth least; None in an empty list.
+fn least_place(list: &[Choice]) -> Option<usize> {
+    let mut least: Option<(usize, i128)> = None;
     for (place, choice) in list.iter().enumerate() {
-        if choice.worth < worth {
-            worth = choice.worth;
-            least = place;
+        match least {
+            Some((_, worth)) if worth <= choice.worth => {}
+            _ => least = Some((place, choice.worth)),
         }
     }
-    least
+    match least {
+        Some((place, _)) => Some(place),
+        None => None,
+    }
 }
 
 // Puts a choice to a list, in the place of the one that is worth least where there is no room.
@@ -43,7 +45,9 @@ fn put(list: &mut Vec<Choice>, choice: Choice) -> Result<(), AllocError> {
         list.push(choice)?;
         return Ok(());
     }
-    let least = least_place(list);
+    let Some(least) = least_place(list) else {
+        return Ok(());
+    };
     if let Some(other) = list.get_mut(least) {
         if other.worth < choice.worth {
             *other = choice;
@@ -154,15 +158,15 @@ fn tried(
     })
 }
 
-// By how much the number of rounds may grow until it says as much as a plan costs; a twentieth of it without a plan.
+// By how much the number of rounds may grow until it says as much as a plan costs; a part of it without a plan.
 fn most_gain(rounds: &Rounds, cost: Option<u128>) -> i128 {
     let scale = i128::from(rounds.prices().scale);
     let most = match cost {
         Some(cost) => match i128::try_from(cost) {
             Ok(cost) => cost.saturating_mul(scale).saturating_sub(rounds.number()),
-            Err(_) => rounds.number() / 20,
+            Err(_) => rounds.number() / GROWTH_PARTS,
         },
-        None => rounds.number() / 20,
+        None => rounds.number() / GROWTH_PARTS,
     };
     most.max(scale)
 }

@@ -10,10 +10,10 @@ ghost use Rattle.branch_and_cut.specs.Nodes.{choice_rules};
 use crate::asking::told;
 use crate::knowing::{Known, best_cost};
 use crate::pointing::{at_point, keep_built};
-use crate::pricing::{is_open, priced};
+use crate::pricing::priced;
 use crate::splitting::{open_setup, split_of};
 use crate::within::Ranges;
-use branch_and_bound::{Guide, Node, Proposal, Split, open_place};
+use branch_and_bound::{Guide, Node, Proposal, Split, is_below, open_place};
 use branching::RootSays;
 use cert_lines::copy_leaf;
 use echelon::Explosion;
@@ -78,7 +78,8 @@ fn inherited(
 fn is_relaxed(model: &Model, node: &Node, proposal: &Proposal, known: &Known) -> bool
     requires { IsNodeIn model.now node.now.ranges.items node.now.path.items }
 {
-    is_open(proposal.says, &known.best) && open_setup(model.instance, &node.ranges).is_none()
+    is_below(proposal.says, best_cost(&known.best))
+        && open_setup(model.instance, &node.ranges).is_none()
 }
 
 // A leaf for a node that isn't one choice: that of the node above, that of rounds of prices, or what the relaxation on the

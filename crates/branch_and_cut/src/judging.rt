@@ -6,14 +6,14 @@ ghost use Rattle.cert_lines.specs.Shapes.{PartLine, leaf_parts, leaf_shape};
 ghost use Rattle.leaf_growth.specs.Growth.{IsOfRows};
 ghost use Rattle.plan_rules.specs.Rows.{IfFound};
 ghost use Rattle.branch_and_bound.specs.Costs.{IsAtMost};
-ghost use Rattle.branch_and_cut.specs.Adding.{IsJudged, IsTested};
-ghost use Rattle.branch_and_cut.specs.Knowing.{IsKnown, IsLastingIn, IsNodeIn};
+ghost use Rattle.branch_and_cut.specs.Adding.{IsTested};
+ghost use Rattle.branch_and_cut.specs.Knowing.{IsJudgedIn, IsKnown, IsLastingIn, IsNodeIn};
 ghost use Rattle.branch_and_cut.specs.Nodes.{said};
 
 use crate::guiding::Model;
 use crate::knowing::Known;
 use acceptance::LeafSays;
-use branch_and_bound::{Node, Proposal};
+use branch_and_bound::{Node, Proposal, is_below};
 use cert_checker::{CheckFault, leaf_bound_in};
 use cert_lines::{Leaf, is_leaf_line};
 use std::alloc::{AllocError, Global};
@@ -31,7 +31,7 @@ fn proposal_of(leaf: Leaf, says: LeafSays) -> Proposal
             LeafSays::AtLeast(amount) => Some(amount),
         },
         asked: false,
-        note: 0,
+        note: None,
     }
 }
 
@@ -49,7 +49,7 @@ fn bound_of(
     ensures known { OnOk result (IsKnown model.now known.new) }
     ensures rows { OnOk result (known.new.rows ≡ known.old.rows) }
     ensures best { OnOk result (known.new.best ≡ known.old.best) }
-    ensures judged { IfFound result (IsJudged model.now.instance.now model.now.version known.old.rows.items node.now.path.items) }
+    ensures judged { IfFound result (IsJudgedIn model.now known.old node.now.path.items) }
 {
     // It reads that the instance is one.
     let _periods = model.instance.periods();
@@ -85,23 +85,12 @@ pub(crate) fn judged(
     ensures known { OnOk result (IsKnown model.now known.new) }
     ensures rows { OnOk result (known.new.rows ≡ known.old.rows) }
     ensures best { OnOk result (known.new.best ≡ known.old.best) }
-    ensures judged { IfFound result (IsJudged model.now.instance.now model.now.version known.old.rows.items node.now.path.items) }
+    ensures judged { IfFound result (IsJudgedIn model.now known.old node.now.path.items) }
 {
     if is_leaf_line(&leaf) {
         bound_of(alloc, model, node, known, leaf)
     } else {
         Ok(None)
-    }
-}
-
-// Whether a leaf that says the first says more than one that says the second.
-fn says_more(new: Option<u128>, old: Option<u128>) -> bool
-    ensures { result ≡ true → IsAtMost old new }
-{
-    match (new, old) {
-        (None, Some(_)) => true,
-        (Some(amount), Some(before)) => amount > before,
-        (_, None) => false,
     }
 }
 
@@ -114,7 +103,7 @@ pub(crate) fn stronger(
     found: Option<Proposal>,
 ) -> Proposal
     requires lasting { IsLastingIn model.now known.now node.now.path.items proposal }
-    requires judged { IfSome found (IsJudged model.now.instance.now model.now.version known.now.rows.items node.now.path.items) }
+    requires judged { IfSome found (IsJudgedIn model.now known.now node.now.path.items) }
     requires asked { proposal.asked ≡ false }
     ensures lasting { IsLastingIn model.now known.now node.now.path.items result }
     ensures more { IsAtMost proposal.says result.says }
@@ -122,7 +111,7 @@ pub(crate) fn stronger(
 {
     match found {
         Some(other) => {
-            if says_more(other.says, proposal.says) {
+            if is_below(proposal.says, other.says) {
                 other
             } else {
                 proposal

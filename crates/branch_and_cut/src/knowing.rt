@@ -3,9 +3,9 @@ ghost use Rattle.std.specs.Prelude.{◌≡◌, ◌⊎◌, IfOk, IfSome, Some};
 ghost use Rattle.plan_rules.specs.Held.{plan_of};
 ghost use Rattle.split_trees.specs.Ranges.{IsWithin};
 ghost use Rattle.first_plans.specs.Made.{IsMade};
-ghost use Rattle.branch_and_cut.specs.Knowing.{IsNoWorse, KeepsGiven, KeepsOwnMade, cost_kept, plan_kept};
+ghost use Rattle.branch_and_cut.specs.Knowing.{IsBestSoFar, IsFirstBest, IsNoWorse, IsNoWorseBest, KeepsGiven, cost_kept, plan_kept};
 ghost use Rattle.branch_and_cut.specs.SearchWithin.{IsGoodWithin};
-ghost use Rattle.branch_and_cut.specs.Within.{AllLieWithin, HaveShape, IsMadeWithin, given_ranges};
+ghost use Rattle.branch_and_cut.specs.Within.{HaveShape, IsMadeWithin, given_ranges};
 
 use crate::remembering::Memory;
 use crate::within::{Ranges, is_within};
@@ -88,11 +88,9 @@ pub(crate) fn keep_within(
     best: &mut Option<Planned>,
     found: Option<Planned>,
 )
-    requires shape { HaveShape instance.now ranges.now }
-    requires best { IfSome best.old (IsMadeWithin instance.now (given_ranges ranges.now)) }
+    requires best { IsBestSoFar instance.now ranges.now best.old }
     requires found { IfSome found (IsMade instance.now) }
-    ensures best { IfSome best.new (IsMadeWithin instance.now (given_ranges ranges.now)) }
-    ensures old { IsNoWorse best.new best.old }
+    ensures best { IsNoWorseBest instance.now ranges.now best.new best.old }
     ensures found { IfSome found (λ made. IsWithin instance.now (given_ranges ranges.now) (plan_of made.plan) → IsNoWorse best.new (Some made)) }
 {
     if let Some(made) = found {
@@ -113,9 +111,7 @@ pub(crate) fn best_to_begin(
 ) -> Result<Option<Planned>, AllocError>
     requires shape { HaveShape instance.now ranges.now }
     requires first { IfSome first (IsGoodWithin instance.now (given_ranges ranges.now)) }
-    ensures made { IfOk result (λ best. IfSome best (IsMadeWithin instance.now (given_ranges ranges.now))) }
-    ensures kept { IfOk result (KeepsGiven instance.now first) }
-    ensures own { IfOk result (λ best. AllLieWithin instance.now (given_ranges ranges.now) → KeepsOwnMade instance.now best) }
+    ensures { IfOk result (IsFirstBest instance.now ranges.now first) }
 {
     let mut best = given(instance, ranges, first);
     let mut list = candidates(alloc, instance)?;

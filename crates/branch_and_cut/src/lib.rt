@@ -1,8 +1,8 @@
 //! The search of every model: branching on quantities and setups, with cuts, and a certificate of what is found.
 //!
-//! Family: search. It stands on `branch_and_bound` for the tree, on `root_rounds`, `apart`, `path_relaxation`, `first_plans`
-//! and `fixed_setups` for cuts, leaves and plans, on `branching` for uncoupled models, and on `leaf_growth`, `cert_checker`
-//! and `acceptance` for what certificates are; `lotplan` stands on it.
+//! Family: search. It stands on `branch_and_bound` for the tree, on `root_rounds`, `apart`, `priced_leaves`, `path_relaxation`,
+//! `first_plans` and `fixed_setups` for cuts, leaves and plans, on `branching` for uncoupled models, and on `leaf_growth`,
+//! `cert_checker` and `acceptance` for what certificates are; `lotplan` stands on it.
 #![tactic(auto)]
 
 mod adding;

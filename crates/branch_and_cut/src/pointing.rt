@@ -66,7 +66,7 @@ pub(crate) fn at_point(
         leaf: Leaf::Point,
         says,
         asked: false,
-        note: 0,
+        note: None,
     })
 }
 

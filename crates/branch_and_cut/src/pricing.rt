@@ -8,9 +8,7 @@ ghost use Rattle.leaf_growth.specs.Growth.{IsOfRows};
 ghost use Rattle.plan_rules.specs.Rows.{IfFound};
 ghost use Rattle.priced_leaves.specs.Proposals.{IsProposal};
 ghost use Rattle.branch_and_bound.specs.Costs.{IsAtMost};
-ghost use Rattle.branch_and_cut.specs.Adding.{IsJudged};
-ghost use Rattle.branch_and_cut.specs.Knowing.{IsAfter, IsKnown, IsLastingIn, IsNoWorse, IsNodeIn, ranges_in};
-ghost use Rattle.branch_and_cut.specs.Within.{HaveShape, IsMadeWithin};
+ghost use Rattle.branch_and_cut.specs.Knowing.{IsAfter, IsBestSoFar, IsJudgedIn, IsKnown, IsLastingIn, IsNoWorse, IsNoWorseBest, IsNodeIn};
 
 use crate::adding::add_cuts;
 use crate::choosing::{Choice, choice_for};
@@ -19,7 +17,7 @@ use crate::judging::{judged, stronger};
 use crate::knowing::{Known, best_cost};
 use crate::remembering::{Memory, Note};
 use crate::trying::try_average;
-use branch_and_bound::{Node, Proposal};
+use branch_and_bound::{Node, Proposal, is_below};
 use cert_lines::{Leaf, Part};
 use certificate::{Cut, MAX_CUTS};
 use lot_model::Instance;
@@ -46,15 +44,6 @@ const NODE_WORK: u32 = 20_000;
 
 const LEAST_ROUNDS: u32 = 5;
 
-/// Whether a leaf that says this says less than what the best plan costs.
-pub(crate) fn is_open(says: Option<u128>, best: &Option<Planned>) -> bool {
-    match (says, best) {
-        (Some(amount), Some(made)) => amount < made.cost,
-        (Some(_), None) => true,
-        (None, _) => false,
-    }
-}
-
 // Whether there is room for a cut of each item.
 fn has_room(instance: &Instance, known: &Known) -> bool {
     let most = MAX_CUTS as usize;
@@ -66,7 +55,7 @@ fn first_rounds(
     alloc: Global,
     model: &Model,
     node: &Node,
-    above: usize,
+    above: Option<usize>,
     fixed: &Fixed,
     memory: &mut Memory,
 ) -> Result<Rounds, AllocError> {
@@ -103,7 +92,10 @@ fn count_at(instance: &Instance, node: &Node) -> u32 {
 
 // What the rounds lack of a cost, times the scale; 0 where there is none.
 fn lack(rounds: &Rounds, cost: Option<u128>) -> i128 {
-    match i128::try_from(cost.unwrap_or(0)) {
+    let Some(cost) = cost else {
+        return 0;
+    };
+    match i128::try_from(cost) {
         Ok(cost) => {
             let scale = i128::from(rounds.prices().scale);
             cost.saturating_mul(scale)
@@ -149,10 +141,8 @@ fn improve(
     memory: &mut Memory,
     best: &mut Option<Planned>,
 ) -> Result<Reached, AllocError>
-    requires shape { HaveShape model.now.instance.now model.now.ranges.now }
-    requires made { IfSome best.old (IsMadeWithin model.now.instance.now (ranges_in model.now)) }
-    ensures made { OnOk result (IfSome best.new (IsMadeWithin model.now.instance.now (ranges_in model.now))) }
-    ensures kept { OnOk result (IsNoWorse best.new best.old) }
+    requires { IsBestSoFar model.now.instance.now model.now.ranges.now best.old }
+    ensures { OnOk result (IsNoWorseBest model.now.instance.now model.now.ranges.now best.new best.old) }
 {
     for _time in 0..times_at(node) {
         let reached = go_further(alloc, model, node, rounds, fixed, best_cost(best))?;
@@ -160,7 +150,8 @@ fn improve(
             Reached::Open => {}
             _ => return Ok(reached),
         }
-        try_average(alloc, model, rounds.average(), memory, best)?;
+        let average = rounds.average();
+        try_average(alloc, model.instance, model.ranges, average, memory, best)?;
     }
     Ok(Reached::Open)
 }
@@ -212,7 +203,7 @@ fn judged_with(
     ensures known { OnOk result (IsKnown model.now known.new) }
     ensures after { OnOk result (IsAfter known.old known.new) }
     ensures best { OnOk result (known.new.best ≡ known.old.best) }
-    ensures judged { IfFound result (IsJudged model.now.instance.now model.now.version known.new.rows.items node.now.path.items) }
+    ensures judged { IfFound result (IsJudgedIn model.now known.new node.now.path.items) }
 {
     if !add_cuts(alloc, model, known, cuts)? {
         return Ok(None);
@@ -235,7 +226,7 @@ fn judged_priced(
     ensures known { OnOk result (IsKnown model.now known.new) }
     ensures after { OnOk result (IsAfter known.old known.new) }
     ensures best { OnOk result (known.new.best ≡ known.old.best) }
-    ensures judged { IfFound result (IsJudged model.now.instance.now model.now.version known.new.rows.items node.now.path.items) }
+    ensures judged { IfFound result (IsJudgedIn model.now known.new node.now.path.items) }
 {
     let Priced { cuts, parts, den } = priced;
     if refuted {
@@ -281,7 +272,7 @@ fn leaf_of(
     ensures known { OnOk result (IsKnown model.now known.new) }
     ensures after { OnOk result (IsAfter known.old known.new) }
     ensures best { OnOk result (known.new.best ≡ known.old.best) }
-    ensures judged { IfFound result (IsJudged model.now.instance.now model.now.version known.new.rows.items node.now.path.items) }
+    ensures judged { IfFound result (IsJudgedIn model.now known.new node.now.path.items) }
 {
     if !refuted && !is_promising(rounds, says) {
         return Ok(None);
@@ -323,7 +314,7 @@ fn note_of(
     })
 }
 
-// The place of a note for those below a node, if it is open.
+// The place of a note for those below a node; None where the node isn't open.
 fn noted(
     alloc: Global,
     model: &Model,
@@ -333,17 +324,17 @@ fn noted(
     says: Option<u128>,
     best: &Option<Planned>,
     memory: &mut Memory,
-) -> Result<usize, AllocError> {
-    if !is_open(says, best) {
-        return Ok(0);
+) -> Result<Option<usize>, AllocError> {
+    if !is_below(says, best_cost(best)) {
+        return Ok(None);
     }
     let mut held = fixed;
     let choice = branch_at(alloc, model, node, &rounds, &mut held, best_cost(best))?;
-    note_of(memory, rounds, choice)
+    Ok(Some(note_of(memory, rounds, choice)?))
 }
 
 // The proposal with another note.
-fn with_note(proposal: Proposal, note: usize) -> Proposal
+fn with_note(proposal: Proposal, note: Option<usize>) -> Proposal
     ensures leaf { result.leaf ≡ proposal.leaf }
     ensures says { result.says ≡ proposal.says }
     ensures asked { result.asked ≡ proposal.asked }
@@ -364,7 +355,7 @@ fn stronger_noted(
 ) -> Result<Proposal, AllocError>
     requires known { IsKnown model.now known.old }
     requires lasting { IsLastingIn model.now known.old node.now.path.items proposal }
-    requires judged { IfSome found (IsJudged model.now.instance.now model.now.version known.old.rows.items node.now.path.items) }
+    requires judged { IfSome found (IsJudgedIn model.now known.old node.now.path.items) }
     requires asked { proposal.asked ≡ false }
     ensures known { OnOk result (IsKnown model.now known.new) }
     ensures rows { OnOk result (known.new.rows ≡ known.old.rows) }
@@ -378,35 +369,6 @@ fn stronger_noted(
     let memory = &mut known.memory;
     let note = noted(alloc, model, node, rounds, fixed, says, best, memory)?;
     Ok(with_note(stronger, note))
-}
-
-// The leaf that was there or that of rounds at the node, whichever says more.
-fn priced_or(
-    alloc: Global,
-    model: &Model,
-    node: &Node,
-    proposal: Proposal,
-    known: &mut Known,
-) -> Result<Proposal, AllocError>
-    requires node { IsNodeIn model.now node.now.ranges.items node.now.path.items }
-    requires known { IsKnown model.now known.old }
-    requires lasting { IsLastingIn model.now known.old node.now.path.items proposal }
-    requires asked { proposal.asked ≡ false }
-    ensures known { OnOk result (IsKnown model.now known.new) }
-    ensures after { OnOk result (IsAfter known.old known.new) }
-    ensures kept { OnOk result (IsNoWorse known.new.best known.old.best) }
-    ensures lasting { IfOk result (IsLastingIn model.now known.new node.now.path.items) }
-    ensures asked { IfOk result (λ p. p.asked ≡ false) }
-{
-    let fixed = fixed_setups(alloc, model.instance, &node.path)?;
-    let memory = &mut known.memory;
-    let mut rounds = first_rounds(alloc, model, node, proposal.note, &fixed, memory)?;
-    let best = &mut known.best;
-    let reached = improve(alloc, model, node, &mut rounds, &fixed, memory, best)?;
-    let refuted = matches!(reached, Reached::Refuted);
-    let says = proposal.says;
-    let found = leaf_of(alloc, model, node, known, &rounds, refuted, &fixed, says)?;
-    stronger_noted(alloc, model, node, known, proposal, found, rounds, fixed)
 }
 
 /// The leaf of a node: the one that was there, or that of rounds of prices where it says more. Rounds are made where the
@@ -428,9 +390,17 @@ pub(crate) fn priced(
     ensures lasting { IfOk result (IsLastingIn model.now known.new node.now.path.items) }
     ensures asked { IfOk result (λ p. p.asked ≡ false) }
 {
-    if is_open(proposal.says, &known.best) && has_room(model.instance, known) {
-        priced_or(alloc, model, node, proposal, known)
-    } else {
-        Ok(proposal)
+    let is_open = is_below(proposal.says, best_cost(&known.best));
+    if !is_open || !has_room(model.instance, known) {
+        return Ok(proposal);
     }
+    let fixed = fixed_setups(alloc, model.instance, &node.path)?;
+    let memory = &mut known.memory;
+    let mut rounds = first_rounds(alloc, model, node, proposal.note, &fixed, memory)?;
+    let best = &mut known.best;
+    let reached = improve(alloc, model, node, &mut rounds, &fixed, memory, best)?;
+    let refuted = matches!(reached, Reached::Refuted);
+    let says = proposal.says;
+    let found = leaf_of(alloc, model, node, known, &rounds, refuted, &fixed, says)?;
+    stronger_noted(alloc, model, node, known, proposal, found, rounds, fixed)
 }

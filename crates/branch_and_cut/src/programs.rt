@@ -1,14 +1,13 @@
 // Plans by programs whose setups are given: at the root, with the setups that rounds of prices want, and by walks from the best
 // plan.
-ghost use Rattle.std.specs.Prelude.{◌≡◌, IfOk, IfSome, OnOk};
+ghost use Rattle.std.specs.Prelude.{IfOk, IfSome, OnOk};
 ghost use Rattle.plan_rules.specs.Cells.{Fits};
 ghost use Rattle.plan_rules.specs.Rows.{IfFound};
 ghost use Rattle.first_plans.specs.Made.{IsMade};
-ghost use Rattle.branch_and_cut.specs.Knowing.{IsNoWorse, KeepsGiven, KeepsOwnMade, ranges_in};
+ghost use Rattle.branch_and_cut.specs.Knowing.{IsBestSoFar, IsFirstBest, IsNoWorseBest};
 ghost use Rattle.branch_and_cut.specs.SearchWithin.{IsGoodWithin};
-ghost use Rattle.branch_and_cut.specs.Within.{AllLieWithin, HaveShape, IsMadeWithin, given_ranges};
+ghost use Rattle.branch_and_cut.specs.Within.{HaveShape, IsMadeWithin, given_ranges};
 
-use crate::guiding::Model;
 use crate::knowing::{best_to_begin, keep_within};
 use crate::remembering::Memory;
 use crate::within::Ranges;
@@ -22,6 +21,9 @@ use std::alloc::{AllocError, Global};
 const ROOT_WORK: u64 = 5_000_000;
 
 const TREE_WORK: u64 = 2_000_000;
+
+/// What programs with the setups that rounds of prices want may take in all.
+pub(crate) const PROGRAM_WORK: u64 = 1_000_000;
 
 // Most changes that a walk tries.
 const MOST_CHANGES: u64 = 600;
@@ -92,10 +94,8 @@ fn walk(
     work: u64,
     best: &mut Option<Planned>,
 ) -> Result<(), AllocError>
-    requires shape { HaveShape instance.now ranges.now }
-    requires made { IfSome best.old (IsMadeWithin instance.now (given_ranges ranges.now)) }
-    ensures made { OnOk result (IfSome best.new (IsMadeWithin instance.now (given_ranges ranges.now))) }
-    ensures kept { OnOk result (IsNoWorse best.new best.old) }
+    requires { IsBestSoFar instance.now ranges.now best.old }
+    ensures { OnOk result (IsNoWorseBest instance.now ranges.now best.new best.old) }
 {
     let found = walked_from(alloc, instance, ranges, best, seed, work)?;
     keep_within(instance, ranges, best, found);
@@ -109,10 +109,8 @@ fn look(
     ranges: &Ranges,
     best: &mut Option<Planned>,
 ) -> Result<(), AllocError>
-    requires shape { HaveShape instance.now ranges.now }
-    requires made { IfSome best.old (IsMadeWithin instance.now (given_ranges ranges.now)) }
-    ensures made { OnOk result (IfSome best.new (IsMadeWithin instance.now (given_ranges ranges.now))) }
-    ensures kept { OnOk result (IsNoWorse best.new best.old) }
+    requires { IsBestSoFar instance.now ranges.now best.old }
+    ensures { OnOk result (IsNoWorseBest instance.now ranges.now best.new best.old) }
 {
     if best.is_some() {
         return Ok(());
@@ -132,9 +130,7 @@ pub(crate) fn best_by_programs(
 ) -> Result<Option<Planned>, AllocError>
     requires shape { HaveShape instance.now ranges.now }
     requires first { IfSome first (IsGoodWithin instance.now (given_ranges ranges.now)) }
-    ensures made { IfOk result (λ best. IfSome best (IsMadeWithin instance.now (given_ranges ranges.now))) }
-    ensures kept { IfOk result (KeepsGiven instance.now first) }
-    ensures own { IfOk result (λ best. AllLieWithin instance.now (given_ranges ranges.now) → KeepsOwnMade instance.now best) }
+    ensures { IfOk result (IsFirstBest instance.now ranges.now first) }
 {
     let mut best = best_to_begin(alloc, instance, ranges, first)?;
     look(alloc, instance, ranges, &mut best)?;
@@ -146,40 +142,37 @@ pub(crate) fn best_by_programs(
 /// ranges.
 pub(crate) fn try_program(
     alloc: Global,
-    model: &Model,
+    instance: &Instance,
+    ranges: &Ranges,
     wanted: &Grid,
     memory: &mut Memory,
     best: &mut Option<Planned>,
 ) -> Result<(), AllocError>
-    requires shape { HaveShape model.now.instance.now model.now.ranges.now }
-    requires wanted { Fits model.now.instance.now wanted.now }
-    requires made { IfSome best.old (IsMadeWithin model.now.instance.now (ranges_in model.now)) }
-    ensures made { OnOk result (IfSome best.new (IsMadeWithin model.now.instance.now (ranges_in model.now))) }
-    ensures kept { OnOk result (IsNoWorse best.new best.old) }
+    requires wanted { Fits instance.now wanted.now }
+    requires best { IsBestSoFar instance.now ranges.now best.old }
+    ensures { OnOk result (IsNoWorseBest instance.now ranges.now best.new best.old) }
 {
-    let instance = model.instance;
     if !memory.takes_programs(work_of(instance)) {
         return Ok(());
     }
     let found = planned(alloc, instance, wanted, wanted)?;
-    keep_within(instance, model.ranges, best, found);
+    keep_within(instance, ranges, best, found);
     Ok(())
 }
 
 /// Walks from the best plan once in a while: when the rounds at the root end, and then at one in so many nodes.
 pub(crate) fn try_walk(
     alloc: Global,
-    model: &Model,
+    instance: &Instance,
+    ranges: &Ranges,
     memory: &mut Memory,
     best: &mut Option<Planned>,
 ) -> Result<(), AllocError>
-    requires shape { HaveShape model.now.instance.now model.now.ranges.now }
-    requires made { IfSome best.old (IsMadeWithin model.now.instance.now (ranges_in model.now)) }
-    ensures made { OnOk result (IfSome best.new (IsMadeWithin model.now.instance.now (ranges_in model.now))) }
-    ensures kept { OnOk result (IsNoWorse best.new best.old) }
+    requires { IsBestSoFar instance.now ranges.now best.old }
+    ensures { OnOk result (IsNoWorseBest instance.now ranges.now best.new best.old) }
 {
     match memory.next_walk() {
-        Some(seed) => walk(alloc, model.instance, model.ranges, seed, TREE_WORK, best),
+        Some(seed) => walk(alloc, instance, ranges, seed, TREE_WORK, best),
         None => Ok(()),
     }
 }

@@ -1,8 +1,10 @@
 // What is remembered of nodes for those below them, and of plans that were tried. Nothing is claimed of it.
 use crate::choosing::Choice;
+use crate::programs::PROGRAM_WORK;
 use lin_rows::Bound;
 use priced_leaves::{Average, DualPrices};
 use std::alloc::{AllocError, Global};
+use std::collections::BTreeSet;
 
 /// What the rounds of prices came to at a node.
 #[derive(Debug, Drop)]
@@ -15,12 +17,12 @@ pub(crate) struct Note {
     pub(crate) choice: Option<Choice>,
 }
 
-/// Notes by their places, counted from 1, marks of the setups with which plans were built, what improving plans may still
+/// Notes by their places, counted from 0, marks of the setups with which plans were built, what improving plans may still
 /// take, and what programs may whose setups are wanted, and how often rounds of prices were followed by plans.
 #[derive(Debug, Drop)]
 pub(crate) struct Memory {
     notes: Vec<Option<Note>>,
-    tried: Vec<u64>,
+    tried: BTreeSet<u64>,
     work: u64,
     programs: u64,
     times: u64,
@@ -28,9 +30,6 @@ pub(crate) struct Memory {
 
 // What improving plans may take in all: so many plans of a single item and period.
 const ALL_WORK: u64 = 100_000_000;
-
-// What programs may take in all whose setups are wanted, each the square of items times periods.
-const ALL_PROGRAMS: u64 = 1_000_000;
 
 // A walk begins once in so many times, first when the rounds at the root end.
 const WALK_EACH: u64 = 200;
@@ -42,31 +41,33 @@ impl Memory {
     pub(crate) fn new(alloc: Global) -> Memory {
         Memory {
             notes: Vec::new(alloc),
-            tried: Vec::new(alloc),
+            tried: BTreeSet::new(alloc),
             work: ALL_WORK,
-            programs: ALL_PROGRAMS,
+            programs: PROGRAM_WORK,
             times: 0,
         }
     }
 
-    /// The note of a place, if there is one.
-    pub(crate) fn get(&self, place: usize) -> Option<&Note> {
-        match self.notes.get(place.wrapping_sub(1)) {
+    /// The note of a place, if there is a place and the note wasn't taken out of it.
+    pub(crate) fn get(&self, place: Option<usize>) -> Option<&Note> {
+        let place = place?;
+        match self.notes.get(place) {
             Some(found) => found.as_ref(),
             None => None,
         }
     }
 
     // The note is taken out of its place.
-    fn take(&mut self, place: usize) -> Option<Note> {
-        match self.notes.get_mut(place.wrapping_sub(1)) {
+    fn take(&mut self, place: Option<usize>) -> Option<Note> {
+        let place = place?;
+        match self.notes.get_mut(place) {
             Some(found) => found.take(),
             None => None,
         }
     }
 
     // The note once more.
-    fn copy(&self, alloc: Global, place: usize) -> Result<Option<Note>, AllocError> {
+    fn copy(&self, alloc: Global, place: Option<usize>) -> Result<Option<Note>, AllocError> {
         match self.get(place) {
             Some(note) => Ok(Some(Note {
                 prices: note.prices.copy(alloc)?,
@@ -82,7 +83,7 @@ impl Memory {
     pub(crate) fn hand_down(
         &mut self,
         alloc: Global,
-        place: usize,
+        place: Option<usize>,
         path: &[Bound],
     ) -> Result<Option<Note>, AllocError> {
         match path.last() {
@@ -93,17 +94,14 @@ impl Memory {
 
     /// Remembers a note, and gives its place.
     pub(crate) fn put(&mut self, note: Note) -> Result<usize, AllocError> {
+        let place = self.notes.len();
         self.notes.push(Some(note))?;
-        Ok(self.notes.len())
+        Ok(place)
     }
 
-    /// Whether a mark is new. It is remembered then.
-    pub(crate) fn is_new(&mut self, mark: u64) -> Result<bool, AllocError> {
-        if self.tried.iter().any(|other| *other == mark) {
-            return Ok(false);
-        }
-        self.tried.push(mark)?;
-        Ok(true)
+    /// Remembers a mark of setups, and tells whether it is new.
+    pub(crate) fn remember(&mut self, mark: u64) -> Result<bool, AllocError> {
+        Ok(self.tried.insert(mark)?)
     }
 
     /// Whether there is room for so much work, which is then taken.

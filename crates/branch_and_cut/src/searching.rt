@@ -24,6 +24,7 @@ use apart::{Apart, apart, apart_is_one};
 use branch_and_bound as engine;
 use branching::{Found, RootSays, plan_uncoupled};
 use cert_checker::NamedSums;
+use certificate::{FIRST_VERSION, MAX_VERSION};
 use echelon::Explosion;
 use lot_model::{Instance, is_plain};
 use plan_rules::Plan;
@@ -39,12 +40,16 @@ fn tries_branches(instance: &Instance) -> bool {
     instance.items() * instance.periods() <= TRIED_SIZE
 }
 
-// The version of a certificate's text: the first one where the model is plain.
+// The version of a certificate's text: the first one where the model is plain, and else the latest.
 fn version_of(instance: &Instance) -> u32
     ensures version { IsVersionOf instance.now result }
     ensures known { HasVersion instance.now result }
 {
-    if is_plain(instance) { 1 } else { 2 }
+    if is_plain(instance) {
+        FIRST_VERSION
+    } else {
+        MAX_VERSION
+    }
 }
 
 // What a search within the ranges finds.
@@ -193,7 +198,7 @@ fn answer(
 /// Over the whole ranges all holds that `search_all` promises (`whole`).
 ///
 /// The error is that memory ran out. It takes memory for a tableau and for the tree with its leaves. A tree of more than
-/// 2^45 nodes is given up with the same error.
+/// `MAX_NODES` nodes, 2^45, is given up with the same error.
 pub fn search(
     alloc: Global,
     instance: &Instance,
@@ -245,7 +250,7 @@ pub fn search(
 /// have at most `MAX_BRANCHES` binary digits over all items and periods.
 ///
 /// The error is that memory ran out. It takes memory for a tableau and for the tree with its leaves. A tree of more than
-/// 2^45 nodes is given up with the same error.
+/// `MAX_NODES` nodes, 2^45, is given up with the same error.
 pub fn search_all(
     alloc: Global,
     instance: &Instance,

@@ -1,17 +1,16 @@
 // Plans that are built with the setups which the rounds of prices want.
-ghost use Rattle.std.specs.Prelude.{◌≡◌, ◌≤◌, IfOk, IfSome, OnOk};
+ghost use Rattle.std.specs.Prelude.{◌≤◌, IfOk, OnOk};
 ghost use Rattle.lot_sizing.specs.Problem.{item_count};
 ghost use Rattle.plan_rules.specs.Cells.{Fits};
 ghost use Rattle.plan_rules.specs.Rows.{IfFound};
 ghost use Rattle.first_plans.specs.Made.{IsMade};
-ghost use Rattle.branch_and_cut.specs.Knowing.{IsNoWorse, ranges_in};
-ghost use Rattle.branch_and_cut.specs.Within.{HaveShape, IsMadeWithin};
+ghost use Rattle.branch_and_cut.specs.Knowing.{IsBestSoFar, IsNoWorseBest};
 
-use crate::guiding::Model;
 use crate::knowing::keep_within;
 use crate::programs::{try_program, try_walk};
 use crate::remembering::Memory;
-use first_plans::{BUILDING_WORK, built_plan, improved};
+use crate::within::Ranges;
+use first_plans::{built_plan, improved, tries_for};
 use lot_model::Instance;
 use plan_rules::{Grid, Planned};
 use priced_leaves::{Average, ONE};
@@ -22,6 +21,14 @@ const SWEEPS: u32 = 2;
 
 // So many plans are built at most to try each change of an item's setup in a period once.
 const CHANGES: u32 = 6;
+
+// A plan is near the best one where it costs at most one part more of so many.
+const NEAR_PART: u128 = 50;
+
+// A setup is wanted that is made in more than a half of the rounds, and then one in more than a fifth.
+const HALF: i128 = ONE / 2;
+
+const FIFTH: i128 = ONE / 5;
 
 // Marks of lists of numbers (FNV-1a).
 const FIRST_MARK: u64 = 14_695_981_039_346_656_037;
@@ -86,10 +93,10 @@ fn wanted_of(
     Ok(wanted)
 }
 
-// Whether a plan costs at most a fiftieth more than the best one, if there is one.
+// Whether a plan is near the best one, if there is one.
 fn is_near(planned: &Planned, best: &Option<Planned>) -> bool {
     match best {
-        Some(made) => planned.cost <= made.cost.saturating_add(made.cost / 50),
+        Some(made) => planned.cost <= made.cost.saturating_add(made.cost / NEAR_PART),
         None => true,
     }
 }
@@ -99,21 +106,22 @@ fn size_of(instance: &Instance) -> u32 {
     instance.items() * instance.items() * instance.periods()
 }
 
-// How many plans may be built to improve one: fewer of a large instance, each of which takes longer.
-fn tries_for(instance: &Instance) -> u32 {
+// How many plans are built to improve one: some for each item and period, within the work that building may take.
+fn tries_of(instance: &Instance) -> u32 {
     let changes = instance.items() * instance.periods();
-    let most = BUILDING_WORK / size_of(instance).max(1);
-    changes.saturating_mul(CHANGES * SWEEPS).min(most)
+    changes
+        .saturating_mul(CHANGES * SWEEPS)
+        .min(tries_for(instance))
 }
 
-// Whether a plan is worth improving, and there is room for the work.
-fn is_improved(
+// Whether a plan is worth improving, and there is room for the work, which is then taken.
+fn takes_improving(
     instance: &Instance,
     planned: &Planned,
     memory: &mut Memory,
     best: &Option<Planned>,
 ) -> bool {
-    let work = u64::from(tries_for(instance)) * u64::from(size_of(instance));
+    let work = u64::from(tries_of(instance)) * u64::from(size_of(instance));
     is_near(planned, best) && memory.takes_work(work)
 }
 
@@ -130,10 +138,10 @@ fn built_near(
 {
     match built_plan(alloc, instance, wanted)? {
         Some(planned) => {
-            if !is_improved(instance, &planned, memory, best) {
+            if !takes_improving(instance, &planned, memory, best) {
                 return Ok(Some(planned));
             }
-            let better = improved(alloc, instance, planned, tries_for(instance))?;
+            let better = improved(alloc, instance, planned, tries_of(instance))?;
             Ok(Some(better))
         }
         None => Ok(None),
@@ -144,42 +152,39 @@ fn built_near(
 // them. The better one is kept, if it lies within the ranges.
 fn try_setups(
     alloc: Global,
-    model: &Model,
+    instance: &Instance,
+    ranges: &Ranges,
     average: &Average,
     least: i128,
     memory: &mut Memory,
     best: &mut Option<Planned>,
 ) -> Result<(), AllocError>
-    requires shape { HaveShape model.now.instance.now model.now.ranges.now }
-    requires made { IfSome best.old (IsMadeWithin model.now.instance.now (ranges_in model.now)) }
-    ensures made { OnOk result (IfSome best.new (IsMadeWithin model.now.instance.now (ranges_in model.now))) }
-    ensures kept { OnOk result (IsNoWorse best.new best.old) }
+    requires { IsBestSoFar instance.now ranges.now best.old }
+    ensures { OnOk result (IsNoWorseBest instance.now ranges.now best.new best.old) }
 {
-    let instance = model.instance;
-    if !memory.is_new(mark_of(instance, average, least))? {
+    if !memory.remember(mark_of(instance, average, least))? {
         return Ok(());
     }
     let wanted = wanted_of(alloc, instance, average, least)?;
     let found = built_near(alloc, instance, &wanted, memory, best)?;
-    keep_within(instance, model.ranges, best, found);
-    try_program(alloc, model, &wanted, memory, best)
+    keep_within(instance, ranges, best, found);
+    try_program(alloc, instance, ranges, &wanted, memory, best)
 }
 
 /// Makes plans with the setups that are made in more than a half of the rounds, and in more than a fifth, and keeps the best
 /// plan. Once in a while it walks from that.
 pub(crate) fn try_average(
     alloc: Global,
-    model: &Model,
+    instance: &Instance,
+    ranges: &Ranges,
     average: &Average,
     memory: &mut Memory,
     best: &mut Option<Planned>,
 ) -> Result<(), AllocError>
-    requires shape { HaveShape model.now.instance.now model.now.ranges.now }
-    requires made { IfSome best.old (IsMadeWithin model.now.instance.now (ranges_in model.now)) }
-    ensures made { OnOk result (IfSome best.new (IsMadeWithin model.now.instance.now (ranges_in model.now))) }
-    ensures kept { OnOk result (IsNoWorse best.new best.old) }
+    requires { IsBestSoFar instance.now ranges.now best.old }
+    ensures { OnOk result (IsNoWorseBest instance.now ranges.now best.new best.old) }
 {
-    try_setups(alloc, model, average, ONE / 2, memory, best)?;
-    try_setups(alloc, model, average, ONE / 5, memory, best)?;
-    try_walk(alloc, model, memory, best)
+    try_setups(alloc, instance, ranges, average, HALF, memory, best)?;
+    try_setups(alloc, instance, ranges, average, FIFTH, memory, best)?;
+    try_walk(alloc, instance, ranges, memory, best)
 }

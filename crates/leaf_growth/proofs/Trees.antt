@@ -3,10 +3,12 @@ use Rattle.std.proofs.Common.{◌≤◌, ◌<◌, ◌+◌, ◌*◌, ◌^◌, ℕ
 use Rattle.std.specs.Prelude.{if◌then◌else◌}
 use Rattle.std.proofs.lemmas.List.{length-append, length-map}
 use Rattle.lot_sizing.specs.Problem.{IsWithinLimits, Problem}
+use Rattle.lot_sizing.specs.declared.limits.TheConstants.{MAX_TOTAL}
 use Rattle.lin_rows.specs.declared.bound.Bound.{Bound}
 use Rattle.lin_rows.specs.declared.column.Column.{Column}
 use Rattle.lin_rows.specs.declared.column.Column.TheVariants.{X, Y, S, R}
 use Rattle.lin_rows.specs.Sums.{same_column}
+use Rattle.cert_lines.specs.declared.limits.TheConstants.{MAX_PARTS, MAX_ROUND_PARTS}
 use Rattle.cert_lines.specs.Shapes.{BlockCut, CutShape, EndLine, FarkasLeaf, LeafShape, LinearLeaf, LsCut, PartLine, PointLeaf, PriceCut, RoundCut}
 use Rattle.certificate.specs.Counts.{node_count}
 use Rattle.certificate.specs.Limits.{IsWritable}
@@ -38,7 +40,7 @@ left_high : (s : Span) (path : List Bound) (c : Column) → (left_to s path c).h
 left_high s [] c = omega arith
 left_high s (b ∷ path) c = omega (arith, left_high (narrowed s b c) path c, narrowed_high s b c)
 
-whole_high : (m : Problem) (total : ℕ → ℕ) (c : Column) → AreSmallTotals m total → IsChoice m c → (whole_ranges total c).high ≤ 1000000000000
+whole_high : (m : Problem) (total : ℕ → ℕ) (c : Column) → AreSmallTotals m total → IsChoice m c → (whole_ranges total c).high ≤ MAX_TOTAL
 whole_high m total (X i t) small is = small i is.0 is.1
 whole_high m total (Y i t) small is = omega arith
 whole_high m total (S i t) small is = absurd is
@@ -48,7 +50,7 @@ whole_high m total (R i t) small is = absurd is
 pub tree_lines : (m : Problem) (total : ℕ → ℕ) (version : ℕ) (path : List Bound) (tree : TreeShape) → IsWithinLimits m → AreSmallTotals m total → IsSplitTree m (whole_ranges total) path tree → EachLeaf (λ way leaf. LeafHasLines version leaf) path tree → AreLines version (tree_values tree)
 tree_lines m total version path (End leaf) limits small split each = each
 tree_lines m total version path (Split c at low high) limits small split each =
-    let most : at ≤ 1000000000000 = omega (arith, split.0.high, left_high (whole_ranges total c) path c, whole_high m total c small split.0.column) in (
+    let most : at ≤ MAX_TOTAL = omega (arith, split.0.high, left_high (whole_ranges total c) path c, whole_high m total c small split.0.column) in (
       branch_has_line m version c at limits split.0.column most,
       lines_join version (tree_values low) (tree_values high)
           (tree_lines m total version (low_path path c at) low limits small split.1 each.0)
@@ -66,24 +68,24 @@ made_writable m total s limits small made = record {
 }
 
 -- ---- few lines
-leaf_few : (version : ℕ) (leaf : LeafShape) → LeafHasLines version leaf → length (leaf_values leaf) ≤ 100001
+leaf_few : (version : ℕ) (leaf : LeafShape) → LeafHasLines version leaf → length (leaf_values leaf) ≤ MAX_PARTS + 1
 leaf_few version (LinearLeaf den parts) is = omega (arith, length-map parts (λ p. PartLine p), is.0.form.small.2)
 leaf_few version (FarkasLeaf parts) is = omega (arith, length-map parts (λ p. PartLine p), is.0.form.small)
 leaf_few version PointLeaf is = omega arith
 
-cut_few : (version : ℕ) (c : CutShape) → AreLines version (cut_values c) → length (cut_values c) ≤ 1001
+cut_few : (version : ℕ) (c : CutShape) → AreLines version (cut_values c) → length (cut_values c) ≤ MAX_ROUND_PARTS + 1
 cut_few version (LsCut item last chosen) is = omega arith
 cut_few version (PriceCut item lists) is = omega arith
 cut_few version (BlockCut item lists) is = omega arith
 cut_few version (RoundCut divisor parts) is = omega (arith, length-map parts (λ p. PartLine p), is.0.form.small.2)
 
-cuts_few : (version : ℕ) (cuts : List CutShape) → AreLines version (all_cut_values cuts) → length (all_cut_values cuts) ≤ 1001 * length cuts
+cuts_few : (version : ℕ) (cuts : List CutShape) → AreLines version (all_cut_values cuts) → length (all_cut_values cuts) ≤ (MAX_ROUND_PARTS + 1) * length cuts
 cuts_few version [] are = omega arith
 cuts_few version (c ∷ cuts) are =
     let both = lines_split version (cut_values c) (all_cut_values cuts) are in
     omega (arith, length-append (cut_values c) (all_cut_values cuts), cut_few version c both.0, cuts_few version cuts both.1)
 
-tree_few : (version : ℕ) (tree : TreeShape) → AreLines version (tree_values tree) → length (tree_values tree) ≤ 100001 * node_count tree
+tree_few : (version : ℕ) (tree : TreeShape) → AreLines version (tree_values tree) → length (tree_values tree) ≤ (MAX_PARTS + 1) * node_count tree
 tree_few version (End leaf) are = omega (arith, leaf_few version leaf are)
 tree_few version (Split c at low high) are =
     let both = lines_split version (tree_values low) (tree_values high) are.1 in

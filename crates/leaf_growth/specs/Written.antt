@@ -1,23 +1,17 @@
--- When a certificate has a text: from what its leaves say, and from the lines of its cuts.
+-- When a certificate has a text: from the lines of its cuts and leaves.
 use Rattle.std.specs.Prelude.{◌≡◌, ◌≤◌, ◌<◌, ◌^◌, ℕ, List, [], length}
-use Rattle.std.specs.List.{All}
 use Rattle.lot_sizing.specs.Problem.{EachItem, IsPlain, IsWithinLimits, Problem}
 use Rattle.lot_sizing.specs.declared.limits.TheConstants.{MAX_TOTAL}
 use Rattle.lin_rows.specs.declared.bound.Bound.{Bound}
-use Rattle.lin_rows.specs.Rows.{LinRow}
 use Rattle.cert_lines.specs.declared.limits.TheConstants.{MAX_BRANCHES, MAX_CUTS}
-use Rattle.cert_lines.specs.Limits.{IsSmallClaim, IsSmallPart, IsVersion}
-use Rattle.cert_lines.specs.Line.{IsSmallLine}
-use Rattle.cert_lines.specs.Shapes.{LeafShape, leaf_first, leaf_parts}
+use Rattle.cert_lines.specs.Limits.{IsSmallClaim, IsVersion}
+use Rattle.cert_lines.specs.Shapes.{LeafShape}
 use Rattle.certificate.specs.Counts.{longest_path, node_count}
 use Rattle.certificate.specs.Limits.{IsWritable}
 use Rattle.certificate.specs.Shapes.{Shape, TreeShape}
 use Rattle.certificate.specs.Values.{AreLines, all_cut_values, leaf_values, tree_values}
-use Rattle.split_trees.specs.Ranges.{Ranges, whole_ranges}
+use Rattle.split_trees.specs.Ranges.{whole_ranges}
 use Rattle.split_trees.specs.Trees.{EachLeaf, IsSplitTree}
-use Rattle.acceptance.specs.declared.says.LeafSays.{LeafSays}
-use Rattle.acceptance.specs.Named.{names}
-use Rattle.acceptance.specs.Says.{Says}
 use Rattle.cert_checker.specs.Checks.{line_count}
 use Rattle.leaf_growth.specs.declared.limits.TheConstants.{MAX_NODES}
 
@@ -26,21 +20,9 @@ pub record HasVersion (m : Problem) (version : ℕ) : Type 0 where
   pub exists : IsVersion version
   pub plain : version ≡ 1 → IsPlain m
 
--- the leaf has few parts, and its numbers are within the limits of texts
-pub record HasShortParts (leaf : LeafShape) : Type 0 where
-  pub first : IsSmallLine (leaf_first leaf)
-  pub parts : All IsSmallPart (leaf_parts leaf)
-
 -- the lines of a leaf are those of texts of this version
 abbrev pub LeafHasLines : ℕ → LeafShape → Type 0
 LeafHasLines version leaf = AreLines version (leaf_values leaf)
-
--- a leaf that says something has names of rows alone, so its lines are short
-abbrev pub LeavesHaveLines : Type 0
-LeavesHaveLines =
-    (m : Problem) (total : ℕ → ℕ) (version : ℕ) (ranges : Ranges) (cuts : List LinRow) (path : List Bound) (leaf : LeafShape) (says : LeafSays)
-    → IsWithinLimits m → HasVersion m version → length cuts ≤ MAX_CUTS → length path ≤ MAX_BRANCHES
-    → HasShortParts leaf → Says (names m total cuts path) ranges leaf says → LeafHasLines version leaf
 
 -- no item's largest total passes the limit of totals
 abbrev pub AreSmallTotals : Problem → (ℕ → ℕ) → Type 0

@@ -1,6 +1,6 @@
 // Laws about the leaves of a search, each the contract of a function that does nothing.
 ghost use Rattle.leaf_growth.specs.Growth.{LeavesGoOn, LeavesStay, SaidGoesOn, SaidStays, SaysSmallAmount};
-ghost use Rattle.leaf_growth.specs.Written.{FewLines, LeavesHaveLines, MadeIsWritable, TreesHaveLines};
+ghost use Rattle.leaf_growth.specs.Written.{FewLines, MadeIsWritable, TreesHaveLines};
 
 /// A leaf that takes rows by their names says with more cuts, and further down the tree, what it says at a node, and
 /// its sums stay as small (`leaves`); so it does whatever the largest totals are (`said`).
@@ -19,12 +19,6 @@ pub fn leaves_stay()
 /// A leaf that takes rows by their names, and whose sums are small, says an amount below 2^127.
 pub fn amounts_are_small()
     ensures { SaysSmallAmount }
-{}
-
-/// A leaf that says something and has few parts with numbers within the limits has lines of texts: of the first version
-/// where the problem is plain, and of the second always.
-pub fn leaves_have_lines()
-    ensures { LeavesHaveLines }
 {}
 
 /// A split tree whose leaves have lines of texts has them too (`trees`). A certificate has a text where its cuts and

@@ -7,15 +7,12 @@
 //! are there; so what a leaf says at a node it says with more cuts and at each node below, where it takes no single
 //! choice of quantities and setups (`leaves_go_on`, `leaves_stay`). It says a small amount (`amounts_are_small`).
 //!
-//! A name of a row in a leaf that says something exists. So the lines of such a leaf are those of texts where its numbers
-//! are (`leaves_have_lines`), in the first version where the problem is plain; and a certificate has a text where its
-//! cuts and leaves do and its tree is a split tree (`made_is_writable`), with few lines for each node (`few_lines`).
+//! A certificate has a text where its cuts and leaves have lines and its tree is a split tree (`made_is_writable`), with few
+//! lines for each node (`few_lines`).
 #![tactic(auto)]
 
 mod laws;
 mod limits;
 
-pub use laws::{
-    amounts_are_small, few_lines, leaves_go_on, leaves_have_lines, leaves_stay, made_is_writable,
-};
+pub use laws::{amounts_are_small, few_lines, leaves_go_on, leaves_stay, made_is_writable};
 pub use limits::MAX_NODES;

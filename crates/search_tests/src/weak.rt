@@ -40,7 +40,7 @@ fn weakly_said(node: &Node, state: &mut Option<u128>) -> Proposal
             leaf: Leaf::Point,
             says: Some(0),
             asked: false,
-            note: 0,
+            note: None,
         };
     }
     *state = Some(1);
@@ -48,7 +48,7 @@ fn weakly_said(node: &Node, state: &mut Option<u128>) -> Proposal
         leaf: Leaf::Point,
         says: Some(1),
         asked: false,
-        note: 0,
+        note: None,
     }
 }
 

@@ -1,7 +1,14 @@
 use Rattle.std.proofs.Common.{◌≤◌, ◌∙◌, arith, rules, true, false}
 use Rattle.branch_and_bound.specs.Guided.{AreDeep, AtNode, AtSide, IsBranchOf, IsGuided, IsSameNode, IsSoundTree}
-use Rattle.branch_and_bound.proofs.Guided.{back_node, deep_joined, node_moved, same_back, side_deep, side_later, side_moved, tree_joined}
+use Rattle.branch_and_bound.proofs.Guided.{back_node, deep_joined, later_if, node_moved, same_back, side_deep, side_later, side_moved, tree_joined}
 use Rattle.branch_and_bound.proofs.growing.+grow.Goals as goal
+
+pub grow_leaf-returns-clause-later : goal.grow_leaf-returns-clause-later
+grow_leaf-returns-clause-later g t c =
+    let s0 = c.args.state.now in
+    let s1 = c.propose_sides.new.state in
+    let s2 = c.grow_branch.new.state in
+    later_if c.grow_branch.result g.G.Guide c.args.guide.now s0 s1 s2 (g.met.G.Guide.grows_on s0 s1 s2) c.in_ok-sides.ensures.later c.grow_branch.ensures.later
 
 pub grow_branch-grow_side-requires-2 : goal.grow_branch-grow_side-requires-2
 grow_branch-grow_side-requires-2 g t c =

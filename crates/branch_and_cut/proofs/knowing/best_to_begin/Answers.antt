@@ -24,11 +24,15 @@ loop-made-preserved c =
     let made = c.in-Some.made in
     let both = All-pop (IsMade m) c.loop-made.list.items c.pop.new.self.items (Some made) c.in-Some.ensures.items c.loop-made.invariant.each in
     record {
-      made = c.keep_within.ensures.best;
-      kept = given_on m c.args.first old new c.keep_within.ensures.old c.loop-made.invariant.kept;
+      made = c.keep_within.ensures.best.made;
+      kept = given_on m c.args.first old new c.keep_within.ensures.best.kept c.loop-made.invariant.kept;
       each = both.0;
-      own = λ all q own feasible. own_on m q old new made c.loop-made.list.items c.pop.new.self.items c.in-Some.ensures.items c.keep_within.ensures.old (c.keep_within.ensures.found (all (plan_of made.plan) both.1.feasible)) (c.loop-made.invariant.own all q own feasible);
+      own = λ all q own feasible. own_on m q old new made c.loop-made.list.items c.pop.new.self.items c.in-Some.ensures.items c.keep_within.ensures.best.kept (c.keep_within.ensures.found (all (plan_of made.plan) both.1.feasible)) (c.loop-made.invariant.own all q own feasible);
     }
 
-pub returns-clause-own : goal.returns-clause-own
-returns-clause-own c = λ all q own feasible. own_all c.args.instance.now q c.loop-made.best c.loop-made.list.items (none_left c.loop-made.list.items c.pop.new.self.items (vec_len c.loop-made.list) c.in_default.ensures.items c.in_default.ensures.rest c.in_default.ensures.cases.0) (c.loop-made.invariant.own all q own feasible)
+pub returns : goal.returns
+returns c = record {
+  made = c.loop-made.invariant.made;
+  kept = c.loop-made.invariant.kept;
+  own = λ all q own feasible. own_all c.args.instance.now q c.loop-made.best c.loop-made.list.items (none_left c.loop-made.list.items c.pop.new.self.items (vec_len c.loop-made.list) c.in_default.ensures.items c.in_default.ensures.rest c.in_default.ensures.cases.0) (c.loop-made.invariant.own all q own feasible);
+}

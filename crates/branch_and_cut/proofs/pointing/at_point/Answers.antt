@@ -11,7 +11,7 @@ use Rattle.branch_and_cut.proofs.pointing.at_point.Goals as goal
 
 pub returns-clause-known : goal.returns-clause-known
 returns-clause-known c =
-    known_kept c.args.model.now c.args.known.now _ refl refl refl c.keep_within.ensures.best c.requires.known
+    known_kept c.args.model.now c.args.known.now _ refl refl refl c.keep_within.ensures.best.made c.requires.known
 
 pub returns-clause-after : goal.returns-clause-after
 returns-clause-after c = after_kept c.args.known.now _ refl

@@ -1,5 +1,5 @@
 use Rattle.branch_and_cut.specs.Branching.{lasting_stays}
-use Rattle.branch_and_cut.proofs.pricing.priced_or.Goals as goal
+use Rattle.branch_and_cut.proofs.pricing.priced.Goals as goal
 
 pub stronger_noted-requires-clause-lasting : goal.stronger_noted-requires-clause-lasting
 stronger_noted-requires-clause-lasting c =
