@@ -11,7 +11,7 @@ use Rattle.command_line.specs.Laws.{CommandsAreAllowed}
 use Rattle.lot_sizing.specs.declared.limits.TheConstants.{MAX_ITEMS}
 use Rattle.instance_reader.specs.declared.versions.TheConstants.{FIRST_VERSION_PERIODS}
 use Rattle.command_line.specs.declared.requests.TheConstants.{LARGEST_BUDGET, USUAL_BUDGET}
-use Rattle.command_line.specs.Words.{AreApart, Request, IsAllowed, are_file_names, are_two_names, asked_by_matches, asked_if, asked_in, bounding, bounding_from, budget_from, checking, checking_from, command_of, demonstrating, demonstrating_from, generated, generating, generating_from, helping, is_budget, is_file_name, is_help, is_number, is_seed, judging, judging_from, largest_seed, planned, planning, planning_from, reporting, reporting_from, unless_refused, upgrading, upgrading_from, version}
+use Rattle.command_line.specs.Words.{AreApart, Request, IsAllowed, are_file_names, are_two_names, asked_by_matches, asked_if, request_in, bounding, bounding_from, budget_from, checking, checking_from, command_of, demonstrating, demonstrating_from, generated, generating, generating_from, helping, is_budget, is_file_name, is_help, is_number, is_seed, judging, judging_from, largest_seed, planned, planning, planning_from, reporting, reporting_from, unless_refused, upgrading, upgrading_from, version}
 
 -- the parts of a test that came out true
 pub first_true : (a b : Bool) → (a && b) ≡ true → a ≡ true
@@ -55,8 +55,8 @@ number_in_range least most text is = in_range least most (digits_value 10 text) 
 pub seed_has_bits : (n : ℕ) → n ≤ largest_seed → n < 2 ^ 64
 seed_has_bits n is = omega (arith, is)
 
-seed_fits : (text : List ℕ) → is_seed text ≡ true → digits_value 10 text < 2 ^ 64
-seed_fits text is = seed_has_bits (digits_value 10 text) (number_in_range 0 largest_seed text is).1
+seed_fits : (text : List ℕ) → is_seed text ≡ true → digits_value 10 text ≤ largest_seed
+seed_fits text is = (number_in_range 0 largest_seed text is).1
 
 -- ---- what is asked for is allowed
 
@@ -117,7 +117,7 @@ fine_generated n items periods m = fine_if _ (generating (digits_value 10 n) (di
     let last : (is_number 1 FIRST_VERSION_PERIODS periods && is_file_name m) ≡ true = rest_true (is_number 1 MAX_ITEMS items) _ others in
     let i = number_in_range 1 MAX_ITEMS items (first_true (is_number 1 MAX_ITEMS items) _ others) in
     let t = number_in_range 1 FIRST_VERSION_PERIODS periods (first_true (is_number 1 FIRST_VERSION_PERIODS periods) _ last) in
-    record { bits = seed_fits n (first_true (is_seed n) _ is); some_items = i.0; items_limit = i.1; some_periods = t.0; periods_limit = t.1 })
+    record { seed_limit = seed_fits n (first_true (is_seed n) _ is); some_items = i.0; items_limit = i.1; some_periods = t.0; periods_limit = t.1 })
 
 fine_generating : (n items periods m : Option (List ℕ)) → Fine (generating_from n items periods m)
 fine_generating None items periods m = fine_none
@@ -139,7 +139,7 @@ fine_bounding : (m : Option (List ℕ)) → Fine (bounding_from m)
 fine_bounding None = fine_none
 fine_bounding (Some m) = fine_if (is_file_name m) (bounding m) (λ is. tt)
 
-fine_in : (name : List ℕ) (rows : List Row) → Fine (asked_in name rows)
+fine_in : (name : List ℕ) (rows : List Row) → Fine (request_in name rows)
 fine_in name rows =
     fine_either (bytes_eq name (codes "plan")) _ _ (fine_planning (first_of (codes "M") rows) (first_of (codes "P") rows) (first_of (codes "C") rows) (first_of (codes "nodes") rows))
     (fine_either (bytes_eq name (codes "judge")) _ _ (fine_judging (first_of (codes "M") rows) (first_of (codes "P") rows))

@@ -6,7 +6,7 @@ use Rattle.clap.specs.Simple.{names_of}
 use Rattle.clap.specs.Faults.{level_fault, turn_fault, walk_fault, word_fault}
 use Rattle.clap.proofs.OnLiterals.{clap_on_literals}
 use Rattle.command_line.specs.Grammar.{planner_app}
-use Rattle.command_line.specs.Words.{asked_in, command_of, is_file_name, planned, budget_from}
+use Rattle.command_line.specs.Words.{request_in, command_of, is_file_name, planned, budget_from}
 use Rattle.command_line.proofs.Leaves.{asks, held, leaf}
 use Rattle.command_line.proofs.Placed.{EndsWell, at, not_dash, fault_placed, leaf_level, walk_placed}
 use Rattle.command_line.proofs.ThreeTexts.{plan_placed}
@@ -83,7 +83,7 @@ nodes_subcommand : (a b d n : Text) → subcommand_of planner_app (codes "plan" 
 unfolding clap_on_literals
 nodes_subcommand a b d n = refl
 
-nodes_asks : (a b d n : Text) → asked_in (codes "plan") (finished (leaf (codes "plan")).rules (number_held n (names_held a b d))) ≡ planned a b d (budget_from (Some n))
+nodes_asks : (a b d n : Text) → request_in (codes "plan") (finished (leaf (codes "plan")).rules (number_held n (names_held a b d))) ≡ planned a b d (budget_from (Some n))
 unfolding clap_on_literals
 nodes_asks a b d n = refl
 

@@ -5,7 +5,7 @@ use Rattle.clap.specs.Walk.{Held, answers_to, finished, nothing_held, rows_after
 use Rattle.clap.specs.Simple.{label_of, new_shape}
 use Rattle.clap.specs.Faults.{level_fault, walk_fault}
 use Rattle.command_line.specs.Grammar.{planner_app}
-use Rattle.command_line.specs.Words.{asked_in, command_of}
+use Rattle.command_line.specs.Words.{request_in, command_of}
 use Rattle.command_line.proofs.Matched.{given_by}
 use Rattle.command_line.proofs.Placed.{ArePlaced, EndsWell, at, fault_placed, held_by, leaf_level, no_faults, place_after, walk_placed}
 
@@ -36,6 +36,6 @@ takes name words same placed ends =
 
 -- the whole command line fails where the subcommand does, and its matches are the subcommand's
 pub asks : (name : Text) (words : List Text) (rows : List Row) → fault_of planner_app (name ∷ words) ≡ [] → subcommand_of planner_app (name ∷ words) ≡ Some (name, rows_after (leaf name).rules [] words)
-    → rows_after (leaf name).rules [] words ≡ rows → command_of (name ∷ words) ≡ asked_in name rows
+    → rows_after (leaf name).rules [] words ≡ rows → command_of (name ∷ words) ≡ request_in name rows
 asks name words rows free entered same =
-    sym (given_by (name ∷ words) (Some (name, rows_after (leaf name).rules [] words)) free (sym entered)) ∙ ap (λ r. asked_in name r) same
+    sym (given_by (name ∷ words) (Some (name, rows_after (leaf name).rules [] words)) free (sym entered)) ∙ ap (λ r. request_in name r) same

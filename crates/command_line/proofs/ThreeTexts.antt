@@ -7,7 +7,7 @@ use Rattle.clap.specs.Faults.{level_fault}
 use Rattle.clap.proofs.OnLiterals.{clap_on_literals}
 use Rattle.command_line.specs.Grammar.{planner_app}
 use Rattle.command_line.specs.declared.requests.TheConstants.{USUAL_BUDGET}
-use Rattle.command_line.specs.Words.{asked_if, asked_in, command_of, is_file_name, are_file_names, checking, planning}
+use Rattle.command_line.specs.Words.{asked_if, request_in, command_of, is_file_name, are_file_names, checking, planning}
 use Rattle.command_line.proofs.Leaves.{asks, held, leaf, takes}
 use Rattle.command_line.proofs.Placed.{ArePlaced, EndsWell}
 
@@ -31,7 +31,7 @@ plan_subcommand : (a b d : Text) → subcommand_of planner_app (codes "plan" ∷
 unfolding clap_on_literals
 plan_subcommand a b d = refl
 
-plan_asks : (a b d : Text) → asked_in (codes "plan") (finished (leaf (codes "plan")).rules (held (codes "plan") (a ∷ b ∷ d ∷ []))) ≡ asked_if (are_file_names a b d) (planning a b d USUAL_BUDGET)
+plan_asks : (a b d : Text) → request_in (codes "plan") (finished (leaf (codes "plan")).rules (held (codes "plan") (a ∷ b ∷ d ∷ []))) ≡ asked_if (are_file_names a b d) (planning a b d USUAL_BUDGET)
 unfolding clap_on_literals
 plan_asks a b d = refl
 
@@ -60,7 +60,7 @@ check_subcommand : (a b d : Text) → subcommand_of planner_app (codes "check" �
 unfolding clap_on_literals
 check_subcommand a b d = refl
 
-check_asks : (a b d : Text) → asked_in (codes "check") (finished (leaf (codes "check")).rules (held (codes "check") (a ∷ b ∷ d ∷ []))) ≡ asked_if (are_file_names a b d) (checking a b d)
+check_asks : (a b d : Text) → request_in (codes "check") (finished (leaf (codes "check")).rules (held (codes "check") (a ∷ b ∷ d ∷ []))) ≡ asked_if (are_file_names a b d) (checking a b d)
 unfolding clap_on_literals
 check_asks a b d = refl
 

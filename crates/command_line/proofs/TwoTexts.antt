@@ -6,7 +6,7 @@ use Rattle.clap.specs.Simple.{names_of}
 use Rattle.clap.specs.Faults.{level_fault}
 use Rattle.clap.proofs.OnLiterals.{clap_on_literals}
 use Rattle.command_line.specs.Grammar.{planner_app}
-use Rattle.command_line.specs.Words.{asked_if, asked_in, command_of, is_file_name, are_two_names, judging, reporting, upgrading}
+use Rattle.command_line.specs.Words.{asked_if, request_in, command_of, is_file_name, are_two_names, judging, reporting, upgrading}
 use Rattle.command_line.proofs.Leaves.{asks, held, leaf, takes}
 use Rattle.command_line.proofs.Placed.{ArePlaced, EndsWell}
 
@@ -30,7 +30,7 @@ judge_subcommand : (a b : Text) → subcommand_of planner_app (codes "judge" ∷
 unfolding clap_on_literals
 judge_subcommand a b = refl
 
-judge_asks : (a b : Text) → asked_in (codes "judge") (finished (leaf (codes "judge")).rules (held (codes "judge") (a ∷ b ∷ []))) ≡ asked_if (are_two_names a b) (judging a b)
+judge_asks : (a b : Text) → request_in (codes "judge") (finished (leaf (codes "judge")).rules (held (codes "judge") (a ∷ b ∷ []))) ≡ asked_if (are_two_names a b) (judging a b)
 unfolding clap_on_literals
 judge_asks a b = refl
 
@@ -59,7 +59,7 @@ report_subcommand : (a b : Text) → subcommand_of planner_app (codes "report" �
 unfolding clap_on_literals
 report_subcommand a b = refl
 
-report_asks : (a b : Text) → asked_in (codes "report") (finished (leaf (codes "report")).rules (held (codes "report") (a ∷ b ∷ []))) ≡ asked_if (are_two_names a b) (reporting a b)
+report_asks : (a b : Text) → request_in (codes "report") (finished (leaf (codes "report")).rules (held (codes "report") (a ∷ b ∷ []))) ≡ asked_if (are_two_names a b) (reporting a b)
 unfolding clap_on_literals
 report_asks a b = refl
 
@@ -88,7 +88,7 @@ upgrade_subcommand : (a b : Text) → subcommand_of planner_app (codes "upgrade"
 unfolding clap_on_literals
 upgrade_subcommand a b = refl
 
-upgrade_asks : (a b : Text) → asked_in (codes "upgrade") (finished (leaf (codes "upgrade")).rules (held (codes "upgrade") (a ∷ b ∷ []))) ≡ asked_if (are_two_names a b) (upgrading a b)
+upgrade_asks : (a b : Text) → request_in (codes "upgrade") (finished (leaf (codes "upgrade")).rules (held (codes "upgrade") (a ∷ b ∷ []))) ≡ asked_if (are_two_names a b) (upgrading a b)
 unfolding clap_on_literals
 upgrade_asks a b = refl
 

@@ -4,8 +4,8 @@ use Rattle.clap.specs.Words.{App, Rule, Text, new_app, new_rule, with_rule, with
 use Rattle.clap.specs.Simple.{on_top}
 
 -- an argument that is known by its place, and has to be there
-abbrev pub place : Text → Rule
-place id = record (new_rule id) { required = true }
+abbrev pub argument_rule : Text → Rule
+argument_rule id = record (new_rule id) { required = true }
 
 -- an option with one text, which may be there once
 abbrev pub option : Text → Rule
@@ -13,16 +13,16 @@ option id = record (new_rule id) { long = Some id; value_names = 1 }
 
 -- a subcommand with one to four arguments
 abbrev pub with_one : Text → Text → App
-with_one name a = with_rule (new_app name) (place a)
+with_one name a = with_rule (new_app name) (argument_rule a)
 
 abbrev pub with_two : Text → Text → Text → App
-with_two name a b = with_rule (with_one name a) (place b)
+with_two name a b = with_rule (with_one name a) (argument_rule b)
 
 abbrev pub with_three : Text → Text → Text → Text → App
-with_three name a b c = with_rule (with_two name a b) (place c)
+with_three name a b c = with_rule (with_two name a b) (argument_rule c)
 
 abbrev pub with_four : Text → Text → Text → Text → Text → App
-with_four name a b c d = with_rule (with_three name a b c) (place d)
+with_four name a b c d = with_rule (with_three name a b c) (argument_rule d)
 
 -- the subcommands
 abbrev pub plan_app : App

@@ -1,5 +1,5 @@
 -- What the words of a command line ask for.
-use Rattle.std.specs.Prelude.{⊤, ◌≡◌, ◌≢◌, ◌≤◌, ◌<◌, ◌^◌, ℕ, Bool, true, false, not, ◌&&◌, ◌==◌, List, [], ◌∷◌, Option, Some, None, if◌then◌else◌, codes, decimal}
+use Rattle.std.specs.Prelude.{⊤, ◌≡◌, ◌≢◌, ◌≤◌, ℕ, Bool, true, false, not, ◌&&◌, ◌==◌, List, [], ◌∷◌, Option, Some, None, if◌then◌else◌, codes, decimal}
 use Rattle.std.specs.Int.{is_in_range}
 use Rattle.std.specs.Str.{bytes_eq}
 use Rattle.std.specs.Str.Parse.{digits_value}
@@ -116,8 +116,8 @@ bounding_from _ = None
 -- ---- what the matches ask for
 
 -- what a subcommand of this name asks for, by the texts of its arguments
-abbrev pub asked_in : List ℕ → List Row → Option Request
-asked_in name rows =
+abbrev pub request_in : List ℕ → List Row → Option Request
+request_in name rows =
     if bytes_eq name (codes "plan") then planning_from (first_of (codes "M") rows) (first_of (codes "P") rows) (first_of (codes "C") rows) (first_of (codes "nodes") rows)
     else if bytes_eq name (codes "judge") then judging_from (first_of (codes "M") rows) (first_of (codes "P") rows)
     else if bytes_eq name (codes "check") then checking_from (first_of (codes "M") rows) (first_of (codes "P") rows) (first_of (codes "C") rows)
@@ -131,7 +131,7 @@ asked_in name rows =
 -- words with no subcommand are the program's name
 abbrev pub asked_by_matches : Option (List ℕ × List Row) → Option Request
 asked_by_matches None = Some version
-asked_by_matches (Some s) = asked_in s.0 s.1
+asked_by_matches (Some s) = request_in s.0 s.1
 
 abbrev pub is_help : ErrorKind → Bool
 is_help DisplayHelp = true
@@ -166,7 +166,7 @@ pub record IsPlanned (m p c : List ℕ) (budget : ℕ) : Type 0 where
   pub limit : budget ≤ LARGEST_BUDGET
 
 pub record IsGenerated (seed items periods : ℕ) : Type 0 where
-  pub bits : seed < 2 ^ 64
+  pub seed_limit : seed ≤ largest_seed
   pub some_items : 1 ≤ items
   pub items_limit : items ≤ MAX_ITEMS
   pub some_periods : 1 ≤ periods
@@ -179,6 +179,6 @@ IsAllowed (judging m p) = m ≢ p
 IsAllowed (checking m p c) = AreApart m p c
 IsAllowed (reporting m p) = m ≢ p
 IsAllowed (generating seed items periods m) = IsGenerated seed items periods
-IsAllowed (demonstrating seed) = seed < 2 ^ 64
+IsAllowed (demonstrating seed) = seed ≤ largest_seed
 IsAllowed (upgrading m n) = m ≢ n
 IsAllowed _ = ⊤

@@ -3,7 +3,7 @@ ghost use Rattle.std.specs.Prelude.{◌≡◌, IfOk, codes, false};
 ghost use Rattle.clap.specs.Simple.{on_top};
 ghost use Rattle.clap.specs.Words.{app_of, new_app, rule_of};
 ghost use Rattle.clap.specs.declared.builder.command.Command.TheViews.{out-Command};
-ghost use Rattle.command_line.specs.Grammar.{base_app, bound_app, check_app, demo_app, gen_app, judge_app, making_app, option, place, plan_app, planner_app, planning_app, reading_app, report_app, upgrade_app, with_one, with_three, with_two};
+ghost use Rattle.command_line.specs.Grammar.{argument_rule, base_app, bound_app, check_app, demo_app, gen_app, judge_app, making_app, option, plan_app, planner_app, planning_app, reading_app, report_app, upgrade_app, with_one, with_three, with_two};
 
 use clap::{Arg, Command};
 use std::alloc::{AllocError, Global};
@@ -88,11 +88,13 @@ const CERTIFICATE_WRITTEN: &str = "The certificate file, which is written";
 
 const SEED: &str = "The number that is drawn from, below 2^64";
 
-const ITEMS: &str = "How many items, 1 to 40";
+// The texts of help are literals; a test compares the limits in them with the constants.
+pub(crate) const ITEMS: &str = "How many items, 1 to 40";
 
-const PERIODS: &str = "How many periods, 1 to 60";
+pub(crate) const PERIODS: &str = "How many periods, 1 to 60";
 
-const NODES: &str = "The most nodes of the certificate's tree, 1 to 1000000 [usually 1000]";
+pub(crate) const NODES: &str =
+    "The most nodes of the certificate's tree, 1 to 1000000 [usually 1000]";
 
 // A command's name, what it does, and what it prints.
 #[derive(Clone, Copy)]
@@ -104,13 +106,13 @@ struct Title<'a> {
 
 // An argument that is known by its place: what usage and matches call it, and what it is.
 #[derive(Clone, Copy)]
-struct Place<'a> {
+struct Argument<'a> {
     id: &'a str,
     help: &'a str,
 }
 
-fn argument<'a>(alloc: Global, given: Place<'a>) -> Arg<'a>
-    ensures rule { rule_of result ≡ place given.entry.id.now }
+fn required<'a>(alloc: Global, given: Argument<'a>) -> Arg<'a>
+    ensures rule { rule_of result ≡ argument_rule given.entry.id.now }
     ensures local { result.global ≡ false }
 {
     Arg::new(alloc, given.id).required(true).help(given.help)
@@ -140,37 +142,37 @@ fn titled<'a>(alloc: Global, title: Title<'a>) -> Command<'a>
 fn with_one<'a>(
     alloc: Global,
     title: Title<'a>,
-    first: Place<'a>,
+    first: Argument<'a>,
 ) -> Result<Command<'a>, AllocError>
     ensures shape { IfOk result (λ c. app_of c ≡ with_one title.entry.name.now first.entry.id.now) }
     ensures local { IfOk result (λ c. (out-Command c).has_globals ≡ false) }
 {
-    titled(alloc, title).arg(argument(alloc, first))
+    titled(alloc, title).arg(required(alloc, first))
 }
 
 fn with_two<'a>(
     alloc: Global,
     title: Title<'a>,
-    first: Place<'a>,
-    second: Place<'a>,
+    first: Argument<'a>,
+    second: Argument<'a>,
 ) -> Result<Command<'a>, AllocError>
     ensures shape { IfOk result (λ c. app_of c ≡ with_two title.entry.name.now first.entry.id.now second.entry.id.now) }
     ensures local { IfOk result (λ c. (out-Command c).has_globals ≡ false) }
 {
-    with_one(alloc, title, first)?.arg(argument(alloc, second))
+    with_one(alloc, title, first)?.arg(required(alloc, second))
 }
 
 fn with_three<'a>(
     alloc: Global,
     title: Title<'a>,
-    first: Place<'a>,
-    second: Place<'a>,
-    third: Place<'a>,
+    first: Argument<'a>,
+    second: Argument<'a>,
+    third: Argument<'a>,
 ) -> Result<Command<'a>, AllocError>
     ensures shape { IfOk result (λ c. app_of c ≡ with_three title.entry.name.now first.entry.id.now second.entry.id.now third.entry.id.now) }
     ensures local { IfOk result (λ c. (out-Command c).has_globals ≡ false) }
 {
-    with_two(alloc, title, first, second)?.arg(argument(alloc, third))
+    with_two(alloc, title, first, second)?.arg(required(alloc, third))
 }
 
 // The command `plan`.
@@ -186,15 +188,15 @@ fn plan<'a>(alloc: Global) -> Result<Command<'a>, AllocError>
     with_three(
         alloc,
         title,
-        Place {
+        Argument {
             id: "M",
             help: MODEL_READ,
         },
-        Place {
+        Argument {
             id: "P",
             help: PLAN_WRITTEN,
         },
-        Place {
+        Argument {
             id: "C",
             help: CERTIFICATE_WRITTEN,
         },
@@ -215,11 +217,11 @@ fn judge<'a>(alloc: Global) -> Result<Command<'a>, AllocError>
     with_two(
         alloc,
         title,
-        Place {
+        Argument {
             id: "M",
             help: MODEL_READ,
         },
-        Place {
+        Argument {
             id: "P",
             help: PLAN_READ,
         },
@@ -239,15 +241,15 @@ fn check<'a>(alloc: Global) -> Result<Command<'a>, AllocError>
     with_three(
         alloc,
         title,
-        Place {
+        Argument {
             id: "M",
             help: MODEL_READ,
         },
-        Place {
+        Argument {
             id: "P",
             help: PLAN_CLAIMED,
         },
-        Place {
+        Argument {
             id: "C",
             help: CERTIFICATE_READ,
         },
@@ -267,11 +269,11 @@ fn report<'a>(alloc: Global) -> Result<Command<'a>, AllocError>
     with_two(
         alloc,
         title,
-        Place {
+        Argument {
             id: "M",
             help: MODEL_READ,
         },
-        Place {
+        Argument {
             id: "P",
             help: PLAN_READ,
         },
@@ -291,22 +293,22 @@ fn generate<'a>(alloc: Global) -> Result<Command<'a>, AllocError>
     with_three(
         alloc,
         title,
-        Place {
+        Argument {
             id: "N",
             help: SEED,
         },
-        Place {
+        Argument {
             id: "ITEMS",
             help: ITEMS,
         },
-        Place {
+        Argument {
             id: "PERIODS",
             help: PERIODS,
         },
     )?
-    .arg(argument(
+    .arg(required(
         alloc,
-        Place {
+        Argument {
             id: "M",
             help: MODEL_WRITTEN,
         },
@@ -326,7 +328,7 @@ fn demo<'a>(alloc: Global) -> Result<Command<'a>, AllocError>
     with_one(
         alloc,
         title,
-        Place {
+        Argument {
             id: "N",
             help: SEED,
         },
@@ -346,11 +348,11 @@ fn upgrade<'a>(alloc: Global) -> Result<Command<'a>, AllocError>
     with_two(
         alloc,
         title,
-        Place {
+        Argument {
             id: "M",
             help: MODEL_READ,
         },
-        Place {
+        Argument {
             id: "M2",
             help: MODEL_WRITTEN,
         },
@@ -370,7 +372,7 @@ fn bound<'a>(alloc: Global) -> Result<Command<'a>, AllocError>
     with_one(
         alloc,
         title,
-        Place {
+        Argument {
             id: "M",
             help: MODEL_READ,
         },

@@ -3,7 +3,7 @@ ghost use Rattle.std.specs.Prelude.{◌≡◌, ◌≢◌, IfOk, codes, map, opti
 ghost use Rattle.clap.specs.Words.{first_of, found_of, kind_of, rows_of, subcommand_rows_of};
 ghost use Rattle.clap.specs.declared.error.kind.ErrorKind.TheVariants.{OutOfMemory};
 ghost use Rattle.command_line.specs.Meant.{IsRefusedText, asked_by, read_as};
-ghost use Rattle.command_line.specs.Words.{asked_by_matches, asked_if, asked_in, command_of, helping, is_help};
+ghost use Rattle.command_line.specs.Words.{asked_by_matches, asked_if, request_in, command_of, helping, is_help};
 
 use crate::commands::{Command, Reading};
 use crate::grammar::planner;
@@ -68,7 +68,7 @@ fn text_of<'a>(given: &ArgMatches<'a>, id: &str) -> Option<&'a str>
 
 // What a subcommand asks for.
 fn request_in<'a>(name: &str, given: &ArgMatches<'a>) -> Option<Command<'a>>
-    ensures { option_map asked_by result ≡ asked_in name.now (rows_of (found_of given.now)) }
+    ensures { option_map asked_by result ≡ request_in name.now (rows_of (found_of given.now)) }
 {
     match name {
         "plan" => requests::plan(

@@ -1,4 +1,8 @@
+use crate::grammar::{ITEMS, NODES, PERIODS};
+use crate::requests::{LARGEST_BUDGET, USUAL_BUDGET};
 use crate::{Reading, read_words};
+use instance_reader::FIRST_VERSION_PERIODS;
+use lot_sizing::limits::MAX_ITEMS;
 use std::alloc::Global;
 use std::test::Fail;
 
@@ -287,6 +291,20 @@ fn help_is_shown(rt: HostRuntime) -> Result<(), Fail> {
         let found = answer(alloc, words)?;
         assert_eq!(rt; found.as_str(), want);
     }
+    Ok(())
+}
+
+#[test]
+fn help_has_the_limits(rt: HostRuntime) -> Result<(), Fail> {
+    let alloc = rt.alloc();
+    let items = format!(in alloc; "How many items, 1 to {MAX_ITEMS}")?;
+    assert_eq!(rt; ITEMS, items.as_str());
+    let periods = format!(in alloc; "How many periods, 1 to {FIRST_VERSION_PERIODS}")?;
+    assert_eq!(rt; PERIODS, periods.as_str());
+    let nodes = format!(in alloc;
+        "The most nodes of the certificate's tree, 1 to {LARGEST_BUDGET} [usually {USUAL_BUDGET}]"
+    )?;
+    assert_eq!(rt; NODES, nodes.as_str());
     Ok(())
 }
 

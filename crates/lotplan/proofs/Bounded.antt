@@ -8,20 +8,21 @@ use Rattle.lotplan.specs.declared.said.Said.{Said}
 use Rattle.command_line.specs.Words.{bounding}
 use Rattle.lotplan.specs.Status.{code_of}
 use Rattle.lotplan.specs.Reading.{HoldsProblem, ModelExplains, ReadAnswer, refused, missing, unread, too_long, read_line, read_status}
-use Rattle.lotplan.specs.Bounding.{BoundAnswer, bound, empty, skipped, passed, stopped, bound_line, bound_status, BoundCallsFor, BoundExplains, BoundIsSaid, BoundedCallsFor, FindsBound, FindsNoBound, FindsNoPoint, IsBounded}
+use Rattle.lotplan.specs.Bounding.{BoundAnswer, bound, empty, skipped, passed, stopped, bound_line, bound_status, BoundCallsFor, BoundExplains, BoundIsSaid, BoundedCallsFor, FindsBound, FindsNoBound, FindsNoPoint, MayBeBoundAnswer}
 use Rattle.lotplan.specs.Saying.{Gains, IsSaid}
 use Rattle.lotplan.specs.Run.{HadNoFault}
-use Rattle.lotplan.proofs.Readings.{reading}
+use Rattle.lotplan.proofs.Outputs.{IsAnswerNumber, read_number}
+use Rattle.lotplan.proofs.Readings.{IsReading, SomeStop, reading}
 
 -- ---- from the problem to the model file
-bound_after : (m : List ℕ) (problem : Problem) (old new : Shelved) (answer : BoundAnswer) → (IsTrue old.told → HoldsProblem old.file m problem) → IsBounded problem answer → BoundExplains m old new answer
+bound_after : (m : List ℕ) (problem : Problem) (old new : Shelved) (answer : BoundAnswer) → (IsTrue old.told → HoldsProblem old.file m problem) → MayBeBoundAnswer problem answer → BoundExplains m old new answer
 bound_after m problem old new (bound n) holds x = λ t. (problem, holds t, x)
 bound_after m problem old new empty holds x = λ t. (problem, holds t, x)
 bound_after m problem old new skipped holds x = λ t. (problem, holds t, x)
 bound_after m problem old new passed holds x = λ t. (problem, holds t, x)
 bound_after m problem old new (stopped why) holds x = absurd x
 
-pub says_bounded : (m : List ℕ) (problem : Problem) (old new : Shelved) (answer : BoundAnswer) (r : Result Said AllocError) → (IsTrue old.told → HoldsProblem old.file m problem) → IsBounded problem answer → IfOk r (IsSaid (bound_line answer) (bound_status answer)) → IfOk r (BoundIsSaid m old new)
+pub says_bounded : (m : List ℕ) (problem : Problem) (old new : Shelved) (answer : BoundAnswer) (r : Result Said AllocError) → (IsTrue old.told → HoldsProblem old.file m problem) → MayBeBoundAnswer problem answer → IfOk r (IsSaid (bound_line answer) (bound_status answer)) → IfOk r (BoundIsSaid m old new)
 says_bounded m problem old new answer (Ok said) holds x says = (answer, bound_after m problem old new answer holds x, says)
 says_bounded m problem old new answer (Err e) holds x says = tt
 
@@ -32,7 +33,7 @@ says_stop m old new why (Err e) x says = tt
 -- ---- what each number says
 module _ (m : List ℕ) (code : ℕ) (old new : Shelved) (out_old out_new : Printed) where
   pub bounded_at : (answer : BoundAnswer) → BoundExplains m old new answer → code ≡ code_of (bound_status answer) → Gains (bound_line answer) out_old out_new → code ≡ 0 → IsTrue old.told → FindsBound old.file m out_old out_new
-  bounded_at (bound n) x is line none t = record { n = n; holds = x t; line = line }
+  bounded_at (bound n) x is line none t = record { least = n; holds = x t; line = line }
   bounded_at empty x is line none t = absurd (omega (arith, is, none))
   bounded_at skipped x is line none t = absurd (omega (arith, is, none))
   bounded_at passed x is line none t = absurd (omega (arith, is, none))
@@ -88,3 +89,18 @@ module _ (m : List ℕ) (code : ℕ) (old : Shelved) where
     called_at skipped x is = let (problem, holds, y) = x t in by_model problem holds (inr (inr (inl (y, is))))
     called_at passed x is = let (problem, holds, y) = x t in by_model problem holds (inr (inr (inr (y, is))))
     called_at (stopped why) x is = stop_called why x is
+
+-- ---- files that give nothing to go on with, and the number of an answer
+pub stop_at : (m : List ℕ) (code : ℕ) (old new : Shelved) (out_old out_new : Printed) (answer : BoundAnswer) → BoundExplains m old new answer → code ≡ code_of (bound_status answer) → Gains (bound_line answer) out_old out_new → IsReading code → SomeStop (Some (bounding m)) code old new out_old out_new
+stop_at m code old new out_old out_new (bound n) x is line r = absurd (omega (arith, is, r.low))
+stop_at m code old new out_old out_new empty x is line r = absurd (omega (arith, is, r.low))
+stop_at m code old new out_old out_new skipped x is line r = absurd (omega (arith, is, r.low))
+stop_at m code old new out_old out_new passed x is line r = absurd (omega (arith, is, r.low))
+stop_at m code old new out_old out_new (stopped why) x is line r = (why, record { cause = x; line = line }, is)
+
+pub answer_number : (answer : BoundAnswer) → IsAnswerNumber (code_of (bound_status answer))
+answer_number (bound n) = record { nine = λ e. omega (arith, e); ten = λ e. omega (arith, e) }
+answer_number empty = record { nine = λ e. omega (arith, e); ten = λ e. omega (arith, e) }
+answer_number skipped = record { nine = λ e. omega (arith, e); ten = λ e. omega (arith, e) }
+answer_number passed = record { nine = λ e. omega (arith, e); ten = λ e. omega (arith, e) }
+answer_number (stopped why) = read_number why

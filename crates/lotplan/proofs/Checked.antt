@@ -21,12 +21,13 @@ use Rattle.stream_check.specs.Streams.{IsStreamFault, IsTooLong, OfBytes, OfCert
 use Rattle.lotplan.specs.declared.said.Said.{Said}
 use Rattle.command_line.specs.Words.{checking}
 use Rattle.lotplan.specs.Status.{code_of}
-use Rattle.lotplan.specs.Reading.{FileExplains, HoldsProblem, ModelExplains, OfFile, ReadAnswer, refused, missing, unread, too_long, read_line, read_status}
-use Rattle.lotplan.specs.Judging.{AreNoPlan}
-use Rattle.lotplan.specs.Checking.{CheckAnswer, accepted, no_certificate, no_plan, rejected, stopped, check_line, check_status, Accepts, AllAre, AsksForPlan, CertificateExplains, CheckCallsFor, CheckExplains, CheckSays, ClaimCallsFor, FindsRefused, GivenCallsFor, GivenExplains, HoldsPlan, IsGiven, IsOptimal, IsRefusal, PlanStops, PlannedCallsFor, PlannedExplains, ProofCallsFor, ProofExplains, ProofIs, ProofStops}
+use Rattle.lotplan.specs.Reading.{FileExplains, HoldsProblem, ModelExplains, OfFile, ReadAnswer, refused, missing, unread, too_long, read_line, read_status, AreNoPlan, HoldsPlan}
+use Rattle.lotplan.specs.Proving.{IsGiven}
+use Rattle.lotplan.specs.Checking.{CheckAnswer, accepted, no_certificate, no_plan, rejected, stopped, check_line, check_status, Accepts, AllAre, AsksForPlan, CertificateExplains, CheckCallsFor, CheckExplains, CheckSays, ClaimCallsFor, FindsRefused, GivenCallsFor, GivenExplains, IsOptimal, IsRefusal, PlanStops, PlannedCallsFor, PlannedExplains, ProofCallsFor, ProofExplains, ProofIs, ProofStops}
 use Rattle.lotplan.specs.Saying.{Gains, IsSaid}
 use Rattle.lotplan.specs.Run.{HadNoFault}
-use Rattle.lotplan.proofs.Readings.{reading, stops_after}
+use Rattle.lotplan.proofs.Outputs.{IsAnswerNumber, read_number}
+use Rattle.lotplan.proofs.Readings.{IsReading, SomeStop, reading, stops_after}
 
 -- ---- from a fault of the certificate file to the answer
 abbrev FaultExplains : List ℕ → Shelved → Shelved → (ℕ → Why → Type 0) → CheckAnswer → Type 0
@@ -322,3 +323,18 @@ module _ (m p c : List ℕ) (code : ℕ) (old : Shelved) where
         (λ model. model_called w model is)
         (λ read. by_model read.0 (read.1 t) (proof_called read.0 w read.2 is))
         x
+
+-- ---- files that give nothing to go on with, and the number of an answer
+pub stop_at : (m p c : List ℕ) (code : ℕ) (old new : Shelved) (out_old out_new : Printed) (answer : CheckAnswer) → CheckExplains m p c old new answer → code ≡ code_of (check_status answer) → Gains (check_line answer) out_old out_new → IsReading code → SomeStop (Some (checking m p c)) code old new out_old out_new
+stop_at m p c code old new out_old out_new (accepted claim) x is line r = absurd (omega (arith, is, r.low))
+stop_at m p c code old new out_old out_new (no_certificate fault) x is line r = absurd (omega (arith, is, r.low))
+stop_at m p c code old new out_old out_new (no_plan fault) x is line r = absurd (omega (arith, is, r.low))
+stop_at m p c code old new out_old out_new (rejected at w) x is line r = absurd (omega (arith, is, r.low))
+stop_at m p c code old new out_old out_new (stopped w) x is line r = (w, record { cause = x; line = line }, is)
+
+pub answer_number : (answer : CheckAnswer) → IsAnswerNumber (code_of (check_status answer))
+answer_number (accepted claim) = record { nine = λ e. omega (arith, e); ten = λ e. omega (arith, e) }
+answer_number (no_certificate fault) = record { nine = λ e. omega (arith, e); ten = λ e. omega (arith, e) }
+answer_number (no_plan fault) = record { nine = λ e. omega (arith, e); ten = λ e. omega (arith, e) }
+answer_number (rejected at w) = record { nine = λ e. omega (arith, e); ten = λ e. omega (arith, e) }
+answer_number (stopped w) = read_number w

@@ -6,6 +6,7 @@ use Rattle.rand_pcg.specs.Lcg.{Lcg}
 use Rattle.report.specs.Draws.{Drawn, draw_items, drawn, generator_of}
 use Rattle.report.specs.Generated.{item_of}
 use Rattle.lotplan.specs.Showing.{IsShort, coupled_problem, free_problem}
+use Rattle.lotplan.specs.declared.commands.demo.TheConstants.{COUPLED_ITEMS, COUPLED_PERIODS, FREE_ITEMS, FREE_PERIODS}
 
 -- an item takes no time and needs no other, and may have any lot at once
 record IsFree (a : Item) : Type 0 where
@@ -26,11 +27,11 @@ each_free items periods (d ∷ ds) (suc n) = each_free items periods ds n
 
 pub free_alone : (seed : ℕ) → IsUncoupled (free_problem seed)
 free_alone seed =
-    let ds = drawn seed 12 60 false in
+    let ds = drawn seed FREE_ITEMS FREE_PERIODS false in
     record {
-      uses = λ i low high. (each_free 12 60 ds (i - 1)).uses;
-      needs = λ i low high. (each_free 12 60 ds (i - 1)).needs;
-      plain = λ i low high. (each_free 12 60 ds (i - 1)).plain;
+      uses = λ i low high. (each_free FREE_ITEMS FREE_PERIODS ds (i - 1)).uses;
+      needs = λ i low high. (each_free FREE_ITEMS FREE_PERIODS ds (i - 1)).needs;
+      plain = λ i low high. (each_free FREE_ITEMS FREE_PERIODS ds (i - 1)).plain;
     }
 
 -- as many items are drawn as are asked for
@@ -44,5 +45,5 @@ count_drawn f coupled periods (suc n) g = length_two f (draw_items coupled perio
 
 pub coupled_short : (seed : ℕ) → IsShort (coupled_problem seed)
 coupled_short seed =
-    let few = count_drawn (item_of true 3 4) true 4 3 (generator_of seed) in
+    let few = count_drawn (item_of true COUPLED_ITEMS COUPLED_PERIODS) true COUPLED_PERIODS COUPLED_ITEMS (generator_of seed) in
     omega (arith, few)

@@ -10,26 +10,21 @@ use Rattle.lotplan.specs.declared.status.Status.TheVariants.{Done, NoCommand}
 use Rattle.command_line.specs.Words.{AreApart, AreTaken, Request, IsAllowed, version, helping, planning, judging, checking, reporting, generating, demonstrating, upgrading, bounding}
 use Rattle.lotplan.specs.Status.{code_of}
 use Rattle.lotplan.specs.Saying.{Ends, Gains, IsSaid, Prints}
-use Rattle.lotplan.specs.Reading.{ReadAnswer, refused, missing, unread, too_long, read_status}
+use Rattle.lotplan.specs.Reading.{refused, missing, unread, too_long}
 use Rattle.lotplan.specs.Laws.{StatusesAreOne}
-use Rattle.lotplan.specs.Planning.{PlanAnswer, PlanExplains, PlansBest, StartsAtMost, StartsAtMostBoth, StartsBoth, StartsOnly, plan_line, plan_status}
-use Rattle.lotplan.specs.Planning as plan
+use Rattle.lotplan.specs.Writing.{StartsAtMost, StartsOnly}
+use Rattle.lotplan.specs.Planning.{PlanAnswer, PlanExplains, PlansBest, StartsAtMostBoth, StartsBoth, plan_line, plan_status}
 use Rattle.lotplan.specs.Judging.{FindsFeasible, JudgeAnswer, JudgeExplains, judge_line, judge_status}
-use Rattle.lotplan.specs.Judging as judge
 use Rattle.lotplan.specs.Checking.{Accepts, CheckAnswer, CheckExplains, check_line, check_status}
-use Rattle.lotplan.specs.Checking as check
 use Rattle.lotplan.specs.Upgrading.{UpgradeAnswer, UpgradeExplains, Upgrades, upgrade_line, upgrade_status}
-use Rattle.lotplan.specs.Upgrading as upgrade
 use Rattle.lotplan.specs.Bounding.{BoundAnswer, BoundExplains, FindsBound, bound_line, bound_status}
-use Rattle.lotplan.specs.Bounding as bound
 use Rattle.lotplan.specs.Reporting.{ReportAnswer, ReportExplains, SumsUp, report_line, report_status}
-use Rattle.lotplan.specs.Reporting as report
 use Rattle.lotplan.specs.Generating.{GenerateAnswer, GenerateExplains, Generates, generate_line, generate_status}
-use Rattle.lotplan.specs.Generating as generate
 use Rattle.lotplan.specs.Showing.{Shows}
-use Rattle.lotplan.specs.Run.{CallFor, CallsForZero, CannotWrite, HadNoFault, IsFaulty, IsIdle, IsInfeasible, IsNoCommand, IsRun, ran_out, runs, Leaves, LeavesUndecided, RunsAs, SaysFor, Stops, refused_line, version_line}
-use Rattle.lotplan.proofs.Outputs.{printed, prints_as}
-use Rattle.lotplan.proofs.Readings.{IsReading, reading, same_reads}
+use Rattle.lotplan.specs.Run.{CallFor, CallsForZero, CannotWrite, HadNoFault, IsFaulty, IsIdle, IsInfeasible, IsNoCommand, IsProgramRun, ran_out, runs, Leaves, LeavesUndecided, RunsAs, SaysFor, Stops, refused_line, version_line}
+use Rattle.lotplan.proofs.Outputs.{IsAnswerNumber, printed, prints_as}
+use Rattle.lotplan.proofs.Readings.{IsReading, SomeStop, same_reads}
+use Rattle.lotplan.proofs.Writings.{reads_at_most}
 use Rattle.lotplan.proofs.Planned.{EndsSearch}
 use Rattle.lotplan.proofs.Planned as planned
 use Rattle.lotplan.proofs.Judged as judged
@@ -53,7 +48,7 @@ runs_as (Some (demonstrating seed)) code old new out_old out_new said (same, x) 
 runs_as (Some (upgrading m n)) code old new out_old out_new said (answer, x, says) done = (answer, x, prints_as (upgrade_line answer) (upgrade_status answer) said code out_old out_new says done)
 runs_as (Some (bounding m)) code old new out_old out_new said ((answer, x, says), reads) done = (answer, x, reads, prints_as (bound_line answer) (bound_status answer) said code out_old out_new says done)
 
-pub is_run : (asked : Option Request) (code : ℕ) (old new : Shelved) (out_old out_new : Printed) (r : Result Said AllocError) → IfOk r (SaysFor asked old new) → OnErr r (Leaves asked old new) → Ends r code out_old out_new → IsRun asked code old new out_old out_new
+pub is_run : (asked : Option Request) (code : ℕ) (old new : Shelved) (out_old out_new : Printed) (r : Result Said AllocError) → IfOk r (SaysFor asked old new) → OnErr r (Leaves asked old new) → Ends r code out_old out_new → IsProgramRun asked code old new out_old out_new
 is_run asked code old new out_old out_new (Ok said) says left done = runs (runs_as asked code old new out_old out_new said says done)
 is_run asked code old new out_old out_new (Err e) says left done = ran_out (record { is = done.0; left = left; silent = done.1 })
 
@@ -109,7 +104,7 @@ ends_by (Some (bounding m)) code old new out_old out_new (answer, x, reads, done
     let d = printed (bound_line answer) (bound_status answer) code out_old out_new done other in
     (answer, x, reads, d.0, d.1)
 
-ends : (asked : Option Request) (code : ℕ) (old new : Shelved) (out_old out_new : Printed) → IsRun asked code old new out_old out_new → code ≢ 10 → code ≢ 9 → EndsAs asked code old new out_old out_new
+ends : (asked : Option Request) (code : ℕ) (old new : Shelved) (out_old out_new : Printed) → IsProgramRun asked code old new out_old out_new → code ≢ 10 → code ≢ 9 → EndsAs asked code old new out_old out_new
 ends asked code old new out_old out_new (ran_out x) some other = absurd (some x.is)
 ends asked code old new out_old out_new (runs x) some other = ends_by asked code old new out_old out_new x other
 
@@ -119,11 +114,11 @@ optimal_by asked code old new out_old out_new m p c budget is x zero =
     let (answer, why, number, line) = subst (λ a. EndsAs a code old new out_old out_new) is x in
     planned.optimal_at m p c budget code old new out_old out_new answer why number line zero
 
-pub optimal : (asked : Option Request) (code : ℕ) (old new : Shelved) (out_old out_new : Printed) → IsRun asked code old new out_old out_new → (m p c : List ℕ) (budget : ℕ) → asked ≡ Some (planning m p c budget) → code ≡ 0 → IsTrue old.told → PlansBest old.file new.file m p c budget out_old out_new
+pub optimal : (asked : Option Request) (code : ℕ) (old new : Shelved) (out_old out_new : Printed) → IsProgramRun asked code old new out_old out_new → (m p c : List ℕ) (budget : ℕ) → asked ≡ Some (planning m p c budget) → code ≡ 0 → IsTrue old.told → PlansBest old.file new.file m p c budget out_old out_new
 optimal asked code old new out_old out_new run m p c budget is zero t =
     (optimal_by asked code old new out_old out_new m p c budget is (ends asked code old new out_old out_new run (λ e. omega (arith, e, zero)) (λ e. omega (arith, e, zero))) zero).0 t
 
-pub wrote : (asked : Option Request) (code : ℕ) (old new : Shelved) (out_old out_new : Printed) → IsRun asked code old new out_old out_new → (m p c : List ℕ) (budget : ℕ) → asked ≡ Some (planning m p c budget) → code ≡ 0 → GrewBy 2 old.starts new.starts
+pub wrote : (asked : Option Request) (code : ℕ) (old new : Shelved) (out_old out_new : Printed) → IsProgramRun asked code old new out_old out_new → (m p c : List ℕ) (budget : ℕ) → asked ≡ Some (planning m p c budget) → code ≡ 0 → GrewBy 2 old.starts new.starts
 wrote asked code old new out_old out_new run m p c budget is zero =
     (optimal_by asked code old new out_old out_new m p c budget is (ends asked code old new out_old out_new run (λ e. omega (arith, e, zero)) (λ e. omega (arith, e, zero))) zero).1
 
@@ -132,7 +127,7 @@ wrote_one_by asked code old new out_old out_new m p c budget is x one =
     let (answer, why, number, line) = subst (λ a. EndsAs a code old new out_old out_new) is x in
     (planned.impossible_at m p c budget code old new out_old out_new answer why number line one).1
 
-pub wrote_one : (asked : Option Request) (code : ℕ) (old new : Shelved) (out_old out_new : Printed) → IsRun asked code old new out_old out_new → (m p c : List ℕ) (budget : ℕ) → asked ≡ Some (planning m p c budget) → code ≡ 1 → StartsOnly c old new
+pub wrote_one : (asked : Option Request) (code : ℕ) (old new : Shelved) (out_old out_new : Printed) → IsProgramRun asked code old new out_old out_new → (m p c : List ℕ) (budget : ℕ) → asked ≡ Some (planning m p c budget) → code ≡ 1 → StartsOnly c old new
 wrote_one asked code old new out_old out_new run m p c budget is one =
     wrote_one_by asked code old new out_old out_new m p c budget is (ends asked code old new out_old out_new run (λ e. omega (arith, e, one)) (λ e. omega (arith, e, one))) one
 
@@ -141,16 +136,16 @@ wrote_some_by asked code old new out_old out_new m p c budget is x two =
     let (answer, why, number, line) = subst (λ a. EndsAs a code old new out_old out_new) is x in
     (planned.open_at m p c budget code old new out_old out_new answer why number line two).1
 
-pub wrote_some : (asked : Option Request) (code : ℕ) (old new : Shelved) (out_old out_new : Printed) → IsRun asked code old new out_old out_new → (m p c : List ℕ) (budget : ℕ) → asked ≡ Some (planning m p c budget) → code ≡ 2 → StartsBoth p c old new ⊎ StartsOnly c old new
+pub wrote_some : (asked : Option Request) (code : ℕ) (old new : Shelved) (out_old out_new : Printed) → IsProgramRun asked code old new out_old out_new → (m p c : List ℕ) (budget : ℕ) → asked ≡ Some (planning m p c budget) → code ≡ 2 → StartsBoth p c old new ⊎ StartsOnly c old new
 wrote_some asked code old new out_old out_new run m p c budget is two =
     wrote_some_by asked code old new out_old out_new m p c budget is (ends asked code old new out_old out_new run (λ e. omega (arith, e, two)) (λ e. omega (arith, e, two))) two
 
-pub feasible : (asked : Option Request) (code : ℕ) (old new : Shelved) (out_old out_new : Printed) → IsRun asked code old new out_old out_new → (m p : List ℕ) → asked ≡ Some (judging m p) → code ≡ 0 → IsTrue old.told → FindsFeasible old.file m p out_old out_new
+pub feasible : (asked : Option Request) (code : ℕ) (old new : Shelved) (out_old out_new : Printed) → IsProgramRun asked code old new out_old out_new → (m p : List ℕ) → asked ≡ Some (judging m p) → code ≡ 0 → IsTrue old.told → FindsFeasible old.file m p out_old out_new
 feasible asked code old new out_old out_new run m p is zero t =
     let (answer, why, reads, number, line) = subst (λ a. EndsAs a code old new out_old out_new) is (ends asked code old new out_old out_new run (λ e. omega (arith, e, zero)) (λ e. omega (arith, e, zero))) in
     judged.feasible_at m p code old new out_old out_new answer why number line zero t
 
-pub accepts : (asked : Option Request) (code : ℕ) (old new : Shelved) (out_old out_new : Printed) → IsRun asked code old new out_old out_new → (m p c : List ℕ) → asked ≡ Some (checking m p c) → code ≡ 0 → IsTrue old.told → Accepts old.file m p c out_old out_new
+pub accepts : (asked : Option Request) (code : ℕ) (old new : Shelved) (out_old out_new : Printed) → IsProgramRun asked code old new out_old out_new → (m p c : List ℕ) → asked ≡ Some (checking m p c) → code ≡ 0 → IsTrue old.told → Accepts old.file m p c out_old out_new
 accepts asked code old new out_old out_new run m p c is none t =
     let (answer, why, reads, number, line) = subst (λ a. EndsAs a code old new out_old out_new) is (ends asked code old new out_old out_new run (λ e. omega (arith, e, none)) (λ e. omega (arith, e, none))) in
     checked.accepts_at m p c code old new out_old out_new answer why number line none t
@@ -160,20 +155,20 @@ upgraded_by asked code old new out_old out_new m n is x none =
     let (answer, why, number, line) = subst (λ a. EndsAs a code old new out_old out_new) is x in
     upgraded.upgraded_at m n code old new out_old out_new answer why number line none
 
-pub upgrades : (asked : Option Request) (code : ℕ) (old new : Shelved) (out_old out_new : Printed) → IsRun asked code old new out_old out_new → (m n : List ℕ) → asked ≡ Some (upgrading m n) → code ≡ 0 → IsTrue old.told → Upgrades old.file new.file m n out_old out_new
+pub upgrades : (asked : Option Request) (code : ℕ) (old new : Shelved) (out_old out_new : Printed) → IsProgramRun asked code old new out_old out_new → (m n : List ℕ) → asked ≡ Some (upgrading m n) → code ≡ 0 → IsTrue old.told → Upgrades old.file new.file m n out_old out_new
 upgrades asked code old new out_old out_new run m n is none t =
     (upgraded_by asked code old new out_old out_new m n is (ends asked code old new out_old out_new run (λ e. omega (arith, e, none)) (λ e. omega (arith, e, none))) none).0 t
 
-pub rewrote : (asked : Option Request) (code : ℕ) (old new : Shelved) (out_old out_new : Printed) → IsRun asked code old new out_old out_new → (m n : List ℕ) → asked ≡ Some (upgrading m n) → code ≡ 0 → GrewBy 1 old.starts new.starts
+pub rewrote : (asked : Option Request) (code : ℕ) (old new : Shelved) (out_old out_new : Printed) → IsProgramRun asked code old new out_old out_new → (m n : List ℕ) → asked ≡ Some (upgrading m n) → code ≡ 0 → GrewBy 1 old.starts new.starts
 rewrote asked code old new out_old out_new run m n is none =
     (upgraded_by asked code old new out_old out_new m n is (ends asked code old new out_old out_new run (λ e. omega (arith, e, none)) (λ e. omega (arith, e, none))) none).1
 
-pub bounds : (asked : Option Request) (code : ℕ) (old new : Shelved) (out_old out_new : Printed) → IsRun asked code old new out_old out_new → (m : List ℕ) → asked ≡ Some (bounding m) → code ≡ 0 → IsTrue old.told → FindsBound old.file m out_old out_new
+pub bounds : (asked : Option Request) (code : ℕ) (old new : Shelved) (out_old out_new : Printed) → IsProgramRun asked code old new out_old out_new → (m : List ℕ) → asked ≡ Some (bounding m) → code ≡ 0 → IsTrue old.told → FindsBound old.file m out_old out_new
 bounds asked code old new out_old out_new run m is none t =
     let (answer, why, reads, number, line) = subst (λ a. EndsAs a code old new out_old out_new) is (ends asked code old new out_old out_new run (λ e. omega (arith, e, none)) (λ e. omega (arith, e, none))) in
     bounded.bounded_at m code old new out_old out_new answer why number line none t
 
-pub sums_up : (asked : Option Request) (code : ℕ) (old new : Shelved) (out_old out_new : Printed) → IsRun asked code old new out_old out_new → (m p : List ℕ) → asked ≡ Some (reporting m p) → code ≡ 0 → IsTrue old.told → SumsUp old.file m p out_old out_new
+pub sums_up : (asked : Option Request) (code : ℕ) (old new : Shelved) (out_old out_new : Printed) → IsProgramRun asked code old new out_old out_new → (m p : List ℕ) → asked ≡ Some (reporting m p) → code ≡ 0 → IsTrue old.told → SumsUp old.file m p out_old out_new
 sums_up asked code old new out_old out_new run m p is none t =
     let (answer, why, reads, number, line) = subst (λ a. EndsAs a code old new out_old out_new) is (ends asked code old new out_old out_new run (λ e. omega (arith, e, none)) (λ e. omega (arith, e, none))) in
     reported.summed_at m p code old new out_old out_new answer why number line none t
@@ -183,15 +178,15 @@ made_by asked code old new out_old out_new seed items periods m is x none =
     let (answer, why, number, line) = subst (λ a. EndsAs a code old new out_old out_new) is x in
     made.generated_at seed items periods m code old new out_old out_new answer why number line none
 
-pub generates : (asked : Option Request) (code : ℕ) (old new : Shelved) (out_old out_new : Printed) → IsRun asked code old new out_old out_new → (seed items periods : ℕ) (m : List ℕ) → asked ≡ Some (generating seed items periods m) → code ≡ 0 → IsTrue old.told → Generates new.file seed items periods m out_old out_new
+pub generates : (asked : Option Request) (code : ℕ) (old new : Shelved) (out_old out_new : Printed) → IsProgramRun asked code old new out_old out_new → (seed items periods : ℕ) (m : List ℕ) → asked ≡ Some (generating seed items periods m) → code ≡ 0 → IsTrue old.told → Generates new.file seed items periods m out_old out_new
 generates asked code old new out_old out_new run seed items periods m is none t =
     (made_by asked code old new out_old out_new seed items periods m is (ends asked code old new out_old out_new run (λ e. omega (arith, e, none)) (λ e. omega (arith, e, none))) none).0 t
 
-pub wrote_made : (asked : Option Request) (code : ℕ) (old new : Shelved) (out_old out_new : Printed) → IsRun asked code old new out_old out_new → (seed items periods : ℕ) (m : List ℕ) → asked ≡ Some (generating seed items periods m) → code ≡ 0 → GrewBy 1 old.starts new.starts
+pub wrote_made : (asked : Option Request) (code : ℕ) (old new : Shelved) (out_old out_new : Printed) → IsProgramRun asked code old new out_old out_new → (seed items periods : ℕ) (m : List ℕ) → asked ≡ Some (generating seed items periods m) → code ≡ 0 → GrewBy 1 old.starts new.starts
 wrote_made asked code old new out_old out_new run seed items periods m is none =
     (made_by asked code old new out_old out_new seed items periods m is (ends asked code old new out_old out_new run (λ e. omega (arith, e, none)) (λ e. omega (arith, e, none))) none).1
 
-pub shows : (asked : Option Request) (code : ℕ) (old new : Shelved) (out_old out_new : Printed) → IsRun asked code old new out_old out_new → (seed : ℕ) → asked ≡ Some (demonstrating seed) → code ≡ 0 → Shows seed out_old out_new
+pub shows : (asked : Option Request) (code : ℕ) (old new : Shelved) (out_old out_new : Printed) → IsProgramRun asked code old new out_old out_new → (seed : ℕ) → asked ≡ Some (demonstrating seed) → code ≡ 0 → Shows seed out_old out_new
 shows asked code old new out_old out_new run seed is none =
     let (same, number, shown) = subst (λ a. EndsAs a code old new out_old out_new) is (ends asked code old new out_old out_new run (λ e. omega (arith, e, none)) (λ e. omega (arith, e, none))) in
     shown
@@ -210,7 +205,7 @@ infeasible_by (Some (demonstrating seed)) code old new out_old out_new x one t =
 infeasible_by (Some (upgrading m n)) code old new out_old out_new (answer, why, number, line) one t = absurd ((upgraded.numbers answer code number).one one)
 infeasible_by (Some (bounding m)) code old new out_old out_new (answer, why, reads, number, line) one t = inr (bounded.empty_at m code old new out_old out_new answer why number line one t)
 
-pub infeasible : (asked : Option Request) (code : ℕ) (old new : Shelved) (out_old out_new : Printed) → IsRun asked code old new out_old out_new → code ≡ 1 → IsTrue old.told → IsInfeasible asked old.file new.file out_old out_new
+pub infeasible : (asked : Option Request) (code : ℕ) (old new : Shelved) (out_old out_new : Printed) → IsProgramRun asked code old new out_old out_new → code ≡ 1 → IsTrue old.told → IsInfeasible asked old.file new.file out_old out_new
 infeasible asked code old new out_old out_new run is t = infeasible_by asked code old new out_old out_new (ends asked code old new out_old out_new run (λ e. omega (arith, e, is)) (λ e. omega (arith, e, is))) is t
 
 undecided_by : (asked : Option Request) (code : ℕ) (old new : Shelved) (out_old out_new : Printed) → EndsAs asked code old new out_old out_new → code ≡ 2 → IsTrue old.told → LeavesUndecided asked old.file new.file out_old out_new
@@ -226,7 +221,7 @@ undecided_by (Some (demonstrating seed)) code old new out_old out_new x two t = 
 undecided_by (Some (upgrading m n)) code old new out_old out_new (answer, why, number, line) two t = absurd ((upgraded.numbers answer code number).two two)
 undecided_by (Some (bounding m)) code old new out_old out_new (answer, why, reads, number, line) two t = inr (bounded.undecided_at m code old new out_old out_new answer why number line two t)
 
-pub undecided : (asked : Option Request) (code : ℕ) (old new : Shelved) (out_old out_new : Printed) → IsRun asked code old new out_old out_new → code ≡ 2 → IsTrue old.told → LeavesUndecided asked old.file new.file out_old out_new
+pub undecided : (asked : Option Request) (code : ℕ) (old new : Shelved) (out_old out_new : Printed) → IsProgramRun asked code old new out_old out_new → code ≡ 2 → IsTrue old.told → LeavesUndecided asked old.file new.file out_old out_new
 undecided asked code old new out_old out_new run is t = undecided_by asked code old new out_old out_new (ends asked code old new out_old out_new run (λ e. omega (arith, e, is)) (λ e. omega (arith, e, is))) is t
 
 faulty_by : (asked : Option Request) (code : ℕ) (old new : Shelved) (out_old out_new : Printed) → EndsAs asked code old new out_old out_new → code ≡ 3 → IsTrue old.told → IsFaulty asked old.file out_old out_new
@@ -242,7 +237,7 @@ faulty_by (Some (demonstrating seed)) code old new out_old out_new x three t = a
 faulty_by (Some (upgrading m n)) code old new out_old out_new (answer, why, number, line) three t = absurd ((upgraded.numbers answer code number).three three)
 faulty_by (Some (bounding m)) code old new out_old out_new (answer, why, reads, number, line) three t = absurd ((bounded.numbers answer code number).three three)
 
-pub faulty : (asked : Option Request) (code : ℕ) (old new : Shelved) (out_old out_new : Printed) → IsRun asked code old new out_old out_new → code ≡ 3 → IsTrue old.told → IsFaulty asked old.file out_old out_new
+pub faulty : (asked : Option Request) (code : ℕ) (old new : Shelved) (out_old out_new : Printed) → IsProgramRun asked code old new out_old out_new → code ≡ 3 → IsTrue old.told → IsFaulty asked old.file out_old out_new
 faulty asked code old new out_old out_new run is t = faulty_by asked code old new out_old out_new (ends asked code old new out_old out_new run (λ e. omega (arith, e, is)) (λ e. omega (arith, e, is))) is t
 
 unwritten_by : (asked : Option Request) (code : ℕ) (old new : Shelved) (out_old out_new : Printed) → EndsAs asked code old new out_old out_new → code ≡ 8 → CannotWrite asked old new out_old out_new
@@ -258,33 +253,23 @@ unwritten_by (Some (demonstrating seed)) code old new out_old out_new x eight = 
 unwritten_by (Some (upgrading m n)) code old new out_old out_new (answer, why, number, line) eight = inr (inl (upgraded.unwritten_at m n code old new out_old out_new answer why number line eight))
 unwritten_by (Some (bounding m)) code old new out_old out_new (answer, why, reads, number, line) eight = absurd ((bounded.numbers answer code number).eight eight)
 
-pub unwritten : (asked : Option Request) (code : ℕ) (old new : Shelved) (out_old out_new : Printed) → IsRun asked code old new out_old out_new → code ≡ 8 → CannotWrite asked old new out_old out_new
+pub unwritten : (asked : Option Request) (code : ℕ) (old new : Shelved) (out_old out_new : Printed) → IsProgramRun asked code old new out_old out_new → code ≡ 8 → CannotWrite asked old new out_old out_new
 unwritten asked code old new out_old out_new run is = unwritten_by asked code old new out_old out_new (ends asked code old new out_old out_new run (λ e. omega (arith, e, is)) (λ e. omega (arith, e, is))) is
-
-judge_not_four : {A : Type 0} (answer : JudgeAnswer) (code : ℕ) → code ≡ code_of (judge_status answer) → code ≡ 4 → A
-judge_not_four (judge.feasible amount) code is four = absurd (omega (arith, is, four))
-judge_not_four (judge.no_plan fault) code is four = absurd (omega (arith, is, four))
-judge_not_four (judge.broken rule) code is four = absurd (omega (arith, is, four))
-judge_not_four (judge.stopped why) code is four = absurd (omega (arith, (reading why code is).low, four))
-
-report_not_four : {A : Type 0} (answer : ReportAnswer) (code : ℕ) → code ≡ code_of (report_status answer) → code ≡ 4 → A
-report_not_four (report.summed text) code is four = absurd (omega (arith, is, four))
-report_not_four (report.judged answer) code is four = judge_not_four answer code is four
 
 no_command_by : (asked : Option Request) (code : ℕ) (old new : Shelved) (out_old out_new : Printed) → EndsAs asked code old new out_old out_new → code ≡ 4 → IsNoCommand asked out_old out_new
 no_command_by None code old new out_old out_new (same, number, text, line) four = record { is = refl; text = text; line = line }
 no_command_by (Some version) code old new out_old out_new x four = absurd (omega (arith, x.1, four))
 no_command_by (Some helping) code old new out_old out_new x four = absurd (omega (arith, x.1, four))
 no_command_by (Some (planning m p c budget)) code old new out_old out_new (answer, why, number, line) four = absurd ((planned.numbers answer code number).four four)
-no_command_by (Some (judging m p)) code old new out_old out_new (answer, why, reads, number, line) four = judge_not_four answer code number four
+no_command_by (Some (judging m p)) code old new out_old out_new (answer, why, reads, number, line) four = absurd ((judged.numbers answer code number).four four)
 no_command_by (Some (checking m p c)) code old new out_old out_new (answer, why, reads, number, line) four = absurd ((checked.numbers answer code number).four four)
-no_command_by (Some (reporting m p)) code old new out_old out_new (answer, why, reads, number, line) four = report_not_four answer code number four
+no_command_by (Some (reporting m p)) code old new out_old out_new (answer, why, reads, number, line) four = absurd ((reported.numbers answer code number).four four)
 no_command_by (Some (generating seed items periods m)) code old new out_old out_new (answer, why, number, line) four = absurd ((made.numbers answer code number).four four)
 no_command_by (Some (demonstrating seed)) code old new out_old out_new x four = absurd (omega (arith, x.1, four))
 no_command_by (Some (upgrading m n)) code old new out_old out_new (answer, why, number, line) four = absurd ((upgraded.numbers answer code number).four four)
 no_command_by (Some (bounding m)) code old new out_old out_new (answer, why, reads, number, line) four = absurd ((bounded.numbers answer code number).four four)
 
-pub no_command : (asked : Option Request) (code : ℕ) (old new : Shelved) (out_old out_new : Printed) → IsRun asked code old new out_old out_new → code ≡ 4 → IsNoCommand asked out_old out_new
+pub no_command : (asked : Option Request) (code : ℕ) (old new : Shelved) (out_old out_new : Printed) → IsProgramRun asked code old new out_old out_new → code ≡ 4 → IsNoCommand asked out_old out_new
 no_command asked code old new out_old out_new run is = no_command_by asked code old new out_old out_new (ends asked code old new out_old out_new run (λ e. omega (arith, e, is)) (λ e. omega (arith, e, is))) is
 
 -- words that the parse takes and that are no command are refused by this line
@@ -293,70 +278,23 @@ refused_words asked words code out_old out_new (Ok said) says done none taken = 
 refused_words asked words code out_old out_new (Err e) says done none taken = inl done.0
 
 -- ---- files that give nothing to go on with
-abbrev SomeStop : Option Request → ℕ → Shelved → Shelved → Printed → Printed → Type 0
-SomeStop asked code old new out_old out_new = (why : ReadAnswer) × Stops asked old new out_old out_new why × (code ≡ code_of (read_status why))
-
-plan_stop : (m p c : List ℕ) (budget code : ℕ) (old new : Shelved) (out_old out_new : Printed) (answer : PlanAnswer) → PlanExplains m p c budget old new answer → code ≡ code_of (plan_status answer) → Gains (plan_line answer) out_old out_new → IsReading code → SomeStop (Some (planning m p c budget)) code old new out_old out_new
-plan_stop m p c budget code old new out_old out_new (plan.optimal says nodes amount) x is line r = absurd (omega (arith, is, r.low))
-plan_stop m p c budget code old new out_old out_new (plan.infeasible says nodes) x is line r = absurd (omega (arith, is, r.low))
-plan_stop m p c budget code old new out_old out_new (plan.between says nodes least amount) x is line r = absurd (omega (arith, is, r.low))
-plan_stop m p c budget code old new out_old out_new (plan.above says nodes least) x is line r = absurd (omega (arith, is, r.low))
-plan_stop m p c budget code old new out_old out_new (plan.unwritten file) x is line r = absurd (r.other is)
-plan_stop m p c budget code old new out_old out_new (plan.stopped why) x is line r = (why, record { cause = x.0; line = line }, is)
-
-judge_stop : (m p : List ℕ) (code : ℕ) (old new : Shelved) (out_old out_new : Printed) (answer : JudgeAnswer) → JudgeExplains m p old new answer → code ≡ code_of (judge_status answer) → Gains (judge_line answer) out_old out_new → IsReading code → SomeStop (Some (judging m p)) code old new out_old out_new
-judge_stop m p code old new out_old out_new (judge.feasible amount) x is line r = absurd (omega (arith, is, r.low))
-judge_stop m p code old new out_old out_new (judge.no_plan fault) x is line r = absurd (omega (arith, is, r.low))
-judge_stop m p code old new out_old out_new (judge.broken rule) x is line r = absurd (omega (arith, is, r.low))
-judge_stop m p code old new out_old out_new (judge.stopped why) x is line r = (why, record { cause = x; line = line }, is)
-
-check_stop : (m p c : List ℕ) (code : ℕ) (old new : Shelved) (out_old out_new : Printed) (answer : CheckAnswer) → CheckExplains m p c old new answer → code ≡ code_of (check_status answer) → Gains (check_line answer) out_old out_new → IsReading code → SomeStop (Some (checking m p c)) code old new out_old out_new
-check_stop m p c code old new out_old out_new (check.accepted claim) x is line r = absurd (omega (arith, is, r.low))
-check_stop m p c code old new out_old out_new (check.no_certificate fault) x is line r = absurd (omega (arith, is, r.low))
-check_stop m p c code old new out_old out_new (check.no_plan fault) x is line r = absurd (omega (arith, is, r.low))
-check_stop m p c code old new out_old out_new (check.rejected at w) x is line r = absurd (omega (arith, is, r.low))
-check_stop m p c code old new out_old out_new (check.stopped w) x is line r = (w, record { cause = x; line = line }, is)
-
-report_stop : (m p : List ℕ) (code : ℕ) (old new : Shelved) (out_old out_new : Printed) (answer : ReportAnswer) → ReportExplains m p old new answer → code ≡ code_of (report_status answer) → Gains (report_line answer) out_old out_new → IsReading code → SomeStop (Some (reporting m p)) code old new out_old out_new
-report_stop m p code old new out_old out_new (report.summed text) x is line r = absurd (omega (arith, is, r.low))
-report_stop m p code old new out_old out_new (report.judged (judge.feasible amount)) x is line r = absurd x.0
-report_stop m p code old new out_old out_new (report.judged (judge.no_plan fault)) x is line r = absurd (omega (arith, is, r.low))
-report_stop m p code old new out_old out_new (report.judged (judge.broken rule)) x is line r = absurd (omega (arith, is, r.low))
-report_stop m p code old new out_old out_new (report.judged (judge.stopped why)) x is line r = (why, record { cause = x.1; line = line }, is)
-
-generate_stop : {A : Type 0} (answer : GenerateAnswer) (code : ℕ) → code ≡ code_of (generate_status answer) → IsReading code → A
-generate_stop (generate.written file) code is r = absurd (omega (arith, is, r.low))
-generate_stop (generate.unwritten file) code is r = absurd (r.other is)
-
-upgrade_stop : (m n : List ℕ) (code : ℕ) (old new : Shelved) (out_old out_new : Printed) (answer : UpgradeAnswer) → UpgradeExplains m n old new answer → code ≡ code_of (upgrade_status answer) → Gains (upgrade_line answer) out_old out_new → IsReading code → SomeStop (Some (upgrading m n)) code old new out_old out_new
-upgrade_stop m n code old new out_old out_new (upgrade.written file) x is line r = absurd (omega (arith, is, r.low))
-upgrade_stop m n code old new out_old out_new (upgrade.unwritten file) x is line r = absurd (r.other is)
-upgrade_stop m n code old new out_old out_new (upgrade.stopped why) x is line r = (why, record { cause = x.0; line = line }, is)
-
-bound_stop : (m : List ℕ) (code : ℕ) (old new : Shelved) (out_old out_new : Printed) (answer : BoundAnswer) → BoundExplains m old new answer → code ≡ code_of (bound_status answer) → Gains (bound_line answer) out_old out_new → IsReading code → SomeStop (Some (bounding m)) code old new out_old out_new
-bound_stop m code old new out_old out_new (bound.bound n) x is line r = absurd (omega (arith, is, r.low))
-bound_stop m code old new out_old out_new bound.empty x is line r = absurd (omega (arith, is, r.low))
-bound_stop m code old new out_old out_new bound.skipped x is line r = absurd (omega (arith, is, r.low))
-bound_stop m code old new out_old out_new bound.passed x is line r = absurd (omega (arith, is, r.low))
-bound_stop m code old new out_old out_new (bound.stopped why) x is line r = (why, record { cause = x; line = line }, is)
-
 stop_by : (asked : Option Request) (code : ℕ) (old new : Shelved) (out_old out_new : Printed) → EndsAs asked code old new out_old out_new → IsReading code → SomeStop asked code old new out_old out_new
 stop_by None code old new out_old out_new x r = absurd (omega (arith, x.1, r.low))
 stop_by (Some version) code old new out_old out_new x r = absurd (omega (arith, x.1, r.low))
 stop_by (Some helping) code old new out_old out_new x r = absurd (omega (arith, x.1, r.low))
-stop_by (Some (planning m p c budget)) code old new out_old out_new (answer, why, number, line) r = plan_stop m p c budget code old new out_old out_new answer why number line r
-stop_by (Some (judging m p)) code old new out_old out_new (answer, why, reads, number, line) r = judge_stop m p code old new out_old out_new answer why number line r
-stop_by (Some (checking m p c)) code old new out_old out_new (answer, why, reads, number, line) r = check_stop m p c code old new out_old out_new answer why number line r
-stop_by (Some (reporting m p)) code old new out_old out_new (answer, why, reads, number, line) r = report_stop m p code old new out_old out_new answer why number line r
-stop_by (Some (generating seed items periods m)) code old new out_old out_new (answer, why, number, line) r = generate_stop answer code number r
+stop_by (Some (planning m p c budget)) code old new out_old out_new (answer, why, number, line) r = planned.stop_at m p c budget code old new out_old out_new answer why number line r
+stop_by (Some (judging m p)) code old new out_old out_new (answer, why, reads, number, line) r = judged.stop_at m p code old new out_old out_new answer why number line r
+stop_by (Some (checking m p c)) code old new out_old out_new (answer, why, reads, number, line) r = checked.stop_at m p c code old new out_old out_new answer why number line r
+stop_by (Some (reporting m p)) code old new out_old out_new (answer, why, reads, number, line) r = reported.stop_at m p code old new out_old out_new answer why number line r
+stop_by (Some (generating seed items periods m)) code old new out_old out_new (answer, why, number, line) r = made.stop_at answer code number r
 stop_by (Some (demonstrating seed)) code old new out_old out_new x r = absurd (omega (arith, x.1, r.low))
-stop_by (Some (upgrading m n)) code old new out_old out_new (answer, why, number, line) r = upgrade_stop m n code old new out_old out_new answer why number line r
-stop_by (Some (bounding m)) code old new out_old out_new (answer, why, reads, number, line) r = bound_stop m code old new out_old out_new answer why number line r
+stop_by (Some (upgrading m n)) code old new out_old out_new (answer, why, number, line) r = upgraded.stop_at m n code old new out_old out_new answer why number line r
+stop_by (Some (bounding m)) code old new out_old out_new (answer, why, reads, number, line) r = bounded.stop_at m code old new out_old out_new answer why number line r
 
-stop : (asked : Option Request) (code : ℕ) (old new : Shelved) (out_old out_new : Printed) → IsRun asked code old new out_old out_new → IsReading code → code ≢ 9 → code ≢ 10 → SomeStop asked code old new out_old out_new
+stop : (asked : Option Request) (code : ℕ) (old new : Shelved) (out_old out_new : Printed) → IsProgramRun asked code old new out_old out_new → IsReading code → code ≢ 9 → code ≢ 10 → SomeStop asked code old new out_old out_new
 stop asked code old new out_old out_new run r nine ten = stop_by asked code old new out_old out_new (ends asked code old new out_old out_new run ten nine) r
 
-pub refuses : (asked : Option Request) (code : ℕ) (old new : Shelved) (out_old out_new : Printed) → IsRun asked code old new out_old out_new → code ≡ 5 → (fault : ModelFault) × Stops asked old new out_old out_new (refused fault)
+pub refuses : (asked : Option Request) (code : ℕ) (old new : Shelved) (out_old out_new : Printed) → IsProgramRun asked code old new out_old out_new → code ≡ 5 → (fault : ModelFault) × Stops asked old new out_old out_new (refused fault)
 refuses asked code old new out_old out_new run is = pick (stop asked code old new out_old out_new run (record { low = omega (arith, is); high = omega (arith, is); other = λ e. omega (arith, is, e) }) (λ e. omega (arith, is, e)) (λ e. omega (arith, is, e)))
   where
     pick : SomeStop asked code old new out_old out_new → (fault : ModelFault) × Stops asked old new out_old out_new (refused fault)
@@ -365,7 +303,7 @@ refuses asked code old new out_old out_new run is = pick (stop asked code old ne
     pick (unread file, x, number) = absurd (omega (arith, is, number))
     pick (too_long file, x, number) = absurd (omega (arith, is, number))
 
-pub misses : (asked : Option Request) (code : ℕ) (old new : Shelved) (out_old out_new : Printed) → IsRun asked code old new out_old out_new → code ≡ 6 → (file : List ℕ) × Stops asked old new out_old out_new (missing file)
+pub misses : (asked : Option Request) (code : ℕ) (old new : Shelved) (out_old out_new : Printed) → IsProgramRun asked code old new out_old out_new → code ≡ 6 → (file : List ℕ) × Stops asked old new out_old out_new (missing file)
 misses asked code old new out_old out_new run is = pick (stop asked code old new out_old out_new run (record { low = omega (arith, is); high = omega (arith, is); other = λ e. omega (arith, is, e) }) (λ e. omega (arith, is, e)) (λ e. omega (arith, is, e)))
   where
     pick : SomeStop asked code old new out_old out_new → (file : List ℕ) × Stops asked old new out_old out_new (missing file)
@@ -374,7 +312,7 @@ misses asked code old new out_old out_new run is = pick (stop asked code old new
     pick (unread file, x, number) = absurd (omega (arith, is, number))
     pick (too_long file, x, number) = absurd (omega (arith, is, number))
 
-pub fails_to_read : (asked : Option Request) (code : ℕ) (old new : Shelved) (out_old out_new : Printed) → IsRun asked code old new out_old out_new → code ≡ 7 → (file : List ℕ) × Stops asked old new out_old out_new (unread file)
+pub fails_to_read : (asked : Option Request) (code : ℕ) (old new : Shelved) (out_old out_new : Printed) → IsProgramRun asked code old new out_old out_new → code ≡ 7 → (file : List ℕ) × Stops asked old new out_old out_new (unread file)
 fails_to_read asked code old new out_old out_new run is = pick (stop asked code old new out_old out_new run (record { low = omega (arith, is); high = omega (arith, is); other = λ e. omega (arith, is, e) }) (λ e. omega (arith, is, e)) (λ e. omega (arith, is, e)))
   where
     pick : SomeStop asked code old new out_old out_new → (file : List ℕ) × Stops asked old new out_old out_new (unread file)
@@ -383,7 +321,7 @@ fails_to_read asked code old new out_old out_new run is = pick (stop asked code 
     pick (unread file, x, number) = (file, x)
     pick (too_long file, x, number) = absurd (omega (arith, is, number))
 
-pub is_long : (asked : Option Request) (code : ℕ) (old new : Shelved) (out_old out_new : Printed) → IsRun asked code old new out_old out_new → code ≡ 11 → (file : List ℕ) × Stops asked old new out_old out_new (too_long file)
+pub is_long : (asked : Option Request) (code : ℕ) (old new : Shelved) (out_old out_new : Printed) → IsProgramRun asked code old new out_old out_new → code ≡ 11 → (file : List ℕ) × Stops asked old new out_old out_new (too_long file)
 is_long asked code old new out_old out_new run is = pick (stop asked code old new out_old out_new run (record { low = omega (arith, is); high = omega (arith, is); other = λ e. omega (arith, is, e) }) (λ e. omega (arith, is, e)) (λ e. omega (arith, is, e)))
   where
     pick : SomeStop asked code old new out_old out_new → (file : List ℕ) × Stops asked old new out_old out_new (too_long file)
@@ -393,63 +331,12 @@ is_long asked code old new out_old out_new run is = pick (stop asked code old ne
     pick (too_long file, x, number) = (file, x)
 
 -- ---- printing that failed, and none
-pub record IsShown (code : ℕ) : Type 0 where
-  pub nine : code ≢ 9
-  pub ten : code ≢ 10
-
-read_shown : (why : ReadAnswer) → IsShown (code_of (read_status why))
-read_shown (refused fault) = record { nine = λ e. omega (arith, e); ten = λ e. omega (arith, e) }
-read_shown (missing file) = record { nine = λ e. omega (arith, e); ten = λ e. omega (arith, e) }
-read_shown (unread file) = record { nine = λ e. omega (arith, e); ten = λ e. omega (arith, e) }
-read_shown (too_long file) = record { nine = λ e. omega (arith, e); ten = λ e. omega (arith, e) }
-
-plan_shown : (answer : PlanAnswer) → IsShown (code_of (plan_status answer))
-plan_shown (plan.optimal says nodes amount) = record { nine = λ e. omega (arith, e); ten = λ e. omega (arith, e) }
-plan_shown (plan.infeasible says nodes) = record { nine = λ e. omega (arith, e); ten = λ e. omega (arith, e) }
-plan_shown (plan.between says nodes least amount) = record { nine = λ e. omega (arith, e); ten = λ e. omega (arith, e) }
-plan_shown (plan.above says nodes least) = record { nine = λ e. omega (arith, e); ten = λ e. omega (arith, e) }
-plan_shown (plan.unwritten file) = record { nine = λ e. omega (arith, e); ten = λ e. omega (arith, e) }
-plan_shown (plan.stopped why) = read_shown why
-
-judge_shown : (answer : JudgeAnswer) → IsShown (code_of (judge_status answer))
-judge_shown (judge.feasible amount) = record { nine = λ e. omega (arith, e); ten = λ e. omega (arith, e) }
-judge_shown (judge.no_plan fault) = record { nine = λ e. omega (arith, e); ten = λ e. omega (arith, e) }
-judge_shown (judge.broken rule) = record { nine = λ e. omega (arith, e); ten = λ e. omega (arith, e) }
-judge_shown (judge.stopped why) = read_shown why
-
-check_shown : (answer : CheckAnswer) → IsShown (code_of (check_status answer))
-check_shown (check.accepted claim) = record { nine = λ e. omega (arith, e); ten = λ e. omega (arith, e) }
-check_shown (check.no_certificate fault) = record { nine = λ e. omega (arith, e); ten = λ e. omega (arith, e) }
-check_shown (check.no_plan fault) = record { nine = λ e. omega (arith, e); ten = λ e. omega (arith, e) }
-check_shown (check.rejected at w) = record { nine = λ e. omega (arith, e); ten = λ e. omega (arith, e) }
-check_shown (check.stopped w) = read_shown w
-
-report_shown : (answer : ReportAnswer) → IsShown (code_of (report_status answer))
-report_shown (report.summed text) = record { nine = λ e. omega (arith, e); ten = λ e. omega (arith, e) }
-report_shown (report.judged answer) = judge_shown answer
-
-generate_shown : (answer : GenerateAnswer) → IsShown (code_of (generate_status answer))
-generate_shown (generate.written file) = record { nine = λ e. omega (arith, e); ten = λ e. omega (arith, e) }
-generate_shown (generate.unwritten file) = record { nine = λ e. omega (arith, e); ten = λ e. omega (arith, e) }
-
-upgrade_shown : (answer : UpgradeAnswer) → IsShown (code_of (upgrade_status answer))
-upgrade_shown (upgrade.written file) = record { nine = λ e. omega (arith, e); ten = λ e. omega (arith, e) }
-upgrade_shown (upgrade.unwritten file) = record { nine = λ e. omega (arith, e); ten = λ e. omega (arith, e) }
-upgrade_shown (upgrade.stopped why) = read_shown why
-
-bound_shown : (answer : BoundAnswer) → IsShown (code_of (bound_status answer))
-bound_shown (bound.bound n) = record { nine = λ e. omega (arith, e); ten = λ e. omega (arith, e) }
-bound_shown bound.empty = record { nine = λ e. omega (arith, e); ten = λ e. omega (arith, e) }
-bound_shown bound.skipped = record { nine = λ e. omega (arith, e); ten = λ e. omega (arith, e) }
-bound_shown bound.passed = record { nine = λ e. omega (arith, e); ten = λ e. omega (arith, e) }
-bound_shown (bound.stopped why) = read_shown why
-
 -- a failed print raised its count, and no print ends with the number of memory
 pub record IsPrint (code : ℕ) (old new : Printed) : Type 0 where
   pub failed : code ≡ 9 → Rose old.faults new.faults
   pub ten : code ≢ 10
 
-print_of : (text : List ℕ) (ending : Status) (code : ℕ) (old new : Printed) → IsShown (code_of ending) → Prints text ending code old new → IsPrint code old new
+print_of : (text : List ℕ) (ending : Status) (code : ℕ) (old new : Printed) → IsAnswerNumber (code_of ending) → Prints text ending code old new → IsPrint code old new
 print_of text ending code old new shown done = ⊎_elim
     (λ whole. record { failed = λ nine. absurd (shown.nine (sym whole.0 ∙ nine)); ten = λ e. shown.ten (sym whole.0 ∙ e) })
     (λ part. record { failed = λ _. part.1; ten = λ e. omega (arith, part.0, e) })
@@ -459,20 +346,20 @@ print_by : (asked : Option Request) (code : ℕ) (old new : Shelved) (out_old ou
 print_by None code old new out_old out_new (same, text, done) = print_of text NoCommand code out_old out_new (record { nine = λ e. omega (arith, e); ten = λ e. omega (arith, e) }) done
 print_by (Some version) code old new out_old out_new x = print_of version_line Done code out_old out_new (record { nine = λ e. omega (arith, e); ten = λ e. omega (arith, e) }) x.1
 print_by (Some helping) code old new out_old out_new (same, text, done) = print_of text Done code out_old out_new (record { nine = λ e. omega (arith, e); ten = λ e. omega (arith, e) }) done
-print_by (Some (planning m p c budget)) code old new out_old out_new (answer, x, done) = print_of (plan_line answer) (plan_status answer) code out_old out_new (plan_shown answer) done
-print_by (Some (judging m p)) code old new out_old out_new (answer, x, reads, done) = print_of (judge_line answer) (judge_status answer) code out_old out_new (judge_shown answer) done
-print_by (Some (checking m p c)) code old new out_old out_new (answer, x, reads, done) = print_of (check_line answer) (check_status answer) code out_old out_new (check_shown answer) done
-print_by (Some (reporting m p)) code old new out_old out_new (answer, x, reads, done) = print_of (report_line answer) (report_status answer) code out_old out_new (report_shown answer) done
-print_by (Some (generating seed items periods m)) code old new out_old out_new (answer, x, done) = print_of (generate_line answer) (generate_status answer) code out_old out_new (generate_shown answer) done
+print_by (Some (planning m p c budget)) code old new out_old out_new (answer, x, done) = print_of (plan_line answer) (plan_status answer) code out_old out_new (planned.answer_number answer) done
+print_by (Some (judging m p)) code old new out_old out_new (answer, x, reads, done) = print_of (judge_line answer) (judge_status answer) code out_old out_new (judged.answer_number answer) done
+print_by (Some (checking m p c)) code old new out_old out_new (answer, x, reads, done) = print_of (check_line answer) (check_status answer) code out_old out_new (checked.answer_number answer) done
+print_by (Some (reporting m p)) code old new out_old out_new (answer, x, reads, done) = print_of (report_line answer) (report_status answer) code out_old out_new (reported.answer_number answer) done
+print_by (Some (generating seed items periods m)) code old new out_old out_new (answer, x, done) = print_of (generate_line answer) (generate_status answer) code out_old out_new (made.answer_number answer) done
 print_by (Some (demonstrating seed)) code old new out_old out_new (same, text, shown, done) = print_of text Done code out_old out_new (record { nine = λ e. omega (arith, e); ten = λ e. omega (arith, e) }) done
-print_by (Some (upgrading m n)) code old new out_old out_new (answer, x, done) = print_of (upgrade_line answer) (upgrade_status answer) code out_old out_new (upgrade_shown answer) done
-print_by (Some (bounding m)) code old new out_old out_new (answer, x, reads, done) = print_of (bound_line answer) (bound_status answer) code out_old out_new (bound_shown answer) done
+print_by (Some (upgrading m n)) code old new out_old out_new (answer, x, done) = print_of (upgrade_line answer) (upgrade_status answer) code out_old out_new (upgraded.answer_number answer) done
+print_by (Some (bounding m)) code old new out_old out_new (answer, x, reads, done) = print_of (bound_line answer) (bound_status answer) code out_old out_new (bounded.answer_number answer) done
 
-pub unprinted : (asked : Option Request) (code : ℕ) (old new : Shelved) (out_old out_new : Printed) → IsRun asked code old new out_old out_new → code ≡ 9 → Rose out_old.faults out_new.faults
+pub unprinted : (asked : Option Request) (code : ℕ) (old new : Shelved) (out_old out_new : Printed) → IsProgramRun asked code old new out_old out_new → code ≡ 9 → Rose out_old.faults out_new.faults
 unprinted asked code old new out_old out_new (ran_out x) nine = absurd (omega (arith, x.is, nine))
 unprinted asked code old new out_old out_new (runs x) nine = (print_by asked code old new out_old out_new x).failed nine
 
-pub silent : (asked : Option Request) (code : ℕ) (old new : Shelved) (out_old out_new : Printed) → IsRun asked code old new out_old out_new → code ≡ 10 → out_new ≡ out_old
+pub silent : (asked : Option Request) (code : ℕ) (old new : Shelved) (out_old out_new : Printed) → IsProgramRun asked code old new out_old out_new → code ≡ 10 → out_new ≡ out_old
 silent asked code old new out_old out_new (ran_out x) ten = x.silent
 silent asked code old new out_old out_new (runs x) ten = absurd ((print_by asked code old new out_old out_new x).ten ten)
 
@@ -517,65 +404,65 @@ quiet_by (Some (demonstrating seed)) code old new out_old out_new x some one two
 quiet_by (Some (upgrading m n)) code old new out_old out_new (answer, why, number, line) some one two eight = upgraded.quiet_at m n code old new answer why number some eight
 quiet_by (Some (bounding m)) code old new out_old out_new (answer, why, reads, number, line) some one two eight = reads
 
-pub quiet : (asked : Option Request) (code : ℕ) (old new : Shelved) (out_old out_new : Printed) → IsRun asked code old new out_old out_new → code ≢ 0 → code ≢ 1 → code ≢ 2 → code ≢ 8 → code ≢ 9 → OnlyReads old new
+pub quiet : (asked : Option Request) (code : ℕ) (old new : Shelved) (out_old out_new : Printed) → IsProgramRun asked code old new out_old out_new → code ≢ 0 → code ≢ 1 → code ≢ 2 → code ≢ 8 → code ≢ 9 → OnlyReads old new
 quiet asked code old new out_old out_new (ran_out x) some one two eight nine = leaves_reads asked old new x.left
 quiet asked code old new out_old out_new (runs x) some one two eight nine = quiet_by asked code old new out_old out_new (ends_by asked code old new out_old out_new x nine) some one two eight
 
-others_by : (code : ℕ) (old new : Shelved) (out_old out_new : Printed) (m p c : List ℕ) (budget : ℕ) → IsRun (Some (planning m p c budget)) code old new out_old out_new → StartsAtMostBoth p c old new
+others_by : (code : ℕ) (old new : Shelved) (out_old out_new : Printed) (m p c : List ℕ) (budget : ℕ) → IsProgramRun (Some (planning m p c budget)) code old new out_old out_new → StartsAtMostBoth p c old new
 others_by code old new out_old out_new m p c budget (ran_out x) = planned.reads_few p c old new x.left
 others_by code old new out_old out_new m p c budget (runs (answer, x, done)) = (planned.others_at p c old new m budget answer x).0
 
-pub others : (asked : Option Request) (code : ℕ) (old new : Shelved) (out_old out_new : Printed) → IsRun asked code old new out_old out_new → (m p c : List ℕ) (budget : ℕ) → asked ≡ Some (planning m p c budget) → StartsAtMostBoth p c old new
-others asked code old new out_old out_new run m p c budget is = others_by code old new out_old out_new m p c budget (subst (λ a. IsRun a code old new out_old out_new) is run)
+pub others : (asked : Option Request) (code : ℕ) (old new : Shelved) (out_old out_new : Printed) → IsProgramRun asked code old new out_old out_new → (m p c : List ℕ) (budget : ℕ) → asked ≡ Some (planning m p c budget) → StartsAtMostBoth p c old new
+others asked code old new out_old out_new run m p c budget is = others_by code old new out_old out_new m p c budget (subst (λ a. IsProgramRun a code old new out_old out_new) is run)
 
-new_by : (code : ℕ) (old new : Shelved) (out_old out_new : Printed) (m n : List ℕ) → IsRun (Some (upgrading m n)) code old new out_old out_new → StartsAtMost n old new
-new_by code old new out_old out_new m n (ran_out x) = planned.reads_at_most n old new x.left
+new_by : (code : ℕ) (old new : Shelved) (out_old out_new : Printed) (m n : List ℕ) → IsProgramRun (Some (upgrading m n)) code old new out_old out_new → StartsAtMost n old new
+new_by code old new out_old out_new m n (ran_out x) = reads_at_most n old new x.left
 new_by code old new out_old out_new m n (runs (answer, x, done)) = (upgraded.others_at m n old new answer x).0
 
-pub upgrade_others : (asked : Option Request) (code : ℕ) (old new : Shelved) (out_old out_new : Printed) → IsRun asked code old new out_old out_new → (m n : List ℕ) → asked ≡ Some (upgrading m n) → StartsAtMost n old new
-upgrade_others asked code old new out_old out_new run m n is = new_by code old new out_old out_new m n (subst (λ a. IsRun a code old new out_old out_new) is run)
+pub upgrade_others : (asked : Option Request) (code : ℕ) (old new : Shelved) (out_old out_new : Printed) → IsProgramRun asked code old new out_old out_new → (m n : List ℕ) → asked ≡ Some (upgrading m n) → StartsAtMost n old new
+upgrade_others asked code old new out_old out_new run m n is = new_by code old new out_old out_new m n (subst (λ a. IsProgramRun a code old new out_old out_new) is run)
 
-made_others_by : (code : ℕ) (old new : Shelved) (out_old out_new : Printed) (seed items periods : ℕ) (m : List ℕ) → IsRun (Some (generating seed items periods m)) code old new out_old out_new → StartsAtMost m old new
-made_others_by code old new out_old out_new seed items periods m (ran_out x) = planned.reads_at_most m old new (same_reads old new x.left)
+made_others_by : (code : ℕ) (old new : Shelved) (out_old out_new : Printed) (seed items periods : ℕ) (m : List ℕ) → IsProgramRun (Some (generating seed items periods m)) code old new out_old out_new → StartsAtMost m old new
+made_others_by code old new out_old out_new seed items periods m (ran_out x) = reads_at_most m old new (same_reads old new x.left)
 made_others_by code old new out_old out_new seed items periods m (runs (answer, x, done)) = (made.others_at seed items periods m code old new answer x).0
 
-pub generate_others : (asked : Option Request) (code : ℕ) (old new : Shelved) (out_old out_new : Printed) → IsRun asked code old new out_old out_new → (seed items periods : ℕ) (m : List ℕ) → asked ≡ Some (generating seed items periods m) → StartsAtMost m old new
-generate_others asked code old new out_old out_new run seed items periods m is = made_others_by code old new out_old out_new seed items periods m (subst (λ a. IsRun a code old new out_old out_new) is run)
+pub generate_others : (asked : Option Request) (code : ℕ) (old new : Shelved) (out_old out_new : Printed) → IsProgramRun asked code old new out_old out_new → (seed items periods : ℕ) (m : List ℕ) → asked ≡ Some (generating seed items periods m) → StartsAtMost m old new
+generate_others asked code old new out_old out_new run seed items periods m is = made_others_by code old new out_old out_new seed items periods m (subst (λ a. IsProgramRun a code old new out_old out_new) is run)
 
-made_only_by : (code : ℕ) (old new : Shelved) (out_old out_new : Printed) (seed items periods : ℕ) (m : List ℕ) → IsRun (Some (generating seed items periods m)) code old new out_old out_new → OnlyWrites m old new
+made_only_by : (code : ℕ) (old new : Shelved) (out_old out_new : Printed) (seed items periods : ℕ) (m : List ℕ) → IsProgramRun (Some (generating seed items periods m)) code old new out_old out_new → OnlyWrites m old new
 made_only_by code old new out_old out_new seed items periods m (ran_out x) = made.same_writes m old new x.left
 made_only_by code old new out_old out_new seed items periods m (runs (answer, x, done)) = made.only_writes_at seed items periods m code old new answer x
 
-pub generate_only : (asked : Option Request) (code : ℕ) (old new : Shelved) (out_old out_new : Printed) → IsRun asked code old new out_old out_new → (seed items periods : ℕ) (m : List ℕ) → asked ≡ Some (generating seed items periods m) → OnlyWrites m old new
-generate_only asked code old new out_old out_new run seed items periods m is = made_only_by code old new out_old out_new seed items periods m (subst (λ a. IsRun a code old new out_old out_new) is run)
+pub generate_only : (asked : Option Request) (code : ℕ) (old new : Shelved) (out_old out_new : Printed) → IsProgramRun asked code old new out_old out_new → (seed items periods : ℕ) (m : List ℕ) → asked ≡ Some (generating seed items periods m) → OnlyWrites m old new
+generate_only asked code old new out_old out_new run seed items periods m is = made_only_by code old new out_old out_new seed items periods m (subst (λ a. IsProgramRun a code old new out_old out_new) is run)
 
-judging_by : (code : ℕ) (old new : Shelved) (out_old out_new : Printed) (m p : List ℕ) → IsRun (Some (judging m p)) code old new out_old out_new → OnlyReads old new
+judging_by : (code : ℕ) (old new : Shelved) (out_old out_new : Printed) (m p : List ℕ) → IsProgramRun (Some (judging m p)) code old new out_old out_new → OnlyReads old new
 judging_by code old new out_old out_new m p (ran_out x) = x.left
 judging_by code old new out_old out_new m p (runs (answer, x, reads, done)) = reads
 
-pub judge_reads : (asked : Option Request) (code : ℕ) (old new : Shelved) (out_old out_new : Printed) → IsRun asked code old new out_old out_new → (m p : List ℕ) → asked ≡ Some (judging m p) → OnlyReads old new
-judge_reads asked code old new out_old out_new run m p is = judging_by code old new out_old out_new m p (subst (λ a. IsRun a code old new out_old out_new) is run)
+pub judge_reads : (asked : Option Request) (code : ℕ) (old new : Shelved) (out_old out_new : Printed) → IsProgramRun asked code old new out_old out_new → (m p : List ℕ) → asked ≡ Some (judging m p) → OnlyReads old new
+judge_reads asked code old new out_old out_new run m p is = judging_by code old new out_old out_new m p (subst (λ a. IsProgramRun a code old new out_old out_new) is run)
 
-checking_by : (code : ℕ) (old new : Shelved) (out_old out_new : Printed) (m p c : List ℕ) → IsRun (Some (checking m p c)) code old new out_old out_new → OnlyReads old new
+checking_by : (code : ℕ) (old new : Shelved) (out_old out_new : Printed) (m p c : List ℕ) → IsProgramRun (Some (checking m p c)) code old new out_old out_new → OnlyReads old new
 checking_by code old new out_old out_new m p c (ran_out x) = x.left
 checking_by code old new out_old out_new m p c (runs (answer, x, reads, done)) = reads
 
-pub check_reads : (asked : Option Request) (code : ℕ) (old new : Shelved) (out_old out_new : Printed) → IsRun asked code old new out_old out_new → (m p c : List ℕ) → asked ≡ Some (checking m p c) → OnlyReads old new
-check_reads asked code old new out_old out_new run m p c is = checking_by code old new out_old out_new m p c (subst (λ a. IsRun a code old new out_old out_new) is run)
+pub check_reads : (asked : Option Request) (code : ℕ) (old new : Shelved) (out_old out_new : Printed) → IsProgramRun asked code old new out_old out_new → (m p c : List ℕ) → asked ≡ Some (checking m p c) → OnlyReads old new
+check_reads asked code old new out_old out_new run m p c is = checking_by code old new out_old out_new m p c (subst (λ a. IsProgramRun a code old new out_old out_new) is run)
 
-reporting_by : (code : ℕ) (old new : Shelved) (out_old out_new : Printed) (m p : List ℕ) → IsRun (Some (reporting m p)) code old new out_old out_new → OnlyReads old new
+reporting_by : (code : ℕ) (old new : Shelved) (out_old out_new : Printed) (m p : List ℕ) → IsProgramRun (Some (reporting m p)) code old new out_old out_new → OnlyReads old new
 reporting_by code old new out_old out_new m p (ran_out x) = x.left
 reporting_by code old new out_old out_new m p (runs (answer, x, reads, done)) = reads
 
-pub report_reads : (asked : Option Request) (code : ℕ) (old new : Shelved) (out_old out_new : Printed) → IsRun asked code old new out_old out_new → (m p : List ℕ) → asked ≡ Some (reporting m p) → OnlyReads old new
-report_reads asked code old new out_old out_new run m p is = reporting_by code old new out_old out_new m p (subst (λ a. IsRun a code old new out_old out_new) is run)
+pub report_reads : (asked : Option Request) (code : ℕ) (old new : Shelved) (out_old out_new : Printed) → IsProgramRun asked code old new out_old out_new → (m p : List ℕ) → asked ≡ Some (reporting m p) → OnlyReads old new
+report_reads asked code old new out_old out_new run m p is = reporting_by code old new out_old out_new m p (subst (λ a. IsProgramRun a code old new out_old out_new) is run)
 
-bounding_by : (code : ℕ) (old new : Shelved) (out_old out_new : Printed) (m : List ℕ) → IsRun (Some (bounding m)) code old new out_old out_new → OnlyReads old new
+bounding_by : (code : ℕ) (old new : Shelved) (out_old out_new : Printed) (m : List ℕ) → IsProgramRun (Some (bounding m)) code old new out_old out_new → OnlyReads old new
 bounding_by code old new out_old out_new m (ran_out x) = x.left
 bounding_by code old new out_old out_new m (runs (answer, x, reads, done)) = reads
 
-pub bound_reads : (asked : Option Request) (code : ℕ) (old new : Shelved) (out_old out_new : Printed) → IsRun asked code old new out_old out_new → (m : List ℕ) → asked ≡ Some (bounding m) → OnlyReads old new
-bound_reads asked code old new out_old out_new run m is = bounding_by code old new out_old out_new m (subst (λ a. IsRun a code old new out_old out_new) is run)
+pub bound_reads : (asked : Option Request) (code : ℕ) (old new : Shelved) (out_old out_new : Printed) → IsProgramRun asked code old new out_old out_new → (m : List ℕ) → asked ≡ Some (bounding m) → OnlyReads old new
+bound_reads asked code old new out_old out_new run m is = bounding_by code old new out_old out_new m (subst (λ a. IsProgramRun a code old new out_old out_new) is run)
 
 idle_by : (asked : Option Request) (code : ℕ) (old new : Shelved) (out_old out_new : Printed) → RunsAs asked code old new out_old out_new → IsIdle asked → new ≡ old
 idle_by None code old new out_old out_new x is = x.0
@@ -603,7 +490,7 @@ idle_left (Some (demonstrating seed)) old new x is = x
 idle_left (Some (upgrading m n)) old new x is = absurd is
 idle_left (Some (bounding m)) old new x is = absurd is
 
-pub idle : (asked : Option Request) (code : ℕ) (old new : Shelved) (out_old out_new : Printed) → IsRun asked code old new out_old out_new → IsIdle asked → new ≡ old
+pub idle : (asked : Option Request) (code : ℕ) (old new : Shelved) (out_old out_new : Printed) → IsProgramRun asked code old new out_old out_new → IsIdle asked → new ≡ old
 idle asked code old new out_old out_new (ran_out x) is = idle_left asked old new x.left is
 idle asked code old new out_old out_new (runs x) is = idle_by asked code old new out_old out_new x is
 
@@ -620,7 +507,7 @@ told_by (Some (demonstrating seed)) code old new out_old out_new x = (same_reads
 told_by (Some (upgrading m n)) code old new out_old out_new (answer, x, done) = (upgraded.others_at m n old new answer x).1
 told_by (Some (bounding m)) code old new out_old out_new (answer, x, reads, done) = reads.told
 
-pub tells : (asked : Option Request) (code : ℕ) (old new : Shelved) (out_old out_new : Printed) → IsRun asked code old new out_old out_new → new.told ≡ old.told
+pub tells : (asked : Option Request) (code : ℕ) (old new : Shelved) (out_old out_new : Printed) → IsProgramRun asked code old new out_old out_new → new.told ≡ old.told
 tells asked code old new out_old out_new (ran_out x) = (leaves_reads asked old new x.left).told
 tells asked code old new out_old out_new (runs x) = told_by asked code old new out_old out_new x
 
@@ -638,7 +525,7 @@ called_by (Some (demonstrating seed)) code old new out_old out_new fine t x = x.
 called_by (Some (upgrading m n)) code old new out_old out_new fine t (answer, x, number, line) = upgraded.called_at m n code old new out_old out_new fine t answer x number
 called_by (Some (bounding m)) code old new out_old out_new fine t (answer, x, reads, number, line) = bounded.called_at m code old new out_old out_new fine t answer x number
 
-pub called : (asked : Option Request) (code : ℕ) (old new : Shelved) (out_old out_new : Printed) → IsRun asked code old new out_old out_new → IsTrue old.told → HadNoFault old new out_old out_new → (code ≡ 10) ⊎ CallFor asked old.file code
+pub called : (asked : Option Request) (code : ℕ) (old new : Shelved) (out_old out_new : Printed) → IsProgramRun asked code old new out_old out_new → IsTrue old.told → HadNoFault old new out_old out_new → (code ≡ 10) ⊎ CallFor asked old.file code
 called asked code old new out_old out_new (ran_out x) t fine = inl x.is
 called asked code old new out_old out_new (runs x) t fine =
     inr (called_by asked code old new out_old out_new fine t (ends_by asked code old new out_old out_new x (λ nine. fine.put ((print_by asked code old new out_old out_new x).failed nine))))
@@ -654,6 +541,6 @@ checks_by one asked code old new out_old out_new m p c budget apart is x done t 
     let zero : CallFor (Some (checking m p c)) new.file 0 = checked.accepted_called m p c 0 new claim all refl in
     record { zero = zero; alone = λ status calls. ⊎_elim (λ same. same) (λ may. absurd may.0) (one (Some (checking m p c)) new.file status 0 calls zero) }
 
-pub checks : StatusesAreOne → (asked : Option Request) (code : ℕ) (old new : Shelved) (out_old out_new : Printed) → ((a : Request) → asked ≡ Some a → IsAllowed a) → IsRun asked code old new out_old out_new → (m p c : List ℕ) (budget : ℕ) → asked ≡ Some (planning m p c budget) → EndsSearch code → IsTrue old.told → CallsForZero new.file m p c
+pub checks : StatusesAreOne → (asked : Option Request) (code : ℕ) (old new : Shelved) (out_old out_new : Printed) → ((a : Request) → asked ≡ Some a → IsAllowed a) → IsProgramRun asked code old new out_old out_new → (m p c : List ℕ) (budget : ℕ) → asked ≡ Some (planning m p c budget) → EndsSearch code → IsTrue old.told → CallsForZero new.file m p c
 checks one asked code old new out_old out_new allowed run m p c budget is done t =
     checks_by one asked code old new out_old out_new m p c budget (allowed (planning m p c budget) is).apart is (ends asked code old new out_old out_new run (neither code 10 (omega arith) done) (neither code 9 (omega arith) done)) done t

@@ -3,12 +3,13 @@ use Rattle.std.proofs.Common.{◌≡◌, ◌≢◌, ℕ, List, Some, IsTrue, ref
 use Rattle.lot_io.specs.Outside.{GrewBy, OnlyReads, OnlyWrites, Printed, Shelved}
 use Rattle.command_line.specs.Words.{generating}
 use Rattle.lotplan.specs.Status.{code_of}
-use Rattle.lotplan.specs.Planning.{StartsAtMost, unwritten_line}
-use Rattle.lotplan.specs.Upgrading.{written_line}
+use Rattle.lotplan.specs.Writing.{StartsAtMost, unwritten_line, written_line}
 use Rattle.lotplan.specs.Generating.{FailsToGenerate, GenerateAnswer, GenerateExplains, Generates, written, unwritten, generate_line, generate_status}
 use Rattle.lotplan.specs.Saying.{Gains}
 use Rattle.lotplan.specs.Run.{HadNoFault}
-use Rattle.lotplan.proofs.Planned.{starts_at_most}
+use Rattle.lotplan.proofs.Outputs.{IsAnswerNumber}
+use Rattle.lotplan.proofs.Readings.{IsReading}
+use Rattle.lotplan.proofs.Writings.{starts_at_most}
 
 module _ (seed items periods : ℕ) (m : List ℕ) (code : ℕ) (old new : Shelved) where
   -- ---- what each number says
@@ -72,3 +73,12 @@ pub record IsGenerating (code : ℕ) : Type 0 where
 pub numbers : (answer : GenerateAnswer) (code : ℕ) → code ≡ code_of (generate_status answer) → IsGenerating code
 numbers (written file) code is = record { is = λ some. absurd (some is); one = λ e. omega (arith, is, e); two = λ e. omega (arith, is, e); three = λ e. omega (arith, is, e); four = λ e. omega (arith, is, e) }
 numbers (unwritten file) code is = record { is = λ some. is; one = λ e. omega (arith, is, e); two = λ e. omega (arith, is, e); three = λ e. omega (arith, is, e); four = λ e. omega (arith, is, e) }
+
+-- ---- files that give nothing to go on with, and the number of an answer
+pub stop_at : {A : Type 0} (answer : GenerateAnswer) (code : ℕ) → code ≡ code_of (generate_status answer) → IsReading code → A
+stop_at (written file) code is r = absurd (omega (arith, is, r.low))
+stop_at (unwritten file) code is r = absurd (r.other is)
+
+pub answer_number : (answer : GenerateAnswer) → IsAnswerNumber (code_of (generate_status answer))
+answer_number (written file) = record { nine = λ e. omega (arith, e); ten = λ e. omega (arith, e) }
+answer_number (unwritten file) = record { nine = λ e. omega (arith, e); ten = λ e. omega (arith, e) }

@@ -6,33 +6,27 @@ use Rattle.std.specs.declared.alloc.AllocError.{AllocError}
 use Rattle.lot_io.specs.Outside.{Files, OnlyReads, Printed, Shelved}
 use Rattle.lot_sizing.specs.Problem.{Problem}
 use Rattle.lotplan.specs.declared.said.Said.{Said}
-use Rattle.command_line.specs.Words.{Request}
+use Rattle.command_line.specs.Words.{Request, judging}
 use Rattle.lotplan.specs.Status.{code_of}
-use Rattle.lotplan.specs.Reading.{FileExplains, HoldsProblem, ModelExplains, OfFile, ReadAnswer, refused, missing, unread, too_long, read_line, read_status}
-use Rattle.lotplan.specs.Judging.{JudgeAnswer, feasible, no_plan, broken, stopped, judge_line, judge_status, BytesAre, BytesSay, FindsFault, FindsFeasible, JudgeCallsFor, JudgeExplains, JudgeSays, PlanCallsFor, IsJudged, PlanFileExplains, PlanFileSays}
+use Rattle.plan_rules.specs.declared.plan.Plan.{Plan as Grids}
+use Rattle.plan_rules.specs.Held.{plan_of}
+use Rattle.lotplan.specs.Reading.{HoldsPlan, FileExplains, HoldsProblem, ModelExplains, OfFile, ReadAnswer, refused, missing, unread, too_long, read_line, read_status}
+use Rattle.lotplan.specs.Judging.{JudgeAnswer, feasible, no_plan, broken, stopped, judge_line, judge_status, BytesAre, FindsFault, FindsFeasible, JudgeCallsFor, JudgeExplains, JudgeSays, PlanCallsFor, IsJudged, IsJudgement, PlanFileExplains, PlanFileSays}
 use Rattle.lotplan.specs.Saying.{Gains, IsSaid}
 use Rattle.lotplan.specs.Run.{HadNoFault}
-use Rattle.lotplan.proofs.Readings.{reading, stops_after}
+use Rattle.lotplan.proofs.Outputs.{IsAnswerNumber, read_number}
+use Rattle.lotplan.proofs.Readings.{IsReading, SomeStop, reading, stops_after}
 
--- ---- the bytes
-pub says_one : (problem : Problem) (bytes : List ℕ) (answer : JudgeAnswer) (r : Result Said AllocError) → BytesAre problem answer bytes → IfOk r (IsSaid (judge_line answer) (judge_status answer)) → IfOk r (BytesSay problem bytes)
-says_one problem bytes answer (Ok said) x says = (answer, x, says)
-says_one problem bytes answer (Err e) x says = tt
+-- ---- from the plan to the plan file
+pub plan_in_file : (problem : Problem) (p : List ℕ) (old new : Shelved) (given : Grids) (answer : JudgeAnswer) → (IsTrue old.told → HoldsPlan old.file p problem given) → IsJudgement problem (plan_of given) answer → PlanFileExplains problem p old new answer
+plan_in_file problem p old new given (feasible amount) holds x = λ t. let h = holds t in (h.bytes, h.read, h.short, record { plan = plan_of given; is = h.is; feasible = x.0; costs = sym x.1 })
+plan_in_file problem p old new given (no_plan fault) holds x = absurd x
+plan_in_file problem p old new given (broken rule) holds x = λ t. let h = holds t in (h.bytes, h.read, h.short, record { plan = plan_of given; is = h.is; infeasible = x.0; breaks = x.1 })
+plan_in_file problem p old new given (stopped why) holds x = absurd x
 
--- ---- from the bytes to the plan file
-pub bytes_in_file : (problem : Problem) (p : List ℕ) (old new : Shelved) (bytes : List ℕ) (answer : JudgeAnswer) → (IsTrue old.told → OfFile old.file p (λ found. found ≡ bytes)) → BytesAre problem answer bytes → PlanFileExplains problem p old new answer
-bytes_in_file problem p old new bytes (feasible amount) read x = λ t. let h = read t in (h.0, h.1, h.2, subst (λ b. BytesAre problem (feasible amount) b) (sym h.3) x)
-bytes_in_file problem p old new bytes (no_plan fault) read x = λ t. let h = read t in (h.0, h.1, h.2, subst (λ b. BytesAre problem (no_plan fault) b) (sym h.3) x)
-bytes_in_file problem p old new bytes (broken rule) read x = λ t. let h = read t in (h.0, h.1, h.2, subst (λ b. BytesAre problem (broken rule) b) (sym h.3) x)
-bytes_in_file problem p old new bytes (stopped why) read x = absurd x
-
-pub says_bytes : (problem : Problem) (p : List ℕ) (old new : Shelved) (bytes : List ℕ) (r : Result Said AllocError) → (IsTrue old.told → OfFile old.file p (λ found. found ≡ bytes)) → IfOk r (BytesSay problem bytes) → IfOk r (PlanFileSays problem p old new)
-says_bytes problem p old new bytes (Ok said) read (answer, x, says) = (answer, bytes_in_file problem p old new bytes answer read x, says)
-says_bytes problem p old new bytes (Err e) read some = tt
-
-pub says_no_bytes : (problem : Problem) (p : List ℕ) (old new : Shelved) (why : ReadAnswer) (r : Result Said AllocError) → FileExplains p old new why → IfOk r (IsSaid (read_line why) (read_status why)) → IfOk r (PlanFileSays problem p old new)
-says_no_bytes problem p old new why (Ok said) x says = (stopped why, x, says)
-says_no_bytes problem p old new why (Err e) x says = tt
+pub says_file : (problem : Problem) (p : List ℕ) (old new : Shelved) (answer : JudgeAnswer) (r : Result Said AllocError) → PlanFileExplains problem p old new answer → IfOk r (IsSaid (judge_line answer) (judge_status answer)) → IfOk r (PlanFileSays problem p old new)
+says_file problem p old new answer (Ok said) x says = (answer, x, says)
+says_file problem p old new answer (Err e) x says = tt
 
 -- ---- and to both files
 pub judge_after : (m p : List ℕ) (problem : Problem) (old mid new : Shelved) (answer : JudgeAnswer) → (IsTrue old.told → HoldsProblem old.file m problem) → OnlyReads old mid → PlanFileExplains problem p mid new answer → JudgeExplains m p old new answer
@@ -66,15 +60,16 @@ fault_at asked m p code old new out_old out_new (stopped why) words x is line th
 pub record IsJudging (code : ℕ) : Type 0 where
   pub one : code ≡ 1 → ⊥
   pub two : code ≡ 2 → ⊥
+  pub four : code ≡ 4 → ⊥
   pub eight : code ≡ 8 → ⊥
 
 pub numbers : (answer : JudgeAnswer) (code : ℕ) → code ≡ code_of (judge_status answer) → IsJudging code
-numbers (feasible amount) code is = record { one = λ e. omega (arith, is, e); two = λ e. omega (arith, is, e); eight = λ e. omega (arith, is, e) }
-numbers (no_plan fault) code is = record { one = λ e. omega (arith, is, e); two = λ e. omega (arith, is, e); eight = λ e. omega (arith, is, e) }
-numbers (broken rule) code is = record { one = λ e. omega (arith, is, e); two = λ e. omega (arith, is, e); eight = λ e. omega (arith, is, e) }
+numbers (feasible amount) code is = record { one = λ e. omega (arith, is, e); two = λ e. omega (arith, is, e); four = λ e. omega (arith, is, e); eight = λ e. omega (arith, is, e) }
+numbers (no_plan fault) code is = record { one = λ e. omega (arith, is, e); two = λ e. omega (arith, is, e); four = λ e. omega (arith, is, e); eight = λ e. omega (arith, is, e) }
+numbers (broken rule) code is = record { one = λ e. omega (arith, is, e); two = λ e. omega (arith, is, e); four = λ e. omega (arith, is, e); eight = λ e. omega (arith, is, e) }
 numbers (stopped why) code is =
     let r = reading why code is in
-    record { one = λ e. omega (arith, r.low, e); two = λ e. omega (arith, r.low, e); eight = r.other }
+    record { one = λ e. omega (arith, r.low, e); two = λ e. omega (arith, r.low, e); four = λ e. omega (arith, r.low, e); eight = r.other }
 
 -- ---- what the two files call for
 judge_call : (found plan : Option (List ℕ)) (bytes : List ℕ) (code : ℕ) → found ≡ Some bytes → JudgeCallsFor (Some bytes) plan code → JudgeCallsFor found plan code
@@ -108,3 +103,16 @@ called_at m p code old new out_old out_new fine t (stopped why) x is =
     (λ model. model_called m p code old new out_old out_new fine t why model is)
     (λ plan. by_plan m p code old plan.0 (plan.1 t) (plan_called p code plan.0 old new out_old out_new fine t why plan.2 is))
     x
+
+-- ---- files that give nothing to go on with, and the number of an answer
+pub stop_at : (m p : List ℕ) (code : ℕ) (old new : Shelved) (out_old out_new : Printed) (answer : JudgeAnswer) → JudgeExplains m p old new answer → code ≡ code_of (judge_status answer) → Gains (judge_line answer) out_old out_new → IsReading code → SomeStop (Some (judging m p)) code old new out_old out_new
+stop_at m p code old new out_old out_new (feasible amount) x is line r = absurd (omega (arith, is, r.low))
+stop_at m p code old new out_old out_new (no_plan fault) x is line r = absurd (omega (arith, is, r.low))
+stop_at m p code old new out_old out_new (broken rule) x is line r = absurd (omega (arith, is, r.low))
+stop_at m p code old new out_old out_new (stopped why) x is line r = (why, record { cause = x; line = line }, is)
+
+pub answer_number : (answer : JudgeAnswer) → IsAnswerNumber (code_of (judge_status answer))
+answer_number (feasible amount) = record { nine = λ e. omega (arith, e); ten = λ e. omega (arith, e) }
+answer_number (no_plan fault) = record { nine = λ e. omega (arith, e); ten = λ e. omega (arith, e) }
+answer_number (broken rule) = record { nine = λ e. omega (arith, e); ten = λ e. omega (arith, e) }
+answer_number (stopped why) = read_number why

@@ -1,6 +1,7 @@
 pub mod Texts
 pub mod Outputs
 pub mod Readings
+pub mod Writings
 pub mod Proved
 pub mod Planned
 pub mod Judged
@@ -13,5 +14,11 @@ pub mod Shown
 pub mod Drawn
 pub mod Explained
 pub mod Certified
+pub mod Calls
+pub mod PlanCalls
+pub mod JudgeCalls
+pub mod CheckCalls
+pub mod UpgradeCalls
+pub mod BoundCalls
 pub mod Statuses
 pub mod Answered

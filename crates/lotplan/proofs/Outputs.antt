@@ -1,7 +1,8 @@
 -- What is said is what is printed.
-use Rattle.std.proofs.Common.{◌≡◌, ◌≢◌, ⊎_elim, ℕ, List, subst}
+use Rattle.std.proofs.Common.{◌≡◌, ◌≢◌, ⊎_elim, ℕ, List, subst, arith}
 use Rattle.lot_io.specs.Outside.{Printed}
 use Rattle.lotplan.specs.Status.{code_of}
+use Rattle.lotplan.specs.Reading.{ReadAnswer, refused, missing, unread, too_long, read_status}
 use Rattle.lotplan.specs.Saying.{Gains, IsSaid, Prints}
 use Rattle.lotplan.specs.declared.said.Said.{Said}
 use Rattle.lotplan.specs.declared.status.Status.{Status}
@@ -12,3 +13,14 @@ prints_as text ending said code old new is done = subst (λ e. Prints text e cod
 -- where printing didn't fail, the number is that of the status, and the line is there
 pub printed : (text : List ℕ) (ending : Status) (code : ℕ) (old new : Printed) → Prints text ending code old new → code ≢ 9 → (code ≡ code_of ending) × Gains text old new
 printed text ending code old new done other = ⊎_elim (λ whole. whole) (λ part. absurd (other part.0)) done
+
+-- the number of an answer is neither that of a failed print nor that of memory
+pub record IsAnswerNumber (code : ℕ) : Type 0 where
+  pub nine : code ≢ 9
+  pub ten : code ≢ 10
+
+pub read_number : (why : ReadAnswer) → IsAnswerNumber (code_of (read_status why))
+read_number (refused fault) = record { nine = λ e. omega (arith, e); ten = λ e. omega (arith, e) }
+read_number (missing file) = record { nine = λ e. omega (arith, e); ten = λ e. omega (arith, e) }
+read_number (unread file) = record { nine = λ e. omega (arith, e); ten = λ e. omega (arith, e) }
+read_number (too_long file) = record { nine = λ e. omega (arith, e); ten = λ e. omega (arith, e) }

@@ -1,6 +1,6 @@
 -- What `plan` leaves, by its answer.
 use Rattle.std.proofs.Common.{◌≡◌, ◌≢◌, ◌≤◌, ◌∙◌, ◌⊎◌, ⊎_elim, ℕ, List, Some, IsTrue, inl, inr, refl, sym, ap, subst, arith}
-use Rattle.std.specs.Prelude.{Result, Ok, Err, IfOk, OnErr}
+use Rattle.std.specs.Prelude.{Result, Ok, Err, IfOk}
 use Rattle.std.specs.declared.alloc.AllocError.{AllocError}
 use Rattle.lot_io.specs.Outside.{Files, GrewBy, OnlyReads, Printed, Shelved}
 use Rattle.lot_sizing.specs.Problem.{Problem}
@@ -12,25 +12,18 @@ use Rattle.lotplan.specs.declared.said.Said.{Said}
 use Rattle.lotplan.specs.Status.{code_of}
 use Rattle.lotplan.specs.Reading.{HoldsProblem, ModelExplains, OfModel, ReadAnswer, refused, missing, unread, too_long, read_line, read_status}
 use Rattle.lotplan.specs.Finding.{IsFound}
-use Rattle.lotplan.specs.Planning.{PlanAnswer, optimal, infeasible, between, above, unwritten, stopped, plan_line, plan_status, FailsAt, FailsToWrite, FileCallsFor, FindsNoPlan, LeavesOpen, MayBeLeft, PlanExplains, ProblemCallsFor, PlanSays, PlansBest, StartsAtMost, StartsAtMostBoth, StartsBoth, StartsOnly, WriteExplains, WriteSays}
+use Rattle.lotplan.specs.Writing.{StartsOnly}
+use Rattle.lotplan.specs.Planning.{PlanAnswer, optimal, infeasible, between, above, unwritten, stopped, plan_line, plan_status, FailsAt, FailsToWrite, FileCallsFor, FindsNoPlan, LeavesOpen, MayBeLeft, PlanExplains, ProblemCallsFor, PlanSays, PlansBest, StartsAtMostBoth, StartsBoth, WriteExplains, WriteSays}
 use Rattle.lotplan.specs.Checking.{AllAre, accepted}
 use Rattle.lotplan.specs.Saying.{Gains, IsSaid}
 use Rattle.command_line.specs.Words.{AreApart, planning}
 use Rattle.lotplan.specs.Run.{HadNoFault}
-use Rattle.lotplan.proofs.Readings.{reading}
+use Rattle.lotplan.proofs.Outputs.{IsAnswerNumber, read_number}
+use Rattle.lotplan.proofs.Readings.{IsReading, SomeStop, reading}
+use Rattle.lotplan.proofs.Writings.{starts_after, told_before}
 use Rattle.lotplan.proofs.Proved.{left_alone}
 
 -- ---- from the problem to the model file
-told_before : {old mid : Shelved} → OnlyReads old mid → IsTrue old.told → IsTrue mid.told
-told_before reads t = subst IsTrue (sym reads.told) t
-
-pub starts_after : (p : List ℕ) (old mid new : Shelved) → OnlyReads old mid → StartsOnly p mid new → StartsOnly p old new
-starts_after p old mid new reads x = record {
-  told = x.told ∙ reads.told;
-  others = λ t other apart. x.others (told_before reads t) other apart ∙ ap (λ (f : Files). f other) reads.files;
-  starts = subst (λ n. GrewBy 1 n new.starts) reads.starts x.starts;
-}
-
 both_after : (p c : List ℕ) (old mid new : Shelved) → OnlyReads old mid → StartsBoth p c mid new → StartsBoth p c old new
 both_after p c old mid new reads x = record {
   told = x.told ∙ reads.told;
@@ -69,10 +62,6 @@ module _ (m p c : List ℕ) (budget : ℕ) (problem : Problem) (old mid new : Sh
   pub says_plan : (r : Result Said AllocError) → IfOk r (WriteSays problem budget p c mid new) → IfOk r (PlanSays m p c budget old new)
   says_plan (Ok said) (answer, x, says) = (answer, plan_after answer x, says)
   says_plan (Err e) some = tt
-
-pub memory_after : (old mid new : Shelved) (r : Result Said AllocError) → OnlyReads old mid → OnErr r (new ≡ mid) → OnErr r (OnlyReads old new)
-memory_after old mid new (Ok said) reads same = tt
-memory_after old mid new (Err e) reads same = subst (λ s. OnlyReads old s) (sym same) reads
 
 pub says_stop : (m p c : List ℕ) (budget : ℕ) (old new : Shelved) (why : ReadAnswer) (r : Result Said AllocError) → ModelExplains m old new why → OnlyReads old new → IfOk r (IsSaid (read_line why) (read_status why)) → IfOk r (PlanSays m p c budget old new)
 says_stop m p c budget old new why (Ok said) x reads says = (stopped why, (x, reads), says)
@@ -148,12 +137,6 @@ quiet_at m p c budget code old new (between says nodes bound amount) x is some o
 quiet_at m p c budget code old new (above says nodes bound) x is some one two other = absurd (two is)
 quiet_at m p c budget code old new (unwritten file) x is some one two other = absurd (other is)
 quiet_at m p c budget code old new (stopped why) x is some one two other = x.1
-
-pub reads_at_most : (p : List ℕ) (old new : Shelved) → OnlyReads old new → StartsAtMost p old new
-reads_at_most p old new reads = record { others = λ t other apart. ap (λ (f : Files). f other) reads.files; starts = omega (arith, reads.starts) }
-
-pub starts_at_most : (p : List ℕ) (old new : Shelved) → StartsOnly p old new → StartsAtMost p old new
-starts_at_most p old new x = record { others = x.others; starts = x.starts.1 }
 
 pub reads_few : (p c : List ℕ) (old new : Shelved) → OnlyReads old new → StartsAtMostBoth p c old new
 reads_few p c old new reads = record { others = λ t other from_plan from_certificate. ap (λ (f : Files). f other) reads.files; starts = omega (arith, reads.starts) }
@@ -260,3 +243,20 @@ module _ (m p c : List ℕ) (budget code : ℕ) (old new : Shelved) (apart : Are
   accepted_at (stopped why) x is done =
       let r = reading why code is in
       absurd (low_ends code (omega (arith, r.low)) done)
+
+-- ---- files that give nothing to go on with, and the number of an answer
+pub stop_at : (m p c : List ℕ) (budget code : ℕ) (old new : Shelved) (out_old out_new : Printed) (answer : PlanAnswer) → PlanExplains m p c budget old new answer → code ≡ code_of (plan_status answer) → Gains (plan_line answer) out_old out_new → IsReading code → SomeStop (Some (planning m p c budget)) code old new out_old out_new
+stop_at m p c budget code old new out_old out_new (optimal says nodes amount) x is line r = absurd (omega (arith, is, r.low))
+stop_at m p c budget code old new out_old out_new (infeasible says nodes) x is line r = absurd (omega (arith, is, r.low))
+stop_at m p c budget code old new out_old out_new (between says nodes least amount) x is line r = absurd (omega (arith, is, r.low))
+stop_at m p c budget code old new out_old out_new (above says nodes least) x is line r = absurd (omega (arith, is, r.low))
+stop_at m p c budget code old new out_old out_new (unwritten file) x is line r = absurd (r.other is)
+stop_at m p c budget code old new out_old out_new (stopped why) x is line r = (why, record { cause = x.0; line = line }, is)
+
+pub answer_number : (answer : PlanAnswer) → IsAnswerNumber (code_of (plan_status answer))
+answer_number (optimal says nodes amount) = record { nine = λ e. omega (arith, e); ten = λ e. omega (arith, e) }
+answer_number (infeasible says nodes) = record { nine = λ e. omega (arith, e); ten = λ e. omega (arith, e) }
+answer_number (between says nodes least amount) = record { nine = λ e. omega (arith, e); ten = λ e. omega (arith, e) }
+answer_number (above says nodes least) = record { nine = λ e. omega (arith, e); ten = λ e. omega (arith, e) }
+answer_number (unwritten file) = record { nine = λ e. omega (arith, e); ten = λ e. omega (arith, e) }
+answer_number (stopped why) = read_number why

@@ -23,9 +23,10 @@ use Rattle.branching.specs.declared.found.Found.{Found}
 use Rattle.branching.specs.declared.found.RootSays.TheVariants as at_root
 use Rattle.branch_and_cut.specs.Search.{GoesTogether, IsDecided, IsGoodPlan, KeepsOwn, UsesRoot, cost_of}
 use Rattle.lotplan.specs.declared.said.Said.{Said}
-use Rattle.lotplan.specs.Checking.{IsGiven}
+use Rattle.lotplan.specs.Proving.{IsGiven}
 use Rattle.lotplan.specs.Finding.{IsFound, PlanCosts}
-use Rattle.lotplan.specs.Planning.{PlanAnswer, unwritten, plan_line, plan_status, IsAnswerTo, IsUnwritten, IsWritten, ShowsFound, StartsBoth, StartsOnly, WriteExplains, WriteSays, WritesAndSays, WritesFeasible, WritesPlan, WritesProof}
+use Rattle.lotplan.specs.Writing.{StartsOnly}
+use Rattle.lotplan.specs.Planning.{PlanAnswer, unwritten, plan_line, plan_status, IsAnswerTo, IsUnwritten, IsWritten, ShowsFound, StartsBoth, WriteExplains, WriteSays, WritesAndSays, WritesFeasible, WritesPlan, WritesProof}
 use Rattle.lotplan.specs.Reading.{file_limit}
 use Rattle.lotplan.specs.Saying.{IsSaid}
 

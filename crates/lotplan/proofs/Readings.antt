@@ -1,12 +1,12 @@
 -- What the reading of files leaves, and why it stops.
-use Rattle.std.proofs.Common.{◌≡◌, ◌≢◌, ◌≤◌, ℕ, List, IsTrue, None, refl, sym, subst, arith}
-use Rattle.lot_io.specs.Outside.{Files, OnlyReads, Shelved}
+use Rattle.std.proofs.Common.{◌≡◌, ◌≢◌, ◌≤◌, ℕ, List, IsTrue, Option, None, refl, sym, subst, arith}
+use Rattle.lot_io.specs.Outside.{Files, OnlyReads, Printed, Shelved}
+use Rattle.command_line.specs.Words.{Request}
+use Rattle.lotplan.specs.Run.{Stops}
 use Rattle.lotplan.specs.Status.{code_of}
-use Rattle.lotplan.specs.Reading.{FileExplains, FirstExplains, IsTooLong, ModelExplains, ReadAnswer, refused, missing, unread, too_long, read_status}
-use Rattle.lotplan.specs.Held.{IsStop}
+use Rattle.lotplan.specs.Reading.{FileExplains, FirstExplains, IsTooLong, ModelExplains, ReadAnswer, refused, missing, unread, too_long, read_status, IsStopCause, read_meant}
 use Rattle.lotplan.specs.declared.model_file.Stop.{Stop}
 use Rattle.lotplan.specs.declared.model_file.Stop.TheVariants.{Answered, Memory}
-use Rattle.lotplan.specs.Held.{read_meant}
 
 -- what shows the same was only read
 pub same_reads : (old new : Shelved) → new ≡ old → OnlyReads old new
@@ -28,7 +28,7 @@ model_stops m old new (missing file) x = x
 model_stops m old new (unread file) x = x
 model_stops m old new (too_long file) x = x
 
-pub stop_of_model : (m : List ℕ) (old new : Shelved) (stop : Stop) → IsStop (FileExplains m old new) stop → IsStop (ModelExplains m old new) stop
+pub stop_of_model : (m : List ℕ) (old new : Shelved) (stop : Stop) → IsStopCause (FileExplains m old new) stop → IsStopCause (ModelExplains m old new) stop
 stop_of_model m old new (Answered why) x = model_stops m old new (read_meant why) x
 stop_of_model m old new Memory x = tt
 
@@ -39,7 +39,7 @@ first_stops m old new (missing file) x = x
 first_stops m old new (unread file) x = x
 first_stops m old new (too_long file) x = x
 
-pub stop_of_first : (m : List ℕ) (old new : Shelved) (stop : Stop) → IsStop (FileExplains m old new) stop → IsStop (FirstExplains m old new) stop
+pub stop_of_first : (m : List ℕ) (old new : Shelved) (stop : Stop) → IsStopCause (FileExplains m old new) stop → IsStopCause (FirstExplains m old new) stop
 stop_of_first m old new (Answered why) x = first_stops m old new (read_meant why) x
 stop_of_first m old new Memory x = tt
 
@@ -61,3 +61,7 @@ reading (refused fault) code is = record { low = omega (arith, is); high = omega
 reading (missing file) code is = record { low = omega (arith, is); high = omega (arith, is); other = λ e. omega (arith, is, e) }
 reading (unread file) code is = record { low = omega (arith, is); high = omega (arith, is); other = λ e. omega (arith, is, e) }
 reading (too_long file) code is = record { low = omega (arith, is); high = omega (arith, is); other = λ e. omega (arith, is, e) }
+
+-- the files that are asked for gave nothing to go on with, and the number says which stop it was
+abbrev pub SomeStop : Option Request → ℕ → Shelved → Shelved → Printed → Printed → Type 0
+SomeStop asked code old new out_old out_new = (why : ReadAnswer) × Stops asked old new out_old out_new why × (code ≡ code_of (read_status why))

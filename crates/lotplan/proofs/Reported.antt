@@ -4,35 +4,37 @@ use Rattle.std.specs.Prelude.{Result, Ok, Err, IfOk}
 use Rattle.std.specs.declared.alloc.AllocError.{AllocError}
 use Rattle.lot_io.specs.Outside.{Files, OnlyReads, Printed, Shelved}
 use Rattle.lot_sizing.specs.Problem.{Problem}
-use Rattle.lot_sizing.specs.Plan.{cost}
+use Rattle.lot_sizing.specs.Plan.{Plan, cost}
 use Rattle.command_line.specs.Words.{reporting}
 use Rattle.lotplan.specs.declared.said.Said.{Said}
 use Rattle.lotplan.specs.Status.{code_of}
-use Rattle.lotplan.specs.Reading.{FileExplains, HoldsProblem, ModelExplains, OfFile, ReadAnswer, read_line, read_status}
-use Rattle.lotplan.specs.Judging.{BytesAre, FindsFault, JudgeAnswer, JudgeCallsFor, feasible, no_plan, broken, stopped, judge_line, judge_status}
-use Rattle.lotplan.specs.Reporting.{BytesAreReported, BytesReport, FileIsSummed, FindsNone, AreSummed, PlanFileIsReported, PlanFileReports, ReportAnswer, ReportExplains, ReportSays, SumsUp, judged, summed, report_line, report_status}
+use Rattle.plan_rules.specs.declared.plan.Plan.{Plan as Grids}
+use Rattle.plan_rules.specs.Held.{plan_of}
+use Rattle.lotplan.specs.Reading.{HoldsPlan, HoldsProblem, ModelExplains, ReadAnswer, read_line, read_status}
+use Rattle.lotplan.specs.Judging.{FindsFault, IsJudgement, PlanFileExplains, JudgeAnswer, JudgeCallsFor, feasible, no_plan, broken, stopped, judge_line, judge_status}
+use Rattle.lotplan.specs.Reporting.{FileIsSummed, IsReport, PlanIsReported, FindsNone, PlanFileIsReported, PlanFileReports, ReportAnswer, ReportExplains, ReportSays, SumsUp, judged, summed, report_line, report_status}
 use Rattle.lotplan.specs.Saying.{Gains, IsSaid}
 use Rattle.lotplan.specs.Run.{HadNoFault}
-use Rattle.lotplan.proofs.Readings.{reading}
+use Rattle.lotplan.proofs.Outputs.{IsAnswerNumber}
+use Rattle.lotplan.proofs.Readings.{IsReading, SomeStop, reading}
 use Rattle.lotplan.proofs.Judged as judging
 
--- ---- the bytes
-pub says_none : (problem : Problem) (bytes : List ℕ) (answer : JudgeAnswer) (r : Result Said AllocError) → FindsNone answer → BytesAre problem answer bytes → IfOk r (IsSaid (judge_line answer) (judge_status answer)) → IfOk r (BytesAreReported problem bytes)
-says_none problem bytes answer (Ok said) none x says = (judged answer, (none, x), says)
-says_none problem bytes answer (Err e) none x says = tt
+-- ---- from the plan to the plan file
+pub says_broken : (problem : Problem) (plan : Plan) (answer : JudgeAnswer) (r : Result Said AllocError) → FindsNone answer → IsJudgement problem plan answer → IfOk r (IsSaid (judge_line answer) (judge_status answer)) → IfOk r (PlanIsReported problem plan)
+says_broken problem plan answer (Ok said) none x says = (judged answer, (none, x), says)
+says_broken problem plan answer (Err e) none x says = tt
 
--- ---- from the bytes to the plan file
-bytes_in_file : (problem : Problem) (p : List ℕ) (old new : Shelved) (bytes : List ℕ) (answer : ReportAnswer) → (IsTrue old.told → OfFile old.file p (λ found. found ≡ bytes)) → BytesReport problem answer bytes → PlanFileReports problem p old new answer
-bytes_in_file problem p old new bytes (summed text) read x = λ t. let h = read t in (h.0, h.1, h.2, subst (λ b. AreSummed problem b text) (sym h.3) x)
-bytes_in_file problem p old new bytes (judged answer) read x = (x.0, judging.bytes_in_file problem p old new bytes answer read x.1)
+plan_in_file : (problem : Problem) (p : List ℕ) (old new : Shelved) (given : Grids) (answer : ReportAnswer) → (IsTrue old.told → HoldsPlan old.file p problem given) → IsReport problem (plan_of given) answer → PlanFileReports problem p old new answer
+plan_in_file problem p old new given (summed text) holds x = λ t. let h = holds t in (h.bytes, h.read, h.short, record { plan = plan_of given; is = h.is; feasible = x.0; sums = x.1 })
+plan_in_file problem p old new given (judged answer) holds x = (x.0, judging.plan_in_file problem p old new given answer holds x.1)
 
-pub says_bytes : (problem : Problem) (p : List ℕ) (old new : Shelved) (bytes : List ℕ) (r : Result Said AllocError) → (IsTrue old.told → OfFile old.file p (λ found. found ≡ bytes)) → IfOk r (BytesAreReported problem bytes) → IfOk r (PlanFileIsReported problem p old new)
-says_bytes problem p old new bytes (Ok said) read (answer, x, says) = (answer, bytes_in_file problem p old new bytes answer read x, says)
-says_bytes problem p old new bytes (Err e) read some = tt
+pub says_given : (problem : Problem) (p : List ℕ) (old new : Shelved) (given : Grids) (r : Result Said AllocError) → (IsTrue old.told → HoldsPlan old.file p problem given) → IfOk r (PlanIsReported problem (plan_of given)) → IfOk r (PlanFileIsReported problem p old new)
+says_given problem p old new given (Ok said) holds (answer, x, says) = (answer, plan_in_file problem p old new given answer holds x, says)
+says_given problem p old new given (Err e) holds some = tt
 
-pub says_no_bytes : (problem : Problem) (p : List ℕ) (old new : Shelved) (why : ReadAnswer) (r : Result Said AllocError) → FileExplains p old new why → IfOk r (IsSaid (read_line why) (read_status why)) → IfOk r (PlanFileIsReported problem p old new)
-says_no_bytes problem p old new why (Ok said) x says = (judged (stopped why), (tt, x), says)
-says_no_bytes problem p old new why (Err e) x says = tt
+pub says_none : (problem : Problem) (p : List ℕ) (old new : Shelved) (answer : JudgeAnswer) (r : Result Said AllocError) → FindsNone answer → PlanFileExplains problem p old new answer → IfOk r (IsSaid (judge_line answer) (judge_status answer)) → IfOk r (PlanFileIsReported problem p old new)
+says_none problem p old new answer (Ok said) none x says = (judged answer, (none, x), says)
+says_none problem p old new answer (Err e) none x says = tt
 
 -- ---- and to both files
 report_after : (m p : List ℕ) (problem : Problem) (old mid new : Shelved) (answer : ReportAnswer) → (IsTrue old.told → HoldsProblem old.file m problem) → OnlyReads old mid → PlanFileReports problem p mid new answer → ReportExplains m p old new answer
@@ -62,7 +64,7 @@ module _ (m p : List ℕ) (code : ℕ) (old new : Shelved) (out_old out_new : Pr
 
 -- `report` has no other number
 pub numbers : (answer : ReportAnswer) (code : ℕ) → code ≡ code_of (report_status answer) → judging.IsJudging code
-numbers (summed text) code is = record { one = λ e. omega (arith, is, e); two = λ e. omega (arith, is, e); eight = λ e. omega (arith, is, e) }
+numbers (summed text) code is = record { one = λ e. omega (arith, is, e); two = λ e. omega (arith, is, e); four = λ e. omega (arith, is, e); eight = λ e. omega (arith, is, e) }
 numbers (judged answer) code is = judging.numbers answer code is
 
 -- ---- what the two files call for
@@ -73,3 +75,15 @@ called_at m p code old new out_old out_new fine t (summed text) x is =
     judging.by_plan m p code old problem holds (judging.plan_call problem (old.file p) f.0 code f.1
     (inr (f.2, inl (cost problem are.plan, record { plan = are.plan; is = are.is; feasible = are.feasible; costs = refl }, is))))
 called_at m p code old new out_old out_new fine t (judged answer) x is = judging.called_at m p code old new out_old out_new fine t answer x.1 is
+
+-- ---- files that give nothing to go on with, and the number of an answer
+pub stop_at : (m p : List ℕ) (code : ℕ) (old new : Shelved) (out_old out_new : Printed) (answer : ReportAnswer) → ReportExplains m p old new answer → code ≡ code_of (report_status answer) → Gains (report_line answer) out_old out_new → IsReading code → SomeStop (Some (reporting m p)) code old new out_old out_new
+stop_at m p code old new out_old out_new (summed text) x is line r = absurd (omega (arith, is, r.low))
+stop_at m p code old new out_old out_new (judged (feasible amount)) x is line r = absurd x.0
+stop_at m p code old new out_old out_new (judged (no_plan fault)) x is line r = absurd (omega (arith, is, r.low))
+stop_at m p code old new out_old out_new (judged (broken rule)) x is line r = absurd (omega (arith, is, r.low))
+stop_at m p code old new out_old out_new (judged (stopped why)) x is line r = (why, record { cause = x.1; line = line }, is)
+
+pub answer_number : (answer : ReportAnswer) → IsAnswerNumber (code_of (report_status answer))
+answer_number (summed text) = record { nine = λ e. omega (arith, e); ten = λ e. omega (arith, e) }
+answer_number (judged answer) = judging.answer_number answer

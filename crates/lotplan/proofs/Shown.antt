@@ -22,7 +22,7 @@ use Rattle.branching.specs.declared.found.RootSays.TheVariants as at_root
 use Rattle.branch_and_cut.specs.Search.{GoesTogether, IfBound, IsDecided, IsGoodPlan, IsUndecided, KeepsOwn, UsesRoot, WithRows}
 use Rattle.lotplan.specs.Finding.{IsFound}
 use Rattle.lotplan.specs.Planning.{IsAnswerTo, PlanAnswer, optimal}
-use Rattle.lotplan.specs.Showing.{IsBestAlone, IsShort, IsShown, IsSpent, IsTrueAnswer}
+use Rattle.lotplan.specs.Showing.{IsBestAlone, IsShort, IsShown, IsSpent, IsTrueAnswer, entry_branches}
 use Rattle.std.specs.Prelude.{IfSome}
 
 -- ---- few items over few periods have little height
@@ -35,17 +35,17 @@ digits_few (suc k) (suc n) small =
     let half : suc n / 2 < 2 ^ k = omega (arith, small, pow-suc 2 k) in
     omega (arith, digits-half (suc n) (omega arith), digits_few k (suc n / 2) half)
 
-height_few : (items periods : ℕ) (total : ℕ → ℕ) → ((i : ℕ) → total i < 2 ^ 40) → whole_height items periods total ≤ items * (periods * 41)
+height_few : (items periods : ℕ) (total : ℕ → ℕ) → ((i : ℕ) → total i < 2 ^ 40) → whole_height items periods total ≤ items * (periods * entry_branches)
 height_few items periods total small =
-    sum_to-bound items (periods * 41) (λ i. sum_to periods (λ t. 1 + digits (total i)))
-    (λ i low high. sum_to-bound periods 41 (λ t. 1 + digits (total i)) (λ t t_low t_high. omega (arith, digits_few 40 (total i) (small i))))
+    sum_to-bound items (periods * entry_branches) (λ i. sum_to periods (λ t. 1 + digits (total i)))
+    (λ i low high. sum_to-bound periods entry_branches (λ t. 1 + digits (total i)) (λ t t_low t_high. omega (arith, digits_few 40 (total i) (small i))))
 
 not_deep : (m : Problem) → IsInstance m → IsShort m → WithTotals m (λ total. MAX_BRANCHES < whole_height (item_count m) m.periods total) → ⊥
 not_deep m instance short deep =
     let (total, are, small) = instance.totals in
     let height = deep total are in
     let few = height_few (item_count m) m.periods total (λ i. omega (arith, small i)) in
-    let assoc : item_count m * (m.periods * 41) ≡ (item_count m * m.periods) * 41 = grind arith in
+    let assoc : item_count m * (m.periods * entry_branches) ≡ (item_count m * m.periods) * entry_branches = grind arith in
     omega (arith, height, few, assoc, short)
 
 -- ---- what was found

@@ -18,13 +18,14 @@ use Rattle.instance_reader.specs.Tables.{body_read, root_keys, version_in}
 use Rattle.lotplan.specs.declared.said.Said.{Said}
 use Rattle.lotplan.specs.Status.{code_of}
 use Rattle.lotplan.specs.Reading.{FirstExplains, HoldsFirst, HoldsProblem, ReadAnswer, refused, missing, unread, too_long, read_line, read_status}
-use Rattle.lotplan.specs.Planning.{StartsAtMost, unwritten_line}
-use Rattle.lotplan.specs.Upgrading.{UpgradeAnswer, written, unwritten, stopped, upgrade_line, upgrade_status, written_line, FailsToUpgrade, RewriteExplains, RewriteSays, UpgradeCallsFor, UpgradeExplains, UpgradeSays, Upgrades}
+use Rattle.lotplan.specs.Writing.{StartsAtMost, unwritten_line, written_line}
+use Rattle.lotplan.specs.Upgrading.{UpgradeAnswer, written, unwritten, stopped, upgrade_line, upgrade_status, FailsToUpgrade, RewriteExplains, RewriteSays, UpgradeCallsFor, UpgradeExplains, UpgradeSays, Upgrades}
 use Rattle.lotplan.specs.Saying.{Gains, IsSaid}
 use Rattle.command_line.specs.Words.{upgrading}
 use Rattle.lotplan.specs.Run.{HadNoFault}
-use Rattle.lotplan.proofs.Readings.{reading}
-use Rattle.lotplan.proofs.Planned.{reads_at_most, starts_after, starts_at_most}
+use Rattle.lotplan.proofs.Outputs.{IsAnswerNumber, read_number}
+use Rattle.lotplan.proofs.Readings.{IsReading, SomeStop, reading}
+use Rattle.lotplan.proofs.Writings.{reads_at_most, starts_after, starts_at_most}
 
 -- ---- a model of the first version is a model
 first_only : (x : ℤ) (b : Bool) (next : ℕ → Read RawModel) (m : RawModel) → is_from (pos 1) (pos 1) x ≡ b → then_read (if b then Ok (natural x) else Err (fault_at code.Version place.Root key.Version)) next ≡ Ok m → then_read (version_in 2 x) next ≡ Ok m
@@ -133,3 +134,14 @@ called_at m n code old new out_old out_new fine t (written file) x is =
     upgrade_call (old.file m) f.bytes code f.read (inr (f.short, inl (h.problem, f.means, is)))
 called_at m n code old new out_old out_new fine t (unwritten file) x is = absurd (fine.written x.2)
 called_at m n code old new out_old out_new fine t (stopped why) x is = stop_called m code old new out_old out_new fine t why x.0 is
+
+-- ---- files that give nothing to go on with, and the number of an answer
+pub stop_at : (m n : List ℕ) (code : ℕ) (old new : Shelved) (out_old out_new : Printed) (answer : UpgradeAnswer) → UpgradeExplains m n old new answer → code ≡ code_of (upgrade_status answer) → Gains (upgrade_line answer) out_old out_new → IsReading code → SomeStop (Some (upgrading m n)) code old new out_old out_new
+stop_at m n code old new out_old out_new (written file) x is line r = absurd (omega (arith, is, r.low))
+stop_at m n code old new out_old out_new (unwritten file) x is line r = absurd (r.other is)
+stop_at m n code old new out_old out_new (stopped why) x is line r = (why, record { cause = x.0; line = line }, is)
+
+pub answer_number : (answer : UpgradeAnswer) → IsAnswerNumber (code_of (upgrade_status answer))
+answer_number (written file) = record { nine = λ e. omega (arith, e); ten = λ e. omega (arith, e) }
+answer_number (unwritten file) = record { nine = λ e. omega (arith, e); ten = λ e. omega (arith, e) }
+answer_number (stopped why) = read_number why

@@ -10,8 +10,10 @@ use Rattle.tableau.specs.Program.{Program}
 use Rattle.tableau.specs.Stepwise.{IsEndOf}
 use Rattle.base_bound.specs.Bounds.{HasFewCells, HasManyCells, HasNoBasePoint, IsBaseBound, IsBaseProgram}
 use Rattle.command_line.specs.Words.{Request, bounding}
-use Rattle.lotplan.specs.Reading.{ModelExplains, OfModel, ReadAnswer, file_limit, read_line, read_status}
+use Rattle.lotplan.specs.Reading.{read_meant, ModelExplains, OfModel, ReadAnswer, file_limit, read_line, read_status}
 use Rattle.lotplan.specs.Saying.{Gains, IsSaid}
+use Rattle.lotplan.specs.declared.commands.bound.BoundAnswer.{BoundAnswer as HeldAnswer}
+use Rattle.lotplan.specs.declared.commands.bound.BoundAnswer.TheVariants as held
 use Rattle.lotplan.specs.declared.said.Said.{Said}
 use Rattle.lotplan.specs.declared.status.Status.{Status}
 use Rattle.lotplan.specs.declared.status.Status.TheVariants as status
@@ -28,6 +30,14 @@ pub data BoundAnswer : Type 0 where
   passed : BoundAnswer
   -- the model file gave no problem
   stopped : ReadAnswer → BoundAnswer
+
+-- what the program's own answer stands for
+abbrev pub bound_meant : HeldAnswer → BoundAnswer
+bound_meant (held.Bound n) = bound n
+bound_meant held.Empty = empty
+bound_meant held.Skipped = skipped
+bound_meant held.Passed = passed
+bound_meant (held.Stopped why) = stopped (read_meant why)
 
 abbrev pub bound_status : BoundAnswer → Status
 bound_status (bound n) = status.Done
@@ -51,7 +61,7 @@ pub record HasBaseBound (problem : Problem) (n : ℕ) : Type 0 where
   pub few : HasFewCells problem
 
 -- there is no such point, and no plan
-pub record HasNoPoint (problem : Problem) : Type 0 where
+pub record HasNoBaseCost (problem : Problem) : Type 0 where
   pub none : HasNoBasePoint problem
   pub impossible : IsImpossible problem
   pub few : HasFewCells problem
@@ -67,16 +77,16 @@ pub record RunPasses (problem : Problem) : Type 0 where
   pub few : HasFewCells problem
 
 -- what is known of the base bound of a problem
-abbrev pub IsBounded : Problem → BoundAnswer → Type 0
-IsBounded problem (bound n) = HasBaseBound problem n
-IsBounded problem empty = HasNoPoint problem
-IsBounded problem skipped = HasManyCells problem
-IsBounded problem passed = RunPasses problem
-IsBounded problem (stopped why) = ⊥
+abbrev pub MayBeBoundAnswer : Problem → BoundAnswer → Type 0
+MayBeBoundAnswer problem (bound n) = HasBaseBound problem n
+MayBeBoundAnswer problem empty = HasNoBaseCost problem
+MayBeBoundAnswer problem skipped = HasManyCells problem
+MayBeBoundAnswer problem passed = RunPasses problem
+MayBeBoundAnswer problem (stopped why) = ⊥
 
 -- the model file means a problem of which this is known
 abbrev pub ModelIsBounded : Files → List ℕ → BoundAnswer → Type 0
-ModelIsBounded before m answer = OfModel before m (λ problem. IsBounded problem answer)
+ModelIsBounded before m answer = OfModel before m (λ problem. MayBeBoundAnswer problem answer)
 
 -- why bounding the model in this file ends in this answer
 abbrev pub BoundExplains : List ℕ → Shelved → Shelved → BoundAnswer → Type 0
@@ -90,12 +100,12 @@ BoundExplains m old new (stopped why) = ModelExplains m old new why
 abbrev pub BoundIsSaid : List ℕ → Shelved → Shelved → Said → Type 0
 BoundIsSaid m old new said = (answer : BoundAnswer) × BoundExplains m old new answer × IsSaid (bound_line answer) (bound_status answer) said
 
--- ---- the status that the model file calls for, faults and want of memory aside
+-- ---- the status that the model file calls for, faults and out of memory aside
 -- for a problem 0 where it has a base bound, 1 where no point meets the base rows, 2 where the tableau is too large, or a number of the run doesn't fit
 abbrev pub BoundedCallsFor : Problem → ℕ → Type 0
 BoundedCallsFor problem status =
     (((n : ℕ) × HasBaseBound problem n) × (status ≡ 0))
-    ⊎ ((HasNoPoint problem × (status ≡ 1)) ⊎ ((HasManyCells problem × (status ≡ 2)) ⊎ (RunPasses problem × (status ≡ 2))))
+    ⊎ ((HasNoBaseCost problem × (status ≡ 1)) ⊎ ((HasManyCells problem × (status ≡ 2)) ⊎ (RunPasses problem × (status ≡ 2))))
 
 abbrev pub BoundCallsFor : Option (List ℕ) → ℕ → Type 0
 BoundCallsFor None status = status ≡ 6
@@ -112,9 +122,9 @@ MayPass (Some bytes) = (problem : Problem) × BytesMean bytes (Ok problem) × Ru
 -- ---- what each status says
 -- the model file means a problem with this base bound, and the line has it
 pub record FindsBound (before : Files) (model_file : List ℕ) (out_old out_new : Printed) : Type 0 where
-  pub n : ℕ
-  pub holds : ModelIsBounded before model_file (bound n)
-  pub line : Gains (bound_line (bound n)) out_old out_new
+  pub least : ℕ
+  pub holds : ModelIsBounded before model_file (bound least)
+  pub line : Gains (bound_line (bound least)) out_old out_new
 
 -- they ask to bound one without a point, and the line says so
 pub record FindsNoPoint (asked : Option Request) (before : Files) (out_old out_new : Printed) : Type 0 where
@@ -124,18 +134,18 @@ pub record FindsNoPoint (asked : Option Request) (before : Files) (out_old out_n
   pub line : Gains (bound_line empty) out_old out_new
 
 -- no bound and no such point was looked for, or found
-abbrev pub IsUndecided : BoundAnswer → Type 0
-IsUndecided (bound n) = ⊥
-IsUndecided empty = ⊥
-IsUndecided skipped = ⊤
-IsUndecided passed = ⊤
-IsUndecided (stopped why) = ⊥
+abbrev pub LeavesBoundOpen : BoundAnswer → Type 0
+LeavesBoundOpen (bound n) = ⊥
+LeavesBoundOpen empty = ⊥
+LeavesBoundOpen skipped = ⊤
+LeavesBoundOpen passed = ⊤
+LeavesBoundOpen (stopped why) = ⊥
 
 -- they ask to bound one whose tableau is too large, or whose run comes to a number that doesn't fit, and the line says which
 pub record FindsNoBound (asked : Option Request) (before : Files) (out_old out_new : Printed) : Type 0 where
   pub model_file : List ℕ
   pub words : asked ≡ Some (bounding model_file)
   pub answer : BoundAnswer
-  pub undecided : IsUndecided answer
+  pub undecided : LeavesBoundOpen answer
   pub holds : ModelIsBounded before model_file answer
   pub line : Gains (bound_line answer) out_old out_new

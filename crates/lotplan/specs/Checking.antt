@@ -8,7 +8,6 @@ use Rattle.plan_rules.specs.declared.plan.Plan.{Plan}
 use Rattle.plan_rules.specs.Held.{AllFit, plan_of}
 use Rattle.plan_rules.specs.Texts.{broken_text}
 use Rattle.plan_file.specs.Records.{IsPlanOf, records_of}
-use Rattle.plan_file.specs.Texts.{plan_fault_text}
 use Rattle.plan_file.specs.declared.fault.PlanFault.{PlanFault}
 use Rattle.lin_rows.specs.Texts.{column_text}
 use Rattle.cert_lines.specs.declared.parts.Claim.{Claim}
@@ -27,9 +26,11 @@ use Rattle.stream_check.specs.declared.fault.StreamFault.{StreamFault}
 use Rattle.stream_check.specs.declared.fault.StreamFault.TheVariants as stream
 use Rattle.stream_check.specs.Streams.{IsTooLong, OfBytes, OfCertificate, too_many}
 use Rattle.command_line.specs.Words.{Request, checking}
-use Rattle.lotplan.specs.Judging.{AreNoPlan}
-use Rattle.lotplan.specs.Reading.{FileExplains, HoldsProblem, ModelExplains, OfFile, OfModel, ReadAnswer, refused, missing, unread, too_long, file_limit, read_line, read_status}
+use Rattle.lotplan.specs.Proving.{HoldsCertificate, HoldsProof}
+use Rattle.lotplan.specs.Reading.{HoldsPlan, read_meant, FileExplains, HoldsProblem, ModelExplains, OfFile, OfModel, ReadAnswer, refused, missing, unread, too_long, file_limit, no_plan_line, read_line, read_status, AreNoPlan}
 use Rattle.lotplan.specs.Saying.{Gains, IsSaid}
+use Rattle.lotplan.specs.declared.commands.check.CheckAnswer.{CheckAnswer as HeldAnswer}
+use Rattle.lotplan.specs.declared.commands.check.CheckAnswer.TheVariants as held
 use Rattle.lotplan.specs.declared.said.Said.{Said}
 use Rattle.lotplan.specs.declared.status.Status.{Status}
 use Rattle.lotplan.specs.declared.status.Status.TheVariants as status
@@ -46,6 +47,14 @@ pub data CheckAnswer : Type 0 where
   rejected : ℕ → Why → CheckAnswer
   -- a file gave nothing to go on with
   stopped : ReadAnswer → CheckAnswer
+
+-- what the program's own answer stands for
+abbrev pub check_meant : HeldAnswer → CheckAnswer
+check_meant (held.Accepted claim) = accepted claim
+check_meant (held.NoCertificate fault) = no_certificate fault
+check_meant (held.NoPlan fault) = no_plan fault
+check_meant (held.Rejected r) = rejected r.line r.why
+check_meant (held.Stopped w) = stopped (read_meant w)
 
 abbrev pub check_status : CheckAnswer → Status
 check_status (accepted claim) = status.Done
@@ -87,7 +96,7 @@ rejected_line line why.Lead = on_line (codes "rejected C14") line (codes "\n")
 abbrev pub check_line : CheckAnswer → List ℕ
 check_line (accepted claim) = accepted_line claim
 check_line (no_certificate fault) = no_certificate_line fault
-check_line (no_plan fault) = plan_fault_text fault ++ codes "\n"
+check_line (no_plan fault) = no_plan_line fault
 check_line (rejected line w) = rejected_line line w
 check_line (stopped w) = read_line w
 
@@ -97,35 +106,6 @@ abbrev pub IsOptimal : Claim → Type 0
 IsOptimal (Optimal amount) = ⊤
 IsOptimal Infeasible = ⊥
 IsOptimal (BoundOf amount) = ⊥
-
--- the plan file holds a plan, which these grids hold
-pub record HoldsPlan (before : Files) (plan_file : List ℕ) (problem : Problem) (plan : Plan) : Type 0 where
-  pub bytes : List ℕ
-  pub read : before plan_file ≡ Some bytes
-  pub short : length bytes ≤ file_limit
-  pub fits : AllFit problem plan
-  pub is : IsPlanOf problem (records_of bytes) (plan_of plan)
-
--- the plan that goes with a claim: that of the plan file where an optimal cost is claimed, and else none
-abbrev pub IsGiven : Files → List ℕ → Problem → Claim → Option Plan → Type 0
-IsGiven before p problem (Optimal amount) (Some plan) = HoldsPlan before p problem plan
-IsGiven before p problem (Optimal amount) None = ⊥
-IsGiven before p problem Infeasible given = given ≡ None
-IsGiven before p problem (BoundOf amount) given = given ≡ None
-
--- the certificate file holds a certificate, and this plan goes with its claim
-pub record HoldsCertificate (before : Files) (plan_file certificate_file : List ℕ) (problem : Problem) : Type 0 where
-  pub certificate : Shape
-  pub text : OfBytes (before certificate_file) (λ bytes. IsTextOf bytes certificate)
-  pub given : Option Plan
-  pub goes_with : IsGiven before plan_file problem certificate.claim given
-
--- it is accepted with small sums, whichever largest totals and weights of the problem are taken, and its claim, which is this, is true of the problem
-pub record HoldsProof (before : Files) (plan_file certificate_file : List ℕ) (problem : Problem) (claim : Claim) : Type 0 where
-  pub holds : HoldsCertificate before plan_file certificate_file problem
-  pub claims : holds.certificate.claim ≡ claim
-  pub is_true : IsTrueOf problem claim (plan_given holds.given)
-  pub certified : OfProblem problem (λ total weight. IsCertified problem total weight holds.certificate holds.given)
 
 -- it is refused first on this line, for this cause
 pub record HoldsRefused (before : Files) (plan_file certificate_file : List ℕ) (problem : Problem) (line : ℕ) (w : Why) : Type 0 where
@@ -163,7 +143,7 @@ ProofStops p c old new w = CertificateExplains c old new w ⊎ ((IsTrue old.told
 abbrev pub CheckStops : List ℕ → List ℕ → List ℕ → Shelved → Shelved → ReadAnswer → Type 0
 CheckStops m p c old new w = ModelExplains m old new w ⊎ ((problem : Problem) × (IsTrue old.told → HoldsProblem old.file m problem) × ProofStops p c old new w)
 
--- what an answer to a fault of the certificate file is; want of memory has none
+-- what an answer to a fault of the certificate file is; out of memory has none
 abbrev pub IsRefusal : List ℕ → StreamFault → CheckAnswer → Type 0
 IsRefusal c stream.Missing answer = answer ≡ stopped (missing c)
 IsRefusal c stream.Failed answer = answer ≡ stopped (unread c)
@@ -218,7 +198,7 @@ CheckExplains m p c old new (stopped w) = CheckStops m p c old new w
 abbrev pub CheckSays : List ℕ → List ℕ → List ℕ → Shelved → Shelved → Said → Type 0
 CheckSays m p c old new said = (answer : CheckAnswer) × CheckExplains m p c old new answer × IsSaid (check_line answer) (check_status answer) said
 
--- ---- the status that the three files call for, faults and want of memory aside
+-- ---- the status that the three files call for, faults and out of memory aside
 -- for a certificate with the plan that goes with it 0 where it is accepted, and 3 where it is refused
 abbrev pub GivenCallsFor : Problem → Shape → Option Plan → ℕ → Type 0
 GivenCallsFor problem certificate given status =

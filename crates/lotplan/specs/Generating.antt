@@ -6,9 +6,10 @@ use Rattle.instance_reader.specs.Model.{BytesMean}
 use Rattle.first_plans.specs.OwnPeriod.{HasOwnPeriod}
 use Rattle.report.specs.Generated.{generated, generated_table}
 use Rattle.command_line.specs.Words.{Request, generating}
-use Rattle.lotplan.specs.Planning.{StartsOnly, unwritten_line}
+use Rattle.lotplan.specs.Writing.{StartsOnly, unwritten_line, written_line}
 use Rattle.lotplan.specs.Saying.{Gains, IsSaid}
-use Rattle.lotplan.specs.Upgrading.{written_line}
+use Rattle.lotplan.specs.declared.commands.generate.GenerateAnswer.{GenerateAnswer as HeldAnswer}
+use Rattle.lotplan.specs.declared.commands.generate.GenerateAnswer.TheVariants as held
 use Rattle.lotplan.specs.declared.said.Said.{Said}
 use Rattle.lotplan.specs.declared.status.Status.{Status}
 use Rattle.lotplan.specs.declared.status.Status.TheVariants as status
@@ -19,6 +20,11 @@ pub data GenerateAnswer : Type 0 where
   written : List ℕ → GenerateAnswer
   -- the file of this name could not be written
   unwritten : List ℕ → GenerateAnswer
+
+-- what the program's own answer stands for
+abbrev pub generate_meant : HeldAnswer → GenerateAnswer
+generate_meant (held.Written file) = written file.now
+generate_meant (held.Unwritten file) = unwritten file.now
 
 abbrev pub generate_status : GenerateAnswer → Status
 generate_status (written file) = status.Done

@@ -1,5 +1,5 @@
 -- What `judge` answers, and why.
-use Rattle.std.specs.Prelude.{◌≡◌, ◌≢◌, ◌⊎◌, ◌<◌, ◌≤◌, ℕ, List, ◌++◌, length, codes, decimal, IsTrue, Option, Some, None, Ok, Err, ⊤}
+use Rattle.std.specs.Prelude.{◌≡◌, ◌⊎◌, ◌<◌, ◌≤◌, ℕ, List, ◌++◌, length, codes, decimal, IsTrue, Option, Some, None, Ok, Err, ⊤}
 use Rattle.lot_sizing.specs.Problem.{Problem}
 use Rattle.lot_sizing.specs.Plan.{IsFeasible, Plan, cost}
 use Rattle.lot_io.specs.Outside.{Files, Printed, Shelved}
@@ -9,13 +9,12 @@ use Rattle.plan_rules.specs.Broken.{IsBroken}
 use Rattle.plan_rules.specs.Texts.{broken_text}
 use Rattle.plan_rules.specs.declared.broken.Broken.{Broken}
 use Rattle.plan_file.specs.Records.{IsPlanOf, records_of}
-use Rattle.plan_file.specs.Faults.{IsPlanFault}
-use Rattle.plan_file.specs.Texts.{plan_fault_text}
 use Rattle.plan_file.specs.declared.fault.PlanFault.{PlanFault}
-use Rattle.plan_file.specs.declared.fault.PlanFault.TheVariants.{Memory}
 use Rattle.command_line.specs.Words.{Request, judging, reporting}
-use Rattle.lotplan.specs.Reading.{FileExplains, HoldsProblem, ModelExplains, OfFile, OfModel, ReadAnswer, file_limit, read_line, read_status}
+use Rattle.lotplan.specs.Reading.{AreNoPlan, FilesStop, read_meant, FileExplains, OfFile, OfModel, ReadAnswer, file_limit, no_plan_line, read_line, read_status}
 use Rattle.lotplan.specs.Saying.{Gains, IsSaid}
+use Rattle.lotplan.specs.declared.commands.judge.JudgeAnswer.{JudgeAnswer as HeldAnswer}
+use Rattle.lotplan.specs.declared.commands.judge.JudgeAnswer.TheVariants as held
 use Rattle.lotplan.specs.declared.said.Said.{Said}
 use Rattle.lotplan.specs.declared.status.Status.{Status}
 use Rattle.lotplan.specs.declared.status.Status.TheVariants as status
@@ -31,6 +30,13 @@ pub data JudgeAnswer : Type 0 where
   -- the model file gave no problem, or the plan file no bytes
   stopped : ReadAnswer → JudgeAnswer
 
+-- what the program's own answer stands for
+abbrev pub judge_meant : HeldAnswer → JudgeAnswer
+judge_meant (held.Feasible amount) = feasible amount
+judge_meant (held.NoPlan fault) = no_plan fault
+judge_meant (held.Broken rule) = broken rule
+judge_meant (held.Stopped why) = stopped (read_meant why)
+
 abbrev pub judge_status : JudgeAnswer → Status
 judge_status (feasible amount) = status.Done
 judge_status (no_plan fault) = status.Faulty
@@ -39,7 +45,7 @@ judge_status (stopped why) = read_status why
 
 abbrev pub judge_line : JudgeAnswer → List ℕ
 judge_line (feasible amount) = codes "feasible " ++ (decimal amount ++ codes "\n")
-judge_line (no_plan fault) = plan_fault_text fault ++ codes "\n"
+judge_line (no_plan fault) = no_plan_line fault
 judge_line (broken rule) = broken_text rule ++ codes "\n"
 judge_line (stopped why) = read_line why
 
@@ -58,10 +64,12 @@ pub record AreBroken (problem : Problem) (bytes : List ℕ) (rule : Broken) : Ty
   pub infeasible : IsFeasible problem plan → ⊥
   pub breaks : IsBroken problem plan rule
 
--- they hold no plan, for this fault
-pub record AreNoPlan (problem : Problem) (bytes : List ℕ) (fault : PlanFault) : Type 0 where
-  pub cause : fault ≢ Memory
-  pub is : IsPlanFault problem (records_of bytes) fault
+-- what judging a plan ends in
+abbrev pub IsJudgement : Problem → Plan → JudgeAnswer → Type 0
+IsJudgement problem plan (feasible amount) = IsFeasible problem plan × (amount ≡ cost problem plan)
+IsJudgement problem plan (no_plan fault) = ⊥
+IsJudgement problem plan (broken rule) = (IsFeasible problem plan → ⊥) × IsBroken problem plan rule
+IsJudgement problem plan (stopped why) = ⊥
 
 -- what the bytes of a plan file are, where it holds some
 abbrev pub BytesAre : Problem → JudgeAnswer → List ℕ → Type 0
@@ -81,10 +89,6 @@ PlanFileExplains problem p old new (stopped why) = FileExplains p old new why
 abbrev pub FilesAre : Files → List ℕ → List ℕ → JudgeAnswer → Type 0
 FilesAre before m p answer = OfModel before m (λ problem. OfFile before p (BytesAre problem answer))
 
--- why the reading of the two files ends in this answer: by the model file, or by the plan file of the problem that it means
-abbrev pub FilesStop : List ℕ → List ℕ → Shelved → Shelved → ReadAnswer → Type 0
-FilesStop m p old new why = ModelExplains m old new why ⊎ ((problem : Problem) × (IsTrue old.told → HoldsProblem old.file m problem) × FileExplains p old new why)
-
 -- why judging these files ends in this answer
 abbrev pub JudgeExplains : List ℕ → List ℕ → Shelved → Shelved → JudgeAnswer → Type 0
 JudgeExplains m p old new (feasible amount) = IsTrue old.told → FilesAre old.file m p (feasible amount)
@@ -93,16 +97,13 @@ JudgeExplains m p old new (broken rule) = IsTrue old.told → FilesAre old.file 
 JudgeExplains m p old new (stopped why) = FilesStop m p old new why
 
 -- what is said is an answer that has its cause
-abbrev pub BytesSay : Problem → List ℕ → Said → Type 0
-BytesSay problem bytes said = (answer : JudgeAnswer) × BytesAre problem answer bytes × IsSaid (judge_line answer) (judge_status answer) said
-
 abbrev pub PlanFileSays : Problem → List ℕ → Shelved → Shelved → Said → Type 0
 PlanFileSays problem p old new said = (answer : JudgeAnswer) × PlanFileExplains problem p old new answer × IsSaid (judge_line answer) (judge_status answer) said
 
 abbrev pub JudgeSays : List ℕ → List ℕ → Shelved → Shelved → Said → Type 0
 JudgeSays m p old new said = (answer : JudgeAnswer) × JudgeExplains m p old new answer × IsSaid (judge_line answer) (judge_status answer) said
 
--- ---- the status that the two files call for, faults and want of memory aside
+-- ---- the status that the two files call for, faults and out of memory aside
 -- for a plan file of a problem 6 where it is absent, 11 where it is too long, 0 where it holds a feasible plan, and else 3
 abbrev pub PlanCallsFor : Problem → Option (List ℕ) → ℕ → Type 0
 PlanCallsFor problem None status = status ≡ 6

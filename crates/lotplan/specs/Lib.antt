@@ -1,6 +1,8 @@
 pub mod Status
 pub mod Saying
 pub mod Reading
+pub mod Proving
+pub mod Writing
 pub mod Finding
 pub mod Planning
 pub mod Judging
@@ -11,5 +13,4 @@ pub mod Reporting
 pub mod Generating
 pub mod Showing
 pub mod Run
-pub mod Held
 pub mod Laws

@@ -4,7 +4,7 @@ use Rattle.lot_sizing.specs.Problem.{IsUncoupled, Problem}
 use Rattle.lot_sizing.specs.Plan.{IsFeasible, Plan, cost}
 use Rattle.lot_sizing.specs.Best.{IsBest, IsFloor, IsImpossible}
 use Rattle.lot_sizing.specs.Texts.{optimal_line, plan_text}
-use Rattle.lot_io.specs.Outside.{Files, GrewBy, OnlyReads, Printed, Rose, SameElsewhere, Shelved}
+use Rattle.lot_io.specs.Outside.{Files, GrewBy, OnlyReads, Printed, Rose, Shelved}
 use Rattle.lot_draft.specs.declared.fault.ModelFault.{ModelFault}
 use Rattle.instance_reader.specs.Model.{BytesMean}
 use Rattle.plan_rules.specs.declared.plan.Plan.{Plan as Grids}
@@ -22,10 +22,13 @@ use Rattle.branching.specs.declared.found.RootSays.{RootSays}
 use Rattle.branching.specs.declared.found.RootSays.TheVariants as at_root
 use Rattle.branch_and_cut.specs.Search.{HasBudgetForAll, cost_of}
 use Rattle.command_line.specs.Words.{Request, planning}
-use Rattle.lotplan.specs.Reading.{ModelExplains, OfModel, ReadAnswer, file_limit, read_line, read_status}
-use Rattle.lotplan.specs.Checking.{HoldsProof}
+use Rattle.lotplan.specs.Writing.{StartsOnly, unwritten_line}
+use Rattle.lotplan.specs.Reading.{read_meant, ModelExplains, OfModel, ReadAnswer, file_limit, read_line, read_status}
+use Rattle.lotplan.specs.Proving.{HoldsProof}
 use Rattle.lotplan.specs.Finding.{IsFound, PlanCosts}
 use Rattle.lotplan.specs.Saying.{Gains, IsSaid}
+use Rattle.lotplan.specs.declared.commands.plan.PlanAnswer.{PlanAnswer as HeldAnswer}
+use Rattle.lotplan.specs.declared.commands.plan.PlanAnswer.TheVariants as held
 use Rattle.lotplan.specs.declared.said.Said.{Said}
 use Rattle.lotplan.specs.declared.status.Status.{Status}
 use Rattle.lotplan.specs.declared.status.Status.TheVariants as status
@@ -44,6 +47,15 @@ pub data PlanAnswer : Type 0 where
   unwritten : List ℕ → PlanAnswer
   -- the model file gave no problem
   stopped : ReadAnswer → PlanAnswer
+
+-- what the program's own answer stands for
+abbrev pub plan_meant : HeldAnswer → PlanAnswer
+plan_meant (held.Optimal says nodes amount) = optimal says nodes amount
+plan_meant (held.Infeasible says nodes) = infeasible says nodes
+plan_meant (held.Between says nodes least amount) = between says nodes least amount
+plan_meant (held.Above says nodes least) = above says nodes least
+plan_meant (held.Unwritten file) = unwritten file.now
+plan_meant (held.Stopped why) = stopped (read_meant why)
 
 abbrev pub plan_status : PlanAnswer → Status
 plan_status (optimal says nodes amount) = status.Done
@@ -78,9 +90,6 @@ above_line bound = codes "undecided " ++ (decimal bound ++ codes "\n")
 -- the root line, the nodes line and the line of the result
 abbrev pub three_lines : RootSays → ℕ → List ℕ → List ℕ
 three_lines says nodes result = root_line says ++ (nodes_line nodes ++ result)
-
-abbrev pub unwritten_line : List ℕ → List ℕ
-unwritten_line file = codes "refused write " ++ (file ++ codes "\n")
 
 abbrev pub plan_line : PlanAnswer → List ℕ
 plan_line (optimal says nodes amount) = three_lines says nodes (optimal_line amount)
@@ -181,12 +190,6 @@ pub record HasNone (problem : Problem) : Type 0 where
   pub impossible : IsUncoupled problem → IsImpossible problem
 
 -- ---- what is written
--- one start was made; where told, all files but the one of this name stay
-pub record StartsOnly (name : List ℕ) (old new : Shelved) : Type 0 where
-  pub told : new.told ≡ old.told
-  pub others : IsTrue old.told → SameElsewhere name old.file new.file
-  pub starts : GrewBy 1 old.starts new.starts
-
 -- all files but those of these two names are the same
 abbrev pub SameBesides : List ℕ → List ℕ → Files → Files → Type 0
 SameBesides plan_file certificate_file old new = (other : List ℕ) → other ≢ plan_file → other ≢ certificate_file → new other ≡ old other
@@ -255,7 +258,7 @@ WriteSays problem budget p c old new said = (answer : PlanAnswer) × WriteExplai
 abbrev pub PlanSays : List ℕ → List ℕ → List ℕ → ℕ → Shelved → Shelved → Said → Type 0
 PlanSays m p c budget old new said = (answer : PlanAnswer) × PlanExplains m p c budget old new answer × IsSaid (plan_line answer) (plan_status answer) said
 
--- ---- the status that the model file calls for, faults and want of memory aside
+-- ---- the status that the model file calls for, faults and out of memory aside
 -- the search may leave the problem open: it is coupled, and the budget isn't enough for all choices
 pub record MayBeLeft (problem : Problem) (budget : ℕ) : Type 0 where
   pub coupled : IsUncoupled problem → ⊥
@@ -336,11 +339,6 @@ pub record FailsToWrite (asked : Option Request) (old new : Shelved) (out_old ou
   pub failed : Rose old.write_faults new.write_faults
   pub left : FailsAt (λ P. IsTrue old.told → OfModel old.file model_file P) plan_file certificate_file old new file
   pub line : Gains (unwritten_line file) out_old out_new
-
--- one start was made at most; where told, all files but the one of this name stay
-pub record StartsAtMost (name : List ℕ) (old new : Shelved) : Type 0 where
-  pub others : IsTrue old.told → SameElsewhere name old.file new.file
-  pub starts : new.starts ≤ old.starts + 1
 
 -- two starts were made at most; where told, all files but those of these two names stay
 pub record StartsAtMostBoth (plan_file certificate_file : List ℕ) (old new : Shelved) : Type 0 where

@@ -1,11 +1,24 @@
 -- What the files that a command reads hold, and why they may give nothing to go on with.
-use Rattle.std.specs.Prelude.{◌≡◌, ◌<◌, ◌≤◌, ◌+◌, ℕ, List, ◌++◌, length, codes, IsTrue, Some, None, Ok, Err}
+use Rattle.std.specs.Prelude.{◌≡◌, ◌≢◌, ◌⊎◌, ◌<◌, ◌≤◌, ◌+◌, ℕ, List, ◌++◌, length, codes, IsTrue, Some, None, Ok, Err, ⊤}
 use Rattle.lot_sizing.specs.Problem.{Problem}
 use Rattle.lot_io.specs.Outside.{Files, Rose, RoseBy, Shelved}
 use Rattle.lot_draft.specs.declared.fault.ModelFault.{ModelFault}
 use Rattle.lot_draft.specs.Faults.{fault_text}
 use Rattle.instance_reader.specs.Model.{BytesMean, FirstVersionMeans}
+use Rattle.plan_rules.specs.declared.plan.Plan.{Plan}
+use Rattle.plan_rules.specs.Held.{AllFit, plan_of}
+use Rattle.plan_file.specs.declared.fault.PlanFault.{PlanFault}
+use Rattle.plan_file.specs.declared.fault.PlanFault.TheVariants as plan_fault
 use Rattle.plan_file.specs.declared.limits.TheConstants.{MAX_FILE}
+use Rattle.plan_file.specs.Faults.{IsPlanFault}
+use Rattle.plan_file.specs.Records.{IsPlanOf, records_of}
+use Rattle.plan_file.specs.Texts.{plan_fault_text}
+use Rattle.lotplan.specs.declared.model_file.PlanStop.{PlanStop}
+use Rattle.lotplan.specs.declared.model_file.PlanStop.TheVariants as plan_stop
+use Rattle.lotplan.specs.declared.model_file.ReadAnswer.{ReadAnswer as HeldAnswer}
+use Rattle.lotplan.specs.declared.model_file.ReadAnswer.TheVariants as held
+use Rattle.lotplan.specs.declared.model_file.Stop.{Stop}
+use Rattle.lotplan.specs.declared.model_file.Stop.TheVariants as stop
 use Rattle.lotplan.specs.declared.status.Status.{Status}
 use Rattle.lotplan.specs.declared.status.Status.TheVariants as status
 
@@ -49,6 +62,19 @@ pub record HoldsNoFirst (before : Files) (model_file : List ℕ) (fault : ModelF
   pub short : length bytes ≤ file_limit
   pub means : FirstVersionMeans bytes (Err fault)
 
+-- the plan file holds a plan, which these grids hold
+pub record HoldsPlan (before : Files) (plan_file : List ℕ) (problem : Problem) (plan : Plan) : Type 0 where
+  pub bytes : List ℕ
+  pub read : before plan_file ≡ Some bytes
+  pub short : length bytes ≤ file_limit
+  pub fits : AllFit problem plan
+  pub is : IsPlanOf problem (records_of bytes) (plan_of plan)
+
+-- bytes hold no plan, for this fault
+pub record AreNoPlan (problem : Problem) (bytes : List ℕ) (fault : PlanFault) : Type 0 where
+  pub cause : fault ≢ plan_fault.Memory
+  pub is : IsPlanFault problem (records_of bytes) fault
+
 -- the file is longer than the limit
 pub record IsTooLong (before : Files) (file : List ℕ) : Type 0 where
   pub bytes : List ℕ
@@ -66,6 +92,18 @@ pub data ReadAnswer : Type 0 where
   -- it is too long
   too_long : List ℕ → ReadAnswer
 
+-- what the program's own answer stands for
+abbrev pub read_meant : HeldAnswer → ReadAnswer
+read_meant (held.Refused fault) = refused fault
+read_meant (held.Missing file) = missing file.now
+read_meant (held.Unread file) = unread file.now
+read_meant (held.TooLong file) = too_long file.now
+
+-- the answer has its cause; out of memory needs none
+abbrev pub IsStopCause : (ReadAnswer → Type 0) → Stop → Type 0
+IsStopCause P (stop.Answered why) = P (read_meant why)
+IsStopCause P stop.Memory = ⊤
+
 abbrev pub read_status : ReadAnswer → Status
 read_status (refused fault) = status.Refused
 read_status (missing file) = status.Missing
@@ -79,12 +117,22 @@ read_line (missing file) = codes "refused missing " ++ (file ++ codes "\n")
 read_line (unread file) = codes "refused read " ++ (file ++ codes "\n")
 read_line (too_long file) = codes "refused long " ++ (file ++ codes "\n")
 
+-- the line of a plan file that holds no plan
+abbrev pub no_plan_line : PlanFault → List ℕ
+no_plan_line fault = plan_fault_text fault ++ codes "\n"
+
 -- why the reading of a file ends in this answer
 abbrev pub FileExplains : List ℕ → Shelved → Shelved → ReadAnswer → Type 0
 FileExplains name old new (refused fault) = ⊥
 FileExplains name old new (missing file) = (file ≡ name) × Rose old.misses new.misses × (IsTrue old.told → old.file name ≡ None)
 FileExplains name old new (unread file) = (file ≡ name) × Rose old.faults new.faults
 FileExplains name old new (too_long file) = (file ≡ name) × RoseBy (file_limit + 1) old.given new.given × (IsTrue old.told → IsTooLong old.file name)
+
+-- why the reading of a plan file of a problem gives no plan; out of memory needs no cause
+abbrev pub IsPlanStopCause : Problem → List ℕ → Shelved → Shelved → PlanStop → Type 0
+IsPlanStopCause problem p old new (plan_stop.NoPlan fault) = IsTrue old.told → OfFile old.file p (λ bytes. AreNoPlan problem bytes fault)
+IsPlanStopCause problem p old new (plan_stop.Answered why) = FileExplains p old new (read_meant why)
+IsPlanStopCause problem p old new plan_stop.Memory = ⊤
 
 -- why the reading of a model ends in this answer
 abbrev pub ModelExplains : List ℕ → Shelved → Shelved → ReadAnswer → Type 0
@@ -99,3 +147,7 @@ FirstExplains m old new (refused fault) = IsTrue old.told → HoldsNoFirst old.f
 FirstExplains m old new (missing file) = FileExplains m old new (missing file)
 FirstExplains m old new (unread file) = FileExplains m old new (unread file)
 FirstExplains m old new (too_long file) = FileExplains m old new (too_long file)
+
+-- why the reading of a model file and a plan file ends in this answer: by the model file, or by the plan file of the problem that it means
+abbrev pub FilesStop : List ℕ → List ℕ → Shelved → Shelved → ReadAnswer → Type 0
+FilesStop m p old new why = ModelExplains m old new why ⊎ ((problem : Problem) × (IsTrue old.told → HoldsProblem old.file m problem) × FileExplains p old new why)

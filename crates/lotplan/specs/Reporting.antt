@@ -5,7 +5,7 @@ use Rattle.lot_sizing.specs.Plan.{IsFeasible, Plan}
 use Rattle.lot_io.specs.Outside.{Files, Printed, Shelved}
 use Rattle.plan_file.specs.Records.{IsPlanOf, records_of}
 use Rattle.report.specs.Summary.{summary_text}
-use Rattle.lotplan.specs.Judging.{BytesAre, JudgeAnswer, JudgeExplains, PlanFileExplains, broken, feasible, judge_line, judge_status, no_plan, stopped}
+use Rattle.lotplan.specs.Judging.{IsJudgement, JudgeAnswer, JudgeExplains, PlanFileExplains, broken, feasible, judge_line, judge_status, no_plan, stopped}
 use Rattle.lotplan.specs.Reading.{OfFile, OfModel}
 use Rattle.lotplan.specs.Saying.{Gains, IsSaid}
 use Rattle.lotplan.specs.declared.said.Said.{Said}
@@ -42,10 +42,10 @@ FindsNone (no_plan fault) = ⊤
 FindsNone (broken rule) = ⊤
 FindsNone (stopped why) = ⊤
 
--- what the bytes of a plan file are, where it holds some
-abbrev pub BytesReport : Problem → ReportAnswer → List ℕ → Type 0
-BytesReport problem (summed text) bytes = AreSummed problem bytes text
-BytesReport problem (judged answer) bytes = FindsNone answer × BytesAre problem answer bytes
+-- what reporting on a plan ends in
+abbrev pub IsReport : Problem → Plan → ReportAnswer → Type 0
+IsReport problem plan (summed text) = IsFeasible problem plan × (text ≡ summary_text problem plan)
+IsReport problem plan (judged answer) = FindsNone answer × IsJudgement problem plan answer
 
 -- the plan file of a problem holds a plan, of which this is the summary
 abbrev pub FileIsSummed : Files → List ℕ → Problem → List ℕ → Type 0
@@ -66,8 +66,8 @@ ReportExplains m p old new (summed text) = IsTrue old.told → FilesAreSummed ol
 ReportExplains m p old new (judged answer) = FindsNone answer × JudgeExplains m p old new answer
 
 -- what is said is an answer that has its cause
-abbrev pub BytesAreReported : Problem → List ℕ → Said → Type 0
-BytesAreReported problem bytes said = (answer : ReportAnswer) × BytesReport problem answer bytes × IsSaid (report_line answer) (report_status answer) said
+abbrev pub PlanIsReported : Problem → Plan → Said → Type 0
+PlanIsReported problem plan said = (answer : ReportAnswer) × IsReport problem plan answer × IsSaid (report_line answer) (report_status answer) said
 
 abbrev pub PlanFileIsReported : Problem → List ℕ → Shelved → Shelved → Said → Type 0
 PlanFileIsReported problem p old new said =

@@ -5,9 +5,9 @@ use Rattle.stream_check.specs.Streams.{pass_size}
 use Rattle.command_line.specs.Words.{Request, version, helping, planning, judging, checking, reporting, generating, demonstrating, upgrading, bounding}
 use Rattle.lotplan.specs.Status.{code_of}
 use Rattle.lotplan.specs.Saying.{Gains, IsSaid, Prints}
-use Rattle.lotplan.specs.Reading.{FirstExplains, ModelExplains, ReadAnswer, file_limit, read_line}
+use Rattle.lotplan.specs.Reading.{FirstExplains, ModelExplains, ReadAnswer, file_limit, read_line, FilesStop}
 use Rattle.lotplan.specs.Planning.{FailsToWrite, FileCallsFor, FindsNoPlan, LeavesOpen, PlanAnswer, PlanExplains, PlanSays, plan_line, plan_status}
-use Rattle.lotplan.specs.Judging.{FilesStop, FindsFault, JudgeAnswer, JudgeCallsFor, JudgeExplains, JudgeSays, judge_line, judge_status}
+use Rattle.lotplan.specs.Judging.{FindsFault, JudgeAnswer, JudgeCallsFor, JudgeExplains, JudgeSays, judge_line, judge_status}
 use Rattle.lotplan.specs.Checking.{CheckAnswer, CheckCallsFor, CheckExplains, CheckSays, CheckStops, FindsRefused, check_line, check_status}
 use Rattle.lotplan.specs.Upgrading.{FailsToUpgrade, UpgradeAnswer, UpgradeCallsFor, UpgradeExplains, UpgradeSays, upgrade_line, upgrade_status}
 use Rattle.lotplan.specs.Bounding.{BoundAnswer, BoundCallsFor, BoundExplains, BoundIsSaid, FindsNoBound, FindsNoPoint, bound_line, bound_status}
@@ -81,11 +81,11 @@ pub record RanOut (asked : Option Request) (code : ℕ) (old new : Shelved) (out
   pub silent : out_new ≡ out_old
 
 -- memory ran out, or the run did what the words ask for
-pub data IsRun (asked : Option Request) (code : ℕ) (old new : Shelved) (out_old out_new : Printed) : Type 0 where
-  ran_out : RanOut asked code old new out_old out_new → IsRun asked code old new out_old out_new
-  runs : RunsAs asked code old new out_old out_new → IsRun asked code old new out_old out_new
+pub data IsProgramRun (asked : Option Request) (code : ℕ) (old new : Shelved) (out_old out_new : Printed) : Type 0 where
+  ran_out : RanOut asked code old new out_old out_new → IsProgramRun asked code old new out_old out_new
+  runs : RunsAs asked code old new out_old out_new → IsProgramRun asked code old new out_old out_new
 
--- ---- the status that words and files call for, faults and want of memory aside
+-- ---- the status that words and files call for, faults and out of memory aside
 abbrev pub CallFor : Option Request → Files → ℕ → Type 0
 CallFor None file status = status ≡ 4
 CallFor (Some version) file status = status ≡ 0

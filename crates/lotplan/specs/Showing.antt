@@ -4,32 +4,33 @@ use Rattle.lot_sizing.specs.Problem.{IsUncoupled, Problem, item_count}
 use Rattle.lot_sizing.specs.Plan.{IsFeasible, Plan, cost}
 use Rattle.lot_sizing.specs.Best.{IsBest, IsFloor}
 use Rattle.lot_io.specs.Outside.{Printed}
+use Rattle.cert_lines.specs.declared.limits.TheConstants.{MAX_BRANCHES}
 use Rattle.branching.specs.declared.found.Found.{Found}
 use Rattle.branching.specs.declared.found.RootSays.TheVariants as at_root
 use Rattle.report.specs.Generated.{generated}
 use Rattle.lotplan.specs.Finding.{IsFound}
 use Rattle.lotplan.specs.Planning.{IsAnswerTo, IsWithinOwn, PlanAnswer, above, between, infeasible, optimal, plan_line, stopped, unwritten}
 use Rattle.lotplan.specs.Saying.{Gains, IsSaid}
-use Rattle.lotplan.specs.declared.commands.demo.TheConstants.{COUPLED_BUDGET, FREE_BUDGET}
+use Rattle.lotplan.specs.declared.commands.demo.TheConstants.{COUPLED_BUDGET, COUPLED_ITEMS, COUPLED_PERIODS, FREE_BUDGET, FREE_ITEMS, FREE_PERIODS}
 use Rattle.lotplan.specs.declared.said.Said.{Said}
 use Rattle.lotplan.specs.declared.status.Status.TheVariants.{Done}
 
 -- ---- the two models of a seed, and the most nodes that the tree of a certificate of each may have
 abbrev pub free_problem : ℕ → Problem
-free_problem seed = generated seed 12 60 false
+free_problem seed = generated seed FREE_ITEMS FREE_PERIODS false
 
 abbrev pub free_budget : ℕ
 free_budget = FREE_BUDGET
 
 abbrev pub coupled_problem : ℕ → Problem
-coupled_problem seed = generated seed 3 4 true
+coupled_problem seed = generated seed COUPLED_ITEMS COUPLED_PERIODS true
 
 abbrev pub coupled_budget : ℕ
 coupled_budget = COUPLED_BUDGET
 
 -- ---- what is shown of a model
 -- a best plan costs this
-pub record IsLeastCost (problem : Problem) (amount : ℕ) : Type 0 where
+pub record IsBestCost (problem : Problem) (amount : ℕ) : Type 0 where
   pub chosen : Plan
   pub best : IsBest problem chosen
   pub costs : cost problem chosen ≡ amount
@@ -45,7 +46,7 @@ pub record IsBetween (problem : Problem) (bound amount : ℕ) : Type 0 where
 
 -- what an answer says of a model that has a feasible own-period plan
 abbrev pub IsTrueAnswer : Problem → PlanAnswer → Type 0
-IsTrueAnswer problem (optimal says nodes amount) = IsLeastCost problem amount
+IsTrueAnswer problem (optimal says nodes amount) = IsBestCost problem amount
 IsTrueAnswer problem (infeasible says nodes) = ⊥
 IsTrueAnswer problem (between says nodes bound amount) = IsBetween problem bound amount
 IsTrueAnswer problem (above says nodes bound) = ⊥
@@ -65,9 +66,13 @@ IsSpent budget (above says nodes bound) = budget < nodes + 2
 IsSpent budget (unwritten file) = ⊤
 IsSpent budget (stopped why) = ⊤
 
+-- the most branches of a path on one item in one period: one on its setup, and one on each bit of its lot, which isn't above `MAX_TOTAL` and so has at most 40
+abbrev pub entry_branches : ℕ
+entry_branches = 41
+
 -- so few items over so few periods that no path can be as long as it may be
 abbrev pub IsShort : Problem → Type 0
-IsShort problem = item_count problem * problem.periods ≤ 40
+IsShort problem = item_count problem * problem.periods * entry_branches ≤ MAX_BRANCHES
 
 -- `plan` with this budget answers so, once it is written: what was found, that the answer is to it and that what it says is so
 pub record IsShown (problem : Problem) (budget : ℕ) (answer : PlanAnswer) : Type 0 where

@@ -1,14 +1,16 @@
 -- What `upgrade` answers, why, and what it leaves.
-use Rattle.std.specs.Prelude.{◌≡◌, ◌⊎◌, ◌<◌, ◌≤◌, ℕ, List, ◌++◌, length, codes, IsTrue, Option, Some, None, Ok, Err}
+use Rattle.std.specs.Prelude.{◌≡◌, ◌⊎◌, ◌<◌, ◌≤◌, ℕ, List, length, IsTrue, Option, Some, None, Ok, Err}
 use Rattle.lot_sizing.specs.Problem.{Problem}
 use Rattle.lot_io.specs.Outside.{Files, OnlyReads, Printed, Rose, Shelved}
 use Rattle.lot_draft.specs.declared.fault.ModelFault.{ModelFault}
 use Rattle.instance_reader.specs.Model.{BytesMean, FirstVersionMeans}
 use Rattle.instance_reader.specs.Written.{IsModelText}
 use Rattle.command_line.specs.Words.{Request, upgrading}
-use Rattle.lotplan.specs.Reading.{FirstExplains, HoldsFirst, HoldsProblem, ReadAnswer, file_limit, read_line, read_status}
-use Rattle.lotplan.specs.Planning.{StartsOnly, unwritten_line}
+use Rattle.lotplan.specs.Reading.{read_meant, FirstExplains, HoldsFirst, HoldsProblem, ReadAnswer, file_limit, read_line, read_status}
+use Rattle.lotplan.specs.Writing.{StartsOnly, unwritten_line, written_line}
 use Rattle.lotplan.specs.Saying.{Gains, IsSaid}
+use Rattle.lotplan.specs.declared.commands.upgrade.UpgradeAnswer.{UpgradeAnswer as HeldAnswer}
+use Rattle.lotplan.specs.declared.commands.upgrade.UpgradeAnswer.TheVariants as held
 use Rattle.lotplan.specs.declared.said.Said.{Said}
 use Rattle.lotplan.specs.declared.status.Status.{Status}
 use Rattle.lotplan.specs.declared.status.Status.TheVariants as status
@@ -22,13 +24,16 @@ pub data UpgradeAnswer : Type 0 where
   -- the model file gave no problem
   stopped : ReadAnswer → UpgradeAnswer
 
+-- what the program's own answer stands for
+abbrev pub upgrade_meant : HeldAnswer → UpgradeAnswer
+upgrade_meant (held.Written file) = written file.now
+upgrade_meant (held.Unwritten file) = unwritten file.now
+upgrade_meant (held.Stopped why) = stopped (read_meant why)
+
 abbrev pub upgrade_status : UpgradeAnswer → Status
 upgrade_status (written file) = status.Done
 upgrade_status (unwritten file) = status.Unwritten
 upgrade_status (stopped why) = read_status why
-
-abbrev pub written_line : List ℕ → List ℕ
-written_line file = codes "written " ++ (file ++ codes "\n")
 
 abbrev pub upgrade_line : UpgradeAnswer → List ℕ
 upgrade_line (written file) = written_line file
@@ -73,7 +78,7 @@ RewriteSays problem n old new said = (answer : UpgradeAnswer) × RewriteExplains
 abbrev pub UpgradeSays : List ℕ → List ℕ → Shelved → Shelved → Said → Type 0
 UpgradeSays m n old new said = (answer : UpgradeAnswer) × UpgradeExplains m n old new answer × IsSaid (upgrade_line answer) (upgrade_status answer) said
 
--- ---- the status that the model file calls for, faults and want of memory aside
+-- ---- the status that the model file calls for, faults and out of memory aside
 -- 0 for a model of the first version, 5 for one that is refused as such, 6 where it is absent, 11 where it is too long
 abbrev pub UpgradeCallsFor : Option (List ℕ) → ℕ → Type 0
 UpgradeCallsFor None status = status ≡ 6

@@ -1,6 +1,8 @@
 //! `lotplan`: plans lots in whole numbers, with proof that no plan costs less.
 //!
-//! Family: commands. It stands on the crates of all families, and nothing stands on it.
+//! Family: commands. It stands on `command_line` for the words, on `lot_io`, `instance_reader` and `plan_file` for files, on
+//! `branch_and_cut`, `stream_check`, `base_bound` and `report` for what is done, and on `existence` and `answers_exist` for its
+//! laws; nothing stands on it.
 //!
 //! `main` gives the command line, the machine's files and standard output to `run`, and ends with
 //! its status. `run` reads the words, plans, judges, checks, reports, generates, upgrades or bounds, writes and prints;
@@ -17,6 +19,7 @@ mod model_file;
 mod run;
 mod said;
 mod status;
+mod writing;
 
 pub use laws::{statuses_are_one, statuses_exist};
 use lot_io::{DiskShelf, Sink, StdSink};

@@ -1,14 +1,15 @@
-// Reading files, and the model in one.
+// Reading files: the model in one, and the plan in another.
 ghost use Rattle.std.specs.Prelude.{◌≡◌, ◌≤◌, ◌+◌, length, string_bytes, IsTrue, Some, IfOk, IfErr};
 ghost use Rattle.lot_io.specs.Outside.{OnlyReads, piece_size};
-ghost use Rattle.lotplan.specs.Held.{IsStop, read_meant};
-ghost use Rattle.lotplan.specs.Reading.{FileExplains, FirstExplains, HoldsFirst, HoldsProblem, ModelExplains, file_limit, read_line, read_status};
+ghost use Rattle.plan_rules.specs.Held.{AllFit};
+ghost use Rattle.lotplan.specs.Reading.{FileExplains, FirstExplains, HoldsFirst, HoldsPlan, HoldsProblem, IsPlanStopCause, IsStopCause, ModelExplains, file_limit, no_plan_line, read_line, read_meant, read_status};
 
 use crate::status::Status;
 use instance_reader::{ReadModelFault, read_first_version, read_instance};
 use lot_io::{ReadFault, Shelf, read_file};
 use lot_model::{Instance, ModelFault};
-use plan_file::MAX_FILE;
+use plan_file::{MAX_FILE, PlanFault, read_plan};
+use plan_rules::Plan;
 use std::alloc::{AllocError, Global};
 
 /// Why the files of a command gave nothing to go on with, with the name of the file that it concerns.
@@ -59,6 +60,24 @@ pub enum Stop<'a> {
     Memory,
 }
 
+/// Why a plan file gives no plan.
+#[derive(Clone, Copy, Debug, PartialEq, Eq)]
+pub enum PlanStop<'a> {
+    /// It holds none, for this fault.
+    NoPlan(PlanFault),
+    /// What the run answers.
+    Answered(ReadAnswer<'a>),
+    /// Memory ran out.
+    Memory,
+}
+
+/// The line that is printed of a plan file that holds no plan, with its line feed.
+pub fn no_plan_line(alloc: Global, fault: &PlanFault) -> Result<String, AllocError>
+    ensures { IfOk result (λ line. string_bytes line ≡ no_plan_line fault.now) }
+{
+    format!(in alloc; "{fault}\n")
+}
+
 /// The bytes of a file that a command reads.
 pub fn read_bytes<'a, S: Shelf>(
     alloc: Global,
@@ -67,7 +86,7 @@ pub fn read_bytes<'a, S: Shelf>(
 ) -> Result<Vec<u8>, Stop<'a>>
     ensures bytes { IfOk result (λ bytes. IsTrue (S.shown shelf.old).told → (S.shown shelf.old).file name.entry.now ≡ Some bytes.items) }
     ensures short { IfOk result (λ bytes. length bytes.items ≤ file_limit) }
-    ensures stop { IfErr result (IsStop (FileExplains name.entry.now (S.shown shelf.old) (S.shown shelf.new))) }
+    ensures stop { IfErr result (IsStopCause (FileExplains name.entry.now (S.shown shelf.old) (S.shown shelf.new))) }
     ensures reads { OnlyReads (S.shown shelf.old) (S.shown shelf.new) }
     ensures given { (S.shown shelf.new).given ≤ (S.shown shelf.old).given + (file_limit + piece_size) }
 {
@@ -87,7 +106,7 @@ pub fn read_model<'a, S: Shelf>(
     shelf: &mut S,
 ) -> Result<Instance, Stop<'a>>
     ensures ok { IfOk result (λ instance. IsTrue (S.shown shelf.old).told → HoldsProblem (S.shown shelf.old).file model.entry.now instance) }
-    ensures stop { IfErr result (IsStop (ModelExplains model.entry.now (S.shown shelf.old) (S.shown shelf.new))) }
+    ensures stop { IfErr result (IsStopCause (ModelExplains model.entry.now (S.shown shelf.old) (S.shown shelf.new))) }
     ensures reads { OnlyReads (S.shown shelf.old) (S.shown shelf.new) }
     ensures given { (S.shown shelf.new).given ≤ (S.shown shelf.old).given + (file_limit + piece_size) }
 {
@@ -109,7 +128,7 @@ pub fn read_first_model<'a, S: Shelf>(
     shelf: &mut S,
 ) -> Result<Instance, Stop<'a>>
     ensures ok { IfOk result (λ instance. IsTrue (S.shown shelf.old).told → HoldsFirst (S.shown shelf.old).file model.entry.now instance) }
-    ensures stop { IfErr result (IsStop (FirstExplains model.entry.now (S.shown shelf.old) (S.shown shelf.new))) }
+    ensures stop { IfErr result (IsStopCause (FirstExplains model.entry.now (S.shown shelf.old) (S.shown shelf.new))) }
     ensures reads { OnlyReads (S.shown shelf.old) (S.shown shelf.new) }
     ensures given { (S.shown shelf.new).given ≤ (S.shown shelf.old).given + (file_limit + piece_size) }
 {
@@ -121,5 +140,30 @@ pub fn read_first_model<'a, S: Shelf>(
         Ok(instance) => Ok(instance),
         Err(ReadModelFault::Refused(fault)) => Err(Stop::Answered(ReadAnswer::Refused(fault))),
         Err(ReadModelFault::Memory) => Err(Stop::Memory),
+    }
+}
+
+/// The plan in a file.
+pub fn read_plan_file<'a, S: Shelf>(
+    alloc: Global,
+    instance: &Instance,
+    plan: &'a str,
+    shelf: &mut S,
+) -> Result<Plan, PlanStop<'a>>
+    ensures fits { IfOk result (AllFit instance.now) }
+    ensures plan { IfOk result (λ given. IsTrue (S.shown shelf.old).told → HoldsPlan (S.shown shelf.old).file plan.entry.now instance.now given) }
+    ensures stop { IfErr result (IsPlanStopCause instance.now plan.entry.now (S.shown shelf.old) (S.shown shelf.new)) }
+    ensures reads { OnlyReads (S.shown shelf.old) (S.shown shelf.new) }
+    ensures given { (S.shown shelf.new).given ≤ (S.shown shelf.old).given + (file_limit + piece_size) }
+{
+    let bytes = match read_bytes(alloc, plan, shelf) {
+        Ok(bytes) => bytes,
+        Err(Stop::Answered(why)) => return Err(PlanStop::Answered(why)),
+        Err(Stop::Memory) => return Err(PlanStop::Memory),
+    };
+    match read_plan(alloc, instance, bytes.as_slice()) {
+        Ok(given) => Ok(given),
+        Err(PlanFault::Memory) => Err(PlanStop::Memory),
+        Err(fault) => Err(PlanStop::NoPlan(fault)),
     }
 }

@@ -7,7 +7,8 @@ ghost use Rattle.command_line.specs.Words.{AreTaken, IsAllowed, bounding, checki
 ghost use Rattle.lotplan.specs.Saying.{Ends, IsSaid, Prints};
 ghost use Rattle.lotplan.specs.declared.status.Status.TheVariants.{NoCommand};
 ghost use Rattle.lotplan.specs.Reading.{missing, refused, too_long, unread};
-ghost use Rattle.lotplan.specs.Planning.{PlansBest, StartsAtMost, StartsAtMostBoth, StartsBoth, StartsOnly};
+ghost use Rattle.lotplan.specs.Writing.{StartsAtMost, StartsOnly};
+ghost use Rattle.lotplan.specs.Planning.{PlansBest, StartsAtMostBoth, StartsBoth};
 ghost use Rattle.lotplan.specs.Judging.{FindsFeasible};
 ghost use Rattle.lotplan.specs.Checking.{Accepts};
 ghost use Rattle.lotplan.specs.Upgrading.{Upgrades};
@@ -15,7 +16,7 @@ ghost use Rattle.lotplan.specs.Bounding.{FindsBound};
 ghost use Rattle.lotplan.specs.Reporting.{SumsUp};
 ghost use Rattle.lotplan.specs.Generating.{Generates};
 ghost use Rattle.lotplan.specs.Showing.{Shows};
-ghost use Rattle.lotplan.specs.Run.{CallFor, CallsForZero, CannotWrite, HadNoFault, IsFaulty, IsIdle, IsInfeasible, IsNoCommand, IsRun, Leaves, LeavesUndecided, SaysFor, Stops, most_given, refused_line};
+ghost use Rattle.lotplan.specs.Run.{CallFor, CallsForZero, CannotWrite, HadNoFault, IsFaulty, IsIdle, IsInfeasible, IsNoCommand, IsProgramRun, Leaves, LeavesUndecided, SaysFor, Stops, most_given, refused_line};
 
 use crate::commands::bound::bound_files;
 use crate::commands::check::check_files;
@@ -41,8 +42,9 @@ use std::alloc::{AllocError, Global};
 /// else `USUAL_BUDGET`. The numbers are 0 done, 1 no plan is feasible, 2 the best cost was left open, or the bound was not
 /// found, 3 the plan file holds no plan or one that breaks a rule, or the certificate is refused, 4 no command, 5 the
 /// model is refused, 6 a file is absent, 7 it could not be read, 8 it could not be written, 9 the lines could not be printed, 10 out of memory, 11 a file is
-/// longer than `MAX_FILE` bytes, or a certificate file than 2^63 - 1. All memory is taken before the first write. `plan`
-/// writes the plan file before the certificate file, and where it found no plan the certificate file alone.
+/// longer than `MAX_FILE` bytes, or a certificate file than the most bytes that `cert_stream` reads. All memory is taken
+/// before the first write. `plan` writes the plan file before the certificate file, and where it found no plan the
+/// certificate file alone.
 ///
 /// What is said of counts holds over every shelf and sink, the machine's own too; what is said of
 /// contents holds where they are told.
@@ -172,7 +174,7 @@ pub fn run<S: Shelf, K: Sink>(alloc: Global, words: &[String], shelf: &mut S, ou
     ensures told_sink { (K.shown out.new).told ≡ (K.shown out.old).told }
 
     // The whole: memory ran out before anything was written, or some answer explains what the run did.
-    ensures run { IsRun (command_of (map string_bytes words.now)) result (S.shown shelf.old) (S.shown shelf.new)
+    ensures run { IsProgramRun (command_of (map string_bytes words.now)) result (S.shown shelf.old) (S.shown shelf.new)
         (K.shown out.old) (K.shown out.new) }
 {
     commands_are_allowed();

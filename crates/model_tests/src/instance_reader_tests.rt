@@ -299,7 +299,7 @@ fn longest(alloc: Global, end: &str) -> Result<String, Fail> {
     Ok(text)
 }
 
-// Long texts and long lists are no want of memory.
+// Long texts and long lists don't run out of memory.
 #[test]
 fn long_models_are_refused_at_their_last_place(rt: HostRuntime) -> Result<(), Fail> {
     let alloc = rt.alloc();

@@ -2,10 +2,11 @@
 use Rattle.std.specs.Prelude.{ℕ, zero, suc, ◌+◌, ◌-◌, ◌%◌, ◌==◌, ◌&&◌, not, Bool, true, false, if◌then◌else◌, List, [], ◌∷◌, ◌++◌, Option, Some, None}
 use Rattle.rand_pcg.specs.Lcg.{Lcg, increment_of, started}
 use Rattle.rand_pcg.specs.Pcg.{multiplier_64, pcg32}
+use Rattle.report.specs.declared.generating_draws.TheConstants.{STREAM}
 
--- the generator of a seed: PCG32 (XSH RR 64/32 of O'Neill), stream 54
+-- the generator of a seed: PCG32 (XSH RR 64/32 of O'Neill), on one stream for all seeds
 abbrev pub generator_of : ℕ → Lcg
-generator_of seed = started 64 multiplier_64 seed (increment_of 64 54)
+generator_of seed = started 64 multiplier_64 seed (increment_of 64 STREAM)
 
 -- a number from a to b by the next word, and the generator after it
 abbrev pub pick : ℕ → ℕ → Lcg → ℕ × Lcg

@@ -16,7 +16,7 @@ use thiserror::Error;
 #[derive(Clone, Copy, Debug, PartialEq, Eq, Error)]
 pub enum GenFault {
     /// There are no items, more than `MAX_ITEMS`, no periods or more than `FIRST_VERSION_PERIODS`.
-    #[error("not from 1 to 40 items and 1 to 60 periods")]
+    #[error("not from 1 to {items} items and 1 to {periods} periods", items = MAX_ITEMS, periods = FIRST_VERSION_PERIODS)]
     Range,
     /// Memory ran out.
     #[error("out of memory")]

@@ -31,11 +31,14 @@ impl Model for DrawnItem {
     ghost view = { λ a. record { number = a.number; demand = a.demand.items; setup_cost = a.setup_cost.items; hold_cost = a.hold_cost; backlog_cost = a.backlog_cost } };
 }
 
+/// The stream of words of the generator: that of the example programs of PCG's author.
+pub const STREAM: u64 = 54;
+
 /// The generator of a seed.
 pub fn generator(seed: u64) -> Lcg64Xsh32
     ensures { result ≡ generator_of seed }
 {
-    Lcg64Xsh32::new(seed, 54)
+    Lcg64Xsh32::new(seed, STREAM)
 }
 
 // A number from low to high, by the next word.

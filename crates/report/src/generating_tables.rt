@@ -1,14 +1,14 @@
 // The document of a model that is drawn.
-ghost use Rattle.std.specs.Prelude.{◌≡◌, ◌≤◌, ◌<◌, ◌^◌, [], ◌∷◌, IfOk, OnOk, option_map};
+ghost use Rattle.std.specs.Prelude.{◌≡◌, ◌≤◌, ◌<◌, ◌^◌, [], ◌∷◌, IfOk, option_map};
 ghost use Rattle.toml.specs.Data.{array, string, table};
 ghost use Rattle.toml.specs.View.{table_view, view};
 ghost use Rattle.lot_sizing.specs.declared.limits.TheConstants.{MAX_ITEMS};
-ghost use Rattle.instance_reader.specs.Written.{number, number_list, some_tables, tables_of, with_key, with_some};
+ghost use Rattle.instance_reader.specs.Written.{number, number_list, some_tables, tables_of};
 ghost use Rattle.report.specs.Draws.{drawn};
 ghost use Rattle.report.specs.Generated.{capacities, generated_table, has_next, item_name, item_table, need_table, needs_of, resource_name, resource_table, use_table, uses_of};
 
 use crate::generating_draws::{DrawnItem, draw_item, generator};
-use instance_reader::FIRST_VERSION;
+use instance_reader::{FIRST_VERSION, put, put_some};
 use lot_model::Key;
 use std::alloc::{AllocError, Global};
 use toml::{Table, Value};
@@ -29,30 +29,6 @@ fn number_list(alloc: Global, amounts: &[u32]) -> Result<Value, AllocError>
         list.push(number(*amount))?;
     }
     Ok(Value::Array(list))
-}
-
-// The table with one key more.
-fn put(alloc: Global, table: &mut Table, key: Key, value: Value) -> Result<(), AllocError>
-    ensures { OnOk result (table_view table.new ≡ with_key key (view value) (table_view table.old)) }
-{
-    let name = String::from_str(alloc, key.name())?;
-    drop(table.insert(name, value)?);
-    Ok(())
-}
-
-// The table with one key more, where there is a value for it.
-fn put_some(
-    alloc: Global,
-    table: &mut Table,
-    key: Key,
-    value: Option<Value>,
-) -> Result<(), AllocError>
-    ensures { OnOk result (table_view table.new ≡ with_some key (option_map view value) (table_view table.old)) }
-{
-    match value {
-        Some(value) => put(alloc, table, key, value),
-        None => Ok(()),
-    }
 }
 
 // The name of an item.

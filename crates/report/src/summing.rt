@@ -218,7 +218,7 @@ fn summary_value(alloc: Global, instance: &Instance, plan: &Plan) -> Result<Valu
 /// The summary of a feasible plan: one compact JSON object and a line feed. Amounts are texts: `cost` in
 /// money; for each item its name, the four parts of its cost in money, the units that are `made` in all, and
 /// the number of its `setups`; for each resource its name and the time that it is used in each period. The
-/// error is want of memory.
+/// error is that memory ran out.
 ///
 /// It takes time in the number of periods times that of items and of lines of uses.
 pub fn summary(alloc: Global, instance: &Instance, plan: &Plan) -> Result<Vec<u8>, AllocError>

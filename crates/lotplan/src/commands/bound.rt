@@ -1,8 +1,7 @@
 // `bound`: the bound of the linear relaxation without cuts of the model in a file.
 ghost use Rattle.std.specs.Prelude.{◌≡◌, ◌≤◌, ◌+◌, string_bytes, IfOk};
 ghost use Rattle.lot_io.specs.Outside.{OnlyReads, piece_size};
-ghost use Rattle.lotplan.specs.Bounding.{BoundIsSaid, IsBounded, bound_line, bound_status};
-ghost use Rattle.lotplan.specs.Held.{bound_meant};
+ghost use Rattle.lotplan.specs.Bounding.{BoundIsSaid, MayBeBoundAnswer, bound_line, bound_meant, bound_status};
 ghost use Rattle.lotplan.specs.Reading.{file_limit};
 ghost use Rattle.lotplan.specs.Saying.{IsSaid};
 
@@ -31,7 +30,7 @@ pub enum BoundAnswer<'a> {
 
 impl BoundAnswer<'_> {
     /// The line and the status.
-    pub fn said(&self, alloc: Global) -> Result<Said, AllocError>
+    pub fn answer_line(&self, alloc: Global) -> Result<Said, AllocError>
         ensures { IfOk result (IsSaid (bound_line (bound_meant self.now)) (bound_status (bound_meant self.now))) }
     {
         Ok(Said::of(self.line(alloc)?, self.status()))
@@ -65,7 +64,7 @@ impl BoundAnswer<'_> {
 
 // What is known of the base bound of an instance.
 fn bound_instance(alloc: Global, instance: &Instance) -> Result<BoundAnswer<'static>, AllocError>
-    ensures { IfOk result (λ answer. IsBounded instance.now (bound_meant answer)) }
+    ensures { IfOk result (λ answer. MayBeBoundAnswer instance.now (bound_meant answer)) }
 {
     match base_bound(alloc, instance)? {
         BoundSays::Bound(least) => Ok(BoundAnswer::Bound(least)),
@@ -84,9 +83,9 @@ pub fn bound_files<S: Shelf>(alloc: Global, model: &str, shelf: &mut S) -> Resul
     match read_model(alloc, model, shelf) {
         Ok(instance) => {
             let answer = bound_instance(alloc, &instance)?;
-            answer.said(alloc)
+            answer.answer_line(alloc)
         }
-        Err(Stop::Answered(why)) => BoundAnswer::Stopped(why).said(alloc),
+        Err(Stop::Answered(why)) => BoundAnswer::Stopped(why).answer_line(alloc),
         Err(Stop::Memory) => Err(AllocError),
     }
 }

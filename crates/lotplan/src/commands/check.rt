@@ -1,20 +1,19 @@
 // `check`: checks the certificate in a file, by the model and the plan in two others.
-ghost use Rattle.std.specs.Prelude.{◌≡◌, ◌≤◌, ◌+◌, ◌*◌, string_bytes, IsTrue, IfOk, IfErr, option_copied};
+ghost use Rattle.std.specs.Prelude.{◌≡◌, ◌≤◌, ◌+◌, ◌*◌, string_bytes, IfOk, option_copied};
 ghost use Rattle.lot_io.specs.Outside.{OnlyReads, piece_size};
 ghost use Rattle.stream_check.specs.Streams.{pass_size};
-ghost use Rattle.lotplan.specs.Held.{IsCheckStop, check_meant};
-ghost use Rattle.lotplan.specs.Checking.{CheckSays, GivenExplains, HoldsPlan, IsRefusal, PlanStops, PlannedExplains, ProofExplains, accepted_line, check_line, check_status, no_certificate_line, rejected_line};
+ghost use Rattle.lotplan.specs.Checking.{CheckSays, GivenExplains, IsRefusal, PlannedExplains, ProofExplains, accepted_line, check_line, check_meant, check_status, no_certificate_line, rejected_line};
 ghost use Rattle.lotplan.specs.Reading.{file_limit};
 ghost use Rattle.lotplan.specs.Saying.{IsSaid};
 
-use crate::model_file::{ReadAnswer, Stop, read_bytes, read_model};
+use crate::model_file::{PlanStop, ReadAnswer, Stop, no_plan_line, read_model, read_plan_file};
 use crate::said::Said;
 use crate::status::Status;
 use cert_checker::{Rejected, Why};
 use certificate::{CertTextFault, Claim, texts_mean_one_thing};
 use lot_io::Shelf;
 use lot_model::Instance;
-use plan_file::{PlanFault, read_plan};
+use plan_file::PlanFault;
 use plan_rules::Plan;
 use std::alloc::{AllocError, Global};
 use stream_check::{StreamFault, check_stream, read_claim};
@@ -34,18 +33,9 @@ pub enum CheckAnswer<'a> {
     Stopped(ReadAnswer<'a>),
 }
 
-/// Why a check can't go on.
-#[derive(Clone, Copy, Debug, PartialEq, Eq)]
-pub enum CheckStop<'a> {
-    /// What the run answers.
-    Answered(CheckAnswer<'a>),
-    /// Memory ran out.
-    Memory,
-}
-
 impl CheckAnswer<'_> {
     /// The line and the status.
-    pub fn said(&self, alloc: Global) -> Result<Said, AllocError>
+    pub fn answer_line(&self, alloc: Global) -> Result<Said, AllocError>
         ensures { IfOk result (IsSaid (check_line (check_meant self.now)) (check_status (check_meant self.now))) }
     {
         Ok(Said::of(self.line(alloc)?, self.status()))
@@ -71,7 +61,7 @@ impl CheckAnswer<'_> {
         match self {
             CheckAnswer::Accepted(claim) => line_of_claim(alloc, claim),
             CheckAnswer::NoCertificate(fault) => line_of_text(alloc, fault),
-            CheckAnswer::NoPlan(fault) => format!(in alloc; "{fault}\n"),
+            CheckAnswer::NoPlan(fault) => no_plan_line(alloc, fault),
             CheckAnswer::Rejected(rejected) => line_of_refusal(alloc, rejected),
             CheckAnswer::Stopped(why) => why.line(alloc),
         }
@@ -141,30 +131,6 @@ fn refusal<'a>(certificate: &'a str, fault: StreamFault) -> Result<CheckAnswer<'
     }
 }
 
-// The plan in a file.
-fn read_given<'a, S: Shelf>(
-    alloc: Global,
-    instance: &Instance,
-    plan: &'a str,
-    shelf: &mut S,
-) -> Result<Plan, CheckStop<'a>>
-    ensures plan { IfOk result (λ given. IsTrue (S.shown shelf.old).told → HoldsPlan (S.shown shelf.old).file plan.entry.now instance.now given) }
-    ensures stop { IfErr result (IsCheckStop (PlanStops instance.now plan.entry.now (S.shown shelf.old) (S.shown shelf.new))) }
-    ensures reads { OnlyReads (S.shown shelf.old) (S.shown shelf.new) }
-    ensures given { (S.shown shelf.new).given ≤ (S.shown shelf.old).given + (file_limit + piece_size) }
-{
-    let bytes = match read_bytes(alloc, plan, shelf) {
-        Ok(bytes) => bytes,
-        Err(Stop::Answered(why)) => return Err(CheckStop::Answered(CheckAnswer::Stopped(why))),
-        Err(Stop::Memory) => return Err(CheckStop::Memory),
-    };
-    match read_plan(alloc, instance, bytes.as_slice()) {
-        Ok(given) => Ok(given),
-        Err(PlanFault::Memory) => Err(CheckStop::Memory),
-        Err(fault) => Err(CheckStop::Answered(CheckAnswer::NoPlan(fault))),
-    }
-}
-
 // Checks the certificate in a file with this plan, or with none.
 fn check_given<'a, S: Shelf>(
     alloc: Global,
@@ -195,10 +161,11 @@ fn check_planned<'a, S: Shelf>(
     ensures reads { OnlyReads (S.shown shelf.old) (S.shown shelf.new) }
     ensures given { (S.shown shelf.new).given ≤ (S.shown shelf.old).given + ((file_limit + piece_size) + 2 * pass_size) }
 {
-    match read_given(alloc, instance, plan, shelf) {
+    match read_plan_file(alloc, instance, plan, shelf) {
         Ok(given) => check_given(alloc, instance, Some(&given), certificate, shelf),
-        Err(CheckStop::Answered(answer)) => Ok(answer),
-        Err(CheckStop::Memory) => Err(AllocError),
+        Err(PlanStop::NoPlan(fault)) => Ok(CheckAnswer::NoPlan(fault)),
+        Err(PlanStop::Answered(why)) => Ok(CheckAnswer::Stopped(why)),
+        Err(PlanStop::Memory) => Err(AllocError),
     }
 }
 
@@ -238,9 +205,9 @@ pub fn check_files<S: Shelf>(
     match read_model(alloc, model, shelf) {
         Ok(instance) => {
             let answer = check_claim(alloc, &instance, plan, certificate, shelf)?;
-            answer.said(alloc)
+            answer.answer_line(alloc)
         }
-        Err(Stop::Answered(why)) => CheckAnswer::Stopped(why).said(alloc),
+        Err(Stop::Answered(why)) => CheckAnswer::Stopped(why).answer_line(alloc),
         Err(Stop::Memory) => Err(AllocError),
     }
 }

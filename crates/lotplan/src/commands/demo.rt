@@ -4,7 +4,7 @@ ghost use Rattle.lot_sizing.specs.Problem.{Problem};
 ghost use Rattle.instance_reader.specs.Model.{BytesMean};
 ghost use Rattle.first_plans.specs.OwnPeriod.{HasOwnPeriod};
 ghost use Rattle.report.specs.Generated.{IsModelSize, generated};
-ghost use Rattle.lotplan.specs.Held.{plan_meant};
+ghost use Rattle.lotplan.specs.Planning.{plan_meant};
 ghost use Rattle.lotplan.specs.Showing.{DemoSays, IsShown};
 
 use crate::commands::plan::{PlanAnswer, answer_of, found_of};
@@ -15,8 +15,20 @@ use lot_model::Instance;
 use report::{GenFault, generate};
 use std::alloc::{AllocError, Global};
 
+/// How many items the uncoupled model has.
+pub const FREE_ITEMS: u32 = 12;
+
+/// How many periods it has.
+pub const FREE_PERIODS: u32 = 60;
+
 /// The most nodes that the tree of the certificate of the uncoupled model may have.
 pub const FREE_BUDGET: u64 = 1_000;
+
+/// How many items the coupled model has.
+pub const COUPLED_ITEMS: u32 = 3;
+
+/// How many periods it has.
+pub const COUPLED_PERIODS: u32 = 4;
 
 /// The most nodes that the tree of the certificate of the coupled model may have.
 pub const COUPLED_BUDGET: u64 = 40;
@@ -84,13 +96,21 @@ fn plan_generated(
     plan_shown(alloc, &instance, budget)
 }
 
-/// Plans two models of a seed: one of 12 items and 60 periods that isn't coupled, and then a coupled one of 3 items and
-/// 4 periods. No file is read or written. Gives the lines that `plan` prints of each, after a line that names it.
+/// Plans two models of a seed: one of `FREE_ITEMS` items and `FREE_PERIODS` periods that isn't coupled, and then a coupled
+/// one of `COUPLED_ITEMS` items and `COUPLED_PERIODS` periods. No file is read or written. Gives the lines that `plan`
+/// prints of each, after a line that names it.
 pub fn show_plans(alloc: Global, seed: u64) -> Result<Said, AllocError>
     ensures { IfOk result (DemoSays seed) }
 {
-    let free = plan_generated(alloc, seed, 12, 60, false, FREE_BUDGET)?;
-    let coupled = plan_generated(alloc, seed, 3, 4, true, COUPLED_BUDGET)?;
+    let free = plan_generated(alloc, seed, FREE_ITEMS, FREE_PERIODS, false, FREE_BUDGET)?;
+    let coupled = plan_generated(
+        alloc,
+        seed,
+        COUPLED_ITEMS,
+        COUPLED_PERIODS,
+        true,
+        COUPLED_BUDGET,
+    )?;
     let (first, second) = (free.line(alloc)?, coupled.line(alloc)?);
     let text = format!(in alloc; "free\n{first}coupled\n{second}")?;
     Ok(Said::of(text, Status::Done))

@@ -1,12 +1,12 @@
 // `gen`: writes a generated model to a file.
 ghost use Rattle.std.specs.Prelude.{◌≡◌, string_bytes, IfOk, OnErr};
 ghost use Rattle.report.specs.Generated.{IsModelSize};
-ghost use Rattle.lotplan.specs.Generating.{GenerateSays, IsGenerated, generate_line, generate_status};
-ghost use Rattle.lotplan.specs.Held.{generate_meant};
+ghost use Rattle.lotplan.specs.Generating.{GenerateSays, IsGenerated, generate_line, generate_meant, generate_status};
 ghost use Rattle.lotplan.specs.Saying.{IsSaid};
 
 use crate::said::Said;
 use crate::status::Status;
+use crate::writing::{unwritten_line, written_line};
 use lot_io::{Shelf, write_file};
 use report::{GenFault, generate};
 use std::alloc::{AllocError, Global};
@@ -22,7 +22,7 @@ pub enum GenerateAnswer<'a> {
 
 impl GenerateAnswer<'_> {
     /// The line and the status.
-    pub fn said(&self, alloc: Global) -> Result<Said, AllocError>
+    pub fn answer_line(&self, alloc: Global) -> Result<Said, AllocError>
         ensures { IfOk result (IsSaid (generate_line (generate_meant self.now)) (generate_status (generate_meant self.now))) }
     {
         Ok(Said::of(self.line(alloc)?, self.status()))
@@ -43,8 +43,8 @@ impl GenerateAnswer<'_> {
         ensures { IfOk result (λ line. string_bytes line ≡ generate_line (generate_meant self.now)) }
     {
         match self {
-            GenerateAnswer::Written(file) => format!(in alloc; "written {file}\n"),
-            GenerateAnswer::Unwritten(file) => format!(in alloc; "refused write {file}\n"),
+            GenerateAnswer::Written(file) => written_line(alloc, *file),
+            GenerateAnswer::Unwritten(file) => unwritten_line(alloc, *file),
         }
     }
 }
@@ -77,8 +77,8 @@ pub fn generate_file<S: Shelf>(
     ensures given { (S.shown shelf.new).given ≡ (S.shown shelf.old).given }
 {
     let text = coupled_text(alloc, seed, items, periods)?;
-    let written = GenerateAnswer::Written(model).said(alloc)?;
-    let unwritten = GenerateAnswer::Unwritten(model).said(alloc)?;
+    let written = GenerateAnswer::Written(model).answer_line(alloc)?;
+    let unwritten = GenerateAnswer::Unwritten(model).answer_line(alloc)?;
     match write_file(shelf, model, text.as_slice()) {
         Ok(()) => Ok(written),
         Err(_) => Ok(unwritten),

@@ -1,18 +1,18 @@
 // `judge`: judges the plan in a file, by the model in another.
-ghost use Rattle.std.specs.Prelude.{◌≡◌, ◌≤◌, ◌+◌, ◌*◌, string_bytes, IfOk, OnErr};
+ghost use Rattle.std.specs.Prelude.{◌≡◌, ◌≤◌, ◌+◌, ◌*◌, string_bytes, IfOk};
 ghost use Rattle.lot_io.specs.Outside.{OnlyReads, piece_size};
-ghost use Rattle.lotplan.specs.Held.{judge_meant};
-ghost use Rattle.lotplan.specs.Judging.{BytesSay, JudgeSays, PlanFileSays, judge_line, judge_status};
+ghost use Rattle.plan_rules.specs.Held.{AllFit, plan_of};
+ghost use Rattle.lotplan.specs.Judging.{IsJudgement, JudgeSays, PlanFileSays, judge_line, judge_meant, judge_status};
 ghost use Rattle.lotplan.specs.Reading.{file_limit};
 ghost use Rattle.lotplan.specs.Saying.{IsSaid};
 
-use crate::model_file::{ReadAnswer, Stop, read_bytes, read_model};
+use crate::model_file::{PlanStop, ReadAnswer, Stop, no_plan_line, read_model, read_plan_file};
 use crate::said::Said;
 use crate::status::Status;
 use lot_io::Shelf;
 use lot_model::Instance;
-use plan_file::{PlanFault, read_plan};
-use plan_rules::{Broken, judge};
+use plan_file::PlanFault;
+use plan_rules::{Broken, Plan, judge};
 use std::alloc::{AllocError, Global};
 
 /// What `judge` answers.
@@ -30,7 +30,7 @@ pub enum JudgeAnswer<'a> {
 
 impl JudgeAnswer<'_> {
     /// The line and the status.
-    pub fn said(&self, alloc: Global) -> Result<Said, AllocError>
+    pub fn answer_line(&self, alloc: Global) -> Result<Said, AllocError>
         ensures { IfOk result (IsSaid (judge_line (judge_meant self.now)) (judge_status (judge_meant self.now))) }
     {
         Ok(Said::of(self.line(alloc)?, self.status()))
@@ -53,24 +53,21 @@ impl JudgeAnswer<'_> {
     {
         match self {
             JudgeAnswer::Feasible(cost) => format!(in alloc; "feasible {cost}\n"),
-            JudgeAnswer::NoPlan(fault) => format!(in alloc; "{fault}\n"),
+            JudgeAnswer::NoPlan(fault) => no_plan_line(alloc, fault),
             JudgeAnswer::Broken(rule) => format!(in alloc; "{rule}\n"),
             JudgeAnswer::Stopped(why) => why.line(alloc),
         }
     }
 }
 
-// Judges the bytes of a plan file.
-fn judge_bytes(alloc: Global, instance: &Instance, bytes: &[u8]) -> Result<Said, AllocError>
-    ensures { IfOk result (BytesSay instance.now bytes.now) }
+// Judges a plan.
+fn judge_given(instance: &Instance, given: &Plan) -> JudgeAnswer<'static>
+    requires { AllFit instance.now given.now }
+    ensures { IsJudgement instance.now (plan_of given.now) (judge_meant result) }
 {
-    match read_plan(alloc, instance, bytes) {
-        Ok(plan) => match judge(instance, &plan) {
-            Ok(cost) => JudgeAnswer::Feasible(cost).said(alloc),
-            Err(rule) => JudgeAnswer::Broken(rule).said(alloc),
-        },
-        Err(PlanFault::Memory) => Err(AllocError),
-        Err(fault) => JudgeAnswer::NoPlan(fault).said(alloc),
+    match judge(instance, given) {
+        Ok(cost) => JudgeAnswer::Feasible(cost),
+        Err(rule) => JudgeAnswer::Broken(rule),
     }
 }
 
@@ -85,10 +82,11 @@ fn judge_plan<S: Shelf>(
     ensures reads { OnlyReads (S.shown shelf.old) (S.shown shelf.new) }
     ensures given { (S.shown shelf.new).given ≤ (S.shown shelf.old).given + (file_limit + piece_size) }
 {
-    match read_bytes(alloc, plan, shelf) {
-        Ok(bytes) => judge_bytes(alloc, instance, bytes.as_slice()),
-        Err(Stop::Answered(why)) => JudgeAnswer::Stopped(why).said(alloc),
-        Err(Stop::Memory) => Err(AllocError),
+    match read_plan_file(alloc, instance, plan, shelf) {
+        Ok(given) => judge_given(instance, &given).answer_line(alloc),
+        Err(PlanStop::NoPlan(fault)) => JudgeAnswer::NoPlan(fault).answer_line(alloc),
+        Err(PlanStop::Answered(why)) => JudgeAnswer::Stopped(why).answer_line(alloc),
+        Err(PlanStop::Memory) => Err(AllocError),
     }
 }
 
@@ -105,7 +103,7 @@ pub fn judge_files<S: Shelf>(
 {
     match read_model(alloc, model, shelf) {
         Ok(instance) => judge_plan(alloc, &instance, plan, shelf),
-        Err(Stop::Answered(why)) => JudgeAnswer::Stopped(why).said(alloc),
+        Err(Stop::Answered(why)) => JudgeAnswer::Stopped(why).answer_line(alloc),
         Err(Stop::Memory) => Err(AllocError),
     }
 }

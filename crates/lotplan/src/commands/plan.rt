@@ -4,14 +4,14 @@ ghost use Rattle.std.specs.Prelude.{◌≡◌, ◌≢◌, ◌≤◌, ◌+◌, st
 ghost use Rattle.lot_io.specs.Outside.{OnlyReads, piece_size};
 ghost use Rattle.branch_and_cut.specs.Search.{IsGoodPlan, cost_of};
 ghost use Rattle.lotplan.specs.Finding.{IsFound};
-ghost use Rattle.lotplan.specs.Held.{plan_meant};
-ghost use Rattle.lotplan.specs.Planning.{IsAnswerTo, PlanSays, WriteSays, WritesAndSays, plan_line, plan_status, root_line};
+ghost use Rattle.lotplan.specs.Planning.{IsAnswerTo, PlanSays, WriteSays, WritesAndSays, plan_line, plan_meant, plan_status, root_line};
 ghost use Rattle.lotplan.specs.Reading.{file_limit};
 ghost use Rattle.lotplan.specs.Saying.{IsSaid};
 
 use crate::model_file::{ReadAnswer, Stop, read_model};
 use crate::said::Said;
 use crate::status::Status;
+use crate::writing::unwritten_line;
 use branch_and_cut::search_all;
 use branching::{Found, RootSays};
 use certificate::{Claim, write_certificate};
@@ -68,7 +68,7 @@ pub enum PlanAnswer<'a> {
 
 impl PlanAnswer<'_> {
     /// The lines and the status.
-    pub fn said(&self, alloc: Global) -> Result<Said, AllocError>
+    pub fn answer_line(&self, alloc: Global) -> Result<Said, AllocError>
         ensures { IfOk result (IsSaid (plan_line (plan_meant self.now)) (plan_status (plan_meant self.now))) }
     {
         Ok(Said::of(self.line(alloc)?, self.status()))
@@ -113,7 +113,7 @@ impl PlanAnswer<'_> {
                 let root = line_of_root(alloc, root)?;
                 format!(in alloc; "{root}nodes {nodes}\nundecided {bound}\n")
             }
-            PlanAnswer::Unwritten(file) => format!(in alloc; "refused write {file}\n"),
+            PlanAnswer::Unwritten(file) => unwritten_line(alloc, *file),
             PlanAnswer::Stopped(why) => why.line(alloc),
         }
     }
@@ -200,8 +200,8 @@ fn write_found<S: Shelf>(
     ensures given { (S.shown shelf.new).given ≡ (S.shown shelf.old).given }
 {
     let proof = write_certificate(alloc, &found.certificate)?;
-    let written = answer_of(instance, found).said(alloc)?;
-    let unproved = PlanAnswer::Unwritten(certificate).said(alloc)?;
+    let written = answer_of(instance, found).answer_line(alloc)?;
+    let unproved = PlanAnswer::Unwritten(certificate).answer_line(alloc)?;
     let chosen = match &found.plan {
         Some(chosen) => chosen,
         None => {
@@ -209,7 +209,7 @@ fn write_found<S: Shelf>(
         }
     };
     let bytes = write_plan(alloc, instance, chosen)?;
-    let unplanned = PlanAnswer::Unwritten(plan).said(alloc)?;
+    let unplanned = PlanAnswer::Unwritten(plan).answer_line(alloc)?;
     match write_file(shelf, plan, bytes.as_slice()) {
         Ok(()) => Ok(write_last(certificate, proof.as_slice(), written, unproved, shelf)),
         Err(_) => Ok(unplanned),
@@ -261,7 +261,7 @@ pub fn plan_files<S: Shelf>(
 {
     match read_model(alloc, model, shelf) {
         Ok(instance) => plan_instance(alloc, &instance, budget, plan, certificate, shelf),
-        Err(Stop::Answered(why)) => PlanAnswer::Stopped(why).said(alloc),
+        Err(Stop::Answered(why)) => PlanAnswer::Stopped(why).answer_line(alloc),
         Err(Stop::Memory) => Err(AllocError),
     }
 }

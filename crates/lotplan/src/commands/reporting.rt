@@ -1,34 +1,31 @@
 // `report`: judges the plan in a file, by the model in another, and sums it up.
-ghost use Rattle.std.specs.Prelude.{◌≡◌, ◌≤◌, ◌+◌, ◌*◌, IfOk};
+ghost use Rattle.std.specs.Prelude.{◌≤◌, ◌+◌, ◌*◌, IfOk};
 ghost use Rattle.lot_io.specs.Outside.{OnlyReads, piece_size};
+ghost use Rattle.plan_rules.specs.Held.{AllFit, plan_of};
 ghost use Rattle.lotplan.specs.Reading.{file_limit};
-ghost use Rattle.lotplan.specs.Reporting.{BytesAreReported, PlanFileIsReported, ReportSays};
+ghost use Rattle.lotplan.specs.Reporting.{PlanFileIsReported, PlanIsReported, ReportSays};
 
 use crate::commands::judge::JudgeAnswer;
-use crate::model_file::{Stop, read_bytes, read_model};
+use crate::model_file::{PlanStop, Stop, read_model, read_plan_file};
 use crate::said::Said;
 use crate::status::Status;
 use lot_io::Shelf;
 use lot_model::Instance;
-use plan_file::{PlanFault, read_plan};
-use plan_rules::judge;
+use plan_rules::{Plan, judge};
 use report::summary;
 use std::alloc::{AllocError, Global};
 
-// Sums up the plan in the bytes of a plan file, or says what `judge` says where it isn't feasible.
-fn report_bytes(alloc: Global, instance: &Instance, bytes: &[u8]) -> Result<Said, AllocError>
-    ensures { IfOk result (BytesAreReported instance.now bytes.now) }
+// Sums up a plan, or says what `judge` says where it isn't feasible.
+fn report_given(alloc: Global, instance: &Instance, given: &Plan) -> Result<Said, AllocError>
+    requires { AllFit instance.now given.now }
+    ensures { IfOk result (PlanIsReported instance.now (plan_of given.now)) }
 {
-    match read_plan(alloc, instance, bytes) {
-        Ok(plan) => match judge(instance, &plan) {
-            Ok(_) => Ok(Said {
-                line: summary(alloc, instance, &plan)?,
-                status: Status::Done,
-            }),
-            Err(rule) => JudgeAnswer::Broken(rule).said(alloc),
-        },
-        Err(PlanFault::Memory) => Err(AllocError),
-        Err(fault) => JudgeAnswer::NoPlan(fault).said(alloc),
+    match judge(instance, given) {
+        Ok(_) => Ok(Said {
+            line: summary(alloc, instance, given)?,
+            status: Status::Done,
+        }),
+        Err(rule) => JudgeAnswer::Broken(rule).answer_line(alloc),
     }
 }
 
@@ -43,10 +40,11 @@ fn report_plan<S: Shelf>(
     ensures reads { OnlyReads (S.shown shelf.old) (S.shown shelf.new) }
     ensures given { (S.shown shelf.new).given ≤ (S.shown shelf.old).given + (file_limit + piece_size) }
 {
-    match read_bytes(alloc, plan, shelf) {
-        Ok(bytes) => report_bytes(alloc, instance, bytes.as_slice()),
-        Err(Stop::Answered(why)) => JudgeAnswer::Stopped(why).said(alloc),
-        Err(Stop::Memory) => Err(AllocError),
+    match read_plan_file(alloc, instance, plan, shelf) {
+        Ok(given) => report_given(alloc, instance, &given),
+        Err(PlanStop::NoPlan(fault)) => JudgeAnswer::NoPlan(fault).answer_line(alloc),
+        Err(PlanStop::Answered(why)) => JudgeAnswer::Stopped(why).answer_line(alloc),
+        Err(PlanStop::Memory) => Err(AllocError),
     }
 }
 
@@ -63,7 +61,7 @@ pub fn report_files<S: Shelf>(
 {
     match read_model(alloc, model, shelf) {
         Ok(instance) => report_plan(alloc, &instance, plan, shelf),
-        Err(Stop::Answered(why)) => JudgeAnswer::Stopped(why).said(alloc),
+        Err(Stop::Answered(why)) => JudgeAnswer::Stopped(why).answer_line(alloc),
         Err(Stop::Memory) => Err(AllocError),
     }
 }

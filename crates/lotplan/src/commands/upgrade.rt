@@ -3,14 +3,14 @@ ghost use Rattle.std.specs.Prelude.{◌≡◌, ◌≤◌, ◌+◌, ℕ, List, Ok
 ghost use Rattle.instance_reader.specs.Model.{BytesMean};
 ghost use Rattle.instance_reader.specs.Written.{IsModelText};
 ghost use Rattle.lot_io.specs.Outside.{OnlyReads, piece_size};
-ghost use Rattle.lotplan.specs.Held.{upgrade_meant};
 ghost use Rattle.lotplan.specs.Reading.{file_limit};
 ghost use Rattle.lotplan.specs.Saying.{IsSaid};
-ghost use Rattle.lotplan.specs.Upgrading.{RewriteSays, UpgradeSays, upgrade_line, upgrade_status};
+ghost use Rattle.lotplan.specs.Upgrading.{RewriteSays, UpgradeSays, upgrade_line, upgrade_meant, upgrade_status};
 
 use crate::model_file::{ReadAnswer, Stop, read_first_model};
 use crate::said::Said;
 use crate::status::Status;
+use crate::writing::{unwritten_line, written_line};
 use instance_reader::{model_texts_are_read, write_model};
 use lot_io::{Shelf, write_file};
 use lot_model::Instance;
@@ -29,7 +29,7 @@ pub enum UpgradeAnswer<'a> {
 
 impl UpgradeAnswer<'_> {
     /// The line and the status.
-    pub fn said(&self, alloc: Global) -> Result<Said, AllocError>
+    pub fn answer_line(&self, alloc: Global) -> Result<Said, AllocError>
         ensures { IfOk result (IsSaid (upgrade_line (upgrade_meant self.now)) (upgrade_status (upgrade_meant self.now))) }
     {
         Ok(Said::of(self.line(alloc)?, self.status()))
@@ -51,8 +51,8 @@ impl UpgradeAnswer<'_> {
         ensures { IfOk result (λ line. string_bytes line ≡ upgrade_line (upgrade_meant self.now)) }
     {
         match self {
-            UpgradeAnswer::Written(file) => format!(in alloc; "written {file}\n"),
-            UpgradeAnswer::Unwritten(file) => format!(in alloc; "refused write {file}\n"),
+            UpgradeAnswer::Written(file) => written_line(alloc, *file),
+            UpgradeAnswer::Unwritten(file) => unwritten_line(alloc, *file),
             UpgradeAnswer::Stopped(why) => why.line(alloc),
         }
     }
@@ -79,8 +79,8 @@ fn write_upgraded<S: Shelf>(
 {
     texts_mean_it(instance);
     let bytes = write_model(alloc, instance)?;
-    let written = UpgradeAnswer::Written(upgraded).said(alloc)?;
-    let unwritten = UpgradeAnswer::Unwritten(upgraded).said(alloc)?;
+    let written = UpgradeAnswer::Written(upgraded).answer_line(alloc)?;
+    let unwritten = UpgradeAnswer::Unwritten(upgraded).answer_line(alloc)?;
     match write_file(shelf, upgraded, bytes.as_slice()) {
         Ok(()) => Ok(written),
         Err(_) => Ok(unwritten),
@@ -100,7 +100,7 @@ pub fn upgrade_files<S: Shelf>(
 {
     match read_first_model(alloc, model, shelf) {
         Ok(instance) => write_upgraded(alloc, &instance, upgraded, shelf),
-        Err(Stop::Answered(why)) => UpgradeAnswer::Stopped(why).said(alloc),
+        Err(Stop::Answered(why)) => UpgradeAnswer::Stopped(why).answer_line(alloc),
         Err(Stop::Memory) => Err(AllocError),
     }
 }

@@ -1,7 +1,6 @@
 use Rattle.std.specs.Prelude.{None}
 use Rattle.std.proofs.lemmas.Result.{IfOk-weaker}
-use Rattle.lotplan.specs.Held.{check_meant}
-use Rattle.lotplan.specs.Checking.{GivenExplains, IsRefusal, PlannedExplains, ProofExplains}
+use Rattle.lotplan.specs.Checking.{GivenExplains, IsRefusal, PlannedExplains, ProofExplains, check_meant}
 use Rattle.lotplan.proofs.Checked.{by_bound, by_infeasible, by_optimal, claim_refused}
 use Rattle.lotplan.proofs.commands.check.check_claim.Goals as goal
 

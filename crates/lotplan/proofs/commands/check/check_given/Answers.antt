@@ -1,7 +1,6 @@
 use Rattle.std.specs.Prelude.{option_copied}
 use Rattle.std.proofs.lemmas.Result.{IfOk-weaker}
-use Rattle.lotplan.specs.Held.{check_meant}
-use Rattle.lotplan.specs.Checking.{GivenExplains, IsRefusal}
+use Rattle.lotplan.specs.Checking.{GivenExplains, IsRefusal, check_meant}
 use Rattle.lotplan.proofs.Checked.{given_refused}
 use Rattle.lotplan.proofs.commands.check.check_given.Goals as goal
 

@@ -1,4 +1,4 @@
-use Rattle.lotplan.specs.Held.{plan_meant}
+use Rattle.lotplan.specs.Planning.{plan_meant}
 use Rattle.lotplan.proofs.Shown.{shown}
 use Rattle.lotplan.proofs.commands.demo.plan_shown.Goals as goal
 

@@ -1,6 +1,5 @@
 use Rattle.std.proofs.Common.{◌∙◌, ◌++◌, codes, string_bytes, ap}
-use Rattle.lotplan.specs.Held.{plan_meant}
-use Rattle.lotplan.specs.Planning.{plan_line}
+use Rattle.lotplan.specs.Planning.{plan_line, plan_meant}
 use Rattle.lotplan.proofs.Drawn.{coupled_short, free_alone}
 use Rattle.lotplan.proofs.commands.demo.show_plans.Goals as goal
 

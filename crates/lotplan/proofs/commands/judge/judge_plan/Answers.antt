@@ -1,10 +1,15 @@
-use Rattle.std.proofs.Common.{sym}
-use Rattle.lotplan.specs.Held.{read_meant}
-use Rattle.lotplan.proofs.Judged.{says_bytes, says_no_bytes}
+use Rattle.lotplan.specs.Judging.{judge_meant, no_plan, stopped}
+use Rattle.lotplan.specs.Reading.{read_meant}
+use Rattle.lotplan.proofs.Judged.{plan_in_file, says_file}
 use Rattle.lotplan.proofs.commands.judge.judge_plan.Goals as goal
 
 pub returns-in-Ok-clause-said : goal.returns-in-Ok-clause-said
-returns-in-Ok-clause-said g c = says_bytes c.args.instance.now c.args.plan.now (g.S.Shelf.shown c.args.shelf.now) (g.S.Shelf.shown c.read_bytes.new.shelf) c.as_slice.result.now c.judge_bytes.result (λ t. (c.in-Ok.bytes.items, c.in-Ok.ensures.bytes t, c.in-Ok.ensures.short, sym c.as_slice.ensures.value)) c.judge_bytes.ensures
+returns-in-Ok-clause-said g c =
+    let answer = judge_meant c.judge_given.result in
+    says_file c.args.instance.now c.args.plan.now (g.S.Shelf.shown c.args.shelf.now) (g.S.Shelf.shown c.read_plan_file.new.shelf) answer c.answer_line.result (plan_in_file c.args.instance.now c.args.plan.now (g.S.Shelf.shown c.args.shelf.now) (g.S.Shelf.shown c.read_plan_file.new.shelf) c.in-Ok.given answer c.in-Ok.ensures.plan c.judge_given.ensures) c.answer_line.ensures
+
+pub returns-in-Err-NoPlan-clause-said : goal.returns-in-Err-NoPlan-clause-said
+returns-in-Err-NoPlan-clause-said g c = says_file c.args.instance.now c.args.plan.now (g.S.Shelf.shown c.args.shelf.now) (g.S.Shelf.shown c.read_plan_file.new.shelf) (no_plan c.in-Err-NoPlan.fault) c.answer_line-in-Err-NoPlan.result (rw (c.in-Err-NoPlan.field-0-is) at c.in-Err-NoPlan.ensures.stop) c.answer_line-in-Err-NoPlan.ensures
 
 pub returns-in-Err-Answered-clause-said : goal.returns-in-Err-Answered-clause-said
-returns-in-Err-Answered-clause-said g c = says_no_bytes c.args.instance.now c.args.plan.now (g.S.Shelf.shown c.args.shelf.now) (g.S.Shelf.shown c.read_bytes.new.shelf) (read_meant c.in-Err-Answered.why) c.said.result (rw (c.in-Err-Answered.field-0-is) at c.in-Err-Answered.ensures.stop) c.said.ensures
+returns-in-Err-Answered-clause-said g c = says_file c.args.instance.now c.args.plan.now (g.S.Shelf.shown c.args.shelf.now) (g.S.Shelf.shown c.read_plan_file.new.shelf) (stopped (read_meant c.in-Err-Answered.why)) c.answer_line-in-Err-Answered.result (rw (c.in-Err-Answered.field-0-is) at c.in-Err-Answered.ensures.stop) c.answer_line-in-Err-Answered.ensures

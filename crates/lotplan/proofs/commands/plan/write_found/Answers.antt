@@ -4,8 +4,8 @@ use Rattle.plan_file.specs.Records.{IsPlanOf, records_of}
 use Rattle.certificate.specs.Limits.{IsTextOf}
 use Rattle.certificate.specs.Shapes.{shape_of}
 use Rattle.stream_check.specs.Streams.{too_many}
-use Rattle.lotplan.specs.Held.{plan_meant}
-use Rattle.lotplan.specs.Planning.{IsUnwritten, IsWritten, StartsOnly, unwritten}
+use Rattle.lotplan.specs.Writing.{StartsOnly}
+use Rattle.lotplan.specs.Planning.{IsUnwritten, IsWritten, unwritten, plan_meant}
 use Rattle.lotplan.specs.Reading.{file_limit}
 use Rattle.lotplan.proofs.Proved.{says_planned, says_proved, unplanned_at}
 use Rattle.lotplan.proofs.commands.plan.write_found.Goals as goal

@@ -1,5 +1,5 @@
 use Rattle.lot_io.proofs.Frames.{reads_on}
-use Rattle.lotplan.specs.Held.{read_meant}
+use Rattle.lotplan.specs.Reading.{read_meant}
 use Rattle.lotplan.proofs.Reported.{says_reported, says_stop}
 use Rattle.lotplan.proofs.commands.reporting.report_files.Goals as goal
 
@@ -10,4 +10,4 @@ pub returns-in-Ok-clause-reads : goal.returns-in-Ok-clause-reads
 returns-in-Ok-clause-reads g c = reads_on c.read_model.ensures.reads c.report_plan.ensures.reads
 
 pub returns-in-Err-Answered-clause-said : goal.returns-in-Err-Answered-clause-said
-returns-in-Err-Answered-clause-said g c = says_stop c.args.model.now c.args.plan.now (g.S.Shelf.shown c.args.shelf.now) (g.S.Shelf.shown c.read_model.new.shelf) (read_meant c.in-Err-Answered.why) c.said.result (rw (c.in-Err-Answered.field-0-is) at c.in-Err-Answered.ensures.stop) c.said.ensures
+returns-in-Err-Answered-clause-said g c = says_stop c.args.model.now c.args.plan.now (g.S.Shelf.shown c.args.shelf.now) (g.S.Shelf.shown c.read_model.new.shelf) (read_meant c.in-Err-Answered.why) c.answer_line.result (rw (c.in-Err-Answered.field-0-is) at c.in-Err-Answered.ensures.stop) c.answer_line.ensures

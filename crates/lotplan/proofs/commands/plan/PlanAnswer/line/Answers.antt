@@ -1,7 +1,6 @@
 use Rattle.std.proofs.Common.{◌≡◌, ◌∙◌, string_bytes, ap}
 use Rattle.std.proofs.lemmas.Result.{IfOk-weaker}
-use Rattle.lotplan.specs.Held.{plan_meant}
-use Rattle.lotplan.specs.Planning.{plan_line}
+use Rattle.lotplan.specs.Planning.{plan_line, plan_meant}
 use Rattle.lotplan.proofs.Texts.{above_lines, above_parts, between_lines, between_parts, infeasible_lines, infeasible_parts, optimal_lines, optimal_parts}
 use Rattle.lotplan.proofs.commands.plan.PlanAnswer.line.Goals as goal
 

@@ -1,6 +1,0 @@
-use Rattle.std.proofs.Common.{refl}
-use Rattle.report.proofs.GeneratedTables.{members_view-insert}
-use Rattle.report.proofs.generating_tables.put.Goals as goal
-
-pub returns : goal.returns
-returns c = rw (c.in_ok-insert.ensures.entries, members_view-insert c.args.table.now.entries c.in_ok-name.name c.args.value, c.in_ok-name.ensures.ok, c.name.ensures) refl
