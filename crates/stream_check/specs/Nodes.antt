@@ -27,6 +27,8 @@ use Rattle.cert_checker.specs.Leaves.{HasDenominator}
 use Rattle.cert_stream.specs.declared.lines.LineReader.{LineReader}
 use Rattle.stream_check.specs.declared.fault.StreamFault.{StreamFault}
 use Rattle.stream_check.specs.declared.fault.StreamFault.TheVariants as stream
+use Rattle.stream_check.specs.declared.nodes.Given.{Given}
+use Rattle.stream_check.specs.declared.units.CertText.{CertText}
 use Rattle.stream_check.specs.declared.units.Node.{Node}
 use Rattle.stream_check.specs.declared.units.Node.TheVariants as node
 use Rattle.stream_check.specs.Passes.{Awaits}
@@ -143,3 +145,8 @@ pub record AreLeft (m : Problem) (rows : List LinRow) (claim : Claim) (whole : T
   pub short : AreShort paths trees
   pub awaits : Awaits shelf name r version (trees_values trees ++ EndLine ∷ [])
   pub decide : Decide m rows claim whole first paths trees r.number
+
+-- the same of what is given to the nodes, and of the text that they are read from
+abbrev pub AreLeftOf : Given → CertText → (whole : TreeShape) (first : ℕ) → List (List Bound) → Shelved → LineReader → Type 0
+AreLeftOf g t whole first paths shelf r =
+    AreLeft g.instance.now g.rows.now g.claim whole first paths t.version shelf t.name.now r

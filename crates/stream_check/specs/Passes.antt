@@ -1,5 +1,5 @@
 -- A pass over a certificate's file goes on, or stops.
-use Rattle.std.specs.Prelude.{◌≡◌, ◌≢◌, ◌≤◌, ◌+◌, ℕ, List, Result, Ok, Err, IsTrue, ⊤}
+use Rattle.std.specs.Prelude.{◌≡◌, ◌≢◌, ◌≤◌, ◌+◌, ℕ, List, Result, Ok, Err, IsTrue, IfErr, OnOk, ⊤}
 use Rattle.lot_io.specs.Outside.{Finds, OnlyReads, Shelved, piece_size}
 use Rattle.lot_io.specs.declared.files.ReadFault.TheVariants as file
 use Rattle.certificate.specs.declared.fault.CertTextFault.TheVariants as text
@@ -10,6 +10,7 @@ use Rattle.cert_stream.specs.declared.limits.TheConstants.{MAX_BYTES}
 use Rattle.cert_stream.specs.Reader.{GoesOn, IsCause, IsSound, rest_in}
 use Rattle.stream_check.specs.declared.fault.StreamFault.{StreamFault}
 use Rattle.stream_check.specs.declared.fault.StreamFault.TheVariants as stream
+use Rattle.stream_check.specs.declared.units.CertText.{CertText}
 
 -- from one moment of a pass to a later one, after which it may go on
 pub record IsOn (name : List ℕ) (old new : Shelved) (a b : LineReader) : Type 0 where
@@ -31,11 +32,20 @@ pub record IsStopped (name : List ℕ) (at : ℕ) (old new : Shelved) (f : Strea
   pub bound : new.given + at ≤ old.given + MAX_BYTES + piece_size
   pub reads : OnlyReads old new
 
+-- a step of a pass: after an answer the pass may go on, and after a fault it has stopped
+pub record IsStep {A : Type 0} (name : List ℕ) (old new : Shelved) (a b : LineReader) (result : Result A StreamFault) : Type 0 where
+  pub on : OnOk result (IsOn name old new a b)
+  pub stopped : IfErr result (IsStopped name a.at old new)
+
 -- the shelf tells that just these lines are left
 pub record Awaits (shelf : Shelved) (name : List ℕ) (r : LineReader) (version : ℕ) (ls : Values) : Type 0 where
   pub told : IsTrue shelf.told
   pub lines : AreLines version ls
   pub text : rest_in shelf name r ≡ values_text ls
+
+-- just these lines of the text are left
+abbrev pub HasLeft : CertText → Shelved → LineReader → Values → Type 0
+HasLeft t shelf r ls = Awaits shelf t.name.now r t.version ls
 
 -- no line is wrong, and what is refused has its cause
 abbrev pub IsRefusal : (ℕ → Why → Type 0) → StreamFault → Type 0

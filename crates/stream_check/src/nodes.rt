@@ -18,11 +18,11 @@ ghost use Rattle.cert_checker.specs.Named.{IsReadyFor};
 ghost use Rattle.cert_checker.specs.Leaves.{HasDenominator};
 ghost use Rattle.cert_checker.specs.Checks.{LeafIsGood, TreeIsGood};
 ghost use Rattle.cert_stream.specs.Reader.{IsSound, left_of};
-ghost use Rattle.stream_check.specs.Nodes.{AreCovered, AreLeft, AreSmall, IsBranchStop, IsLeafStop, IsSafe, Splits, TreeIsRefused, later, needed};
-ghost use Rattle.stream_check.specs.Passes.{Awaits, Gives, IsOn, IsStopped};
+ghost use Rattle.stream_check.specs.Nodes.{AreCovered, AreLeftOf, AreSmall, IsBranchStop, IsLeafStop, IsSafe, Splits, TreeIsRefused, later, needed};
+ghost use Rattle.stream_check.specs.Passes.{Gives, HasLeft, IsStep};
 
 use crate::StreamFault;
-use crate::units::{Node, read_node};
+use crate::units::{CertText, Node, read_node};
 use cert_checker::{NamedSums, Rejected, Why, leaf_bound_in, shortfall};
 use cert_stream::LineReader;
 use certificate::{CertTextFault, Claim, Leaf, MAX_BRANCHES};
@@ -85,30 +85,39 @@ fn go_over(path: &mut Vec<Bound>) -> Result<bool, AllocError>
     Ok(false)
 }
 
+// What is given to all nodes of a tree: the instance, the rows of the cuts, and the claim.
+#[derive(Clone, Copy)]
+struct Given<'a> {
+    instance: &'a Instance,
+    rows: &'a [Row],
+    claim: Claim,
+}
+
 // Whether a leaf on this line says enough.
 fn check_leaf(
     alloc: Global,
-    instance: &Instance,
+    given: Given<'_>,
     named: &mut NamedSums,
-    rows: &[Row],
-    claim: Claim,
     path: &[Bound],
     leaf: &Leaf,
     line: u64,
 ) -> Result<(), StreamFault>
-    requires ready { IsReadyFor instance.now named.old }
-    requires rows { AreOfProblem instance.now rows.now }
-    requires path { AreChoices instance.now path.now }
+    requires ready { IsReadyFor given.instance.now named.old }
+    requires rows { AreOfProblem given.instance.now given.rows.now }
+    requires path { AreChoices given.instance.now path.now }
     requires den { HasDenominator (leaf_shape leaf.now) }
     requires lines { line + length (leaf_parts (leaf_shape leaf.now)) < 2 ^ 64 }
-    ensures ready { IsReadyFor instance.now named.new }
-    ensures good { OnOk result (LeafIsGood instance.now rows.now claim path.now (leaf_shape leaf.now)) }
-    ensures safe { OnOk result (HoldAtPlans instance.now rows.now → (p : Plan) → IsFeasible instance.now p
-        → AreMet (value_in p) path.now → IsSafe instance.now claim p) }
-    ensures stop { IfErr result (IsLeafStop instance.now rows.now claim path.now (leaf_shape leaf.now) line) }
+    ensures ready { IsReadyFor given.entry.instance.now named.new }
+    ensures good { OnOk result (LeafIsGood given.entry.instance.now given.entry.rows.now
+        given.entry.claim path.now (leaf_shape leaf.now)) }
+    ensures safe { OnOk result (HoldAtPlans given.entry.instance.now given.entry.rows.now → (p : Plan)
+        → IsFeasible given.entry.instance.now p → AreMet (value_in p) path.now
+        → IsSafe given.entry.instance.now given.entry.claim p) }
+    ensures stop { IfErr result (IsLeafStop given.entry.instance.now given.entry.rows.now
+        given.entry.claim path.now (leaf_shape leaf.now) line) }
 {
-    let says = leaf_bound_in(alloc, instance, named, rows, path, leaf, line)?;
-    match shortfall(claim, says) {
+    let says = leaf_bound_in(alloc, given.instance, named, given.rows, path, leaf, line)?;
+    match shortfall(given.claim, says) {
         None => Ok(()),
         Some(amount) => Err(StreamFault::Rejected(Rejected {
             line,
@@ -119,47 +128,42 @@ fn check_leaf(
 
 // Whether the next node, to which the path leads, is good. The path then leads to the node after it, if one is needed.
 fn check_node<S: Shelf>(
-    alloc: Global,
-    instance: &Instance,
+    given: Given<'_>,
     named: &mut NamedSums,
-    rows: &[Row],
-    claim: Claim,
     path: &mut Vec<Bound>,
     reader: &mut LineReader,
     shelf: &mut S,
-    name: &str,
-    version: u32,
+    text: CertText<'_>,
 ) -> Result<bool, StreamFault>
-    requires ready { IsReadyFor instance.now named.old }
-    requires rows { AreOfProblem instance.now rows.now }
-    requires hold { HoldAtPlans instance.now rows.now }
-    requires choices { AreChoices instance.now path.old.items }
+    requires ready { IsReadyFor given.instance.now named.old }
+    requires rows { AreOfProblem given.instance.now given.rows.now }
+    requires hold { HoldAtPlans given.instance.now given.rows.now }
+    requires choices { AreChoices given.instance.now path.old.items }
     requires small { AreSmall path.old.items }
     requires sound { IsSound reader.old }
-    requires version { IsVersion version }
-    ensures ready { OnOk result (IsReadyFor instance.now named.new) }
-    ensures choices { OnOk result (AreChoices instance.now path.new.items) }
+    requires version { IsVersion text.version }
+    ensures ready { OnOk result (IsReadyFor given.entry.instance.now named.new) }
+    ensures choices { OnOk result (AreChoices given.entry.instance.now path.new.items) }
     ensures small { OnOk result (AreSmall path.new.items) }
     ensures left { OnOk result (left_of reader.new < left_of reader.old) }
-    ensures covered { IfOk result (λ more. AreCovered instance.now claim (needed true path.old.items)
-        → AreCovered instance.now claim (needed more path.new.items)) }
+    ensures covered { IfOk result (λ more.
+        AreCovered given.entry.instance.now given.entry.claim (needed true path.old.items)
+        → AreCovered given.entry.instance.now given.entry.claim (needed more path.new.items)) }
     ensures awaited { (whole : TreeShape) (first : ℕ)
-        → AreLeft instance.now rows.now claim whole first (needed true path.old.items) version
-        (S.shown shelf.old) name.now reader.old
-        → Gives (λ more. AreLeft instance.now rows.now claim whole first (needed more path.new.items) version
-        (S.shown shelf.new) name.now reader.new)
-        (TreeIsRefused instance.now rows.now claim whole first) result }
-    ensures on { OnOk result (IsOn name.now (S.shown shelf.old) (S.shown shelf.new) reader.old reader.new) }
-    ensures stopped { IfErr result (IsStopped name.now reader.old.at (S.shown shelf.old) (S.shown shelf.new)) }
+        → AreLeftOf given.entry text.entry whole first (needed true path.old.items) (S.shown shelf.old) reader.old
+        → Gives (λ more. AreLeftOf given.entry text.entry whole first (needed more path.new.items)
+        (S.shown shelf.new) reader.new)
+        (TreeIsRefused given.entry.instance.now given.entry.rows.now given.entry.claim whole first) result }
+    ensures step { IsStep text.entry.name.now (S.shown shelf.old) (S.shown shelf.new) reader.old reader.new result }
 {
     let line = reader.number;
-    match read_node(alloc, reader, shelf, name, version)? {
+    match read_node(reader, shelf, text)? {
         Node::Branch { column, at } => {
-            go_down(instance, path, column, at, line)?;
+            go_down(given.instance, path, column, at, line)?;
             Ok(true)
         }
         Node::Leaf(leaf) => {
-            check_leaf(alloc, instance, named, rows, claim, path, &leaf, line)?;
+            check_leaf(text.alloc, given, named, path, &leaf, line)?;
             Ok(go_over(path)?)
         }
     }
@@ -167,35 +171,35 @@ fn check_node<S: Shelf>(
 
 // Whether the nodes of the tree are good, whose first one comes next.
 pub fn check_tree<S: Shelf>(
-    alloc: Global,
     instance: &Instance,
     rows: &[Row],
     claim: Claim,
     reader: &mut LineReader,
     shelf: &mut S,
-    name: &str,
-    version: u32,
+    text: CertText<'_>,
 ) -> Result<(), StreamFault>
     requires rows { AreOfProblem instance.now rows.now }
     requires hold { HoldAtPlans instance.now rows.now }
     requires sound { IsSound reader.old }
-    requires version { IsVersion version }
+    requires version { IsVersion text.version }
     ensures safe { OnOk result ((p : Plan) → IsFeasible instance.now p → IsSafe instance.now claim p) }
     ensures awaited { (tree : TreeShape) → longest_path tree ≤ MAX_BRANCHES
-        → Awaits (S.shown shelf.old) name.now reader.old version (tree_values tree ++ EndLine ∷ [])
+        → HasLeft text.entry (S.shown shelf.old) reader.old (tree_values tree ++ EndLine ∷ [])
         → Gives (λ _. TreeIsGood instance.now rows.now claim [] tree
-        × Awaits (S.shown shelf.new) name.now reader.new version (EndLine ∷ []))
+        × HasLeft text.entry (S.shown shelf.new) reader.new (EndLine ∷ []))
         (TreeIsRefused instance.now rows.now claim tree reader.old.number) result }
-    ensures on { OnOk result (IsOn name.now (S.shown shelf.old) (S.shown shelf.new) reader.old reader.new) }
-    ensures stopped { IfErr result (IsStopped name.now reader.old.at (S.shown shelf.old) (S.shown shelf.new)) }
+    ensures step { IsStep text.entry.name.now (S.shown shelf.old) (S.shown shelf.new) reader.old reader.new result }
 {
-    let mut named = NamedSums::new(alloc, instance)?;
-    let mut path = Vec::new(alloc);
+    let given = Given {
+        instance,
+        rows,
+        claim,
+    };
+    let mut named = NamedSums::new(text.alloc, instance)?;
+    let mut path = Vec::new(text.alloc);
     let mut more = true;
     while more {
-        more = check_node(
-            alloc, instance, &mut named, rows, claim, &mut path, reader, shelf, name, version,
-        )?;
+        more = check_node(given, &mut named, &mut path, reader, shelf, text)?;
     }
     Ok(())
 }

@@ -1,5 +1,5 @@
 // One pass over a certificate's file, which checks what it reads.
-ghost use Rattle.std.specs.Prelude.{◌≡◌, ◌∷◌, [], IsTrue, IfErr, IfOk, OnOk, option_copied, ⊤};
+ghost use Rattle.std.specs.Prelude.{◌≡◌, ◌∷◌, [], IsTrue, IfOk, OnOk, option_copied, ⊤};
 ghost use Rattle.cert_lines.specs.Limits.{IsVersion};
 ghost use Rattle.cert_lines.specs.Shapes.{EndLine};
 ghost use Rattle.certificate.specs.Limits.{IsTextOf};
@@ -8,13 +8,13 @@ ghost use Rattle.acceptance.specs.Accepts.{IsTrueOf};
 ghost use Rattle.cert_checker.specs.Checks.{IsGoodCertificate, first_line, plan_given};
 ghost use Rattle.cert_stream.specs.Reader.{IsSound, rest_in};
 ghost use Rattle.stream_check.specs.Heads.{AreHeadsOf};
-ghost use Rattle.stream_check.specs.Passes.{Awaits, Gives, IsOn, IsStopped};
+ghost use Rattle.stream_check.specs.Passes.{Gives, HasLeft, IsStep};
 ghost use Rattle.stream_check.specs.Streams.{IsRefusedWith, never_refused};
 
 use crate::StreamFault;
 use crate::nodes::check_tree;
 use crate::rows::read_rows;
-use crate::units::next_line;
+use crate::units::{CertText, next_line};
 use cert_checker::judge_claim;
 use cert_stream::{Heads, LineReader, Value, next_value, read_heads};
 use certificate::{CertLine, CertTextFault, Claim};
@@ -37,8 +37,7 @@ fn read_first<S: Shelf>(
     ensures number { OnOk result (reader.new.number ≡ first_line) }
     ensures awaited { (c : Shape) → IsTrue (S.shown shelf.old).told → IsTextOf (rest_in (S.shown shelf.old) name.now reader.old) c
         → Gives (λ heads. AreHeadsOf c heads (S.shown shelf.new) name.now reader.new) never_refused result }
-    ensures on { OnOk result (IsOn name.now (S.shown shelf.old) (S.shown shelf.new) reader.old reader.new) }
-    ensures stopped { IfErr result (IsStopped name.now reader.old.at (S.shown shelf.old) (S.shown shelf.new)) }
+    ensures step { IsStep name.now (S.shown shelf.old) (S.shown shelf.new) reader.old reader.new result }
 {
     match read_heads(reader, shelf, name)? {
         Ok(heads) => Ok(heads),
@@ -48,25 +47,22 @@ fn read_first<S: Shelf>(
 
 // Whether the last line comes next, and nothing after it.
 fn read_end<S: Shelf>(
-    alloc: Global,
     reader: &mut LineReader,
     shelf: &mut S,
-    name: &str,
-    version: u32,
+    text: CertText<'_>,
 ) -> Result<(), StreamFault>
     requires sound { IsSound reader.old }
-    requires version { IsVersion version }
-    ensures awaited { Awaits (S.shown shelf.old) name.now reader.old version (EndLine ∷ []) → Gives (λ _. ⊤) never_refused result }
-    ensures on { OnOk result (IsOn name.now (S.shown shelf.old) (S.shown shelf.new) reader.old reader.new) }
-    ensures stopped { IfErr result (IsStopped name.now reader.old.at (S.shown shelf.old) (S.shown shelf.new)) }
+    requires version { IsVersion text.version }
+    ensures awaited { HasLeft text.entry (S.shown shelf.old) reader.old (EndLine ∷ []) → Gives (λ _. ⊤) never_refused result }
+    ensures step { IsStep text.entry.name.now (S.shown shelf.old) (S.shown shelf.new) reader.old reader.new result }
 {
     let number = reader.number;
-    match next_line(alloc, reader, shelf, name, version)? {
+    match next_line(reader, shelf, text)? {
         CertLine::End => {}
         _ => return Err(StreamFault::Text(CertTextFault::Shape(number))),
     }
     let last = reader.number;
-    match next_value(alloc, reader, shelf, name, version)? {
+    match next_value(text.alloc, reader, shelf, text.name, text.version)? {
         Value::Line(_) => Err(StreamFault::Text(CertTextFault::Shape(last))),
         Value::Wrong => Err(StreamFault::Text(CertTextFault::Line(last))),
         Value::End => Ok(()),
@@ -89,8 +85,7 @@ pub fn check_text<S: Shelf>(
         → IsTextOf (rest_in (S.shown shelf.old) name.now reader.old) c
         → Gives (λ claim. (c.claim ≡ claim) × IsGoodCertificate instance.now c (option_copied plan.entry))
         (IsRefusedWith instance.now (option_copied plan.entry) c) result }
-    ensures on { OnOk result (IsOn name.now (S.shown shelf.old) (S.shown shelf.new) reader.old reader.new) }
-    ensures stopped { IfErr result (IsStopped name.now reader.old.at (S.shown shelf.old) (S.shown shelf.new)) }
+    ensures step { IsStep name.now (S.shown shelf.old) (S.shown shelf.new) reader.old reader.new result }
 {
     plans_are_within();
     let heads = read_first(reader, shelf, name)?;
@@ -98,26 +93,13 @@ pub fn check_text<S: Shelf>(
         return Err(StreamFault::Rejected(rejected));
     }
     let explosion = Explosion::of(alloc, instance)?;
-    let rows = read_rows(
+    let text = CertText {
         alloc,
-        instance,
-        &explosion,
-        reader,
-        shelf,
         name,
-        heads.version,
-        heads.count,
-    )?;
-    check_tree(
-        alloc,
-        instance,
-        &rows,
-        heads.claim,
-        reader,
-        shelf,
-        name,
-        heads.version,
-    )?;
-    read_end(alloc, reader, shelf, name, heads.version)?;
+        version: heads.version,
+    };
+    let rows = read_rows(instance, &explosion, reader, shelf, text, heads.count)?;
+    check_tree(instance, &rows, heads.claim, reader, shelf, text)?;
+    read_end(reader, shelf, text)?;
     Ok(heads.claim)
 }

@@ -1,5 +1,5 @@
 // The parts, cuts and nodes of a certificate, each read from its lines.
-ghost use Rattle.std.specs.Prelude.{◌≡◌, ◌≤◌, ◌<◌, ◌+◌, ◌++◌, ◌∷◌, IfErr, IfOk, List, OnOk, length};
+ghost use Rattle.std.specs.Prelude.{◌≡◌, ◌≤◌, ◌<◌, ◌+◌, ◌++◌, ◌∷◌, IfOk, List, OnOk, length};
 ghost use Rattle.cert_lines.specs.declared.parts.Part.{Part};
 ghost use Rattle.cert_lines.specs.Limits.{IsVersion};
 ghost use Rattle.cert_lines.specs.Line.{HasLine};
@@ -9,7 +9,7 @@ ghost use Rattle.certificate.specs.Values.{Values, cut_values, part_values, tree
 ghost use Rattle.cert_checker.specs.Cuts.{HasDivisor};
 ghost use Rattle.cert_stream.specs.Reader.{IsLineFurther, IsSound, left_of};
 ghost use Rattle.stream_check.specs.Nodes.{HasNodeDenominator, IsFirstOf, node_values};
-ghost use Rattle.stream_check.specs.Passes.{Awaits, Gives, IsOn, IsStopped};
+ghost use Rattle.stream_check.specs.Passes.{Gives, HasLeft, IsStep};
 ghost use Rattle.stream_check.specs.Streams.{never_refused};
 
 use crate::StreamFault;
@@ -18,6 +18,17 @@ use certificate::{CertLine, CertTextFault, Cut, Leaf, Part};
 use lin_rows::Column;
 use lot_io::Shelf;
 use std::alloc::Global;
+
+/// The text of a certificate in a file, as its lines are read.
+#[derive(Clone, Copy)]
+pub struct CertText<'a> {
+    /// Where the memory for its lines comes from.
+    pub alloc: Global,
+    /// The name of its file.
+    pub name: &'a str,
+    /// The version that its first line names.
+    pub version: u32,
+}
 
 /// The first node of a tree.
 #[derive(Debug, Drop)]
@@ -35,23 +46,21 @@ pub enum Node {
 
 // The next line. It is a fault of the text where it has no form, and where the text ends.
 pub fn next_line<S: Shelf>(
-    alloc: Global,
     reader: &mut LineReader,
     shelf: &mut S,
-    name: &str,
-    version: u32,
+    text: CertText<'_>,
 ) -> Result<CertLine, StreamFault>
     requires sound { IsSound reader.old }
-    requires version { IsVersion version }
-    ensures line { IfOk result (λ line. HasLine version (line_shape line)) }
+    requires version { IsVersion text.version }
+    ensures line { IfOk result (λ line. HasLine text.entry.version (line_shape line)) }
     ensures further { OnOk result (IsLineFurther reader.old reader.new) }
-    ensures awaited { (l : LineShape) (ls : Values) → Awaits (S.shown shelf.old) name.now reader.old version (l ∷ ls)
-        → Gives (λ line. (line_shape line ≡ l) × Awaits (S.shown shelf.new) name.now reader.new version ls) never_refused result }
-    ensures on { OnOk result (IsOn name.now (S.shown shelf.old) (S.shown shelf.new) reader.old reader.new) }
-    ensures stopped { IfErr result (IsStopped name.now reader.old.at (S.shown shelf.old) (S.shown shelf.new)) }
+    ensures awaited { (l : LineShape) (ls : Values) → HasLeft text.entry (S.shown shelf.old) reader.old (l ∷ ls)
+        → Gives (λ line. (line_shape line ≡ l) × HasLeft text.entry (S.shown shelf.new) reader.new ls)
+        never_refused result }
+    ensures step { IsStep text.entry.name.now (S.shown shelf.old) (S.shown shelf.new) reader.old reader.new result }
 {
     let number = reader.number;
-    match next_value(alloc, reader, shelf, name, version)? {
+    match next_value(text.alloc, reader, shelf, text.name, text.version)? {
         Value::Line(line) => Ok(line),
         Value::Wrong => Err(StreamFault::Text(CertTextFault::Line(number))),
         Value::End => Err(StreamFault::Text(CertTextFault::Shape(number))),
@@ -60,22 +69,20 @@ pub fn next_line<S: Shelf>(
 
 // A part.
 fn read_part<S: Shelf>(
-    alloc: Global,
     reader: &mut LineReader,
     shelf: &mut S,
-    name: &str,
-    version: u32,
+    text: CertText<'_>,
 ) -> Result<Part, StreamFault>
     requires sound { IsSound reader.old }
-    requires version { IsVersion version }
+    requires version { IsVersion text.version }
     ensures further { OnOk result (IsLineFurther reader.old reader.new) }
-    ensures awaited { (part : Part) (ls : Values) → Awaits (S.shown shelf.old) name.now reader.old version (PartLine part ∷ ls)
-        → Gives (λ read. (read ≡ part) × Awaits (S.shown shelf.new) name.now reader.new version ls) never_refused result }
-    ensures on { OnOk result (IsOn name.now (S.shown shelf.old) (S.shown shelf.new) reader.old reader.new) }
-    ensures stopped { IfErr result (IsStopped name.now reader.old.at (S.shown shelf.old) (S.shown shelf.new)) }
+    ensures awaited { (part : Part) (ls : Values) → HasLeft text.entry (S.shown shelf.old) reader.old (PartLine part ∷ ls)
+        → Gives (λ read. (read ≡ part) × HasLeft text.entry (S.shown shelf.new) reader.new ls)
+        never_refused result }
+    ensures step { IsStep text.entry.name.now (S.shown shelf.old) (S.shown shelf.new) reader.old reader.new result }
 {
     let number = reader.number;
-    match next_line(alloc, reader, shelf, name, version)? {
+    match next_line(reader, shelf, text)? {
         CertLine::Part(part) => Ok(part),
         _ => Err(StreamFault::Text(CertTextFault::Shape(number))),
     }
@@ -83,56 +90,52 @@ fn read_part<S: Shelf>(
 
 // So many parts.
 fn read_parts<S: Shelf>(
-    alloc: Global,
     reader: &mut LineReader,
     shelf: &mut S,
-    name: &str,
-    version: u32,
+    text: CertText<'_>,
     count: u32,
 ) -> Result<Vec<Part>, StreamFault>
     requires sound { IsSound reader.old }
-    requires version { IsVersion version }
+    requires version { IsVersion text.version }
     ensures count { IfOk result (λ parts. length parts.items ≡ count) }
     ensures number { OnOk result (reader.new.number ≡ reader.old.number + count) }
     ensures left { OnOk result (left_of reader.new ≤ left_of reader.old) }
     ensures awaited { (parts : List Part) (ls : Values) → length parts ≡ count
-        → Awaits (S.shown shelf.old) name.now reader.old version (part_values parts ++ ls)
-        → Gives (λ read. (read.items ≡ parts) × Awaits (S.shown shelf.new) name.now reader.new version ls) never_refused result }
-    ensures on { OnOk result (IsOn name.now (S.shown shelf.old) (S.shown shelf.new) reader.old reader.new) }
-    ensures stopped { IfErr result (IsStopped name.now reader.old.at (S.shown shelf.old) (S.shown shelf.new)) }
+        → HasLeft text.entry (S.shown shelf.old) reader.old (part_values parts ++ ls)
+        → Gives (λ read. (read.items ≡ parts) × HasLeft text.entry (S.shown shelf.new) reader.new ls)
+        never_refused result }
+    ensures step { IsStep text.entry.name.now (S.shown shelf.old) (S.shown shelf.new) reader.old reader.new result }
 {
-    let mut parts = Vec::new(alloc);
+    let mut parts = Vec::new(text.alloc);
     for _ in 0..count {
-        parts.push(read_part(alloc, reader, shelf, name, version)?)?;
+        parts.push(read_part(reader, shelf, text)?)?;
     }
     Ok(parts)
 }
 
 // A cut, with its parts.
 pub fn read_cut<S: Shelf>(
-    alloc: Global,
     reader: &mut LineReader,
     shelf: &mut S,
-    name: &str,
-    version: u32,
+    text: CertText<'_>,
 ) -> Result<Cut, StreamFault>
     requires sound { IsSound reader.old }
-    requires version { IsVersion version }
+    requires version { IsVersion text.version }
     ensures divisor { IfOk result (λ cut. HasDivisor (cut_shape cut)) }
     ensures number { IfOk result (λ cut. reader.new.number ≡ reader.old.number + length (cut_values (cut_shape cut))) }
-    ensures awaited { (cut : CutShape) (ls : Values) → Awaits (S.shown shelf.old) name.now reader.old version (cut_values cut ++ ls)
-        → Gives (λ read. (cut_shape read ≡ cut) × Awaits (S.shown shelf.new) name.now reader.new version ls) never_refused result }
-    ensures on { OnOk result (IsOn name.now (S.shown shelf.old) (S.shown shelf.new) reader.old reader.new) }
-    ensures stopped { IfErr result (IsStopped name.now reader.old.at (S.shown shelf.old) (S.shown shelf.new)) }
+    ensures awaited { (cut : CutShape) (ls : Values) → HasLeft text.entry (S.shown shelf.old) reader.old (cut_values cut ++ ls)
+        → Gives (λ read. (cut_shape read ≡ cut) × HasLeft text.entry (S.shown shelf.new) reader.new ls)
+        never_refused result }
+    ensures step { IsStep text.entry.name.now (S.shown shelf.old) (S.shown shelf.new) reader.old reader.new result }
 {
     let number = reader.number;
-    match next_line(alloc, reader, shelf, name, version)? {
+    match next_line(reader, shelf, text)? {
         CertLine::Cut(cut) => Ok(cut),
         CertLine::Round {
             divisor,
             parts: count,
         } => {
-            let parts = read_parts(alloc, reader, shelf, name, version, count)?;
+            let parts = read_parts(reader, shelf, text, count)?;
             Ok(Cut::Round { divisor, parts })
         }
         _ => Err(StreamFault::Text(CertTextFault::Shape(number))),
@@ -141,32 +144,30 @@ pub fn read_cut<S: Shelf>(
 
 // The first node of a tree: a branch, or a leaf with its parts.
 pub fn read_node<S: Shelf>(
-    alloc: Global,
     reader: &mut LineReader,
     shelf: &mut S,
-    name: &str,
-    version: u32,
+    text: CertText<'_>,
 ) -> Result<Node, StreamFault>
     requires sound { IsSound reader.old }
-    requires version { IsVersion version }
+    requires version { IsVersion text.version }
     ensures den { IfOk result HasNodeDenominator }
     ensures number { IfOk result (λ node. reader.new.number ≡ reader.old.number + length (node_values node)) }
     ensures left { OnOk result (left_of reader.new < left_of reader.old) }
-    ensures awaited { (tree : TreeShape) (ls : Values) → Awaits (S.shown shelf.old) name.now reader.old version (tree_values tree ++ ls)
+    ensures awaited { (tree : TreeShape) (ls : Values) → HasLeft text.entry (S.shown shelf.old) reader.old (tree_values tree ++ ls)
         → Gives (λ node. (more : Values) × IsFirstOf node tree more
-        × Awaits (S.shown shelf.new) name.now reader.new version (more ++ ls)) never_refused result }
-    ensures on { OnOk result (IsOn name.now (S.shown shelf.old) (S.shown shelf.new) reader.old reader.new) }
-    ensures stopped { IfErr result (IsStopped name.now reader.old.at (S.shown shelf.old) (S.shown shelf.new)) }
+        × HasLeft text.entry (S.shown shelf.new) reader.new (more ++ ls))
+        never_refused result }
+    ensures step { IsStep text.entry.name.now (S.shown shelf.old) (S.shown shelf.new) reader.old reader.new result }
 {
     let number = reader.number;
-    match next_line(alloc, reader, shelf, name, version)? {
+    match next_line(reader, shelf, text)? {
         CertLine::Branch { column, at } => Ok(Node::Branch { column, at }),
         CertLine::Linear { den, parts: count } => {
-            let parts = read_parts(alloc, reader, shelf, name, version, count)?;
+            let parts = read_parts(reader, shelf, text, count)?;
             Ok(Node::Leaf(Leaf::Linear { den, parts }))
         }
         CertLine::Farkas { parts: count } => {
-            let parts = read_parts(alloc, reader, shelf, name, version, count)?;
+            let parts = read_parts(reader, shelf, text, count)?;
             Ok(Node::Leaf(Leaf::Farkas { parts }))
         }
         CertLine::Point => Ok(Node::Leaf(Leaf::Point)),

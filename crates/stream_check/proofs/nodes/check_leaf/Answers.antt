@@ -20,4 +20,4 @@ safe m (BoundOf c) NoPlan p enough so = absurd so
 safe m (BoundOf c) (AtLeast n) p enough so = omega (arith, enough, so)
 
 pub returns-in-None-clause-safe : goal.returns-in-None-clause-safe
-returns-in-None-clause-safe c = λ hold p feasible met. safe c.args.instance.now c.args.claim c.in_ok-says.says p (c.in-None.ensures.enough refl) (c.in_ok-says.ensures.bounds hold p feasible met)
+returns-in-None-clause-safe c = λ hold p feasible met. safe c.args.given.instance.now c.args.given.claim c.in_ok-says.says p (c.in-None.ensures.enough refl) (c.in_ok-says.ensures.bounds hold p feasible met)

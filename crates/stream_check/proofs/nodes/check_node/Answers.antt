@@ -11,8 +11,8 @@ use Rattle.stream_check.proofs.nodes.check_node.Goals as goal
 
 pub returns-in_err-go_down-in-Branch-clause-awaited : goal.returns-in_err-go_down-in-Branch-clause-awaited
 returns-in_err-go_down-in-Branch-clause-awaited g c =
-    let m = c.args.instance.now in
-    let rows = c.args.rows.now in
+    let m = c.args.given.instance.now in
+    let rows = c.args.given.rows.now in
     let path = c.args.path.now.items in
     let old : Shelved = g.S.Shelf.shown c.args.shelf.now in
     let new : Shelved = g.S.Shelf.shown c.read_node.new.shelf in
@@ -20,13 +20,13 @@ returns-in_err-go_down-in-Branch-clause-awaited g c =
     let f = c.in_err-go_down-in-Branch.field-0.0 in
     let is : c.from_residual-in_err-go_down-in-Branch.result ≡ Err f = err_is c.from_residual-in_err-go_down-in-Branch.result f c.from_residual-in_err-go_down-in-Branch.ensures.1 in
     rw is (λ whole first left.
-    let next = node_left m rows c.args.claim whole first path c.args.version c.args.name.now old new c.args.reader.now c.read_node.new.reader node left c.in_ok-column.ensures.awaited in
-    branch_off m rows c.args.claim whole first path c.args.version c.args.name.now old new c.args.reader.now c.read_node.new.reader node c.in-Branch.column c.in-Branch.at f c.in-Branch.is c.in_err-go_down-in-Branch.ensures.stop next)
+    let next = node_left m rows c.args.given.claim whole first path c.args.text.version c.args.text.name.now old new c.args.reader.now c.read_node.new.reader node left c.in_ok-column.ensures.awaited in
+    branch_off m rows c.args.given.claim whole first path c.args.text.version c.args.text.name.now old new c.args.reader.now c.read_node.new.reader node c.in-Branch.column c.in-Branch.at f c.in-Branch.is c.in_err-go_down-in-Branch.ensures.stop next)
 
 pub returns-in_err-check_leaf-in-Leaf-clause-awaited : goal.returns-in_err-check_leaf-in-Leaf-clause-awaited
 returns-in_err-check_leaf-in-Leaf-clause-awaited g c =
-    let m = c.args.instance.now in
-    let rows = c.args.rows.now in
+    let m = c.args.given.instance.now in
+    let rows = c.args.given.rows.now in
     let path = c.args.path.now.items in
     let old : Shelved = g.S.Shelf.shown c.args.shelf.now in
     let new : Shelved = g.S.Shelf.shown c.read_node.new.shelf in
@@ -34,34 +34,34 @@ returns-in_err-check_leaf-in-Leaf-clause-awaited g c =
     let f = c.in_err-check_leaf-in-Leaf.field-0.0 in
     let is : c.from_residual-in_err-check_leaf-in-Leaf.result ≡ Err f = err_is c.from_residual-in_err-check_leaf-in-Leaf.result f c.from_residual-in_err-check_leaf-in-Leaf.ensures.1 in
     rw is (λ whole first left.
-    let next = node_left m rows c.args.claim whole first path c.args.version c.args.name.now old new c.args.reader.now c.read_node.new.reader node left c.in_ok-column.ensures.awaited in
-    leaf_off m rows c.args.claim whole first path c.args.version c.args.name.now old new c.args.reader.now c.read_node.new.reader node c.in-Leaf.leaf f c.in-Leaf.is (subst (λ p. IsLeafStop m rows c.args.claim p (leaf_shape c.in-Leaf.leaf) c.args.reader.now.number f) c.deref.ensures.value c.in_err-check_leaf-in-Leaf.ensures.stop) next)
+    let next = node_left m rows c.args.given.claim whole first path c.args.text.version c.args.text.name.now old new c.args.reader.now c.read_node.new.reader node left c.in_ok-column.ensures.awaited in
+    leaf_off m rows c.args.given.claim whole first path c.args.text.version c.args.text.name.now old new c.args.reader.now c.read_node.new.reader node c.in-Leaf.leaf f c.in-Leaf.is (subst (λ p. IsLeafStop m rows c.args.given.claim p (leaf_shape c.in-Leaf.leaf) c.args.reader.now.number f) c.deref.ensures.value c.in_err-check_leaf-in-Leaf.ensures.stop) next)
 
 pub returns-in_ok-go_down-in-Branch-clause-covered : goal.returns-in_ok-go_down-in-Branch-clause-covered
 returns-in_ok-go_down-in-Branch-clause-covered g c = λ covered.
-    subst (λ path. AreCovered c.args.instance.now c.args.claim (needed true path)) (sym c.in_ok-go_down-in-Branch.ensures.down) (covered_sides c.args.instance.now c.args.claim c.args.path.now.items c.in-Branch.column c.in-Branch.at covered)
+    subst (λ path. AreCovered c.args.given.instance.now c.args.given.claim (needed true path)) (sym c.in_ok-go_down-in-Branch.ensures.down) (covered_sides c.args.given.instance.now c.args.given.claim c.args.path.now.items c.in-Branch.column c.in-Branch.at covered)
 
 pub returns-in_ok-go_down-in-Branch-clause-awaited : goal.returns-in_ok-go_down-in-Branch-clause-awaited
 returns-in_ok-go_down-in-Branch-clause-awaited g c = λ whole first left.
-    let m = c.args.instance.now in
-    let rows = c.args.rows.now in
+    let m = c.args.given.instance.now in
+    let rows = c.args.given.rows.now in
     let path = c.args.path.now.items in
     let old : Shelved = g.S.Shelf.shown c.args.shelf.now in
     let new : Shelved = g.S.Shelf.shown c.read_node.new.shelf in
     let node = c.in_ok-column.field-0 in
-    let next = node_left m rows c.args.claim whole first path c.args.version c.args.name.now old new c.args.reader.now c.read_node.new.reader node left c.in_ok-column.ensures.awaited in
-    branch_on m rows c.args.claim whole first path c.args.version c.args.name.now old new c.args.reader.now c.read_node.new.reader node c.in-Branch.column c.in-Branch.at c.go_down.new.path.items c.in-Branch.is c.in_ok-go_down-in-Branch.ensures.down c.in_ok-go_down-in-Branch.ensures.split c.in_ok-column.ensures.number next
+    let next = node_left m rows c.args.given.claim whole first path c.args.text.version c.args.text.name.now old new c.args.reader.now c.read_node.new.reader node left c.in_ok-column.ensures.awaited in
+    branch_on m rows c.args.given.claim whole first path c.args.text.version c.args.text.name.now old new c.args.reader.now c.read_node.new.reader node c.in-Branch.column c.in-Branch.at c.go_down.new.path.items c.in-Branch.is c.in_ok-go_down-in-Branch.ensures.down c.in_ok-go_down-in-Branch.ensures.split c.in_ok-column.ensures.number next
 
 pub returns-in_ok-go_over-in-Leaf-clause-choices : goal.returns-in_ok-go_over-in-Leaf-clause-choices
-returns-in_ok-go_over-in-Leaf-clause-choices g c = c.in_ok-go_over-in-Leaf.ensures.choices c.args.instance.now c.requires.choices
+returns-in_ok-go_over-in-Leaf-clause-choices g c = c.in_ok-go_over-in-Leaf.ensures.choices c.args.given.instance.now c.requires.choices
 
 pub returns-in_ok-go_over-in-Leaf-clause-awaited : goal.returns-in_ok-go_over-in-Leaf-clause-awaited
 returns-in_ok-go_over-in-Leaf-clause-awaited g c = λ whole first left.
-    let m = c.args.instance.now in
-    let rows = c.args.rows.now in
+    let m = c.args.given.instance.now in
+    let rows = c.args.given.rows.now in
     let path = c.args.path.now.items in
     let old : Shelved = g.S.Shelf.shown c.args.shelf.now in
     let new : Shelved = g.S.Shelf.shown c.read_node.new.shelf in
     let node = c.in_ok-column.field-0 in
-    let next = node_left m rows c.args.claim whole first path c.args.version c.args.name.now old new c.args.reader.now c.read_node.new.reader node left c.in_ok-column.ensures.awaited in
-    leaf_on m rows c.args.claim whole first path c.args.version c.args.name.now old new c.args.reader.now c.read_node.new.reader node c.in-Leaf.leaf (needed c.in_ok-go_over-in-Leaf.field-0 c.go_over.new.path.items) c.in-Leaf.is c.in_ok-go_over-in-Leaf.ensures.needed (subst (λ p. WithTotals m (λ total. IsGoodLeaf (ground m total rows c.args.claim) p (leaf_shape c.in-Leaf.leaf))) c.deref.ensures.value c.in_ok-check_leaf-in-Leaf.ensures.good) c.in_ok-column.ensures.number next
+    let next = node_left m rows c.args.given.claim whole first path c.args.text.version c.args.text.name.now old new c.args.reader.now c.read_node.new.reader node left c.in_ok-column.ensures.awaited in
+    leaf_on m rows c.args.given.claim whole first path c.args.text.version c.args.text.name.now old new c.args.reader.now c.read_node.new.reader node c.in-Leaf.leaf (needed c.in_ok-go_over-in-Leaf.field-0 c.go_over.new.path.items) c.in-Leaf.is c.in_ok-go_over-in-Leaf.ensures.needed (subst (λ p. WithTotals m (λ total. IsGoodLeaf (ground m total rows c.args.given.claim) p (leaf_shape c.in-Leaf.leaf))) c.deref.ensures.value c.in_ok-check_leaf-in-Leaf.ensures.good) c.in_ok-column.ensures.number next

@@ -16,12 +16,12 @@ loop-more-init g c =
     let shelf : Shelved = g.S.Shelf.shown c.args.shelf.now in
     let none = sym c.new-path.ensures.items in
     record {
-      on = on_none c.args.name.now shelf a c.requires.sound;
+      on = on_none c.args.text.name.now shelf a c.requires.sound;
       ready = c.in_ok-named.ensures;
       choices = subst (AreChoices m) none (All-nil (λ d. IsChoice m d.column));
       small = subst AreSmall none (All-nil (λ d. IsTrue d.most → d.number + 1 < 2 ^ 64));
       covered = subst (λ path. AreCovered m c.args.claim (needed true path)) none (covered_first m c.args.claim);
-      awaited = λ tree short awaits. subst (λ path. AreLeft m c.args.rows.now c.args.claim tree a.number (needed true path) c.args.version shelf c.args.name.now a) none (whole_left m c.args.rows.now c.args.claim tree c.args.version shelf c.args.name.now a short awaits);
+      awaited = λ tree short awaits. subst (λ path. AreLeft m c.args.rows.now c.args.claim tree a.number (needed true path) c.args.text.version shelf c.args.text.name.now a) none (whole_left m c.args.rows.now c.args.claim tree c.args.text.version shelf c.args.text.name.now a short awaits);
     }
 
 pub loop-more-preserved : goal.loop-more-preserved
@@ -31,12 +31,12 @@ loop-more-preserved g c =
     let path = c.loop-more.path.items in
     let now : Shelved = g.S.Shelf.shown c.loop-more.shelf in
     record {
-      on = on_on so_far.on c.in_ok-more.ensures.on;
+      on = on_on so_far.on c.in_ok-more.ensures.step.on;
       ready = c.in_ok-more.ensures.ready;
       choices = c.in_ok-more.ensures.choices;
       small = c.in_ok-more.ensures.small;
       covered = c.in_ok-more.ensures.covered (subst (λ more. AreCovered m c.args.claim (needed more path)) c.loop-more-test.true so_far.covered);
       awaited = λ tree short awaits.
           c.in_ok-more.ensures.awaited tree c.args.reader.now.number
-          (subst (λ more. AreLeft m c.args.rows.now c.args.claim tree c.args.reader.now.number (needed more path) c.args.version now c.args.name.now c.loop-more.reader) c.loop-more-test.true (so_far.awaited tree short awaits));
+          (subst (λ more. AreLeft m c.args.rows.now c.args.claim tree c.args.reader.now.number (needed more path) c.args.text.version now c.args.text.name.now c.loop-more.reader) c.loop-more-test.true (so_far.awaited tree short awaits));
     }

@@ -13,13 +13,13 @@ use Rattle.stream_check.proofs.nodes.check_tree.Given as goal
 
 abbrev pub invariant-loop-more : goal.invariant-loop-more
 invariant-loop-more g l = record {
-  on : IsOn l.name (g.S.Shelf.shown l.fn.shelf) (g.S.Shelf.shown l.shelf) l.fn.reader l.reader;
+  on : IsOn l.text.name.now (g.S.Shelf.shown l.fn.shelf) (g.S.Shelf.shown l.shelf) l.fn.reader l.reader;
   ready : IsReadyFor l.instance l.named;
   choices : AreChoices l.instance l.path.items;
   small : AreSmall l.path.items;
-  covered : AreCovered l.instance l.claim (needed l.more l.path.items);
-  awaited : (tree : TreeShape) → longest_path tree ≤ MAX_BRANCHES → Awaits (g.S.Shelf.shown l.fn.shelf) l.name l.fn.reader l.version (tree_values tree ++ EndLine ∷ [])
-      → AreLeft l.instance l.rows l.claim tree l.fn.reader.number (needed l.more l.path.items) l.version (g.S.Shelf.shown l.shelf) l.name l.reader;
+  covered : AreCovered l.instance l.fn.claim (needed l.more l.path.items);
+  awaited : (tree : TreeShape) → longest_path tree ≤ MAX_BRANCHES → Awaits (g.S.Shelf.shown l.fn.shelf) l.text.name.now l.fn.reader l.text.version (tree_values tree ++ EndLine ∷ [])
+      → AreLeft l.instance l.rows l.fn.claim tree l.fn.reader.number (needed l.more l.path.items) l.text.version (g.S.Shelf.shown l.shelf) l.text.name.now l.reader;
 }
 
 abbrev pub decreases-loop-more : goal.decreases-loop-more

@@ -25,23 +25,26 @@ not_wrong version v old new is none same =
 
 pub returns-in_err-next_line-clause-awaited : goal.returns-in_err-next_line-clause-awaited
 returns-in_err-next_line-clause-awaited g c =
-    let why : Awaits (g.S.Shelf.shown c.args.shelf.now) c.args.name.now c.args.reader.now c.args.version (EndLine ∷ []) → IsRefusal never_refused c.in_err-next_line.field-0.0 = λ awaits. c.in_err-next_line.ensures.awaited EndLine [] awaits in
+    let why : Awaits (g.S.Shelf.shown c.args.shelf.now) c.args.text.name.now c.args.reader.now c.args.text.version (EndLine ∷ []) → IsRefusal never_refused c.in_err-next_line.field-0.0 = λ awaits. c.in_err-next_line.ensures.awaited EndLine [] awaits in
     search (rules, why)
 
 pub returns-in_default-clause-awaited : goal.returns-in_default-clause-awaited
 returns-in_default-clause-awaited g c = λ awaits. other_end c.in_ok-next_line.field-0 c.in_default.not-End (c.in_ok-next_line.ensures.awaited EndLine [] awaits).0
 
-pub returns-in_default-clause-stopped : goal.returns-in_default-clause-stopped
-returns-in_default-clause-stopped g c = on_stops c.in_ok-next_line.ensures.on (stream.Text (text.Shape c.args.reader.now.number)) (λ e. cc, c.in_ok-next_line.ensures.on.goes_on.found)
+pub returns-in_default-clause-step : goal.returns-in_default-clause-step
+returns-in_default-clause-step g c = record {
+  on = tt;
+  stopped = on_stops c.in_ok-next_line.ensures.step.on (stream.Text (text.Shape c.args.reader.now.number)) (λ e. cc, c.in_ok-next_line.ensures.step.on.goes_on.found);
+}
 
 pub returns-clause-awaited : goal.returns-clause-awaited
 returns-clause-awaited g c =
     elim c.match-branch-4.branch [
       | in-Line w ↦ rw w.result-is (λ awaits.
           let next = (c.in_ok-next_line.ensures.awaited EndLine [] awaits).1 in
-          no_more c.args.version c.in_ok-next_value.field-0 w.in-Line.field-0 _ _ (c.in_ok-next_value.ensures.value next.told) next.text w.in-Line.is)
+          no_more c.args.text.version c.in_ok-next_value.field-0 w.in-Line.field-0 _ _ (c.in_ok-next_value.ensures.value next.told) next.text w.in-Line.is)
       | in-Wrong w ↦ rw w.result-is (λ awaits.
           let next = (c.in_ok-next_line.ensures.awaited EndLine [] awaits).1 in
-          not_wrong c.args.version c.in_ok-next_value.field-0 _ _ (c.in_ok-next_value.ensures.value next.told) next.text w.in-Wrong.is)
+          not_wrong c.args.text.version c.in_ok-next_value.field-0 _ _ (c.in_ok-next_value.ensures.value next.told) next.text w.in-Wrong.is)
       | in-End-2 w ↦ rw w.result-is (λ awaits. tt)
     ]

@@ -16,13 +16,13 @@ use Rattle.stream_check.proofs.units.read_node.Goals as goal
 
 pub returns-in_err-column-clause-awaited : goal.returns-in_err-column-clause-awaited
 returns-in_err-column-clause-awaited g c =
-    let why : (t : TreeShape) (ls : Values) → Awaits (g.S.Shelf.shown c.args.shelf.now) c.args.name.now c.args.reader.now c.args.version (tree_values t ++ ls) → IsRefusal never_refused c.in_err-column.field-0.0 = λ t ls awaits.
+    let why : (t : TreeShape) (ls : Values) → Awaits (g.S.Shelf.shown c.args.shelf.now) c.args.text.name.now c.args.reader.now c.args.text.version (tree_values t ++ ls) → IsRefusal never_refused c.in_err-column.field-0.0 = λ t ls awaits.
     c.in_err-column.ensures.awaited (tree_first t) (tree_rest t ++ ls) (awaits_same (ap (λ vs. vs ++ ls) (tree_lines t)) awaits) in
     search (rules, why)
 
 pub returns-in_err-parts-in-Linear-clause-awaited : goal.returns-in_err-parts-in-Linear-clause-awaited
 returns-in_err-parts-in-Linear-clause-awaited g c =
-    let why : (t : TreeShape) (ls : Values) → Awaits (g.S.Shelf.shown c.args.shelf.now) c.args.name.now c.args.reader.now c.args.version (tree_values t ++ ls) → IsRefusal never_refused c.in_err-parts-in-Linear.field-0.0 = λ t ls awaits.
+    let why : (t : TreeShape) (ls : Values) → Awaits (g.S.Shelf.shown c.args.shelf.now) c.args.text.name.now c.args.reader.now c.args.text.version (tree_values t ++ ls) → IsRefusal never_refused c.in_err-parts-in-Linear.field-0.0 = λ t ls awaits.
     let given = c.in_ok-column.ensures.awaited (tree_first t) (tree_rest t ++ ls) (awaits_same (ap (λ vs. vs ++ ls) (tree_lines t)) awaits) in
     let same = same_linear c.in-Linear.den c.in-Linear.count t (sym (ap line_shape c.in-Linear.is) ∙ given.0) in
     c.in_err-parts-in-Linear.ensures.awaited same.0 ls same.2 (awaits_same (ap (λ vs. vs ++ ls) same.3) given.1) in
@@ -30,7 +30,7 @@ returns-in_err-parts-in-Linear-clause-awaited g c =
 
 pub returns-in_err-parts-in-Farkas-clause-awaited : goal.returns-in_err-parts-in-Farkas-clause-awaited
 returns-in_err-parts-in-Farkas-clause-awaited g c =
-    let why : (t : TreeShape) (ls : Values) → Awaits (g.S.Shelf.shown c.args.shelf.now) c.args.name.now c.args.reader.now c.args.version (tree_values t ++ ls) → IsRefusal never_refused c.in_err-parts-in-Farkas.field-0.0 = λ t ls awaits.
+    let why : (t : TreeShape) (ls : Values) → Awaits (g.S.Shelf.shown c.args.shelf.now) c.args.text.name.now c.args.reader.now c.args.text.version (tree_values t ++ ls) → IsRefusal never_refused c.in_err-parts-in-Farkas.field-0.0 = λ t ls awaits.
     let given = c.in_ok-column.ensures.awaited (tree_first t) (tree_rest t ++ ls) (awaits_same (ap (λ vs. vs ++ ls) (tree_lines t)) awaits) in
     let same = same_farkas c.in-Farkas.count t (sym (ap line_shape c.in-Farkas.is) ∙ given.0) in
     c.in_err-parts-in-Farkas.ensures.awaited same.0 ls same.2 (awaits_same (ap (λ vs. vs ++ ls) same.3) given.1) in

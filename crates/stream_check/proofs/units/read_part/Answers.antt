@@ -10,7 +10,7 @@ use Rattle.stream_check.proofs.units.read_part.Goals as goal
 
 pub returns-in_err-part-clause-awaited : goal.returns-in_err-part-clause-awaited
 returns-in_err-part-clause-awaited g c =
-    let why : (part : Part) (ls : Values) → Awaits (g.S.Shelf.shown c.args.shelf.now) c.args.name.now c.args.reader.now c.args.version (PartLine part ∷ ls) → IsRefusal never_refused c.in_err-part.field-0.0 = λ part ls w. c.in_err-part.ensures.awaited (PartLine part) ls w in
+    let why : (part : Part) (ls : Values) → Awaits (g.S.Shelf.shown c.args.shelf.now) c.args.text.name.now c.args.reader.now c.args.text.version (PartLine part ∷ ls) → IsRefusal never_refused c.in_err-part.field-0.0 = λ part ls w. c.in_err-part.ensures.awaited (PartLine part) ls w in
     search (rules, why)
 
 pub returns-clause-awaited : goal.returns-clause-awaited

@@ -7,10 +7,10 @@ use Rattle.stream_check.proofs.units.read_parts.Given as goal
 
 abbrev pub invariant-loop : goal.invariant-loop
 invariant-loop g l = record {
-  on : IsOn l.name (g.S.Shelf.shown l.fn.shelf) (g.S.Shelf.shown l.shelf) l.fn.reader l.reader;
+  on : IsOn l.text.name.now (g.S.Shelf.shown l.fn.shelf) (g.S.Shelf.shown l.shelf) l.fn.reader l.reader;
   count : length l.parts.items ≡ l.counter;
   number : l.reader.number ≡ l.fn.reader.number + l.counter;
   left : left_of l.reader ≤ left_of l.fn.reader;
-  awaited : (parts : List Part) (ls : Values) → length parts ≡ l.count → Awaits (g.S.Shelf.shown l.fn.shelf) l.name l.fn.reader l.version (part_values parts ++ ls)
-      → (more : List Part) × (parts ≡ l.parts.items ++ more) × Awaits (g.S.Shelf.shown l.shelf) l.name l.reader l.version (part_values more ++ ls);
+  awaited : (parts : List Part) (ls : Values) → length parts ≡ l.count → Awaits (g.S.Shelf.shown l.fn.shelf) l.text.name.now l.fn.reader l.text.version (part_values parts ++ ls)
+      → (more : List Part) × (parts ≡ l.parts.items ++ more) × Awaits (g.S.Shelf.shown l.shelf) l.text.name.now l.reader l.text.version (part_values more ++ ls);
 }
