@@ -1,11 +1,12 @@
 -- What holds of lists of plans that were made without a search.
-use Rattle.std.specs.Prelude.{◌≡◌, ◌≤◌, List, [], ◌∷◌, ◌++◌, Any, Option, Some, None}
+use Rattle.std.specs.Prelude.{◌≡◌, ◌≤◌, All, List, [], ◌∷◌, ◌++◌, Any, Option, Some, None}
 use Rattle.lot_sizing.specs.Problem.{Problem, IsPlain}
 use Rattle.lot_sizing.specs.Plan.{Plan, IsFeasible, cost}
 use Rattle.plan_rules.specs.Held.{plan_of}
 use Rattle.plan_rules.specs.declared.plan.Planned.{Planned}
 use Rattle.built_plans.specs.OwnPeriod.{IsOwnPeriod}
 pub use Rattle.built_plans.specs.Made.{IsMade, CostsAsOwn}
+pub use Rattle.item_lots.specs.Improved.{IsNoDearer}
 
 -- the own-period plan, which costs no more than any plan that has its numbers
 pub record IsOwnMade (m : Problem) (q : Plan) (made : Planned) : Type 0 where
@@ -23,6 +24,11 @@ IsEmptyUnlessPlain m list = (IsPlain m → ⊥) → list ≡ []
 -- the first list is where the second begins
 abbrev pub IsLonger : List Planned → List Planned → Type 0
 IsLonger old new = (more : List Planned) × (new ≡ old ++ more)
+
+-- a list of plans that were made, which begins with these
+pub record IsGrown (m : Problem) (old new : List Planned) : Type 0 where
+  pub each : All (IsMade m) new
+  pub longer : IsLonger old new
 
 -- the list of what was found, if something was
 abbrev pub those : Option Planned → List Planned

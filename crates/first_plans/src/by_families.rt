@@ -1,9 +1,8 @@
 // Plans that are improved by one family of items after the other.
-ghost use Rattle.std.specs.Prelude.{◌≤◌, IfOk, IfSome, OnOk};
+ghost use Rattle.std.specs.Prelude.{IfOk, IfSome, OnOk};
 ghost use Rattle.plan_rules.specs.Rows.{IfFound};
-ghost use Rattle.item_lots.specs.Improved.{IsNoDearer};
 ghost use Rattle.first_plans.specs.Families.{AreLots};
-ghost use Rattle.first_plans.specs.Made.{IsMade};
+ghost use Rattle.first_plans.specs.Made.{IsMade, IsNoDearer};
 
 use crate::families::{Families, Lots, family_alone, give_rows, take_rows};
 use crate::improving::{Improving, improved_so};
@@ -186,8 +185,7 @@ pub fn improved_by_families(
     planned: Planned,
 ) -> Result<Planned, AllocError>
     requires made { IsMade instance.now planned }
-    ensures made { IfOk result (IsMade instance.now) }
-    ensures cheap { IfOk result (λ found. found.cost ≤ planned.cost) }
+    ensures { IfOk result (IsNoDearer instance.now planned) }
 {
     let families = Families::of(alloc, instance)?;
     let mut best = planned;

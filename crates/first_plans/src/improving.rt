@@ -2,7 +2,7 @@
 ghost use Rattle.std.specs.Prelude.{◌≡◌, ◌≤◌, IfOk, IfSome, OnOk};
 ghost use Rattle.lot_sizing.specs.Problem.{item_count};
 ghost use Rattle.plan_rules.specs.Cells.{Fits};
-ghost use Rattle.first_plans.specs.Made.{IsMade};
+ghost use Rattle.first_plans.specs.Made.{IsMade, IsNoDearer};
 ghost use Rattle.first_plans.specs.Trials.{IsImproved, IsImproving, IsTrial};
 
 use crate::trials::{Trial, change, is_worth_trying};
@@ -181,8 +181,7 @@ pub fn improved(
     tries: u32,
 ) -> Result<Planned, AllocError>
     requires made { IsMade instance.now planned }
-    ensures made { IfOk result (IsMade instance.now) }
-    ensures cheap { IfOk result (λ found. found.cost ≤ planned.cost) }
+    ensures { IfOk result (IsNoDearer instance.now planned) }
 {
     let Improving { best, .. } = improved_so(alloc, instance, planned, tries)?;
     Ok(best)

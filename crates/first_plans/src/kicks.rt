@@ -2,8 +2,7 @@
 ghost use Rattle.std.specs.Prelude.{◌≡◌, ◌≤◌, IfOk, IfSome, OnOk};
 ghost use Rattle.lot_sizing.specs.Problem.{item_count};
 ghost use Rattle.plan_rules.specs.Cells.{Fits};
-ghost use Rattle.item_lots.specs.Improved.{IsNoDearer};
-ghost use Rattle.first_plans.specs.Made.{IsMade};
+ghost use Rattle.first_plans.specs.Made.{IsMade, IsNoDearer};
 ghost use Rattle.first_plans.specs.Trials.{IsTrial};
 
 use crate::improving::{Improving, improved_so};
@@ -139,8 +138,7 @@ pub(crate) fn kicked(
     tries: u32,
 ) -> Result<Planned, AllocError>
     requires made { IsMade instance.now planned }
-    ensures made { IfOk result (IsMade instance.now) }
-    ensures cheap { IfOk result (λ found. found.cost ≤ planned.cost) }
+    ensures { IfOk result (IsNoDearer instance.now planned) }
 {
     let mut best = planned;
     if instance.items() == 0 || instance.periods() == 0 {

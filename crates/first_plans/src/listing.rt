@@ -4,7 +4,7 @@ ghost use Rattle.lot_sizing.specs.Problem.{item_count};
 ghost use Rattle.plan_rules.specs.Cells.{Fits};
 ghost use Rattle.plan_rules.specs.Rows.{IfFound};
 ghost use Rattle.first_plans.specs.declared.listing.TheConstants.{BUILDING_WORK};
-ghost use Rattle.first_plans.specs.Made.{HasOwn, IsEmptyUnlessPlain, IsMade, IsLonger, those};
+ghost use Rattle.first_plans.specs.Made.{HasOwn, IsEmptyUnlessPlain, IsGrown, IsMade, IsNoDearer, those};
 
 use crate::by_families::{improved_by_families, tries_within};
 use crate::improving::improved;
@@ -53,8 +53,7 @@ fn keep_built(
 ) -> Result<(), AllocError>
     requires wanted { Fits instance.now wanted.now }
     requires each { All (IsMade instance.now) list.old.items }
-    ensures each { OnOk result (All (IsMade instance.now) list.new.items) }
-    ensures longer { OnOk result (IsLonger list.old.items list.new.items) }
+    ensures { OnOk result (IsGrown instance.now list.old.items list.new.items) }
 {
     let built = built_plan(alloc, instance, wanted)?;
     keep(list, built)?;
@@ -81,8 +80,7 @@ fn keep_pattern(
     list: &mut Vec<Planned>,
 ) -> Result<(), AllocError>
     requires each { All (IsMade instance.now) list.old.items }
-    ensures each { OnOk result (All (IsMade instance.now) list.new.items) }
-    ensures longer { OnOk result (IsLonger list.old.items list.new.items) }
+    ensures { OnOk result (IsGrown instance.now list.old.items list.new.items) }
 {
     let wanted = pattern_of(alloc, instance, pattern)?;
     keep_built(alloc, instance, &wanted, list)
@@ -95,8 +93,7 @@ fn keep_everywhere(
     list: &mut Vec<Planned>,
 ) -> Result<(), AllocError>
     requires each { All (IsMade instance.now) list.old.items }
-    ensures each { OnOk result (All (IsMade instance.now) list.new.items) }
-    ensures longer { OnOk result (IsLonger list.old.items list.new.items) }
+    ensures { OnOk result (IsGrown instance.now list.old.items list.new.items) }
 {
     let wanted = Grid::filled(alloc, instance.items(), instance.periods(), 1)?;
     keep_built(alloc, instance, &wanted, list)
@@ -122,7 +119,7 @@ fn kicked_within(
     planned: Planned,
 ) -> Result<Planned, AllocError>
     requires made { IsMade instance.now planned }
-    ensures made { IfOk result (IsMade instance.now) }
+    ensures { IfOk result (IsNoDearer instance.now planned) }
 {
     let tries = tries_within(instance, KICK_WORK);
     if tries / KICK_SWEEPS < instance.items() * instance.periods() {
@@ -171,8 +168,7 @@ fn keep_improved(
     list: &mut Vec<Planned>,
 ) -> Result<(), AllocError>
     requires each { All (IsMade instance.now) list.old.items }
-    ensures each { OnOk result (All (IsMade instance.now) list.new.items) }
-    ensures longer { OnOk result (IsLonger list.old.items list.new.items) }
+    ensures { OnOk result (IsGrown instance.now list.old.items list.new.items) }
 {
     if list.is_empty() {
         return Ok(());

@@ -1,4 +1,4 @@
-use Rattle.item_lots.specs.Improved.{IsNoDearer}
+use Rattle.first_plans.specs.Made.{IsNoDearer}
 use Rattle.first_plans.proofs.by_families.improve_all.Given as goal
 
 abbrev pub invariant-loop-family : goal.invariant-loop-family

@@ -1,9 +1,12 @@
 use Rattle.std.proofs.Common.{All, sym, subst}
-use Rattle.first_plans.specs.Made.{IsMade}
+use Rattle.first_plans.specs.Made.{IsMade, those}
 use Rattle.first_plans.proofs.Lists.{all_more}
 use Rattle.first_plans.proofs.listing.keep_built.Goals as goal
 
-pub returns-clause-each : goal.returns-clause-each
-returns-clause-each c =
+pub returns : goal.returns
+returns c =
     let m = c.args.instance.now in
-    subst (All (IsMade m)) (sym c.in_ok-keep.ensures) (all_more m c.args.list.now.items c.in_ok-built.built c.requires.each c.in_ok-built.ensures.plan)
+    record {
+      each = subst (All (IsMade m)) (sym c.in_ok-keep.ensures) (all_more m c.args.list.now.items c.in_ok-built.built c.requires.each c.in_ok-built.ensures.plan);
+      longer = (those c.in_ok-built.built, c.in_ok-keep.ensures);
+    }
