@@ -22,7 +22,7 @@ use Rattle.lotplan.specs.declared.said.Said.{Said}
 use Rattle.command_line.specs.Words.{checking}
 use Rattle.lotplan.specs.Status.{code_of}
 use Rattle.lotplan.specs.Reading.{FileExplains, HoldsProblem, ModelExplains, OfFile, ReadAnswer, refused, missing, unread, too_long, read_line, read_status, AreNoPlan, HoldsPlan}
-use Rattle.lotplan.specs.Proving.{IsGiven}
+use Rattle.lotplan.specs.Proving.{HoldsCertificate, IsGiven}
 use Rattle.lotplan.specs.Checking.{CheckAnswer, accepted, no_certificate, no_plan, rejected, stopped, check_line, check_status, Accepts, AllAre, AsksForPlan, CertificateExplains, CheckCallsFor, CheckExplains, CheckSays, ClaimCallsFor, FindsRefused, GivenCallsFor, GivenExplains, IsOptimal, IsRefusal, PlanStops, PlannedCallsFor, PlannedExplains, ProofCallsFor, ProofExplains, ProofIs, ProofStops}
 use Rattle.lotplan.specs.Saying.{Gains, IsSaid}
 use Rattle.lotplan.specs.Run.{HadNoFault}
@@ -121,16 +121,20 @@ of_text one file P known bytes is certificate reads =
 abbrev GoesWith : Problem → List ℕ → List ℕ → Shelved → Option Plan → Type 0
 GoesWith problem p c old given = IsTrue old.told → OfCertificate (old.file c) (λ certificate. IsGiven old.file p problem certificate.claim given)
 
+-- the certificate that the file holds, with the plan that goes with its claim
+abbrev held : TextsMeanOneThing → (problem : Problem) (p c : List ℕ) (old : Shelved) (given : Option Plan) → GoesWith problem p c old given → IsTrue old.told → (certificate : Shape) → OfBytes (old.file c) (λ bytes. IsTextOf bytes certificate) → HoldsCertificate old.file p c problem
+held one problem p c old given goes t certificate text = record {
+  certificate = certificate;
+  text = text;
+  given = given;
+  goes_with = of_text one (old.file c) (λ other. IsGiven old.file p problem other.claim given) (goes t) text.0 text.1 certificate text.3;
+}
+
 whole : TextsMeanOneThing → (problem : Problem) (p c : List ℕ) (old new : Shelved) (given : Option Plan) (answer : CheckAnswer) → GoesWith problem p c old given → GivenExplains problem given c old new answer → ProofExplains problem p c old new answer
 whole one problem p c old new given (accepted claim) goes x = λ t.
     let g = x.1 t in
     record {
-      holds = record {
-        certificate = g.3.0;
-        text = (g.0, g.1, g.2, g.3.1);
-        given = given;
-        goes_with = of_text one (old.file c) (λ certificate. IsGiven old.file p problem certificate.claim given) (goes t) g.0 g.1 g.3.0 g.3.1;
-      };
+      holds = held one problem p c old given goes t g.3.0 (g.0, g.1, g.2, g.3.1);
       claims = g.3.2.0;
       is_true = x.0;
       certified = g.3.2.1;
@@ -140,12 +144,7 @@ whole one problem p c old new given (no_plan fault) goes x = absurd x
 whole one problem p c old new given (rejected line w) goes x = λ t.
     let g = x t in
     record {
-      holds = record {
-        certificate = g.3.0;
-        text = (g.0, g.1, g.2, g.3.1);
-        given = given;
-        goes_with = of_text one (old.file c) (λ certificate. IsGiven old.file p problem certificate.claim given) (goes t) g.0 g.1 g.3.0 g.3.1;
-      };
+      holds = held one problem p c old given goes t g.3.0 (g.0, g.1, g.2, g.3.1);
       fault = g.3.2;
     }
 whole one problem p c old new given (stopped w) goes x = inl x
