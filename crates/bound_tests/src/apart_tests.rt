@@ -1,7 +1,7 @@
 use apart::{apart, apart_is_one, apart_leaf};
 use certificate::{Certificate, Claim, Tree, write_certificate};
-use fixtures::{need, plain_item};
-use lot_model::{Draft, DraftItem, Instance};
+use fixtures::{instance_of, need, plain_item};
+use lot_model::{DraftItem, DraftNeed, Instance};
 use std::alloc::{AllocError, Global};
 use std::test::Fail;
 
@@ -42,63 +42,91 @@ fn item(
     )
 }
 
-// A, of which 5 are asked for in period 2, and B, of which 2 go into each.
+// Two of B.
+fn needs(alloc: Global) -> Result<Vec<DraftNeed>, AllocError> {
+    let two = need(alloc, "B", 2)?;
+    Ok(vec![in alloc; two]?)
+}
+
+// A, of which 5 are asked for in period 2, and of B 2 go into each.
+fn product(alloc: Global, lead: i64) -> Result<DraftItem, AllocError> {
+    let mut made = item(alloc, "A", [0, 5], [10, 10], 3)?;
+    made.lead = lead;
+    made.needs = needs(alloc)?;
+    Ok(made)
+}
+
+// A, and B that goes into it.
 fn coupled(alloc: Global, lead: i64) -> Result<Vec<DraftItem>, AllocError> {
-    let mut product = item(alloc, "A", [0, 5], [10, 10], 3)?;
-    product.lead = lead;
-    product.needs.push(need(alloc, "B", 2)?)?;
+    let product = product(alloc, lead)?;
     let part = item(alloc, "B", [0, 0], [10, 10], 1)?;
     Ok(vec![in alloc; product, part]?)
 }
 
-// The text of a certificate that says what the items cost apart.
-fn text(alloc: Global, items: Vec<DraftItem>) -> Result<Vec<u8>, Fail> {
-    let draft = Draft {
-        periods: 2,
-        resources: Vec::new(alloc),
-        items,
-    };
-    let instance = Instance::from_draft(alloc, draft).ok().ok_or("refused")?;
-    let found = apart(alloc, &instance)?;
+// A certificate that says what the items cost apart.
+fn certificate_of(alloc: Global, instance: &Instance) -> Result<Certificate, Fail> {
+    let found = apart(alloc, instance)?;
     let leaf = apart_leaf(alloc, 0, found.cuts.len() as u32)?;
-    let certificate = Certificate {
+    Ok(Certificate {
         version: 1,
         claim: Claim::Bound(found.amount),
         cuts: found.cuts,
         tree: Tree::Leaf(leaf),
-    };
+    })
+}
+
+// The text of a certificate that says what the items cost apart.
+fn text(alloc: Global, items: Vec<DraftItem>) -> Result<Vec<u8>, Fail> {
+    let instance = instance_of(alloc, 2, Vec::new(alloc), items)?;
+    let certificate = certificate_of(alloc, &instance)?;
     Ok(write_certificate(alloc, &certificate)?)
+}
+
+// Whether this is the text of a certificate that says what the items cost apart.
+fn is_text(alloc: Global, items: Vec<DraftItem>, want: &str) -> Result<bool, Fail> {
+    let bytes = text(alloc, items)?;
+    Ok(bytes.as_slice() == want.as_bytes())
 }
 
 #[test]
 fn a_component_costs_its_setups(rt: HostRuntime) -> Result<(), Fail> {
     let alloc = rt.alloc();
     apart_is_one();
-    assert!(rt; text(alloc, coupled(alloc, 0)?)?.as_slice() == COUPLED.as_bytes());
+    assert!(rt; is_text(alloc, coupled(alloc, 0)?, COUPLED)?);
     Ok(())
+}
+
+// An item of which 5 are there at first.
+fn left_over(alloc: Global) -> Result<Vec<DraftItem>, AllocError> {
+    let mut full = item(alloc, "A", [1, 2], [10, 10], 2)?;
+    full.opening = 5;
+    Ok(vec![in alloc; full]?)
 }
 
 #[test]
 fn what_is_left_over_is_held(rt: HostRuntime) -> Result<(), Fail> {
     let alloc = rt.alloc();
-    let mut full = item(alloc, "A", [1, 2], [10, 10], 2)?;
-    full.opening = 5;
-    assert!(rt; text(alloc, vec![in alloc; full]?)?.as_slice() == LEFT_OVER.as_bytes());
+    assert!(rt; is_text(alloc, left_over(alloc)?, LEFT_OVER)?);
     Ok(())
+}
+
+// An item that may be late, at 2 for each unit and period.
+fn late(alloc: Global) -> Result<Vec<DraftItem>, AllocError> {
+    let mut owed = item(alloc, "A", [4, 6], [100, 20], 1)?;
+    owed.backlog_cost = Some(vec![in alloc; 2i64, 2i64]?);
+    Ok(vec![in alloc; owed]?)
 }
 
 #[test]
 fn a_backlog_is_owed(rt: HostRuntime) -> Result<(), Fail> {
     let alloc = rt.alloc();
-    let mut owed = item(alloc, "A", [4, 6], [100, 20], 1)?;
-    owed.backlog_cost = Some(vec![in alloc; 2i64, 2i64]?);
-    assert!(rt; text(alloc, vec![in alloc; owed]?)?.as_slice() == OWED.as_bytes());
+    assert!(rt; is_text(alloc, late(alloc)?, OWED)?);
     Ok(())
 }
 
 #[test]
 fn a_late_item_adds_nothing(rt: HostRuntime) -> Result<(), Fail> {
     let alloc = rt.alloc();
-    assert!(rt; text(alloc, coupled(alloc, 1)?)?.as_slice() == LATE.as_bytes());
+    assert!(rt; is_text(alloc, coupled(alloc, 1)?, LATE)?);
     Ok(())
 }

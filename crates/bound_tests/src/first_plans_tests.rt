@@ -4,39 +4,89 @@ use built_plans::net_demands;
 use first_plans::{
     built_plan, candidates, improved, improved_by_families, own_period_is_one, own_period_plan,
 };
-use fixtures::{instance_of, need, plain_item, resource, usage};
-use lot_model::{DraftItem, Instance};
-use plan_rules::Grid;
+use fixtures::{instance_of, need, resource, steady_item, usage};
+use lot_model::{DraftItem, DraftNeed, DraftResource, DraftUse, Instance};
+use plan_rules::{Grid, Plan, Planned};
 use std::alloc::{AllocError, Global};
 use std::test::Fail;
 
 // An item that is asked for so much, for a setup of 5, 2 a unit, and 1 a unit in stock.
 fn item(alloc: Global, name: &str, demand: &[i64]) -> Result<DraftItem, AllocError> {
-    let mut twos = Vec::new(alloc);
-    twos.resize(demand.len(), 2i64)?;
-    let mut fives = Vec::new(alloc);
-    fives.resize(demand.len(), 5i64)?;
-    let mut ones = Vec::new(alloc);
-    ones.resize(demand.len(), 1i64)?;
-    plain_item(alloc, name, demand, &twos, &fives, &ones)
+    let mut made = steady_item(alloc, name, demand.len(), [0, 2, 5, 1])?;
+    made.demand = demand.to_vec(alloc)?;
+    Ok(made)
 }
 
-// Tables of four legs each, of which there is one, and one is to be left. There are five legs, and a leg takes
-// a minute at the saw, and setting it up ten; in the last period it has so many minutes.
+// The minutes at the saw that a unit takes, and a setup.
+fn uses(alloc: Global, unit: i64, setup: i64) -> Result<Vec<DraftUse>, AllocError> {
+    let one = usage(alloc, "saw", unit, setup)?;
+    Ok(vec![in alloc; one]?)
+}
+
+// The saw, with so many minutes in each period.
+fn saws(alloc: Global, minutes: &[i64]) -> Result<Vec<DraftResource>, AllocError> {
+    let saw = resource(alloc, "saw", minutes)?;
+    Ok(vec![in alloc; saw]?)
+}
+
+// Legs, of which there are five. A leg takes a minute at the saw, and setting it up ten.
+fn leg(alloc: Global, lead: i64) -> Result<DraftItem, AllocError> {
+    let mut made = item(alloc, "leg", &[0, 0, 0])?;
+    made.opening = 5;
+    made.lead = lead;
+    made.uses = uses(alloc, 1, 10)?;
+    Ok(made)
+}
+
+// Four legs.
+fn four_legs(alloc: Global) -> Result<Vec<DraftNeed>, AllocError> {
+    let four = need(alloc, "leg", 4)?;
+    Ok(vec![in alloc; four]?)
+}
+
+// Tables of four legs each, of which there is one, and one is to be left.
+fn table(alloc: Global) -> Result<DraftItem, AllocError> {
+    let mut made = item(alloc, "table", &[3, 0, 2])?;
+    made.opening = 1;
+    made.end_min = 1;
+    made.needs = four_legs(alloc)?;
+    Ok(made)
+}
+
+// Legs and tables.
+fn legs_and_tables(alloc: Global, lead: i64) -> Result<Vec<DraftItem>, AllocError> {
+    let legs = leg(alloc, lead)?;
+    let tables = table(alloc)?;
+    Ok(vec![in alloc; legs, tables]?)
+}
+
+// Tables and their legs, with so many minutes at the saw in the last period.
 fn tables(alloc: Global, lead: i64, minutes: i64) -> Result<Instance, Fail> {
-    let mut leg = item(alloc, "leg", &[0, 0, 0])?;
-    leg.opening = 5;
-    leg.lead = lead;
-    leg.uses.push(usage(alloc, "saw", 1, 10)?)?;
-    let mut table = item(alloc, "table", &[3, 0, 2])?;
-    table.opening = 1;
-    table.end_min = 1;
-    table.needs.push(need(alloc, "leg", 4)?)?;
-    let mut items = Vec::new(alloc);
-    items.push(leg)?;
-    items.push(table)?;
-    let saw = resource(alloc, "saw", &[30, 30, minutes])?;
-    instance_of(alloc, 3, vec![in alloc; saw]?, items)
+    let saws = saws(alloc, &[30, 30, minutes])?;
+    let items = legs_and_tables(alloc, lead)?;
+    instance_of(alloc, 3, saws, items)
+}
+
+// The own-period plan of tables, where there is one.
+fn own_plan(alloc: Global, lead: i64, minutes: i64) -> Result<Option<Planned>, Fail> {
+    let instance = tables(alloc, lead, minutes)?;
+    Ok(own_period_plan(alloc, &instance)?)
+}
+
+// Whether a plan makes these and has these setups, and whether it holds these and owes these, for each item and period.
+fn is_plan(
+    plan: &Plan,
+    make: &[u64],
+    setup: &[u64],
+    stock: &[u64],
+    backlog: &[u64],
+) -> (bool, bool, bool, bool) {
+    (
+        plan.make.cells() == make,
+        plan.setup.cells() == setup,
+        plan.stock.cells() == stock,
+        plan.backlog.cells() == backlog,
+    )
 }
 
 #[test]
@@ -44,16 +94,25 @@ fn lots_are_made_when_they_are_asked_for(rt: HostRuntime) -> Result<(), Fail> {
     own_period_is_one();
     let alloc = rt.alloc();
     // Tables 2, 0, 3, so legs 8, 0, 12 less the five that there are.
-    let found = own_period_plan(alloc, &tables(alloc, 0, 22)?)?.ok_or("no plan")?;
-    let plan = &found.plan;
-    assert!(rt; plan.make.cells() == &[3, 0, 12, 2, 0, 3][..]);
-    assert!(rt; plan.setup.cells() == &[1, 0, 1, 1, 0, 1][..]);
-    assert!(rt; plan.stock.cells() == &[0, 0, 0, 0, 0, 1][..]);
-    assert!(rt; plan.backlog.cells() == &[0, 0, 0, 0, 0, 0][..]);
+    let found = own_plan(alloc, 0, 22)?.ok_or("no plan")?;
+    let cells = is_plan(
+        &found.plan,
+        &[3, 0, 12, 2, 0, 3],
+        &[1, 0, 1, 1, 0, 1],
+        &[0, 0, 0, 0, 0, 1],
+        &[0, 0, 0, 0, 0, 0],
+    );
+    assert_eq!(rt; cells, (true, true, true, true));
     assert_eq!(rt; found.cost, 61);
-    // A minute less at the saw, and a lead time.
-    assert!(rt; own_period_plan(alloc, &tables(alloc, 0, 21)?)?.is_none());
-    assert!(rt; own_period_plan(alloc, &tables(alloc, 1, 22)?)?.is_none());
+    Ok(())
+}
+
+// A minute less at the saw, and a lead time.
+#[test]
+fn lots_without_time_have_no_plan(rt: HostRuntime) -> Result<(), Fail> {
+    let alloc = rt.alloc();
+    assert!(rt; own_plan(alloc, 0, 21)?.is_none());
+    assert!(rt; own_plan(alloc, 1, 22)?.is_none());
     Ok(())
 }
 
@@ -66,6 +125,20 @@ fn costs(alloc: Global, instance: &Instance) -> Result<Vec<u128>, AllocError> {
     Ok(list)
 }
 
+// The least cost of the candidates of tables, and None where there are none.
+fn least(alloc: Global, lead: i64, minutes: i64) -> Result<Option<u128>, Fail> {
+    let instance = tables(alloc, lead, minutes)?;
+    let found = costs(alloc, &instance)?;
+    Ok(found.iter().min().copied())
+}
+
+// Whether a candidate of tables without a lead time has this cost.
+fn is_among(alloc: Global, minutes: i64, cost: u128) -> Result<bool, Fail> {
+    let instance = tables(alloc, 0, minutes)?;
+    let found = costs(alloc, &instance)?;
+    Ok(found.contains(&cost))
+}
+
 // No plan costs less than 57: each makes five tables and fifteen legs, for 40, and tables in the first period, which asks for
 // three where there is one. All of them in it have 3, 3 and 1 in stock, with a setup of each item. To make some later takes a
 // setup, and one of legs or four legs in stock, which is 9 at least, and saves 6 in stock at most.
@@ -73,12 +146,10 @@ fn costs(alloc: Global, instance: &Instance) -> Result<Vec<u128>, AllocError> {
 fn plans_to_begin_with(rt: HostRuntime) -> Result<(), Fail> {
     let alloc = rt.alloc();
     // The own-period plan is among them. It has no time with a minute less at the saw, and the cheapest one still has.
-    let found = costs(alloc, &tables(alloc, 0, 22)?)?;
-    assert_eq!(rt; found.iter().min().copied(), Some(57));
-    assert!(rt; found.contains(&61));
-    let found = costs(alloc, &tables(alloc, 0, 21)?)?;
-    assert_eq!(rt; found.iter().min().copied(), Some(57));
-    assert!(rt; costs(alloc, &tables(alloc, 1, 22)?)?.is_empty());
+    assert_eq!(rt; least(alloc, 0, 22)?, Some(57));
+    assert!(rt; is_among(alloc, 22, 61)?);
+    assert_eq!(rt; least(alloc, 0, 21)?, Some(57));
+    assert_eq!(rt; least(alloc, 1, 22)?, None);
     Ok(())
 }
 
@@ -112,6 +183,18 @@ fn nets_of(
     Ok(net_demands(alloc, instance, item, &make)?)
 }
 
+// Whether this must be made of an item for each period, where so many tables are made.
+fn are_nets(
+    alloc: Global,
+    instance: &Instance,
+    item: u32,
+    made: [u64; 3],
+    nets: [u128; 3],
+) -> Result<bool, Fail> {
+    let found = nets_of(alloc, instance, item, made)?;
+    Ok(found.as_slice() == &nets[..])
+}
+
 #[test]
 fn what_must_be_made_for_each_period(rt: HostRuntime) -> Result<(), Fail> {
     let alloc = rt.alloc();
@@ -125,25 +208,39 @@ fn what_must_be_made_for_each_period(rt: HostRuntime) -> Result<(), Fail> {
         (1, [1, 0, 4], [0, 0, 15]),
         (1, [1, 1, 3], [0, 3, 12]),
     ] {
-        let found = nets_of(alloc, &instance, item, made)?;
-        assert!(rt; found.as_slice() == &nets[..]);
+        assert!(rt;
+            are_nets(alloc, &instance, item, made, nets)?,
+            "item {item}"
+        );
     }
     Ok(())
+}
+
+// The plan with a setup of legs in the first period, and of tables in the first and the last one.
+fn wanted_plan(alloc: Global, instance: &Instance) -> Result<Planned, Fail> {
+    let mut wanted = Grid::filled(alloc, instance.items(), instance.periods(), 0)?;
+    put(&mut wanted, 1, 1, 1);
+    put(&mut wanted, 2, 1, 1);
+    put(&mut wanted, 2, 3, 1);
+    Ok(built_plan(alloc, instance, &wanted)?.ok_or("no plan")?)
 }
 
 #[test]
 fn a_plan_with_the_setups_that_are_wanted(rt: HostRuntime) -> Result<(), Fail> {
     let alloc = rt.alloc();
     let instance = tables(alloc, 0, 22)?;
-    let mut wanted = Grid::filled(alloc, instance.items(), instance.periods(), 0)?;
-    put(&mut wanted, 1, 1, 1);
-    put(&mut wanted, 2, 1, 1);
-    put(&mut wanted, 2, 3, 1);
-    let found = built_plan(alloc, &instance, &wanted)?.ok_or("no plan")?;
+    let found = wanted_plan(alloc, &instance)?;
     // All legs in the first period: 15 minutes and the setup, and twelve legs in stock over two periods.
-    assert!(rt; found.plan.make.cells() == &[15, 0, 0, 2, 0, 3][..]);
-    assert_eq!(rt; found.cost, 61 - 5 + 24);
+    let is_made = found.plan.make.cells() == &[15, 0, 0, 2, 0, 3][..];
+    assert_eq!(rt; (is_made, found.cost), (true, 61 - 5 + 24));
     Ok(())
+}
+
+// What the own-period plan costs once it is improved by so many tries.
+fn cost_improved(alloc: Global, instance: &Instance, tries: u32) -> Result<u128, Fail> {
+    let own = own_period_plan(alloc, instance)?.ok_or("no plan")?;
+    let better = improved(alloc, instance, own, tries)?;
+    Ok(better.cost)
 }
 
 #[test]
@@ -151,37 +248,65 @@ fn a_plan_is_improved(rt: HostRuntime) -> Result<(), Fail> {
     let alloc = rt.alloc();
     let instance = tables(alloc, 0, 22)?;
     // Without the setup in the last period the tables are made in the first one, and with them the legs.
-    for (tries, cost) in [(0u32, 61u128), (1000, 57)] {
-        let own = own_period_plan(alloc, &instance)?.ok_or("no plan")?;
-        assert_eq!(rt; improved(alloc, &instance, own, tries)?.cost, cost);
-    }
+    assert_eq!(rt; cost_improved(alloc, &instance, 0)?, 61);
+    assert_eq!(rt; cost_improved(alloc, &instance, 1000)?, 57);
     Ok(())
 }
 
-// Items that a saw makes, a minute each, with so many minutes in each period.
+// An item that takes a minute at the saw.
+fn sawn_item(alloc: Global, name: &str, demand: &[i64]) -> Result<DraftItem, AllocError> {
+    let mut made = item(alloc, name, demand)?;
+    made.uses = uses(alloc, 1, 0)?;
+    Ok(made)
+}
+
+// Items over three periods, with so many minutes at the saw in each.
 fn sawn(alloc: Global, items: Vec<DraftItem>, minutes: i64) -> Result<Instance, Fail> {
-    let mut list = Vec::new(alloc);
-    for mut item in items {
-        item.uses.push(usage(alloc, "saw", 1, 0)?)?;
-        list.push(item)?;
-    }
-    let saw = resource(alloc, "saw", &[minutes, minutes, minutes])?;
-    instance_of(alloc, 3, vec![in alloc; saw]?, list)
+    let saws = saws(alloc, &[minutes, minutes, minutes])?;
+    instance_of(alloc, 3, saws, items)
+}
+
+// Boards, six of them in the first period, of which four are made in a period at most.
+fn late_boards(alloc: Global) -> Result<Instance, Fail> {
+    let mut board = sawn_item(alloc, "board", &[6, 0, 0])?;
+    board.backlog_cost = Some(vec![in alloc; 1i64, 1i64, 1i64]?);
+    let items = vec![in alloc; board]?;
+    sawn(alloc, items, 4)
+}
+
+// The plan with a setup wherever there may be one.
+fn plan_with_all(alloc: Global, instance: &Instance) -> Result<Planned, Fail> {
+    let wanted = Grid::filled(alloc, instance.items(), instance.periods(), 1)?;
+    Ok(built_plan(alloc, instance, &wanted)?.ok_or("no plan")?)
 }
 
 #[test]
 fn what_may_be_late_is_made_late(rt: HostRuntime) -> Result<(), Fail> {
     let alloc = rt.alloc();
-    let mut board = item(alloc, "board", &[6, 0, 0])?;
-    board.backlog_cost = Some(vec![in alloc; 1i64, 1i64, 1i64]?);
-    let instance = sawn(alloc, vec![in alloc; board]?, 4)?;
-    let wanted = Grid::filled(alloc, instance.items(), instance.periods(), 1)?;
-    let found = built_plan(alloc, &instance, &wanted)?.ok_or("no plan")?;
+    let instance = late_boards(alloc)?;
+    let found = plan_with_all(alloc, &instance)?;
     // Only four of six boards can be made in a period, so four are owed for a period: 12, two setups and 4.
-    assert!(rt; found.plan.make.cells() == &[2, 4, 0][..]);
-    assert!(rt; found.plan.backlog.cells() == &[4, 0, 0][..]);
-    assert_eq!(rt; found.cost, 26);
+    let is_made = found.plan.make.cells() == &[2, 4, 0][..];
+    let is_owed = found.plan.backlog.cells() == &[4, 0, 0][..];
+    assert_eq!(rt; (is_made, is_owed, found.cost), (true, true, 26));
     Ok(())
+}
+
+// Boards and beams, one of each in each period, with so many minutes at the saw.
+fn boards_and_beams(alloc: Global, minutes: i64) -> Result<Instance, Fail> {
+    let board = sawn_item(alloc, "board", &[1, 1, 1])?;
+    let beam = sawn_item(alloc, "beam", &[1, 1, 1])?;
+    let items = vec![in alloc; board, beam]?;
+    sawn(alloc, items, minutes)
+}
+
+// What the own-period plan costs, and what it costs once it is improved by families.
+fn costs_by_families(alloc: Global, minutes: i64) -> Result<(u128, u128), Fail> {
+    let instance = boards_and_beams(alloc, minutes)?;
+    let own = own_period_plan(alloc, &instance)?.ok_or("no plan")?;
+    let cost = own.cost;
+    let better = improved_by_families(alloc, &instance, own)?;
+    Ok((cost, better.cost))
 }
 
 #[test]
@@ -189,15 +314,7 @@ fn one_family_after_the_other_is_improved(rt: HostRuntime) -> Result<(), Fail> {
     let alloc = rt.alloc();
     // All of an item in the first period costs 6, a setup and 2 and 1 in stock, and one more setup each lot: 14 and not 21.
     // With five minutes in a period, one item has two lots: 6, two setups and 1.
-    for (minutes, cost) in [(6i64, 28u128), (5, 31)] {
-        let items = vec![in alloc;
-            item(alloc, "board", &[1, 1, 1])?,
-            item(alloc, "beam", &[1, 1, 1])?,
-        ]?;
-        let instance = sawn(alloc, items, minutes)?;
-        let own = own_period_plan(alloc, &instance)?.ok_or("no plan")?;
-        assert_eq!(rt; own.cost, 42);
-        assert_eq!(rt; improved_by_families(alloc, &instance, own)?.cost, cost);
-    }
+    assert_eq!(rt; costs_by_families(alloc, 6)?, (42, 28));
+    assert_eq!(rt; costs_by_families(alloc, 5)?, (42, 31));
     Ok(())
 }

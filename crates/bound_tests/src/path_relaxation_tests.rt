@@ -1,19 +1,35 @@
 use fixtures::{instance_of, plain_item, resource, usage};
 use lin_rows::{Bound, Column};
-use lot_model::Instance;
+use lot_model::{DraftItem, DraftResource, DraftUse, Instance};
 use path_relaxation::{PathSays, path_relaxation};
-use std::alloc::Global;
+use std::alloc::{AllocError, Global};
 use std::test::Fail;
+
+// A unit of time for each unit and for a setup.
+fn uses(alloc: Global) -> Result<Vec<DraftUse>, AllocError> {
+    let one = usage(alloc, "m", 1, 1)?;
+    Ok(vec![in alloc; one]?)
+}
+
+// The item in a list.
+fn items(alloc: Global) -> Result<Vec<DraftItem>, AllocError> {
+    let mut made = plain_item(alloc, "A", &[2, 8], &[0, 0], &[10, 10], &[1, 1])?;
+    made.uses = uses(alloc)?;
+    Ok(vec![in alloc; made]?)
+}
+
+// The resource in a list.
+fn machines(alloc: Global) -> Result<Vec<DraftResource>, AllocError> {
+    let machine = resource(alloc, "m", &[6, 6])?;
+    Ok(vec![in alloc; machine]?)
+}
 
 // One item over two periods, with a demand of 2 and of 8. A unit takes a unit of time, and so does a setup, of 6 in a
 // period. A setup costs 10, and a unit in stock 1.
 fn model(alloc: Global) -> Result<Instance, Fail> {
-    let mut uses = Vec::new(alloc);
-    uses.push(usage(alloc, "m", 1, 1)?)?;
-    let mut item = plain_item(alloc, "A", &[2, 8], &[0, 0], &[10, 10], &[1, 1])?;
-    item.uses = uses;
-    let resource = resource(alloc, "m", &[6, 6])?;
-    instance_of(alloc, 2, vec![in alloc; resource]?, vec![in alloc; item]?)
+    let resources = machines(alloc)?;
+    let items = items(alloc)?;
+    instance_of(alloc, 2, resources, items)
 }
 
 // The number that is said, and None where no point meets the rows and the bounds.

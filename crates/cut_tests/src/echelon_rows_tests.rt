@@ -1,3 +1,4 @@
+use crate::echelons::terms_text;
 use echelon::{EchelonItem, is_echelon_within_bounds};
 use echelon_rows::{are_prices, are_steps, cost_terms_of, held_of, serving_prices, worth_of};
 use std::alloc::{AllocError, Global};
@@ -55,26 +56,26 @@ fn part(alloc: Global) -> Result<EchelonItem, AllocError> {
     })
 }
 
-#[test]
-fn terms_of_costs(rt: HostRuntime) -> Result<(), Fail> {
-    let alloc = rt.alloc();
-    let echelon = part(alloc)?;
+// The text of the terms of its costs.
+fn text_of_costs(alloc: Global) -> Result<String, Fail> {
     let setups = [100u128, 0];
     let prices = [5u64, 7];
-    if !is_echelon_within_bounds(&echelon) || echelon.demand.len() != 2 {
-        return Err("past the limits".into());
-    }
     if !are_steps(&setups) || !are_prices(&prices) {
         return Err("prices past their limit".into());
     }
-    let terms = cost_terms_of(alloc, &echelon, &setups, &prices, &prices, &prices)?;
-    let mut text = String::new(alloc);
-    for term in terms.as_slice() {
-        let part = format!(in alloc; "{} {}, ", term.times, term.column)?;
-        text.push_str(&part)?;
+    let echelon = part(alloc)?;
+    if !is_echelon_within_bounds(&echelon) || echelon.demand.len() != 2 {
+        return Err("past the limits".into());
     }
+    let terms = cost_terms_of(alloc, &echelon, &setups, &prices, &prices, &prices)?;
+    terms_text(alloc, terms.as_slice())
+}
+
+#[test]
+fn terms_of_costs(rt: HostRuntime) -> Result<(), Fail> {
+    let found = text_of_costs(rt.alloc())?;
     assert_eq!(rt;
-        text.as_str(),
+        found.as_str(),
         "5 x 2 1, 7 x 2 2, 100 y 2 1, 15 s 1 1, 21 s 1 2, 5 s 2 1, 7 s 2 2, 15 r 1 1, "
     );
     Ok(())

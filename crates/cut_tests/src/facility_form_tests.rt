@@ -1,6 +1,7 @@
+use crate::echelons::{alone, text};
 use echelon::{EchelonItem, is_echelon_within_bounds};
 use facility_form::{assign, price_row};
-use lin_rows::{Prices, Row};
+use lin_rows::Prices;
 use std::alloc::{AllocError, Global};
 use std::test::Fail;
 
@@ -36,31 +37,13 @@ fn what_is_made_first_serves_first(rt: HostRuntime) -> Result<(), Fail> {
     Ok(())
 }
 
-// Demands 4 and 6 of an item by itself.
-fn alone(alloc: Global, backlogged: bool, opening: u128) -> Result<EchelonItem, AllocError> {
-    Ok(EchelonItem {
-        item: 1,
-        demand: vec![in alloc; 4u128, 6]?,
-        opening,
-        end_min: 0,
-        weights: vec![in alloc; 1u64]?,
-        backs: vec![in alloc; backlogged]?,
-        backlogged,
-    })
-}
-
 // Prices of two periods.
-fn prices(
-    alloc: Global,
-    price: [u64; 2],
-    hold: [u64; 2],
-    back: [u64; 2],
-) -> Result<Prices, AllocError> {
+fn prices(alloc: Global, price: &[u64], hold: &[u64], back: &[u64]) -> Result<Prices, AllocError> {
     Ok(Prices {
-        price: Vec::from_slice(alloc, &price)?,
+        price: Vec::from_slice(alloc, price)?,
         unit: vec![in alloc; 0u64, 0]?,
-        hold: Vec::from_slice(alloc, &hold)?,
-        back: Vec::from_slice(alloc, &back)?,
+        hold: Vec::from_slice(alloc, hold)?,
+        back: Vec::from_slice(alloc, back)?,
     })
 }
 
@@ -75,38 +58,33 @@ fn row_text(alloc: Global, echelon: &EchelonItem, prices: &Prices) -> Result<Str
     }
 }
 
-// The text of a row.
-fn text(alloc: Global, row: &Row) -> Result<String, Fail> {
-    let mut out = String::new(alloc);
-    for term in row.terms() {
-        let part = format!(in alloc; "{} {}, ", term.times, term.column)?;
-        out.push_str(&part)?;
-    }
-    let end = format!(in alloc; ">= {}", row.right())?;
-    out.push_str(&end)?;
-    Ok(out)
+// That of the item alone which may not be late, without stock.
+fn text_of_prompt(alloc: Global, price: &[u64], hold: &[u64]) -> Result<String, Fail> {
+    let item = alone(alloc, false, 0)?;
+    let lists = prices(alloc, price, hold, &[0, 0])?;
+    row_text(alloc, &item, &lists)
+}
+
+// That of the item alone which may be late, with one unit in stock.
+fn text_of_late(alloc: Global, price: &[u64], hold: &[u64], back: &[u64]) -> Result<String, Fail> {
+    let item = alone(alloc, true, 1)?;
+    let lists = prices(alloc, price, hold, back)?;
+    row_text(alloc, &item, &lists)
 }
 
 #[test]
 fn the_row_of_an_item_without_backlog(rt: HostRuntime) -> Result<(), Fail> {
-    let alloc = rt.alloc();
-    let item = alone(alloc, false, 0)?;
-    let lists = prices(alloc, [25, 1], [1, 0], [0, 0])?;
-    assert_eq!(rt;
-        row_text(alloc, &item, &lists)?.as_str(),
-        "100 y 1 1, 6 y 1 2, 1 s 1 1, >= 106"
-    );
+    let found = text_of_prompt(rt.alloc(), &[25, 1], &[1, 0])?;
+    assert_eq!(rt; found.as_str(), "100 y 1 1, 6 y 1 2, 1 s 1 1, >= 106");
     Ok(())
 }
 
 #[test]
 fn the_row_of_an_item_with_backlog(rt: HostRuntime) -> Result<(), Fail> {
-    let alloc = rt.alloc();
-    let item = alone(alloc, true, 1)?;
-    let lists = prices(alloc, [25, 1], [1, 0], [2, 0])?;
+    let found = text_of_late(rt.alloc(), &[25, 1], &[1, 0], &[2, 0])?;
     // Of 3 and 6, the second period's setup gains 3 * (25 - 2) of the first one's demand.
     assert_eq!(rt;
-        row_text(alloc, &item, &lists)?.as_str(),
+        found.as_str(),
         "75 y 1 1, 75 y 1 2, 1 s 1 1, 2 r 1 1, >= 81"
     );
     Ok(())
@@ -115,16 +93,9 @@ fn the_row_of_an_item_with_backlog(rt: HostRuntime) -> Result<(), Fail> {
 #[test]
 fn lists_that_make_no_row(rt: HostRuntime) -> Result<(), Fail> {
     let alloc = rt.alloc();
-    let item = alone(alloc, false, 0)?;
-    let mut lists = prices(alloc, [100_000_000_001, 1], [1, 0], [0, 0])?;
-    assert_eq!(rt;
-        row_text(alloc, &item, &lists)?.as_str(),
-        "a number is past its limit"
-    );
-    lists.hold = vec![in alloc; 1u64]?;
-    assert_eq!(rt;
-        row_text(alloc, &item, &lists)?.as_str(),
-        "a list has another length"
-    );
+    let large = text_of_prompt(alloc, &[100_000_000_001, 1], &[1, 0])?;
+    assert_eq!(rt; large.as_str(), "a number is past its limit");
+    let short = text_of_prompt(alloc, &[100_000_000_001, 1], &[1])?;
+    assert_eq!(rt; short.as_str(), "a list has another length");
     Ok(())
 }

@@ -50,17 +50,29 @@ fn row_of(alloc: Global, echelon: &EchelonItem, l: u32, chosen: &[bool]) -> Resu
     }
 }
 
+// Whether its row has these terms, the row's right side, and whether it is an equation.
+fn sides(
+    alloc: Global,
+    echelon: &EchelonItem,
+    last: u32,
+    chosen: &[bool],
+    terms: &[Term],
+) -> Result<(bool, i128, bool), RowFault> {
+    let row = row_of(alloc, echelon, last, chosen)?;
+    Ok((row.terms() == terms, row.right(), row.is_equal()))
+}
+
 #[test]
 fn rows_of_an_item(rt: HostRuntime) -> Result<(), Fail> {
     let alloc = rt.alloc();
     let item = echelon(alloc, &[2u128, 8], 0, false)?;
-    let first = row_of(alloc, &item, 1, &[true])?;
-    assert!(rt; first.terms() == &[term(y(1), 2)][..]);
-    assert_eq!(rt; first.right(), 2);
-    assert!(rt; !first.is_equal());
-    let second = row_of(alloc, &item, 2, &[false, true])?;
-    assert!(rt; second.terms() == &[term(x(1), 1), term(y(2), 8)][..]);
-    assert_eq!(rt; second.right(), 10);
+    let first = sides(alloc, &item, 1, &[true], &[term(y(1), 2)])?;
+    assert_eq!(rt; first, (true, 2, false));
+    let second = [term(x(1), 1), term(y(2), 8)];
+    assert_eq!(rt;
+        sides(alloc, &item, 2, &[false, true], &second)?,
+        (true, 10, false)
+    );
     Ok(())
 }
 
@@ -68,9 +80,11 @@ fn rows_of_an_item(rt: HostRuntime) -> Result<(), Fail> {
 fn the_opening_stock_is_taken_from_the_right_side(rt: HostRuntime) -> Result<(), Fail> {
     let alloc = rt.alloc();
     let item = echelon(alloc, &[2u128, 8], 3, false)?;
-    let row = row_of(alloc, &item, 2, &[true, false])?;
-    assert!(rt; row.terms() == &[term(x(2), 1), term(y(1), 10)][..]);
-    assert_eq!(rt; row.right(), 7);
+    let terms = [term(x(2), 1), term(y(1), 10)];
+    assert_eq!(rt;
+        sides(alloc, &item, 2, &[true, false], &terms)?,
+        (true, 7, false)
+    );
     Ok(())
 }
 
@@ -106,19 +120,28 @@ fn left_at(row: &Row, values: &[(Column, i128)]) -> i128 {
     sum
 }
 
+// What the terms of the second period's row add to, of an item that may be late.
+fn left_of_late(alloc: Global, values: &[(Column, i128)]) -> Result<i128, Fail> {
+    let item = echelon(alloc, &[4u128, 6], 0, true)?;
+    let row = row_of(alloc, &item, 2, &[false, true])?;
+    Ok(left_at(&row, values))
+}
+
 // An item asked for 4 and 6 may be late. Making all 10 in period 2 owes 4 at the end of period 1, and would break the
 // row without that.
 #[test]
 fn a_backlog_counts_before_a_chosen_period(rt: HostRuntime) -> Result<(), Fail> {
     let alloc = rt.alloc();
     let item = echelon(alloc, &[4u128, 6], 0, true)?;
-    let row = row_of(alloc, &item, 2, &[false, true])?;
-    assert!(rt; row.terms() == &[term(x(1), 1), term(y(2), 6), term(r(1), 1)][..]);
-    assert_eq!(rt; row.right(), 10);
+    let terms = [term(x(1), 1), term(y(2), 6), term(r(1), 1)];
+    assert_eq!(rt;
+        sides(alloc, &item, 2, &[false, true], &terms)?,
+        (true, 10, false)
+    );
     let made = [(x(1), 0i128), (x(2), 10), (y(1), 0), (y(2), 1)];
-    assert_eq!(rt; left_at(&row, &made), 6);
+    assert_eq!(rt; left_of_late(alloc, &made)?, 6);
     let plan = [(x(1), 0i128), (x(2), 10), (y(1), 0), (y(2), 1), (r(1), 4)];
-    assert_eq!(rt; left_at(&row, &plan), 10);
+    assert_eq!(rt; left_of_late(alloc, &plan)?, 10);
     Ok(())
 }
 
@@ -155,14 +178,21 @@ fn found(
     Ok(separate(alloc, &item, &at, l))
 }
 
+// Whether these periods are chosen in the row to the last period that is found where both setups are so much; None where
+// none is found.
+fn chooses(alloc: Global, setup: Frac, last: u32, chosen: &[bool]) -> Result<Option<bool>, Fail> {
+    match found(alloc, setup, setup, last)?? {
+        Some(list) => Ok(Some(list.as_slice() == chosen)),
+        None => Ok(None),
+    }
+}
+
 #[test]
 fn the_most_violated_row_is_found(rt: HostRuntime) -> Result<(), Fail> {
     let alloc = rt.alloc();
     let half = Frac::new(1, 2).ok_or("no half")?;
-    let first = found(alloc, half, half, 1)??.ok_or("nothing found")?;
-    assert!(rt; first.as_slice() == &[true][..]);
-    let second = found(alloc, half, half, 2)??.ok_or("nothing found")?;
-    assert!(rt; second.as_slice() == &[false, true][..]);
+    assert_eq!(rt; chooses(alloc, half, 1, &[true])?, Some(true));
+    assert_eq!(rt; chooses(alloc, half, 2, &[false, true])?, Some(true));
     Ok(())
 }
 

@@ -16,12 +16,9 @@ fn item(alloc: Global) -> Result<DraftItem, AllocError> {
 // The item alone, on a resource with 6 in each period.
 fn shop(alloc: Global) -> Result<Instance, Fail> {
     let resource = resource(alloc, "m", &[6, 6])?;
-    instance_of(
-        alloc,
-        2,
-        vec![in alloc; resource]?,
-        vec![in alloc; item(alloc)?]?,
-    )
+    let resources = vec![in alloc; resource]?;
+    let only = item(alloc)?;
+    instance_of(alloc, 2, resources, vec![in alloc; only]?)
 }
 
 // Rows of the instance.
@@ -33,26 +30,44 @@ fn rows(alloc: Global, instance: &Instance, names: &[RowName]) -> Result<Vec<Row
     Ok(rows)
 }
 
+// Rows of the item alone.
+fn shop_rows(alloc: Global, names: &[RowName]) -> Result<Vec<Row>, Fail> {
+    let instance = shop(alloc)?;
+    rows(alloc, &instance, names)
+}
+
+// Whether the row of these multiples of the item's rows, rounded by a divisor, has a column once as its only term; its right
+// side, and whether it is an equation.
+fn rounded(
+    alloc: Global,
+    names: &[RowName],
+    multipliers: &[i128],
+    divisor: u64,
+    column: Column,
+) -> Result<(bool, i128, bool), Fail> {
+    if divisor < 1 || divisor > 10 {
+        return Err("no such divisor".into());
+    }
+    let rows = shop_rows(alloc, names)?;
+    let row = round_row(alloc, &rows, multipliers, divisor)
+        .ok()
+        .ok_or("no row")?;
+    let term = Term { column, times: 1 };
+    Ok((row.terms() == &[term][..], row.right(), row.is_equal()))
+}
+
 // The sum is 10 y[2] - y[1] - s[2] >= 4.
 #[test]
 fn a_setup_is_needed(rt: HostRuntime) -> Result<(), Fail> {
-    let alloc = rt.alloc();
     let names = [
         RowName::Balance(1, 1),
         RowName::Balance(1, 2),
         RowName::Link(1, 2),
         RowName::Capacity(1, 1),
     ];
-    let rows = rows(alloc, &shop(alloc)?, &names)?;
-    let row = round_row(alloc, &rows, &[1, 1, 1, 1], 10)
-        .ok()
-        .ok_or("no row")?;
-    let term = Term {
-        column: Column::Y { item: 1, period: 2 },
-        times: 1,
-    };
-    assert!(rt; row.terms() == &[term][..]);
-    assert_eq!(rt; (row.right(), row.is_equal()), (1, false));
+    let y = Column::Y { item: 1, period: 2 };
+    let found = rounded(rt.alloc(), &names, &[1, 1, 1, 1], 10, y)?;
+    assert_eq!(rt; found, (true, 1, false));
     Ok(())
 }
 
@@ -60,44 +75,26 @@ fn a_setup_is_needed(rt: HostRuntime) -> Result<(), Fail> {
 #[test]
 fn numbers_are_rounded_up(rt: HostRuntime) -> Result<(), Fail> {
     let alloc = rt.alloc();
-    let rows = rows(alloc, &shop(alloc)?, &[RowName::Balance(1, 1)])?;
+    let names = [RowName::Balance(1, 1)];
     let x = Column::X { item: 1, period: 1 };
+    assert_eq!(rt; rounded(alloc, &names, &[2], 3, x)?, (true, 2, false));
     let s = Column::S { item: 1, period: 1 };
-    let row = round_row(alloc, &rows, &[2], 3).ok().ok_or("no row")?;
-    assert!(rt;
-        row.terms()
-            == &[Term {
-                column: x,
-                times: 1
-            }][..]
-    );
-    assert_eq!(rt; row.right(), 2);
-    let row = round_row(alloc, &rows, &[-2], 3).ok().ok_or("no row")?;
-    assert!(rt;
-        row.terms()
-            == &[Term {
-                column: s,
-                times: 1
-            }][..]
-    );
-    assert_eq!(rt; row.right(), -1);
+    assert_eq!(rt; rounded(alloc, &names, &[-2], 3, s)?, (true, -1, false));
     Ok(())
+}
+
+// Why there is no row of these multiples of two equal rows.
+fn fault_of(alloc: Global, multipliers: &[i128]) -> Result<Option<CutFault>, Fail> {
+    let rows = shop_rows(alloc, &[RowName::Top(1, 1), RowName::Top(1, 1)])?;
+    Ok(round_row(alloc, &rows, multipliers, 1).err())
 }
 
 #[test]
 fn refusals(rt: HostRuntime) -> Result<(), Fail> {
     let alloc = rt.alloc();
-    let rows = rows(
-        alloc,
-        &shop(alloc)?,
-        &[RowName::Top(1, 1), RowName::Top(1, 1)],
-    )?;
     let half = 1i128 << 126;
-    let large = round_row(alloc, &rows, &[half, half], 1);
-    assert!(rt; matches!(large, Err(CutFault::TooLarge)));
-    let sign = round_row(alloc, &rows, &[1, -1], 1);
-    assert!(rt; matches!(sign, Err(CutFault::Sign)));
-    let length = round_row(alloc, &rows, &[-1], 1);
-    assert!(rt; matches!(length, Err(CutFault::Length)));
+    assert_eq!(rt; fault_of(alloc, &[half, half])?, Some(CutFault::TooLarge));
+    assert_eq!(rt; fault_of(alloc, &[1, -1])?, Some(CutFault::Sign));
+    assert_eq!(rt; fault_of(alloc, &[-1])?, Some(CutFault::Length));
     Ok(())
 }

@@ -1,7 +1,7 @@
 use crate::tests::{
-    HEADER, SHOP, WORKSHOP, holds, one_item, one_lot, put, shelf_with, status_of, texts,
+    SHOP, WORKSHOP, has_records, holds, left_by, one_item, one_lot, put, shelf_with_records,
 };
-use lot_io::{MemoryShelf, MemorySink};
+use lot_io::MemoryShelf;
 use std::alloc::{AllocError, Global};
 use std::test::Fail;
 
@@ -80,9 +80,7 @@ fn three_files(
     certificate: &str,
     fetch: &[u64],
 ) -> Result<MemoryShelf, AllocError> {
-    let mut shelf = shelf_with(alloc, model.as_bytes(), fetch, &[], &[])?;
-    let plan = format!(in alloc; "{HEADER}{records}")?;
-    put(alloc, &mut shelf, "p", plan.as_bytes())?;
+    let mut shelf = shelf_with_records(alloc, model, records, fetch)?;
     put(alloc, &mut shelf, "c", certificate.as_bytes())?;
     Ok(shelf)
 }
@@ -96,14 +94,24 @@ pub fn checked_as(
     status: u8,
     line: &str,
 ) -> Result<bool, AllocError> {
-    let words = texts(alloc, &["check", "m", "p", "c"])?;
-    let mut shelf = three_files(alloc, model, records, certificate, &[])?;
-    let mut out = MemorySink::new(alloc, Vec::new(alloc));
-    let ended = status_of(alloc, words.as_slice(), &mut shelf, &mut out);
-    let said = ended == status && out.bytes.as_slice() == line.as_bytes();
-    let plan = format!(in alloc; "{HEADER}{records}")?;
-    let kept = shelf.files.len() == 3 && shelf.starts == 0 && holds(&shelf, "p", plan.as_str());
-    Ok(said && kept && holds(&shelf, "m", model) && holds(&shelf, "c", certificate))
+    let shelf = three_files(alloc, model, records, certificate, &[])?;
+    let left = left_by(alloc, &["check", "m", "p", "c"], shelf, &[])?;
+    let said = left.status == status && left.prints(line);
+    let kept = left.shelf.files.len() == 3 && left.shelf.starts == 0;
+    let same = holds(&left.shelf, "m", model) && holds(&left.shelf, "c", certificate);
+    Ok(said && kept && same && has_records(alloc, &left.shelf, records)?)
+}
+
+// Whether a plan of these records of one item with these lines is accepted with this certificate and this line.
+fn item_accepted_as(
+    alloc: Global,
+    lines: &str,
+    records: &str,
+    certificate: &str,
+    line: &str,
+) -> Result<bool, AllocError> {
+    let model = one_item(alloc, 2, lines)?;
+    checked_as(alloc, model.as_str(), records, certificate, 0, line)
 }
 
 #[test]
@@ -116,15 +124,19 @@ fn certificates_are_accepted(rt: HostRuntime) -> Result<(), Fail> {
     ] {
         assert!(rt; checked_as(alloc, SHOP, SHOP_PLAN, certificate, 0, line)?);
     }
-    let dear = one_item(alloc, 2, DEAR)?;
     let line = "accepted optimal 106\n";
-    assert!(rt; checked_as(alloc, dear.as_str(), DEAR_PLAN, BY_PRICES, 0, line)?);
-    let owed = one_item(alloc, 2, OWED)?;
+    assert!(rt; item_accepted_as(alloc, DEAR, DEAR_PLAN, BY_PRICES, line)?);
     let line = "accepted optimal 28\n";
-    assert!(rt; checked_as(alloc, owed.as_str(), OWED_PLAN, BY_A_BLOCK_CUT, 0, line)?);
+    assert!(rt; item_accepted_as(alloc, OWED, OWED_PLAN, BY_A_BLOCK_CUT, line)?);
     let line = "accepted infeasible\n";
     assert!(rt; checked_as(alloc, SHORT_SHOP, "", BY_CAPACITY, 0, line)?);
     Ok(())
+}
+
+// Whether the workshop's certificate is rejected with this line where it claims this.
+fn larger_claim_is_rejected(alloc: Global, claim: &str, line: &str) -> Result<bool, AllocError> {
+    let more = changed(alloc, BY_BOTH_ITEMS, 2, 2, claim)?;
+    checked_as(alloc, WORKSHOP, "", more.as_str(), 3, line)
 }
 
 #[test]
@@ -132,10 +144,23 @@ fn the_example_prints_what_the_readme_shows(rt: HostRuntime) -> Result<(), Fail>
     let alloc = rt.alloc();
     let line = "accepted bound 130\n";
     assert!(rt; checked_as(alloc, WORKSHOP, "", BY_BOTH_ITEMS, 0, line)?);
-    let more = changed(alloc, BY_BOTH_ITEMS, 2, 2, "claim bound 131\n")?;
     let line = "rejected C7 line 6 says 130\n";
-    assert!(rt; checked_as(alloc, WORKSHOP, "", more.as_str(), 3, line)?);
+    assert!(rt; larger_claim_is_rejected(alloc, "claim bound 131\n", line)?);
     Ok(())
+}
+
+// Whether the certificate by branches with other lines in place of the first to the last of these is rejected with this
+// line, beside a plan of these records of the shop.
+pub fn is_rejected(
+    alloc: Global,
+    records: &str,
+    first: usize,
+    last: usize,
+    lines: &str,
+    line: &str,
+) -> Result<bool, AllocError> {
+    let text = changed(alloc, BY_BRANCHES, first, last, lines)?;
+    checked_as(alloc, SHOP, records, text.as_str(), 3, line)
 }
 
 #[test]
@@ -149,27 +174,45 @@ fn changed_certificates_are_rejected(rt: HostRuntime) -> Result<(), Fail> {
         (18, 18, "part capacity 1 2 -1\n", "rejected C5 line 18\n"),
         (21, 21, "", "rejected C3 line 21\n"),
     ] {
-        let text = changed(alloc, BY_BRANCHES, first, last, lines)?;
-        assert!(rt; checked_as(alloc, SHOP, SHOP_PLAN, text.as_str(), 3, line)?);
+        assert!(rt;
+            is_rejected(alloc, SHOP_PLAN, first, last, lines, line)?,
+            "{line}"
+        );
     }
     Ok(())
 }
 
-#[test]
-fn damaged_cuts_are_rejected(rt: HostRuntime) -> Result<(), Fail> {
-    let alloc = rt.alloc();
-    let more = changed(alloc, BY_LS_CUTS, 2, 2, "claim bound 21\n")?;
-    let line = "rejected C7 line 6 says 20\n";
-    assert!(rt; checked_as(alloc, SHOP, SHOP_PLAN, more.as_str(), 3, line)?);
+// Whether the certificate by (l,S) cuts is rejected with this line where it claims this.
+fn cuts_are_rejected(alloc: Global, claim: &str, line: &str) -> Result<bool, AllocError> {
+    let more = changed(alloc, BY_LS_CUTS, 2, 2, claim)?;
+    checked_as(alloc, SHOP, SHOP_PLAN, more.as_str(), 3, line)
+}
+
+// Whether a cut of an item with a lead time is rejected with this line.
+fn late_cut_is_rejected(alloc: Global, line: &str) -> Result<bool, AllocError> {
     let later = one_lot(
         alloc,
         2,
         "demand = [0, 10]\nlead = 1\nsetup_cost = 5\nunit_cost = 2",
     )?;
     let text = "lotcert 1\nclaim bound 0\ncuts 1\nls 1 1 1\nlinear 1 0\nend\n";
-    let line = "rejected C14 line 4\n";
-    assert!(rt; checked_as(alloc, later.as_str(), "", text, 3, line)?);
+    checked_as(alloc, later.as_str(), "", text, 3, line)
+}
+
+#[test]
+fn damaged_cuts_are_rejected(rt: HostRuntime) -> Result<(), Fail> {
+    let alloc = rt.alloc();
+    let line = "rejected C7 line 6 says 20\n";
+    assert!(rt; cuts_are_rejected(alloc, "claim bound 21\n", line)?);
+    assert!(rt; late_cut_is_rejected(alloc, "rejected C14 line 4\n")?);
     Ok(())
+}
+
+// Whether the certificate by a block cut is rejected with this line where its potentials are these.
+fn steps_are_rejected(alloc: Global, steps: &str, line: &str) -> Result<bool, AllocError> {
+    let owed = one_item(alloc, 2, OWED)?;
+    let steep = changed(alloc, BY_A_BLOCK_CUT, 4, 4, steps)?;
+    checked_as(alloc, owed.as_str(), OWED_PLAN, steep.as_str(), 3, line)
 }
 
 // Made in the second period, the first four units cost a setup of 20 and 2 each, and the other six nothing more: so neither
@@ -177,7 +220,6 @@ fn damaged_cuts_are_rejected(rt: HostRuntime) -> Result<(), Fail> {
 #[test]
 fn potentials_that_rise_too_steeply_are_rejected(rt: HostRuntime) -> Result<(), Fail> {
     let alloc = rt.alloc();
-    let owed = one_item(alloc, 2, OWED)?;
     for (steps, line) in [
         (
             "block 1 f 100 20 g 0 0 h 1 1 b 2 2 p 28 48\n",
@@ -188,22 +230,27 @@ fn potentials_that_rise_too_steeply_are_rejected(rt: HostRuntime) -> Result<(), 
             "rejected C9 line 4 1 1 2\n",
         ),
     ] {
-        let steep = changed(alloc, BY_A_BLOCK_CUT, 4, 4, steps)?;
-        assert!(rt; checked_as(alloc, owed.as_str(), OWED_PLAN, steep.as_str(), 3, line)?);
+        assert!(rt; steps_are_rejected(alloc, steps, line)?, "{line}");
     }
     Ok(())
 }
 
-// As many cuts as there may be; the text is fetched in several pieces.
-#[test]
-fn twenty_thousand_cuts_are_taken(rt: HostRuntime) -> Result<(), Fail> {
-    let alloc = rt.alloc();
+// The shop's certificate by cuts, with as many as there may be; it is fetched in several pieces.
+fn by_twenty_thousand_cuts(alloc: Global) -> Result<String, AllocError> {
     let mut text = String::from_str(alloc, "lotcert 1\nclaim bound 20\ncuts 20000\n")?;
     for _ in 0..19_999u32 {
         text.push_str("ls 1 1 1\n")?;
     }
-    text.push_str("ls 1 2 01\nlinear 8 4\npart balance 1 1 -8\npart capacity 1 1 2\n")?;
-    text.push_str("part cut 1 41\npart cut 20000 10\nend\n")?;
+    text.push_str(
+        "ls 1 2 01\nlinear 8 4\npart balance 1 1 -8\npart capacity 1 1 2\npart cut 1 41\npart cut 20000 10\nend\n",
+    )?;
+    Ok(text)
+}
+
+#[test]
+fn twenty_thousand_cuts_are_taken(rt: HostRuntime) -> Result<(), Fail> {
+    let alloc = rt.alloc();
+    let text = by_twenty_thousand_cuts(alloc)?;
     let line = "accepted bound 20\n";
     assert!(rt; checked_as(alloc, SHOP, SHOP_PLAN, text.as_str(), 0, line)?);
     Ok(())
@@ -234,10 +281,24 @@ fn the_first_fault_is_named(rt: HostRuntime) -> Result<(), Fail> {
         ),
         (SHOP_PLAN, wrong_cut, "rejected C4 line 4\n"),
     ] {
-        let text = changed(alloc, BY_BRANCHES, 3, 3, lines)?;
-        assert!(rt; checked_as(alloc, SHOP, records, text.as_str(), 3, line)?);
+        assert!(rt; is_rejected(alloc, records, 3, 3, lines, line)?, "{line}");
     }
     Ok(())
+}
+
+// The status of a check of these files beside the shop's three, and whether this line is printed and no file changed.
+fn checked_in(
+    alloc: Global,
+    model: &str,
+    plan: &str,
+    certificate: &str,
+    proof: &str,
+    line: &str,
+) -> Result<(u8, bool, bool), AllocError> {
+    let shelf = three_files(alloc, SHOP, SHOP_PLAN, proof, &[])?;
+    let left = left_by(alloc, &["check", model, plan, certificate], shelf, &[])?;
+    let kept = left.shelf.files.len() == 3 && left.shelf.starts == 0;
+    Ok((left.status, left.prints(line), kept))
 }
 
 #[test]
@@ -249,16 +310,11 @@ fn a_plan_is_read_where_an_optimal_cost_is_claimed(rt: HostRuntime) -> Result<()
         ("m", "p", "d", BY_BRANCHES, 6, "refused missing d\n"),
         ("n", "p", "d", BY_BRANCHES, 6, "refused missing n\n"),
     ] {
-        let words = texts(alloc, &["check", model, plan, certificate])?;
-        let mut shelf = three_files(alloc, SHOP, SHOP_PLAN, proof, &[])?;
-        let mut out = MemorySink::new(alloc, Vec::new(alloc));
         assert_eq!(rt;
-            status_of(alloc, words.as_slice(), &mut shelf, &mut out),
-            status,
+            checked_in(alloc, model, plan, certificate, proof, line)?,
+            (status, true, true),
             "{line}"
         );
-        assert!(rt; out.bytes.as_slice() == line.as_bytes(), "{line}");
-        assert!(rt; shelf.files.len() == 3 && shelf.starts == 0, "{line}");
     }
     Ok(())
 }
@@ -273,40 +329,51 @@ fn read_at(number: u64) -> &'static str {
     }
 }
 
+// A check of the shop where the fetch of this number fails: its status, whether the file that is read then is named, how
+// many fetches failed, and whether no file changed.
+fn checked_with_fault(alloc: Global, number: u64) -> Result<(u8, bool, u64, bool), AllocError> {
+    let file = read_at(number);
+    let line = format!(in alloc; "refused read {file}\n")?;
+    let shelf = three_files(alloc, SHOP, SHOP_PLAN, BY_BRANCHES, &[number])?;
+    let left = left_by(alloc, &["check", "m", "p", "c"], shelf, &[])?;
+    let named = left.prints(line.as_str());
+    let kept = left.shelf.files.len() == 3 && left.shelf.starts == 0;
+    Ok((left.status, named, left.shelf.faults, kept))
+}
+
 #[test]
 fn each_fetch_that_fails_is_named(rt: HostRuntime) -> Result<(), Fail> {
     let alloc = rt.alloc();
-    let words = texts(alloc, &["check", "m", "p", "c"])?;
     for number in 1..32u64 {
-        let mut shelf = three_files(alloc, SHOP, SHOP_PLAN, BY_BRANCHES, &[number])?;
-        let mut out = MemorySink::new(alloc, Vec::new(alloc));
-        let status = status_of(alloc, words.as_slice(), &mut shelf, &mut out);
+        let (status, named, faults, kept) = checked_with_fault(alloc, number)?;
         if status == 0 {
-            assert!(rt; number > 8 && shelf.faults == 0);
+            assert!(rt; number > 8 && faults == 0);
             return Ok(());
         }
-        let file = read_at(number);
-        let line = format!(in alloc; "refused read {file}\n")?;
-        assert_eq!(rt; status, 7, "{number}");
-        assert!(rt; out.bytes.as_slice() == line.as_bytes(), "{number}");
-        assert!(rt; shelf.files.len() == 3 && shelf.starts == 0, "{number}");
+        assert_eq!(rt; (status, named, kept), (7, true, true), "{number}");
     }
     assert!(rt; false, "no run met no fault");
     Ok(())
 }
 
-#[test]
-fn a_long_plan_is_refused(rt: HostRuntime) -> Result<(), Fail> {
-    let alloc = rt.alloc();
-    let words = texts(alloc, &["check", "m", "p", "c"])?;
+// A shelf with a shop, a plan file that is longer than a file may be, and a certificate.
+fn long_plan(alloc: Global) -> Result<MemoryShelf, AllocError> {
     let plan = vec![in alloc; b'\n'; 16_777_217]?;
     let mut shelf = three_files(alloc, SHOP, "", BY_BRANCHES, &[])?;
     put(alloc, &mut shelf, "p", plan.as_slice())?;
-    let mut out = MemorySink::new(alloc, Vec::new(alloc));
-    assert_eq!(rt;
-        status_of(alloc, words.as_slice(), &mut shelf, &mut out),
-        11
-    );
-    assert!(rt; out.bytes.as_slice() == b"refused long p\n".as_slice());
+    Ok(shelf)
+}
+
+// The status of a check with a plan file that is too long, and whether this line is printed.
+fn long_plan_ends(alloc: Global, line: &str) -> Result<(u8, bool), AllocError> {
+    let shelf = long_plan(alloc)?;
+    let left = left_by(alloc, &["check", "m", "p", "c"], shelf, &[])?;
+    Ok((left.status, left.prints(line)))
+}
+
+#[test]
+fn a_long_plan_is_refused(rt: HostRuntime) -> Result<(), Fail> {
+    let alloc = rt.alloc();
+    assert_eq!(rt; long_plan_ends(alloc, "refused long p\n")?, (11, true));
     Ok(())
 }

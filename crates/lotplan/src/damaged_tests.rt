@@ -1,6 +1,6 @@
 // Forty damaged files: twelve models, nine plans and nineteen certificates, each with the line and the status that it
 // gets. No file changes.
-use crate::check_tests::{BY_BRANCHES, BY_LS_CUTS, SHOP_PLAN, changed, checked_as};
+use crate::check_tests::{BY_LS_CUTS, SHOP_PLAN, changed, checked_as, is_rejected};
 use crate::tests::{SHOP, TEN, ends_in, judged_as};
 use std::alloc::{AllocError, Global};
 use std::test::Fail;
@@ -104,19 +104,6 @@ fn nine_damaged_plans_are_refused(rt: HostRuntime) -> Result<(), Fail> {
     Ok(())
 }
 
-// Whether the certificate by branches with other lines in place of the first to the last of these is rejected with this
-// line.
-fn is_rejected(
-    alloc: Global,
-    first: usize,
-    last: usize,
-    lines: &str,
-    line: &str,
-) -> Result<bool, AllocError> {
-    let text = changed(alloc, BY_BRANCHES, first, last, lines)?;
-    checked_as(alloc, SHOP, SHOP_PLAN, text.as_str(), 3, line)
-}
-
 #[test]
 fn ten_damaged_texts_of_certificates_are_rejected(rt: HostRuntime) -> Result<(), Fail> {
     let alloc = rt.alloc();
@@ -137,7 +124,7 @@ fn ten_damaged_texts_of_certificates_are_rejected(rt: HostRuntime) -> Result<(),
         (16, 20, "", "rejected C3 line 16\n"),
         (21, 21, "end\nend\n", "rejected C3 line 22\n"),
     ] {
-        assert!(rt; is_rejected(alloc, first, last, lines, line)?);
+        assert!(rt; is_rejected(alloc, SHOP_PLAN, first, last, lines, line)?);
     }
     Ok(())
 }
@@ -159,29 +146,40 @@ fn seven_damaged_proofs_are_rejected(rt: HostRuntime) -> Result<(), Fail> {
         (20, 20, "part path 2 12\n", "rejected C6 line 16 y 1 2\n"),
         (19, 19, "part path 1 9\n", "rejected C7 line 16 says 22\n"),
     ] {
-        assert!(rt; is_rejected(alloc, first, last, lines, line)?);
+        assert!(rt; is_rejected(alloc, SHOP_PLAN, first, last, lines, line)?);
     }
     Ok(())
+}
+
+// One branch more than a tree may be deep.
+fn two_thousand_branches(alloc: Global) -> Result<String, AllocError> {
+    let mut branches = String::new(alloc);
+    for _ in 0..2001u32 {
+        branches.push_str("branch x 1 1 0\n")?;
+    }
+    Ok(branches)
 }
 
 #[test]
 fn a_tree_that_is_too_deep_is_rejected(rt: HostRuntime) -> Result<(), Fail> {
     let alloc = rt.alloc();
-    let mut branches = String::new(alloc);
-    for _ in 0..2001u32 {
-        branches.push_str("branch x 1 1 0\n")?;
-    }
+    let branches = two_thousand_branches(alloc)?;
     let line = "rejected C11 line 2004\n";
-    assert!(rt; is_rejected(alloc, 4, 21, branches.as_str(), line)?);
+    assert!(rt; is_rejected(alloc, SHOP_PLAN, 4, 21, branches.as_str(), line)?);
     Ok(())
 }
 
-// The one that does no harm: a cut more, which no leaf uses.
+// The certificate by (l,S) cuts with a cut more, which no leaf uses.
+fn with_an_idle_cut(alloc: Global) -> Result<String, AllocError> {
+    let more = changed(alloc, BY_LS_CUTS, 3, 3, "cuts 3\n")?;
+    changed(alloc, more.as_str(), 5, 5, "ls 1 2 01\nls 1 1 1\n")
+}
+
+// The one that does no harm.
 #[test]
 fn a_cut_that_is_not_used_is_accepted(rt: HostRuntime) -> Result<(), Fail> {
     let alloc = rt.alloc();
-    let more = changed(alloc, BY_LS_CUTS, 3, 3, "cuts 3\n")?;
-    let more = changed(alloc, more.as_str(), 5, 5, "ls 1 2 01\nls 1 1 1\n")?;
+    let more = with_an_idle_cut(alloc)?;
     let line = "accepted bound 20\n";
     assert!(rt; checked_as(alloc, SHOP, SHOP_PLAN, more.as_str(), 0, line)?);
     Ok(())

@@ -4,7 +4,7 @@ ghost use Rattle.std.specs.Prelude.{false, None, []};
 ghost use Rattle.lot_io.specs.Outside.{Printed, Shelved};
 
 use crate::check_tests::{BY_BRANCHES, BY_LS_CUTS, SHORT_SHOP};
-use crate::tests::{SHOP, holds, is_checked, put, status_of, texts};
+use crate::tests::{Left, SHOP, holds, is_checked, put, status_of, texts};
 use lot_io::{MemoryShelf, MemorySink, Shelf, ShelfFault, Sink, SinkFailed, WriteFailed};
 use std::alloc::{AllocError, Global};
 use std::collections::BTreeMap;
@@ -69,14 +69,6 @@ struct Case<'a> {
     status: u8,
 }
 
-// What a run leaves.
-#[derive(Drop)]
-struct Left {
-    status: u8,
-    shelf: MemoryShelf,
-    out: MemorySink,
-}
-
 // This number alone, where it is asked for; none is numbered 0.
 fn only(alloc: Global, asked: bool, number: u64) -> Result<Vec<u64>, AllocError> {
     let mut list = Vec::new(alloc);
@@ -84,6 +76,28 @@ fn only(alloc: Global, asked: bool, number: u64) -> Result<Vec<u64>, AllocError>
         list.push(number)?;
     }
     Ok(list)
+}
+
+// A shelf without files, of whose calls of this kind that of this number fails.
+fn empty_shelf(alloc: Global, call: Call, number: u64) -> Result<MemoryShelf, AllocError> {
+    let fetch = only(alloc, call == Call::Fetch, number)?;
+    let start = only(alloc, call == Call::Start, number)?;
+    let append = only(alloc, call == Call::Append, number)?;
+    Ok(MemoryShelf::new(alloc, BTreeMap::new(alloc), fetch, start, append))
+}
+
+// The shelf of a command, of whose calls of this kind that of this number fails.
+fn shelf_of(
+    alloc: Global,
+    case: &Case,
+    call: Call,
+    number: u64,
+) -> Result<MemoryShelf, AllocError> {
+    let mut shelf = empty_shelf(alloc, call, number)?;
+    for (name, text) in case.files {
+        put(alloc, &mut shelf, name, text.as_bytes())?;
+    }
+    Ok(shelf)
 }
 
 // Runs a command, of whose calls of this kind that of this number fails.
@@ -95,17 +109,9 @@ fn run_case(
     told: bool,
 ) -> Result<Left, AllocError> {
     let words = texts(alloc, case.words)?;
-    let mut shelf = MemoryShelf::new(
-        alloc,
-        BTreeMap::new(alloc),
-        only(alloc, call == Call::Fetch, number)?,
-        only(alloc, call == Call::Start, number)?,
-        only(alloc, call == Call::Append, number)?,
-    );
-    for (name, text) in case.files {
-        put(alloc, &mut shelf, name, text.as_bytes())?;
-    }
-    let out = MemorySink::new(alloc, only(alloc, call == Call::Put, number)?);
+    let fail_put = only(alloc, call == Call::Put, number)?;
+    let shelf = shelf_of(alloc, case, call, number)?;
+    let out = MemorySink::new(alloc, fail_put);
     Ok(run_words(alloc, words.as_slice(), shelf, out, told))
 }
 
@@ -264,6 +270,29 @@ fn calls(case: &Case, call: Call) -> u64 {
     }
 }
 
+// Whether each call of a kind is named where it fails, if the run in which the call of this number fails shows it: it does
+// where no call fails any more, and where one isn't named.
+fn shown_by(
+    alloc: Global,
+    case: &Case,
+    clean: &Left,
+    call: Call,
+    number: u64,
+    told: bool,
+) -> Result<Option<bool>, AllocError> {
+    let left = run_case(alloc, case, call, number, told)?;
+    if faults(&left) == 0 {
+        let same = left.out.bytes.as_slice() == clean.out.bytes.as_slice();
+        let files = leaves_files(case, clean, &left, Call::Put, 1);
+        let all = number == calls(case, call).saturating_add(1);
+        return Ok(Some(all && same && files && left.status == case.status));
+    }
+    let named = faults(&left) == 1
+        && names_fault(alloc, case, clean, &left, call, number)?
+        && leaves_files(case, clean, &left, call, number);
+    Ok(if named { None } else { Some(false) })
+}
+
 // Whether each call of a kind is named where it fails, counted up until a run meets no fault.
 fn are_named(
     alloc: Global,
@@ -273,18 +302,8 @@ fn are_named(
     told: bool,
 ) -> Result<bool, AllocError> {
     for number in 1..40u64 {
-        let left = run_case(alloc, case, call, number, told)?;
-        if faults(&left) == 0 {
-            let same = left.out.bytes.as_slice() == clean.out.bytes.as_slice();
-            let files = leaves_files(case, clean, &left, Call::Put, 1);
-            let all = number == calls(case, call).saturating_add(1);
-            return Ok(all && same && files && left.status == case.status);
-        }
-        if faults(&left) != 1
-            || !names_fault(alloc, case, clean, &left, call, number)?
-            || !leaves_files(case, clean, &left, call, number)
-        {
-            return Ok(false);
+        if let Some(shown) = shown_by(alloc, case, clean, call, number, told)? {
+            return Ok(shown);
         }
     }
     Ok(false)
@@ -385,10 +404,15 @@ fn no_certificate(alloc: Global) -> Result<String, AllocError> {
     Ok(text)
 }
 
-// A later fetch that fails comes before the wrong line.
-#[test]
-fn each_fetch_that_fails_hides_a_wrong_line(rt: HostRuntime) -> Result<(), Fail> {
-    let alloc = rt.alloc();
+// Whether a command prints this line.
+fn prints(alloc: Global, case: &Case, line: &str) -> Result<bool, AllocError> {
+    let left = run_case(alloc, case, Call::Put, 0, true)?;
+    Ok(left.prints(line))
+}
+
+// Whether each call of a check of a text that is no certificate is named where it fails, and whether this line is printed
+// where none does.
+fn wrong_line_is_hidden(alloc: Global, line: &str) -> Result<(bool, bool), AllocError> {
     let text = no_certificate(alloc)?;
     let case = Case {
         words: &["check", "m", "p", "c"],
@@ -397,16 +421,22 @@ fn each_fetch_that_fails_hides_a_wrong_line(rt: HostRuntime) -> Result<(), Fail>
         starts: &[],
         status: 3,
     };
-    assert!(rt; all_are_named(alloc, &case)?);
-    let left = run_case(alloc, &case, Call::Put, 0, true)?;
-    assert!(rt; left.out.bytes.as_slice() == b"rejected C1 line 1\n".as_slice());
+    let named = all_are_named(alloc, &case)?;
+    let printed = prints(alloc, &case, line)?;
+    Ok((named, printed))
+}
+
+// A later fetch that fails comes before the wrong line.
+#[test]
+fn each_fetch_that_fails_hides_a_wrong_line(rt: HostRuntime) -> Result<(), Fail> {
+    let alloc = rt.alloc();
+    let line = "rejected C1 line 1\n";
+    assert_eq!(rt; wrong_line_is_hidden(alloc, line)?, (true, true));
     Ok(())
 }
 
-// What a plan leaves where no call fails: the best plan, and a certificate that is accepted with it.
-#[test]
-fn a_plan_without_a_fault_leaves_both_files(rt: HostRuntime) -> Result<(), Fail> {
-    let alloc = rt.alloc();
+// The status of planning the shop, whether the best plan is left, and whether the certificate is accepted with it.
+fn planned_shop(alloc: Global, told: bool) -> Result<(u8, bool, bool), AllocError> {
     let case = Case {
         words: &["plan", "m", "p", "c"],
         files: MODEL,
@@ -414,10 +444,18 @@ fn a_plan_without_a_fault_leaves_both_files(rt: HostRuntime) -> Result<(), Fail>
         starts: &[],
         status: 0,
     };
+    let mut left = run_case(alloc, &case, Call::Put, 0, told)?;
+    let kept = holds(&left.shelf, "p", BEST);
+    let checked = is_checked(alloc, &mut left.shelf, "accepted optimal 23\n")?;
+    Ok((left.status, kept, checked))
+}
+
+// What a plan leaves where no call fails: the best plan, and a certificate that is accepted with it.
+#[test]
+fn a_plan_without_a_fault_leaves_both_files(rt: HostRuntime) -> Result<(), Fail> {
+    let alloc = rt.alloc();
     for told in [true, false] {
-        let mut left = run_case(alloc, &case, Call::Put, 0, told)?;
-        assert!(rt; left.status == 0 && holds(&left.shelf, "p", BEST));
-        assert!(rt; is_checked(alloc, &mut left.shelf, "accepted optimal 23\n")?);
+        assert_eq!(rt; planned_shop(alloc, told)?, (0, true, true), "{told:?}");
     }
     Ok(())
 }

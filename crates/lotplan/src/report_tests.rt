@@ -1,21 +1,12 @@
 use crate::check_tests::SHOP_PLAN;
-use crate::tests::{HEADER, SHOP, holds, put, shelf_with, status_of, texts};
-use lot_io::MemorySink;
+use crate::tests::{SHOP, left_by, read_as, shelf_with};
 use std::alloc::{AllocError, Global};
 use std::test::Fail;
 
 // Whether reporting on these records of a plan of the shop ends with this status and prints this line, and no file
 // changes.
 fn reported_as(alloc: Global, records: &str, status: u8, line: &str) -> Result<bool, AllocError> {
-    let words = texts(alloc, &["report", "m", "p"])?;
-    let mut shelf = shelf_with(alloc, SHOP.as_bytes(), &[], &[], &[])?;
-    let text = format!(in alloc; "{HEADER}{records}")?;
-    put(alloc, &mut shelf, "p", text.as_bytes())?;
-    let mut out = MemorySink::new(alloc, Vec::new(alloc));
-    let ended = status_of(alloc, words.as_slice(), &mut shelf, &mut out);
-    let said = ended == status && out.bytes.as_slice() == line.as_bytes() && out.puts == 1;
-    let kept = shelf.files.len() == 2 && shelf.starts == 0 && holds(&shelf, "p", text.as_str());
-    Ok(said && kept && holds(&shelf, "m", SHOP))
+    read_as(alloc, &["report", "m", "p"], SHOP, records, status, line)
 }
 
 #[test]
@@ -44,6 +35,18 @@ fn plans_that_are_not_feasible_are_not_summed_up(rt: HostRuntime) -> Result<(), 
     Ok(())
 }
 
+// The status of reporting on a plan of a model whose fetches of these numbers fail, and whether this line is printed.
+fn reported_in(
+    alloc: Global,
+    model: &str,
+    fetch: &[u64],
+    line: &str,
+) -> Result<(u8, bool), AllocError> {
+    let shelf = shelf_with(alloc, SHOP.as_bytes(), fetch, &[], &[])?;
+    let left = left_by(alloc, &["report", model, "p"], shelf, &[])?;
+    Ok((left.status, left.prints(line)))
+}
+
 #[test]
 fn files_that_give_no_plan_are_named(rt: HostRuntime) -> Result<(), Fail> {
     let alloc = rt.alloc();
@@ -53,14 +56,11 @@ fn files_that_give_no_plan_are_named(rt: HostRuntime) -> Result<(), Fail> {
         ("m", &[][..], 6, "refused missing p\n"),
         ("m", &[3][..], 7, "refused read p\n"),
     ] {
-        let mut shelf = shelf_with(alloc, SHOP.as_bytes(), fetch, &[], &[])?;
-        let mut out = MemorySink::new(alloc, Vec::new(alloc));
-        let words = texts(alloc, &["report", model, "p"])?;
         assert_eq!(rt;
-            status_of(alloc, words.as_slice(), &mut shelf, &mut out),
-            status
+            reported_in(alloc, model, fetch, line)?,
+            (status, true),
+            "{line}"
         );
-        assert!(rt; out.bytes.as_slice() == line.as_bytes(), "{line}");
     }
     Ok(())
 }

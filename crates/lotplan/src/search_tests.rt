@@ -1,61 +1,55 @@
 use crate::check_tests::{SHOP_PLAN, SHORT_SHOP};
 use crate::tests::{
-    HEADER, SHOP, TWELVE, WORKSHOP, ends_in, holds, is_checked, is_planned, one_item, put,
-    shelf_with, status_of, texts,
+    Left, SHOP, TWELVE, WORKSHOP, claims, ends_in, has_records, holds, is_accepted, is_checked,
+    is_planned, left_of_plan, one_item,
 };
-use lot_io::{MemoryShelf, MemorySink};
 use std::alloc::{AllocError, Global};
 use std::test::Fail;
 
-// What planning a model leaves: the status, the printed lines and the files.
-#[derive(Drop)]
-struct Planning {
-    status: u8,
-    lines: Vec<u8>,
-    shelf: MemoryShelf,
-}
-
-impl Planning {
-    // Whether the lines begin with these and end with those.
-    fn prints(&self, first: &str, last: &str) -> bool {
-        let lines = self.lines.as_slice();
-        lines.starts_with(first.as_bytes()) && lines.ends_with(last.as_bytes())
+// Plans a model with a number of nodes, where one is given. The plan file is there before.
+fn plan_model(alloc: Global, model: &str, nodes: Option<&str>) -> Result<Left, AllocError> {
+    match nodes {
+        Some(nodes) => left_of_plan(alloc, model, &["plan", "m", "p", "c", "--nodes", nodes]),
+        None => left_of_plan(alloc, model, &["plan", "m", "p", "c"]),
     }
 }
 
-// Plans a model with a number of nodes, where one is given. The plan file is there before.
-fn plan_model(alloc: Global, model: &str, nodes: Option<&str>) -> Result<Planning, AllocError> {
-    let words = match nodes {
-        Some(nodes) => texts(alloc, &["plan", "m", "p", "c", "--nodes", nodes])?,
-        None => texts(alloc, &["plan", "m", "p", "c"])?,
-    };
-    let mut shelf = shelf_with(alloc, model.as_bytes(), &[], &[], &[])?;
-    put(alloc, &mut shelf, "p", b"old\n")?;
-    let mut out = MemorySink::new(alloc, Vec::new(alloc));
-    let status = status_of(alloc, words.as_slice(), &mut shelf, &mut out);
-    Ok(Planning {
-        status,
-        lines: out.bytes,
-        shelf,
-    })
+// Whether the printed lines begin so and end with this claim.
+fn ends_so(alloc: Global, left: &Left, first: &str, claim: &str) -> Result<bool, AllocError> {
+    let last = format!(in alloc; "\n{claim}\n")?;
+    Ok(left.spans(first, last.as_str()))
 }
 
-// Whether a model is planned: the lines begin so and end with that of a best plan of this cost, these records are left in
-// the plan file, and the certificate is accepted.
-fn is_searched(
+// What planning a model with a number of nodes, where one is given, comes to: the status, whether the lines begin so and
+// end with this claim, and whether the certificate is accepted with that one.
+fn found_with(
+    alloc: Global,
+    model: &str,
+    nodes: Option<&str>,
+    first: &str,
+    claim: &str,
+    accepted: &str,
+) -> Result<(u8, bool, bool), AllocError> {
+    let mut left = plan_model(alloc, model, nodes)?;
+    let said = ends_so(alloc, &left, first, claim)?;
+    let checked = is_accepted(alloc, &mut left.shelf, accepted)?;
+    Ok((left.status, said, checked))
+}
+
+// What planning a model comes to: the status, whether the lines begin so and end with this claim, whether these records
+// are left in the plan file and the model stays, and whether the certificate is accepted with the claim.
+fn found(
     alloc: Global,
     model: &str,
     first: &str,
-    cost: u32,
+    claim: &str,
     records: &str,
-) -> Result<bool, AllocError> {
+) -> Result<(u8, bool, bool, bool), AllocError> {
     let mut left = plan_model(alloc, model, None)?;
-    let last = format!(in alloc; "\noptimal {cost}\n")?;
-    let accepted = format!(in alloc; "accepted optimal {cost}\n")?;
-    let plan = format!(in alloc; "{HEADER}{records}")?;
-    let said = left.status == 0 && left.prints(first, last.as_str());
-    let kept = holds(&left.shelf, "p", plan.as_str()) && holds(&left.shelf, "m", model);
-    Ok(said && kept && is_checked(alloc, &mut left.shelf, accepted.as_str())?)
+    let said = ends_so(alloc, &left, first, claim)?;
+    let kept = holds(&left.shelf, "m", model) && has_records(alloc, &left.shelf, records)?;
+    let checked = is_accepted(alloc, &mut left.shelf, claim)?;
+    Ok((left.status, said, kept, checked))
 }
 
 // Two units of B go into one of A.
@@ -65,10 +59,14 @@ const PARTS: &str =
 #[test]
 fn coupled_models_are_planned(rt: HostRuntime) -> Result<(), Fail> {
     let alloc = rt.alloc();
-    let first = "root closed 20\nnodes ";
-    assert!(rt; is_searched(alloc, SHOP, first, 23, SHOP_PLAN)?);
     let lots = "A,1,0,0,0,0\nA,2,5,1,0,0\nB,1,0,0,0,0\nB,2,10,1,0,0\n";
-    assert!(rt; is_searched(alloc, PARTS, first, 20, lots)?);
+    for (model, claim, records) in [(SHOP, "optimal 23", SHOP_PLAN), (PARTS, "optimal 20", lots)] {
+        assert_eq!(rt;
+            found(alloc, model, "root closed 20\nnodes ", claim, records)?,
+            (0, true, true, true),
+            "{claim}"
+        );
+    }
     Ok(())
 }
 
@@ -98,17 +96,31 @@ const LARGEST_LOT: &str =
 #[test]
 fn lead_times_and_lots_are_planned(rt: HostRuntime) -> Result<(), Fail> {
     let alloc = rt.alloc();
-    for (model, first, cost, records) in [
+    for (model, first, claim, records) in [
         (
             LEAD,
             "root closed 25\nnodes ",
-            25u32,
+            "optimal 25",
             "A,1,10,1,0,0\nA,2,0,0,0,0\n",
         ),
-        (LEAST_LOT, "root closed 3\nnodes ", 3, "A,1,6,1,2,0\n"),
-        (LARGEST_LOT, "root ", 22, "A,1,4,1,2,0\nA,2,6,1,0,0\n"),
+        (
+            LEAST_LOT,
+            "root closed 3\nnodes ",
+            "optimal 3",
+            "A,1,6,1,2,0\n",
+        ),
+        (
+            LARGEST_LOT,
+            "root ",
+            "optimal 22",
+            "A,1,4,1,2,0\nA,2,6,1,0,0\n",
+        ),
     ] {
-        assert!(rt; is_searched(alloc, model, first, cost, records)?);
+        assert_eq!(rt;
+            found(alloc, model, first, claim, records)?,
+            (0, true, true, true),
+            "{claim}"
+        );
     }
     Ok(())
 }
@@ -117,13 +129,19 @@ fn lead_times_and_lots_are_planned(rt: HostRuntime) -> Result<(), Fail> {
 const LONGEST: &str =
     "version = 2\nperiods = 120\n[[item]]\nname = \"A\"\ndemand = 1\nhold_cost = 1\n";
 
-#[test]
-fn the_most_periods_are_planned(rt: HostRuntime) -> Result<(), Fail> {
-    let alloc = rt.alloc();
+// The records of an item of which a unit is made in each of the most periods.
+fn unit_records(alloc: Global) -> Result<String, AllocError> {
     let mut records = String::new(alloc);
     for period in 1..121u32 {
         write!(&mut records, "A,{period},1,1,0,0\n")?;
     }
+    Ok(records)
+}
+
+#[test]
+fn the_most_periods_are_planned(rt: HostRuntime) -> Result<(), Fail> {
+    let alloc = rt.alloc();
+    let records = unit_records(alloc)?;
     assert!(rt; is_planned(alloc, LONGEST, 0, "optimal 0", records.as_str())?);
     Ok(())
 }
@@ -131,22 +149,19 @@ fn the_most_periods_are_planned(rt: HostRuntime) -> Result<(), Fail> {
 #[test]
 fn the_workshop_is_planned(rt: HostRuntime) -> Result<(), Fail> {
     let alloc = rt.alloc();
-    let mut left = plan_model(alloc, WORKSHOP, None)?;
-    assert_eq!(rt; left.status, 0);
-    assert!(rt; left.prints("root ", "\noptimal 160\n"));
     let lots =
         "table,1,20,1,0,0\ntable,2,0,0,0,0\ntable,3,40,1,10,0\ntable,4,0,0,0,0\nleg,1,80,1,0,0\nleg,2,0,0,0,0\nleg,3,160,1,0,0\nleg,4,0,0,0,0\n";
-    let plan = format!(in alloc; "{HEADER}{lots}")?;
-    assert!(rt; holds(&left.shelf, "p", plan.as_str()));
-    assert!(rt; is_checked(alloc, &mut left.shelf, "accepted optimal 160\n")?);
+    assert_eq!(rt;
+        found(alloc, WORKSHOP, "root ", "optimal 160", lots)?,
+        (0, true, true, true)
+    );
     Ok(())
 }
 
 // Whether a model has no plan, by one node, and the plan file stays.
 fn has_no_plan(alloc: Global, model: &str) -> Result<bool, AllocError> {
     let mut left = plan_model(alloc, model, None)?;
-    let lines = b"root empty\nnodes 1\ninfeasible\n".as_slice();
-    let said = left.status == 1 && left.lines.as_slice() == lines;
+    let said = left.status == 1 && left.prints("root empty\nnodes 1\ninfeasible\n");
     let kept = left.shelf.starts == 1 && holds(&left.shelf, "p", "old\n");
     Ok(said && kept && is_checked(alloc, &mut left.shelf, "accepted infeasible\n")?)
 }
@@ -160,48 +175,81 @@ fn a_model_without_a_point_takes_one_node(rt: HostRuntime) -> Result<(), Fail> {
     Ok(())
 }
 
+// Whether one node's lines tell this bound, and the certificate is accepted with it.
+fn tells_bound(alloc: Global, left: &mut Left, bound: u32) -> Result<bool, AllocError> {
+    let first = format!(in alloc; "root closed 20\nnodes 1\nundecided {bound} plan ")?;
+    if !left.spans(first.as_str(), "\n") {
+        return Ok(false);
+    }
+    let claim = format!(in alloc; "bound {bound}")?;
+    is_accepted(alloc, &mut left.shelf, claim.as_str())
+}
+
+// Whether one node's lines tell a bound from 20 to 22, and the certificate is accepted with it.
+fn tells_a_bound(alloc: Global, left: &mut Left) -> Result<bool, AllocError> {
+    for bound in 20u32..23 {
+        if tells_bound(alloc, left, bound)? {
+            return Ok(true);
+        }
+    }
+    Ok(false)
+}
+
+// What planning the shop with one node comes to: the status, whether the lines begin with the root's and the number of
+// nodes, and whether with status 0 the best cost, and else a bound, is told that the certificate is accepted with.
+fn found_by_one_node(alloc: Global) -> Result<(u8, bool, bool), AllocError> {
+    let mut left = plan_model(alloc, SHOP, Some("1"))?;
+    let began = left.spans("root closed 20\nnodes 1\n", "\n");
+    let told = if left.status == 0 {
+        left.spans("root closed 20\nnodes 1\noptimal 23\n", "")
+            && is_checked(alloc, &mut left.shelf, "accepted optimal 23\n")?
+    } else {
+        tells_a_bound(alloc, &mut left)?
+    };
+    Ok((left.status, began, told))
+}
+
 // With one node the best cost of 23 is proved, or a bound from 20 to 22 is told.
 #[test]
 fn one_node_leaves_a_bound(rt: HostRuntime) -> Result<(), Fail> {
     let alloc = rt.alloc();
-    let mut left = plan_model(alloc, SHOP, Some("1"))?;
-    assert!(rt; left.prints("root closed 20\nnodes 1\n", "\n"));
-    let mut accepted = false;
-    if left.status == 0 {
-        assert!(rt; left.prints("root closed 20\nnodes 1\noptimal 23\n", ""));
-        accepted = is_checked(alloc, &mut left.shelf, "accepted optimal 23\n")?;
-    } else {
-        assert_eq!(rt; left.status, 2);
-        for bound in 20u32..23 {
-            let first = format!(in alloc; "root closed 20\nnodes 1\nundecided {bound} plan ")?;
-            let line = format!(in alloc; "accepted bound {bound}\n")?;
-            if left.prints(first.as_str(), "\n") {
-                accepted = is_checked(alloc, &mut left.shelf, line.as_str())?;
-            }
-        }
-    }
-    assert!(rt; accepted);
+    let (status, began, told) = found_by_one_node(alloc)?;
+    assert!(rt; status == 0 || status == 2, "{status}");
+    assert_eq!(rt; (began, told), (true, true), "{status}");
     Ok(())
 }
 
-// Whether one node is enough for a best plan of this cost, without coupling.
-fn takes_one_node(alloc: Global, model: &str, cost: u32) -> Result<bool, AllocError> {
-    let mut left = plan_model(alloc, model, Some("1"))?;
-    let lines = format!(in alloc; "root uncoupled\nnodes 1\noptimal {cost}\n")?;
-    let accepted = format!(in alloc; "accepted optimal {cost}\n")?;
-    let said = left.status == 0 && left.lines.as_slice() == lines.as_bytes();
-    Ok(said && is_checked(alloc, &mut left.shelf, accepted.as_str())?)
+// What planning the model of one item with these lines with one node comes to: the status, whether the lines are those of
+// this claim, without coupling, and whether the certificate is accepted with it.
+fn item_found_by_one_node(
+    alloc: Global,
+    periods: u32,
+    lines: &str,
+    claim: &str,
+) -> Result<(u8, bool, bool), AllocError> {
+    let model = one_item(alloc, periods, lines)?;
+    let mut left = plan_model(alloc, model.as_str(), Some("1"))?;
+    let said = claims(alloc, &left, claim)?;
+    let checked = is_accepted(alloc, &mut left.shelf, claim)?;
+    Ok((left.status, said, checked))
 }
 
 #[test]
 fn one_node_decides_an_uncoupled_model(rt: HostRuntime) -> Result<(), Fail> {
     let alloc = rt.alloc();
-    for (periods, lines, cost) in [
-        (1u32, "demand = [10]\nsetup_cost = 5\nunit_cost = 2", 25u32),
-        (12, TWELVE, 864),
+    for (periods, lines, claim) in [
+        (
+            1u32,
+            "demand = [10]\nsetup_cost = 5\nunit_cost = 2",
+            "optimal 25",
+        ),
+        (12, TWELVE, "optimal 864"),
     ] {
-        let model = one_item(alloc, periods, lines)?;
-        assert!(rt; takes_one_node(alloc, model.as_str(), cost)?);
+        assert_eq!(rt;
+            item_found_by_one_node(alloc, periods, lines, claim)?,
+            (0, true, true),
+            "{claim}"
+        );
     }
     Ok(())
 }
@@ -212,44 +260,66 @@ fn a_budget_for_all_choices_decides(rt: HostRuntime) -> Result<(), Fail> {
     let alloc = rt.alloc();
     let model =
         "version = 1\nperiods = 1\n[[resource]]\nname = \"m\"\ncapacity = 2\n[[item]]\nname = \"A\"\ndemand = [1]\nsetup_cost = 5\nuses = [{ resource = \"m\", unit = 1 }]\n";
-    let mut left = plan_model(alloc, model, Some("7"))?;
-    assert_eq!(rt; left.status, 0);
-    assert!(rt; left.prints("root ", "\noptimal 5\n"));
-    assert!(rt; is_checked(alloc, &mut left.shelf, "accepted optimal 5\n")?);
+    assert_eq!(rt;
+        found_with(alloc, model, Some("7"), "root ", "optimal 5", "optimal 5")?,
+        (0, true, true)
+    );
     Ok(())
+}
+
+// The item of this number, of forty: the first takes the second, and all take time on the resource.
+fn one_of_forty(alloc: Global, number: u32) -> Result<String, AllocError> {
+    let needs = if number == 1 {
+        "needs = [{ item = \"i2\", quantity = 1 }]\n"
+    } else {
+        ""
+    };
+    format!(in alloc;
+        "[[item]]\nname = \"i{number}\"\ndemand = 1\nsetup_cost = 5\n{needs}uses = [{{ resource = \"m\", unit = 1 }}]\n"
+    )
+}
+
+fn forty_items(alloc: Global) -> Result<String, AllocError> {
+    let mut model = String::from_str(
+        alloc,
+        "version = 1\nperiods = 60\n[[resource]]\nname = \"m\"\ncapacity = 2460\n",
+    )?;
+    for number in 1u32..41 {
+        let item = one_of_forty(alloc, number)?;
+        model.push_str(item.as_str())?;
+    }
+    Ok(model)
+}
+
+// Whether 200 is told as the best cost or as a bound, and the certificate is accepted with what is told.
+fn tells_two_hundred(alloc: Global, left: &mut Left) -> Result<(bool, bool), AllocError> {
+    let proved = left.status == 0 && left.spans("root skipped\nnodes 1\noptimal 200\n", "");
+    let bounded = left.status == 2
+        && left.spans("root skipped\nnodes 1\nundecided 200 plan ", "\n");
+    let line = if proved {
+        "accepted optimal 200\n"
+    } else {
+        "accepted bound 200\n"
+    };
+    let checked = is_checked(alloc, &mut left.shelf, line)?;
+    Ok((proved || bounded, checked))
+}
+
+// What planning forty items with one node comes to: whether the lines say that the root is skipped, and whether 200 is
+// told, and the certificate is accepted with it.
+fn found_of_forty(alloc: Global) -> Result<(bool, bool, bool), AllocError> {
+    let model = forty_items(alloc)?;
+    let mut left = plan_model(alloc, model.as_str(), Some("1"))?;
+    let skipped = left.spans("root skipped\nnodes 1\n", "\n");
+    let (told, checked) = tells_two_hundred(alloc, &mut left)?;
+    Ok((skipped, told, checked))
 }
 
 // Forty setups cost 200, which the items cost apart, and all can be made in the first period.
 #[test]
 fn a_large_model_is_skipped_at_the_root(rt: HostRuntime) -> Result<(), Fail> {
     let alloc = rt.alloc();
-    let mut model = String::from_str(
-        alloc,
-        "version = 1\nperiods = 60\n[[resource]]\nname = \"m\"\ncapacity = 2460\n",
-    )?;
-    for number in 1u32..41 {
-        let needs = if number == 1 {
-            "needs = [{ item = \"i2\", quantity = 1 }]\n"
-        } else {
-            ""
-        };
-        let item = format!(in alloc;
-            "[[item]]\nname = \"i{number}\"\ndemand = 1\nsetup_cost = 5\n{needs}uses = [{{ resource = \"m\", unit = 1 }}]\n"
-        )?;
-        model.push_str(item.as_str())?;
-    }
-    let mut left = plan_model(alloc, model.as_str(), Some("1"))?;
-    assert!(rt; left.prints("root skipped\nnodes 1\n", "\n"));
-    let proved = left.status == 0 && left.prints("root skipped\nnodes 1\noptimal 200\n", "");
-    let bounded = left.status == 2
-        && left.prints("root skipped\nnodes 1\nundecided 200 plan ", "\n");
-    assert!(rt; proved || bounded);
-    let line = if proved {
-        "accepted optimal 200\n"
-    } else {
-        "accepted bound 200\n"
-    };
-    assert!(rt; is_checked(alloc, &mut left.shelf, line)?);
+    assert_eq!(rt; found_of_forty(alloc)?, (true, true, true));
     Ok(())
 }
 
@@ -262,9 +332,11 @@ const FURNITURE: &str =
 #[test]
 fn the_furniture_maker_is_planned(rt: HostRuntime) -> Result<(), Fail> {
     let alloc = rt.alloc();
-    let mut left = plan_model(alloc, FURNITURE, None)?;
-    assert_eq!(rt; left.status, 2);
-    assert!(rt; left.prints("root passed\nnodes 999\n", "\nundecided 2790 plan 2861\n"));
-    assert!(rt; is_checked(alloc, &mut left.shelf, "accepted bound 2790\n")?);
+    let first = "root passed\nnodes 999\n";
+    let claim = "undecided 2790 plan 2861";
+    assert_eq!(rt;
+        found_with(alloc, FURNITURE, None, first, claim, "bound 2790")?,
+        (2, true, true)
+    );
     Ok(())
 }

@@ -7,7 +7,7 @@ use std::test::Fail;
 pub const TEN: &str =
     "version = 1\nperiods = 1\n[[item]]\nname = \"A\"\ndemand = [10]\nsetup_cost = 5\nunit_cost = 2\n";
 
-pub const HEADER: &str = "item,period,make,setup,stock,backlog\n";
+const HEADER: &str = "item,period,make,setup,stock,backlog\n";
 
 // The status that the words end with. No clause says so: a test has its own expectation, and is not to carry those of `run`.
 pub fn status_of<S: Shelf, K: Sink>(
@@ -28,6 +28,19 @@ pub fn texts(alloc: Global, words: &[&str]) -> Result<Vec<String>, AllocError> {
     Ok(list)
 }
 
+// A file alone.
+fn file_alone(
+    alloc: Global,
+    name: &str,
+    bytes: &[u8],
+) -> Result<BTreeMap<String, Vec<u8>>, AllocError> {
+    let name = String::from_str(alloc, name)?;
+    let bytes = Vec::from_slice(alloc, bytes)?;
+    let mut files = BTreeMap::new(alloc);
+    files.insert(name, bytes)?;
+    Ok(files)
+}
+
 // A shelf with the model file `m` alone, of whose calls these fail.
 pub fn shelf_with(
     alloc: Global,
@@ -36,18 +49,11 @@ pub fn shelf_with(
     start: &[u64],
     append: &[u64],
 ) -> Result<MemoryShelf, AllocError> {
-    let mut files = BTreeMap::new(alloc);
-    files.insert(
-        String::from_str(alloc, "m")?,
-        Vec::from_slice(alloc, model)?,
-    )?;
-    Ok(MemoryShelf::new(
-        alloc,
-        files,
-        Vec::from_slice(alloc, fetch)?,
-        Vec::from_slice(alloc, start)?,
-        Vec::from_slice(alloc, append)?,
-    ))
+    let fetch = Vec::from_slice(alloc, fetch)?;
+    let start = Vec::from_slice(alloc, start)?;
+    let append = Vec::from_slice(alloc, append)?;
+    let files = file_alone(alloc, "m", model)?;
+    Ok(MemoryShelf::new(alloc, files, fetch, start, append))
 }
 
 // Puts a file on a shelf.
@@ -64,11 +70,88 @@ pub fn put(
     Ok(())
 }
 
+// A shelf with a model and a plan file of this text, of whose fetches these fail.
+fn shelf_with_plan(
+    alloc: Global,
+    model: &str,
+    text: &str,
+    fetch: &[u64],
+) -> Result<MemoryShelf, AllocError> {
+    let mut shelf = shelf_with(alloc, model.as_bytes(), fetch, &[], &[])?;
+    put(alloc, &mut shelf, "p", text.as_bytes())?;
+    Ok(shelf)
+}
+
+// A shelf with a model and a plan of these records, of whose fetches these fail.
+pub fn shelf_with_records(
+    alloc: Global,
+    model: &str,
+    records: &str,
+    fetch: &[u64],
+) -> Result<MemoryShelf, AllocError> {
+    let text = format!(in alloc; "{HEADER}{records}")?;
+    shelf_with_plan(alloc, model, text.as_str(), fetch)
+}
+
 pub fn holds(shelf: &MemoryShelf, name: &str, text: &str) -> bool {
     match shelf.files.get(name) {
         Some(bytes) => bytes.as_slice() == text.as_bytes(),
         None => false,
     }
+}
+
+// Whether the plan file has these records.
+pub fn has_records(alloc: Global, shelf: &MemoryShelf, records: &str) -> Result<bool, AllocError> {
+    let text = format!(in alloc; "{HEADER}{records}")?;
+    Ok(holds(shelf, "p", text.as_str()))
+}
+
+// What a run leaves: its status, the files and the output.
+#[derive(Drop)]
+pub struct Left {
+    pub status: u8,
+    pub shelf: MemoryShelf,
+    pub out: MemorySink,
+}
+
+impl Left {
+    // Whether these lines are printed.
+    pub fn prints(&self, lines: &str) -> bool {
+        self.out.bytes.as_slice() == lines.as_bytes()
+    }
+
+    // Whether the printed lines begin with these and end with those.
+    pub fn spans(&self, first: &str, last: &str) -> bool {
+        let lines = self.out.bytes.as_slice();
+        lines.starts_with(first.as_bytes()) && lines.ends_with(last.as_bytes())
+    }
+}
+
+// Runs words over a shelf. The prints of these numbers fail.
+pub fn left_by(
+    alloc: Global,
+    words: &[&str],
+    shelf: MemoryShelf,
+    fail_put: &[u64],
+) -> Result<Left, AllocError> {
+    let words = texts(alloc, words)?;
+    let fail_put = Vec::from_slice(alloc, fail_put)?;
+    Ok(left_over(alloc, words.as_slice(), shelf, fail_put))
+}
+
+// Runs words over a shelf. The prints of these numbers fail.
+fn left_over(alloc: Global, words: &[String], shelf: MemoryShelf, fail_put: Vec<u64>) -> Left {
+    let mut shelf = shelf;
+    let mut out = MemorySink::new(alloc, fail_put);
+    let status = status_of(alloc, words, &mut shelf, &mut out);
+    Left { status, shelf, out }
+}
+
+// The status of words over the model of a loaf whose print fails, and the prints and the failures of the output.
+pub fn unprinted(alloc: Global, words: &[&str]) -> Result<(u8, u64, u64), AllocError> {
+    let shelf = shelf_with(alloc, TEN.as_bytes(), &[], &[], &[])?;
+    let left = left_by(alloc, words, shelf, &[1])?;
+    Ok((left.status, left.out.puts, left.out.faults))
 }
 
 // A model of one item, with these lines.
@@ -78,12 +161,16 @@ pub fn one_item(alloc: Global, periods: u32, lines: &str) -> Result<String, Allo
 
 // Whether planning a model ends with this status and prints this line, and no file changes.
 pub fn ends_in(alloc: Global, model: &str, status: u8, line: &str) -> Result<bool, AllocError> {
-    let words = texts(alloc, &["plan", "m", "p", "c"])?;
-    let mut shelf = shelf_with(alloc, model.as_bytes(), &[], &[], &[])?;
-    let mut out = MemorySink::new(alloc, Vec::new(alloc));
-    let ended = status_of(alloc, words.as_slice(), &mut shelf, &mut out);
-    let said = ended == status && out.bytes.as_slice() == line.as_bytes();
-    Ok(said && shelf.files.len() == 1 && shelf.starts == 0 && holds(&shelf, "m", model))
+    let shelf = shelf_with(alloc, model.as_bytes(), &[], &[], &[])?;
+    let left = left_by(alloc, &["plan", "m", "p", "c"], shelf, &[])?;
+    let kept = left.shelf.files.len() == 1 && left.shelf.starts == 0;
+    Ok(left.status == status && left.prints(line) && kept && holds(&left.shelf, "m", model))
+}
+
+// What planning a model by these words leaves. The plan file is there before.
+pub fn left_of_plan(alloc: Global, model: &str, words: &[&str]) -> Result<Left, AllocError> {
+    let shelf = shelf_with_plan(alloc, model, "old\n", &[])?;
+    left_by(alloc, words, shelf, &[])
 }
 
 // Whether the files of a model, a plan and a certificate are accepted, and this line is printed.
@@ -92,6 +179,31 @@ pub fn is_checked(alloc: Global, shelf: &mut MemoryShelf, line: &str) -> Result<
     let mut out = MemorySink::new(alloc, Vec::new(alloc));
     let ended = status_of(alloc, words.as_slice(), shelf, &mut out);
     Ok(ended == 0 && out.bytes.as_slice() == line.as_bytes())
+}
+
+// Whether the three lines of this claim are printed.
+pub fn claims(alloc: Global, left: &Left, claim: &str) -> Result<bool, AllocError> {
+    let lines = format!(in alloc; "root uncoupled\nnodes 1\n{claim}\n")?;
+    Ok(left.prints(lines.as_str()))
+}
+
+// Whether the files of a model, a plan and a certificate are accepted, and this claim is printed.
+pub fn is_accepted(
+    alloc: Global,
+    shelf: &mut MemoryShelf,
+    claim: &str,
+) -> Result<bool, AllocError> {
+    let line = format!(in alloc; "accepted {claim}\n")?;
+    is_checked(alloc, shelf, line.as_str())
+}
+
+// Whether the plan file has these records, and stays where there are none.
+fn has_plan(alloc: Global, shelf: &MemoryShelf, records: &str) -> Result<bool, AllocError> {
+    if records.is_empty() {
+        Ok(shelf.starts == 1 && holds(shelf, "p", "old\n"))
+    } else {
+        Ok(shelf.starts == 2 && has_records(alloc, shelf, records)?)
+    }
 }
 
 // Whether planning a model ends with this status, prints the three lines of this claim and leaves these
@@ -103,27 +215,27 @@ pub fn is_planned(
     claim: &str,
     records: &str,
 ) -> Result<bool, AllocError> {
-    let words = texts(alloc, &["plan", "m", "p", "c"])?;
-    let mut shelf = shelf_with(alloc, model.as_bytes(), &[], &[], &[])?;
-    put(alloc, &mut shelf, "p", b"old\n")?;
-    let mut out = MemorySink::new(alloc, Vec::new(alloc));
-    let ended = status_of(alloc, words.as_slice(), &mut shelf, &mut out);
-    let lines = format!(in alloc; "root uncoupled\nnodes 1\n{claim}\n")?;
-    let said = ended == status && out.bytes.as_slice() == lines.as_bytes();
-    let accepted = format!(in alloc; "accepted {claim}\n")?;
-    let text = format!(in alloc; "{HEADER}{records}")?;
-    let plan = if records.is_empty() {
-        "old\n"
-    } else {
-        text.as_str()
-    };
-    let starts = if records.is_empty() { 1 } else { 2 };
-    let kept = shelf.files.len() == 3 && shelf.starts == starts && holds(&shelf, "p", plan);
+    let mut left = left_of_plan(alloc, model, &["plan", "m", "p", "c"])?;
+    let said = left.status == status && claims(alloc, &left, claim)?;
+    let kept = left.shelf.files.len() == 3 && has_plan(alloc, &left.shelf, records)?;
     Ok(
         said && kept
-            && is_checked(alloc, &mut shelf, accepted.as_str())?
-            && holds(&shelf, "m", model),
+            && is_accepted(alloc, &mut left.shelf, claim)?
+            && holds(&left.shelf, "m", model),
     )
+}
+
+// Whether the model of one item with these lines is planned so.
+fn is_item_planned(
+    alloc: Global,
+    periods: u32,
+    lines: &str,
+    status: u8,
+    claim: &str,
+    records: &str,
+) -> Result<bool, AllocError> {
+    let model = one_item(alloc, periods, lines)?;
+    is_planned(alloc, model.as_str(), status, claim, records)
 }
 
 #[test]
@@ -161,9 +273,8 @@ fn single_periods_are_planned(rt: HostRuntime) -> Result<(), Fail> {
             "A,1,0,0,5,0\n",
         ),
     ] {
-        let model = one_item(alloc, 1, lines)?;
         assert!(rt;
-            is_planned(alloc, model.as_str(), status, claim, records)?,
+            is_item_planned(alloc, 1, lines, status, claim, records)?,
             "{claim}"
         );
     }
@@ -190,8 +301,7 @@ fn items_by_themselves_are_planned(rt: HostRuntime) -> Result<(), Fail> {
             "A,1,10,1,6,0\nA,2,0,0,0,0\n",
         ),
     ] {
-        let model = one_item(alloc, 2, lines)?;
-        assert!(rt; is_planned(alloc, model.as_str(), 0, claim, records)?);
+        assert!(rt; is_item_planned(alloc, 2, lines, 0, claim, records)?);
     }
     Ok(())
 }
@@ -203,10 +313,9 @@ pub const TWELVE: &str =
 #[test]
 fn twelve_periods_are_planned(rt: HostRuntime) -> Result<(), Fail> {
     let alloc = rt.alloc();
-    let model = one_item(alloc, 12, TWELVE)?;
     let records =
         "A,1,98,1,29,0\nA,2,0,0,0,0\nA,3,97,1,61,0\nA,4,0,0,0,0\nA,5,121,1,60,0\nA,6,0,0,34,0\nA,7,0,0,0,0\nA,8,112,1,45,0\nA,9,0,0,0,0\nA,10,67,1,0,0\nA,11,135,1,56,0\nA,12,0,0,0,0\n";
-    assert!(rt; is_planned(alloc, model.as_str(), 0, "optimal 864", records)?);
+    assert!(rt; is_item_planned(alloc, 12, TWELVE, 0, "optimal 864", records)?);
     Ok(())
 }
 
@@ -217,16 +326,25 @@ fn two_items(alloc: Global, first: &str, second: &str) -> Result<String, AllocEr
     )
 }
 
+// Whether the model of two items with these lines is planned with this claim, and these records.
+fn are_two_planned(
+    alloc: Global,
+    first: &str,
+    second: &str,
+    claim: &str,
+    records: &str,
+) -> Result<bool, AllocError> {
+    let model = two_items(alloc, first, second)?;
+    is_planned(alloc, model.as_str(), 0, claim, records)
+}
+
 #[test]
 fn several_items_are_planned(rt: HostRuntime) -> Result<(), Fail> {
     let alloc = rt.alloc();
-    let model = two_items(
-        alloc,
-        "demand = [10]\nsetup_cost = 5\nunit_cost = 2",
-        "demand = [4]\nsetup_cost = 3\nopening = 1",
-    )?;
+    let first = "demand = [10]\nsetup_cost = 5\nunit_cost = 2";
+    let second = "demand = [4]\nsetup_cost = 3\nopening = 1";
     let records = "A,1,10,1,0,0\nB,1,3,1,0,0\n";
-    assert!(rt; is_planned(alloc, model.as_str(), 0, "optimal 28", records)?);
+    assert!(rt; are_two_planned(alloc, first, second, "optimal 28", records)?);
     Ok(())
 }
 
@@ -240,6 +358,19 @@ fn items_with_and_without_backlog_are_planned(rt: HostRuntime) -> Result<(), Fai
     let records = "A,1,0,0,0,4\nA,2,10,1,0,0\nB,1,10,1,6,0\nB,2,0,0,0,0\n";
     assert!(rt; is_planned(alloc, model.as_str(), 0, "optimal 134", records)?);
     Ok(())
+}
+
+// Whether planning the model of two items with these lines ends with this status and prints this line, and no file
+// changes.
+fn two_end_in(
+    alloc: Global,
+    first: &str,
+    second: &str,
+    status: u8,
+    line: &str,
+) -> Result<bool, AllocError> {
+    let model = two_items(alloc, first, second)?;
+    ends_in(alloc, model.as_str(), status, line)
 }
 
 #[test]
@@ -259,8 +390,7 @@ fn models_are_refused(rt: HostRuntime) -> Result<(), Fail> {
             "refused model M11 item 2\n",
         ),
     ] {
-        let model = two_items(alloc, first, second)?;
-        assert!(rt; ends_in(alloc, model.as_str(), status, line)?);
+        assert!(rt; two_end_in(alloc, first, second, status, line)?, "{line}");
     }
     assert!(rt; ends_in(alloc, "", 5, "refused model M3 root version\n")?);
     Ok(())
@@ -298,6 +428,23 @@ fn quantities_past_the_bound_are_refused(rt: HostRuntime) -> Result<(), Fail> {
 pub const SHOP: &str =
     "version = 1\nperiods = 2\n[[resource]]\nname = \"m\"\ncapacity = 6\n[[item]]\nname = \"A\"\ndemand = [2, 8]\nsetup_cost = 10\nhold_cost = 1\nuses = [{ resource = \"m\", unit = 1, setup = 1 }]\n";
 
+// Whether running words that read the plan of these records of a model ends with this status and prints this line, and no
+// file changes.
+pub fn read_as(
+    alloc: Global,
+    words: &[&str],
+    model: &str,
+    records: &str,
+    status: u8,
+    line: &str,
+) -> Result<bool, AllocError> {
+    let shelf = shelf_with_records(alloc, model, records, &[])?;
+    let left = left_by(alloc, words, shelf, &[])?;
+    let said = left.status == status && left.prints(line) && left.out.puts == 1;
+    let kept = left.shelf.files.len() == 2 && left.shelf.starts == 0;
+    Ok(said && kept && holds(&left.shelf, "m", model) && has_records(alloc, &left.shelf, records)?)
+}
+
 // Whether judging these records ends with this status and prints this line, and no file changes.
 pub fn judged_as(
     alloc: Global,
@@ -306,19 +453,7 @@ pub fn judged_as(
     status: u8,
     line: &str,
 ) -> Result<bool, AllocError> {
-    let words = texts(alloc, &["judge", "m", "p"])?;
-    let mut shelf = shelf_with(alloc, model.as_bytes(), &[], &[], &[])?;
-    let text = format!(in alloc; "{HEADER}{records}")?;
-    put(alloc, &mut shelf, "p", text.as_bytes())?;
-    let mut out = MemorySink::new(alloc, Vec::new(alloc));
-    let ended = status_of(alloc, words.as_slice(), &mut shelf, &mut out);
-    let kept = shelf.files.len() == 2 && shelf.starts == 0 && holds(&shelf, "p", text.as_str());
-    Ok(
-        ended == status
-            && out.bytes.as_slice() == line.as_bytes()
-            && kept
-            && holds(&shelf, "m", model),
-    )
+    read_as(alloc, &["judge", "m", "p"], model, records, status, line)
 }
 
 #[test]
@@ -335,43 +470,80 @@ pub fn one_lot(alloc: Global, periods: u32, lines: &str) -> Result<String, Alloc
     format!(in alloc; "version = 2\nperiods = {periods}\n[[item]]\nname = \"A\"\n{lines}\n")
 }
 
+// Whether judging these records of the model of one item with these lines ends with this status and prints this line.
+fn lot_judged_as(
+    alloc: Global,
+    periods: u32,
+    lines: &str,
+    records: &str,
+    status: u8,
+    line: &str,
+) -> Result<bool, AllocError> {
+    let model = one_lot(alloc, periods, lines)?;
+    judged_as(alloc, model.as_str(), records, status, line)
+}
+
 #[test]
 fn lead_times_and_lots_are_judged(rt: HostRuntime) -> Result<(), Fail> {
     let alloc = rt.alloc();
-    let later = one_lot(
-        alloc,
-        2,
-        "demand = [0, 10]\nlead = 1\nsetup_cost = 5\nunit_cost = 2",
-    )?;
-    for (records, status, line) in [
-        ("A,1,10,1,0,0\nA,2,0,0,0,0\n", 0u8, "feasible 25\n"),
+    let later = "demand = [0, 10]\nlead = 1\nsetup_cost = 5\nunit_cost = 2";
+    let lots = "demand = [4]\nmin_lot = 6\nend_max = 5\nsetup_cost = 1\nhold_cost = 1";
+    for (periods, lines, records, status, line) in [
         (
+            2u32,
+            later,
+            "A,1,10,1,0,0\nA,2,0,0,0,0\n",
+            0u8,
+            "feasible 25\n",
+        ),
+        (
+            2,
+            later,
             "A,1,10,1,0,0\nA,2,3,1,0,0\n",
             3,
             "broken 9 item 1 period 2\n",
         ),
+        (1, lots, "A,1,4,1,0,0\n", 3, "broken 8 item 1 period 1\n"),
     ] {
-        assert!(rt; judged_as(alloc, later.as_str(), records, status, line)?);
+        assert!(rt;
+            lot_judged_as(alloc, periods, lines, records, status, line)?,
+            "{line}"
+        );
     }
-    let lots = one_lot(
-        alloc,
-        1,
-        "demand = [4]\nmin_lot = 6\nend_max = 5\nsetup_cost = 1\nhold_cost = 1",
-    )?;
-    let few = "broken 8 item 1 period 1\n";
-    assert!(rt; judged_as(alloc, lots.as_str(), "A,1,4,1,0,0\n", 3, few)?);
     Ok(())
+}
+
+// Whether planning the model of one item with these lines, in version 2, is refused with this line, and no file changes.
+fn is_lot_refused(
+    alloc: Global,
+    periods: u32,
+    lines: &str,
+    line: &str,
+) -> Result<bool, AllocError> {
+    let model = one_lot(alloc, periods, lines)?;
+    ends_in(alloc, model.as_str(), 5, line)
+}
+
+// The same in version 1.
+fn is_item_refused(
+    alloc: Global,
+    periods: u32,
+    lines: &str,
+    line: &str,
+) -> Result<bool, AllocError> {
+    let model = one_item(alloc, periods, lines)?;
+    ends_in(alloc, model.as_str(), 5, line)
 }
 
 #[test]
 fn lead_times_and_lots_are_refused(rt: HostRuntime) -> Result<(), Fail> {
     let alloc = rt.alloc();
-    let crossed = one_lot(alloc, 1, "demand = [4]\nmin_lot = 5\nmax_lot = 4")?;
-    assert!(rt; ends_in(alloc, crossed.as_str(), 5, "refused model M15 item 1\n")?);
-    let first = one_item(alloc, 2, "demand = [0, 10]\nlead = 1")?;
-    assert!(rt; ends_in(alloc, first.as_str(), 5, "refused model M2 item 1\n")?);
-    let long = one_lot(alloc, 121, "demand = 0")?;
-    assert!(rt; ends_in(alloc, long.as_str(), 5, "refused model M5 root periods\n")?);
+    let crossed = "demand = [4]\nmin_lot = 5\nmax_lot = 4";
+    assert!(rt; is_lot_refused(alloc, 1, crossed, "refused model M15 item 1\n")?);
+    let first = "demand = [0, 10]\nlead = 1";
+    assert!(rt; is_item_refused(alloc, 2, first, "refused model M2 item 1\n")?);
+    let long = "demand = 0";
+    assert!(rt; is_lot_refused(alloc, 121, long, "refused model M5 root periods\n")?);
     Ok(())
 }
 
@@ -384,17 +556,26 @@ fn upgraded_as(
     line: &str,
     text: &str,
 ) -> Result<bool, AllocError> {
-    let words = texts(alloc, &["upgrade", "m", "n"])?;
-    let mut shelf = shelf_with(alloc, model.as_bytes(), &[], &[], &[])?;
-    let mut out = MemorySink::new(alloc, Vec::new(alloc));
-    let ended = status_of(alloc, words.as_slice(), &mut shelf, &mut out);
+    let shelf = shelf_with(alloc, model.as_bytes(), &[], &[], &[])?;
+    let left = left_by(alloc, &["upgrade", "m", "n"], shelf, &[])?;
     let kept = if text.is_empty() {
-        shelf.files.len() == 1 && shelf.starts == 0
+        left.shelf.files.len() == 1 && left.shelf.starts == 0
     } else {
-        shelf.files.len() == 2 && holds(&shelf, "n", text)
+        left.shelf.files.len() == 2 && holds(&left.shelf, "n", text)
     };
-    let said = ended == status && out.bytes.as_slice() == line.as_bytes();
-    Ok(said && kept && holds(&shelf, "m", model))
+    Ok(left.status == status && left.prints(line) && kept && holds(&left.shelf, "m", model))
+}
+
+// Whether the model of one item with these lines is upgraded so.
+fn item_upgraded_as(
+    alloc: Global,
+    lines: &str,
+    status: u8,
+    line: &str,
+    text: &str,
+) -> Result<bool, AllocError> {
+    let model = one_item(alloc, 1, lines)?;
+    upgraded_as(alloc, model.as_str(), status, line, text)
 }
 
 // The text that the model of a loaf is upgraded to.
@@ -404,17 +585,39 @@ const LOAF: &str =
 #[test]
 fn models_are_upgraded(rt: HostRuntime) -> Result<(), Fail> {
     let alloc = rt.alloc();
-    let model = one_item(alloc, 1, "demand = [10]\nunit_cost = 2\nsetup_cost = 5")?;
-    assert!(rt; upgraded_as(alloc, model.as_str(), 0, "written n\n", LOAF)?);
-    for text in [model.as_str(), LOAF] {
-        assert!(rt; is_planned(alloc, text, 0, "optimal 25", "A,1,10,1,0,0\n")?);
-    }
+    let lines = "demand = [10]\nunit_cost = 2\nsetup_cost = 5";
+    assert!(rt; item_upgraded_as(alloc, lines, 0, "written n\n", LOAF)?);
     let newest = "refused model M14 root version\n";
     assert!(rt; upgraded_as(alloc, LOAF, 5, newest, "")?);
-    let crossed = one_item(alloc, 1, "demand = [10]\nend_min = 2\nend_max = 1")?;
-    let line = "refused model M13 item 1\n";
-    assert!(rt; upgraded_as(alloc, crossed.as_str(), 5, line, "")?);
+    let crossed = "demand = [10]\nend_min = 2\nend_max = 1";
+    assert!(rt; item_upgraded_as(alloc, crossed, 5, "refused model M13 item 1\n", "")?);
     Ok(())
+}
+
+#[test]
+fn a_model_and_what_it_is_upgraded_to_are_planned(rt: HostRuntime) -> Result<(), Fail> {
+    let alloc = rt.alloc();
+    let lines = "demand = [10]\nunit_cost = 2\nsetup_cost = 5";
+    let records = "A,1,10,1,0,0\n";
+    assert!(rt; is_item_planned(alloc, 1, lines, 0, "optimal 25", records)?);
+    assert!(rt; is_planned(alloc, LOAF, 0, "optimal 25", records)?);
+    Ok(())
+}
+
+// What an upgrade of a loaf's model comes to where these calls fail: its status, whether this line is printed, and whether
+// the model stays.
+fn upgraded_with_faults(
+    alloc: Global,
+    model: &str,
+    fetch: &[u64],
+    start: &[u64],
+    line: &str,
+) -> Result<(u8, bool, bool), AllocError> {
+    let shelf = shelf_with(alloc, TEN.as_bytes(), fetch, start, &[])?;
+    let left = left_by(alloc, &["upgrade", model, "n"], shelf, &[])?;
+    let printed = left.prints(line);
+    let kept = holds(&left.shelf, "m", TEN);
+    Ok((left.status, printed, kept))
 }
 
 #[test]
@@ -426,16 +629,11 @@ fn upgrades_name_the_faults_of_the_outside(rt: HostRuntime) -> Result<(), Fail> 
         ("m", &[], &[1], 8, "refused write n\n"),
     ];
     for (model, fetch, start, status, line) in cases {
-        let mut shelf = shelf_with(alloc, TEN.as_bytes(), fetch, start, &[])?;
-        let mut out = MemorySink::new(alloc, Vec::new(alloc));
-        let words = texts(alloc, &["upgrade", model, "n"])?;
         assert_eq!(rt;
-            status_of(alloc, words.as_slice(), &mut shelf, &mut out),
-            status,
+            upgraded_with_faults(alloc, model, fetch, start, line)?,
+            (status, true, true),
             "{line}"
         );
-        assert!(rt; out.bytes.as_slice() == line.as_bytes(), "{line}");
-        assert!(rt; holds(&shelf, "m", TEN), "{line}");
     }
     Ok(())
 }
@@ -447,25 +645,37 @@ const BAKERY: &str =
 pub const WORKSHOP: &str =
     "version = 1\nperiods = 4\n\n[[resource]]\nname = \"saw\"\ncapacity = 200\n\n[[item]]\nname = \"table\"\ndemand = [20, 0, 30, 10]\nsetup_cost = 40\nhold_cost = 2\nneeds = [{ item = \"leg\", quantity = 4 }]\n\n[[item]]\nname = \"leg\"\ndemand = 0\nsetup_cost = 30\nhold_cost = 1\nuses = [{ resource = \"saw\", unit = 1, setup = 10 }]\n";
 
+// Whether judging the workshop's plan, with so many legs in the third period, ends with this status and prints this line.
+fn legs_judged_as(alloc: Global, legs: u32, status: u8, line: &str) -> Result<bool, AllocError> {
+    let tables = "table,1,20,1,0,0\ntable,2,0,0,0,0\ntable,3,40,1,10,0\ntable,4,0,0,0,0\n";
+    let records = format!(in alloc;
+        "{tables}leg,1,80,1,0,0\nleg,2,0,0,0,0\nleg,3,{legs},1,0,0\nleg,4,0,0,0,0\n"
+    )?;
+    judged_as(alloc, WORKSHOP, records.as_str(), status, line)
+}
+
 #[test]
 fn the_examples_print_what_the_readme_shows(rt: HostRuntime) -> Result<(), Fail> {
     let alloc = rt.alloc();
     let records =
         "bread,1,30,1,0,0\nbread,2,35,1,0,0\nbread,3,50,1,0,0\nbread,4,0,0,0,0\nbread,5,105,1,45,0\nbread,6,0,0,0,0\ncake,1,0,0,0,4\ncake,2,0,0,0,4\ncake,3,12,1,2,0\ncake,4,0,0,0,0\ncake,5,0,0,0,0\ncake,6,14,1,2,0\n";
     assert!(rt; is_planned(alloc, BAKERY, 0, "optimal 1006", records)?);
-    let loaf = one_item(alloc, 1, "demand = [10]\nunit_cost = 2\nsetup_cost = 5")?;
-    assert!(rt; is_planned(alloc, loaf.as_str(), 0, "optimal 25", "A,1,10,1,0,0\n")?);
-    let tables = "table,1,20,1,0,0\ntable,2,0,0,0,0\ntable,3,40,1,10,0\ntable,4,0,0,0,0\n";
-    for (leg, status, line) in [
+    let loaf = "demand = [10]\nunit_cost = 2\nsetup_cost = 5";
+    assert!(rt; is_item_planned(alloc, 1, loaf, 0, "optimal 25", "A,1,10,1,0,0\n")?);
+    for (legs, status, line) in [
         (160u32, 0u8, "feasible 160\n"),
         (200, 3, "broken 3 item 2 period 3 left 200 right 160\n"),
     ] {
-        let records = format!(in alloc;
-            "{tables}leg,1,80,1,0,0\nleg,2,0,0,0,0\nleg,3,{leg},1,0,0\nleg,4,0,0,0,0\n"
-        )?;
-        assert!(rt; judged_as(alloc, WORKSHOP, records.as_str(), status, line)?);
+        assert!(rt; legs_judged_as(alloc, legs, status, line)?, "{line}");
     }
     Ok(())
+}
+
+// The status of judging the plan of a loaf in these files, and whether this line is printed.
+fn judged_in(alloc: Global, model: &str, plan: &str, line: &str) -> Result<(u8, bool), AllocError> {
+    let shelf = shelf_with(alloc, TEN.as_bytes(), &[], &[], &[])?;
+    let left = left_by(alloc, &["judge", model, plan], shelf, &[])?;
+    Ok((left.status, left.prints(line)))
 }
 
 #[test]
@@ -475,13 +685,59 @@ fn a_judgement_names_the_file_that_is_absent(rt: HostRuntime) -> Result<(), Fail
         ("n", "p", "refused missing n\n"),
         ("m", "q", "refused missing q\n"),
     ] {
-        let words = texts(alloc, &["judge", model, plan])?;
-        let mut shelf = shelf_with(alloc, TEN.as_bytes(), &[], &[], &[])?;
-        let mut out = MemorySink::new(alloc, Vec::new(alloc));
-        assert_eq!(rt; status_of(alloc, words.as_slice(), &mut shelf, &mut out), 6);
-        assert!(rt; out.bytes.as_slice() == line.as_bytes());
+        assert_eq!(rt; judged_in(alloc, model, plan, line)?, (6, true), "{line}");
     }
     Ok(())
+}
+
+// A plan of a loaf where calls fail: the name of the model file, the fetches, starts, appends and prints that fail, the
+// status, what is printed, and how many of the plan file and the certificate file are whole then.
+#[derive(Clone, Copy, Drop)]
+struct Fault<'a> {
+    model: &'a str,
+    fetch: &'a [u64],
+    start: &'a [u64],
+    append: &'a [u64],
+    put: &'a [u64],
+    status: u8,
+    printed: &'a str,
+    whole: u32,
+}
+
+// What a plan of a loaf leaves where calls fail.
+fn left_with_faults(alloc: Global, fault: &Fault) -> Result<Left, AllocError> {
+    let shelf = shelf_with(
+        alloc,
+        TEN.as_bytes(),
+        fault.fetch,
+        fault.start,
+        fault.append,
+    )?;
+    left_by(alloc, &["plan", fault.model, "p", "c"], shelf, fault.put)
+}
+
+// The status where calls fail, and whether what is due is printed, the model stays, and memory was enough for the one
+// print.
+fn named_in(alloc: Global, fault: &Fault) -> Result<(u8, bool, bool, bool), AllocError> {
+    let left = left_with_faults(alloc, fault)?;
+    let printed = left.prints(fault.printed);
+    let kept = holds(&left.shelf, "m", TEN);
+    let once = (left.shelf.wants, left.out.wants, left.out.puts) == (0, 0, 1);
+    Ok((left.status, printed, kept, once))
+}
+
+// A best plan of a loaf.
+const LOAF_PLAN: &str = "item,period,make,setup,stock,backlog\nA,1,10,1,0,0\n";
+
+// Whether no file was made where none could be written, there is a certificate file only where the plan file is whole, the
+// plan file is whole where it is to be, and both are accepted where both are.
+fn whole_in(alloc: Global, fault: &Fault) -> Result<(bool, bool, bool, bool), AllocError> {
+    let mut left = left_with_faults(alloc, fault)?;
+    let alone = fault.status > 7 || left.shelf.files.len() == 1;
+    let absent = fault.whole > 0 || left.shelf.files.get("c").is_none();
+    let planned = fault.whole == 0 || holds(&left.shelf, "p", LOAF_PLAN);
+    let checked = fault.whole < 2 || is_checked(alloc, &mut left.shelf, "accepted optimal 25\n")?;
+    Ok((alone, absent, planned, checked))
 }
 
 // The last number is how many of the plan file and the certificate file are whole then.
@@ -498,44 +754,36 @@ fn faults_of_the_outside_are_named(rt: HostRuntime) -> Result<(), Fail> {
         ("m", &[], &[], &[2], &[], 8, "refused write c\n", 1),
         ("m", &[], &[], &[], &[1], 9, "root uncoupled\nno", 2),
     ];
-    let plan = format!(in alloc; "{HEADER}A,1,10,1,0,0\n")?;
     for (model, fetch, start, append, put, status, printed, whole) in cases {
-        let mut shelf = shelf_with(alloc, TEN.as_bytes(), fetch, start, append)?;
-        let mut out = MemorySink::new(alloc, Vec::from_slice(alloc, put)?);
-        let words = texts(alloc, &["plan", model, "p", "c"])?;
-        assert_eq!(rt;
-            status_of(alloc, words.as_slice(), &mut shelf, &mut out),
+        let fault = Fault {
+            model,
+            fetch,
+            start,
+            append,
+            put,
             status,
-            "{printed}"
-        );
-        assert!(rt; out.bytes.as_slice() == printed.as_bytes(), "{printed}");
-        assert!(rt; holds(&shelf, "m", TEN), "{printed}");
-        assert_eq!(rt; (shelf.wants, out.wants, out.puts), (0, 0, 1));
-        assert!(rt; status > 7 || shelf.files.len() == 1, "{printed}");
-        assert!(rt; whole > 0 || shelf.files.get("c").is_none(), "{printed}");
-        assert!(rt;
-            whole == 0 || holds(&shelf, "p", plan.as_str()),
-            "{printed}"
-        );
-        assert!(rt;
-            whole < 2 || is_checked(alloc, &mut shelf, "accepted optimal 25\n")?,
-            "{printed}"
-        );
+            printed,
+            whole,
+        };
+        let named = named_in(alloc, &fault)?;
+        assert_eq!(rt; named, (status, true, true, true), "{printed}");
+        let files = whole_in(alloc, &fault)?;
+        assert_eq!(rt; files, (true, true, true, true), "{printed}");
     }
     Ok(())
+}
+
+// The status of planning a model that is longer than a file may be, and whether this line is printed.
+fn long_model_ends(alloc: Global, line: &str) -> Result<(u8, bool), AllocError> {
+    let model = vec![in alloc; b'\n'; 16_777_217]?;
+    let shelf = shelf_with(alloc, model.as_slice(), &[], &[], &[])?;
+    let left = left_by(alloc, &["plan", "m", "p", "c"], shelf, &[])?;
+    Ok((left.status, left.prints(line)))
 }
 
 #[test]
 fn a_long_model_is_refused(rt: HostRuntime) -> Result<(), Fail> {
     let alloc = rt.alloc();
-    let words = texts(alloc, &["plan", "m", "p", "c"])?;
-    let model = vec![in alloc; b'\n'; 16_777_217]?;
-    let mut shelf = shelf_with(alloc, model.as_slice(), &[], &[], &[])?;
-    let mut out = MemorySink::new(alloc, Vec::new(alloc));
-    assert_eq!(rt;
-        status_of(alloc, words.as_slice(), &mut shelf, &mut out),
-        11
-    );
-    assert!(rt; out.bytes.as_slice() == b"refused long m\n".as_slice());
+    assert_eq!(rt; long_model_ends(alloc, "refused long m\n")?, (11, true));
     Ok(())
 }

@@ -1,36 +1,34 @@
-use crate::tests::{TEN, shelf_with, status_of, texts};
-use lot_io::MemorySink;
+use crate::tests::{Left, TEN, left_by, shelf_with, unprinted};
 use std::alloc::{AllocError, Global};
 use std::test::Fail;
 
-// What words print, where they end with this status, read and write nothing and print one piece.
-fn printed_by(alloc: Global, words: &[&str], status: u8) -> Result<Option<Vec<u8>>, AllocError> {
-    let mut shelf = shelf_with(alloc, TEN.as_bytes(), &[], &[], &[])?;
-    let mut out = MemorySink::new(alloc, Vec::new(alloc));
-    let list = texts(alloc, words)?;
-    let ended = status_of(alloc, list.as_slice(), &mut shelf, &mut out);
-    let idle = (shelf.fetches, shelf.starts, out.puts) == (0, 0, 1);
-    Ok(if ended == status && idle {
-        Some(out.bytes)
-    } else {
-        None
-    })
+// What words leave beside the model of a loaf.
+fn left_of(alloc: Global, words: &[&str]) -> Result<Left, AllocError> {
+    let shelf = shelf_with(alloc, TEN.as_bytes(), &[], &[], &[])?;
+    left_by(alloc, words, shelf, &[])
+}
+
+// Whether a run ended with this status, read and wrote nothing and printed one piece.
+fn is_idle(left: &Left, status: u8) -> bool {
+    left.status == status && (left.shelf.fetches, left.shelf.starts, left.out.puts) == (0, 0, 1)
 }
 
 // Whether words print a text that begins so.
 fn begins(alloc: Global, words: &[&str], status: u8, first: &str) -> Result<bool, AllocError> {
-    match printed_by(alloc, words, status)? {
-        Some(bytes) => Ok(bytes.as_slice().starts_with(first.as_bytes())),
-        None => Ok(false),
-    }
+    let left = left_of(alloc, words)?;
+    Ok(is_idle(&left, status) && left.spans(first, ""))
 }
 
 // Whether words print this line.
 fn prints(alloc: Global, words: &[&str], status: u8, line: &str) -> Result<bool, AllocError> {
-    match printed_by(alloc, words, status)? {
-        Some(bytes) => Ok(bytes.as_slice() == line.as_bytes()),
-        None => Ok(false),
-    }
+    let left = left_of(alloc, words)?;
+    Ok(is_idle(&left, status) && left.prints(line))
+}
+
+// Whether words are done and print a text of more than 40 bytes.
+fn gives_text(alloc: Global, words: &[&str]) -> Result<bool, AllocError> {
+    let left = left_of(alloc, words)?;
+    Ok(is_idle(&left, 0) && left.out.bytes.len() > 40)
 }
 
 #[test]
@@ -110,11 +108,7 @@ fn help_is_given(rt: HostRuntime) -> Result<(), Fail> {
         &["plan", "--help"][..],
         &["demo", "--help"][..],
     ] {
-        let printed = printed_by(alloc, words, 0)?;
-        assert!(rt;
-            matches!(&printed, Some(text) if text.len() > 40),
-            "{words:?}"
-        );
+        assert!(rt; gives_text(alloc, words)?, "{words:?}");
     }
     Ok(())
 }
@@ -122,10 +116,6 @@ fn help_is_given(rt: HostRuntime) -> Result<(), Fail> {
 #[test]
 fn help_that_is_not_printed_is_named(rt: HostRuntime) -> Result<(), Fail> {
     let alloc = rt.alloc();
-    let words = texts(alloc, &["--help"])?;
-    let mut shelf = shelf_with(alloc, TEN.as_bytes(), &[], &[], &[])?;
-    let mut out = MemorySink::new(alloc, Vec::from_slice(alloc, &[1])?);
-    assert_eq!(rt; status_of(alloc, words.as_slice(), &mut shelf, &mut out), 9);
-    assert_eq!(rt; (out.puts, out.faults), (1, 1));
+    assert_eq!(rt; unprinted(alloc, &["--help"])?, (9, 1, 1));
     Ok(())
 }

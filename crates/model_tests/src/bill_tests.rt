@@ -3,17 +3,22 @@ use lot_sizing::limits::{MAX_BILL_LINES, MAX_ITEMS, MAX_TOTAL};
 use std::alloc::{AllocError, Global};
 use std::test::Fail;
 
+// Lines of components and quantities.
+fn needs_of(alloc: Global, lines: &[(u32, u64)]) -> Result<Vec<Need>, AllocError> {
+    let mut list = Vec::new(alloc);
+    for (item, quantity) in lines {
+        list.push(Need {
+            item: *item,
+            quantity: *quantity,
+        })?;
+    }
+    Ok(list)
+}
+
 fn bill(alloc: Global, lines: &[&[(u32, u64)]]) -> Result<Vec<Vec<Need>>, AllocError> {
     let mut all = Vec::new(alloc);
     for needs in lines {
-        let mut list = Vec::new(alloc);
-        for (item, quantity) in *needs {
-            list.push(Need {
-                item: *item,
-                quantity: *quantity,
-            })?;
-        }
-        all.push(list)?;
+        all.push(needs_of(alloc, *needs)?)?;
     }
     Ok(all)
 }
@@ -110,66 +115,60 @@ fn bills_are_judged(rt: HostRuntime) -> Result<(), Fail> {
 fn chain(alloc: Global, last: &[(u32, u64)]) -> Result<Vec<Vec<Need>>, AllocError> {
     let mut all = Vec::new(alloc);
     for item in 1..MAX_ITEMS {
-        let mut list = Vec::new(alloc);
-        list.push(Need {
-            item: item + 1,
-            quantity: 1,
-        })?;
-        all.push(list)?;
+        all.push(needs_of(alloc, &[(item + 1, 1)])?)?;
     }
-    let mut list = Vec::new(alloc);
-    for (item, quantity) in last {
-        list.push(Need {
-            item: *item,
-            quantity: *quantity,
-        })?;
-    }
-    all.push(list)?;
+    all.push(needs_of(alloc, last)?)?;
     Ok(all)
 }
 
-// A number for each item, but another one for the last.
-fn numbers(alloc: Global, first: u64, others: u64, last: u64) -> Result<Vec<u64>, AllocError> {
+// A number for the first item and one for the last, and 0 for the others.
+fn numbers(alloc: Global, first: u64, last: u64) -> Result<Vec<u64>, AllocError> {
     let mut list = Vec::new(alloc);
     list.push(first)?;
     for _ in 2..MAX_ITEMS {
-        list.push(others)?;
+        list.push(0)?;
     }
     list.push(last)?;
     Ok(list)
 }
 
+// The verdict on a chain, where so much of its first item and of its last is asked for.
+fn chain_verdict(
+    alloc: Global,
+    lines: &[(u32, u64)],
+    first: u64,
+    last: u64,
+) -> Result<(Option<u32>, Option<u32>, u64), Fail> {
+    let there = numbers(alloc, 0, 0)?;
+    let asked = numbers(alloc, first, last)?;
+    let lists = chain(alloc, lines)?;
+    judged(alloc, &lists, &asked, &there)
+}
+
 #[test]
 fn the_longest_bill_is_judged(rt: HostRuntime) -> Result<(), Fail> {
     let alloc = rt.alloc();
-    let none = numbers(alloc, 0, 0, 0)?;
-    let most = numbers(alloc, MAX_TOTAL, 0, 0)?;
-    let one_more = numbers(alloc, MAX_TOTAL, 0, 1)?;
-    let free = chain(alloc, &[])?;
     assert_eq!(rt;
-        judged(alloc, &free, &most, &none)?,
+        chain_verdict(alloc, &[], MAX_TOTAL, 0)?,
         (None, None, MAX_TOTAL)
     );
     // past the bound at the last item
     assert_eq!(rt;
-        judged(alloc, &free, &one_more, &none)?,
+        chain_verdict(alloc, &[], MAX_TOTAL, 1)?,
         (None, Some(MAX_ITEMS), 0)
     );
     // on a cycle at the last item
-    let itself = chain(alloc, &[(MAX_ITEMS, 1)])?;
     assert_eq!(rt;
-        judged(alloc, &itself, &none, &none)?,
+        chain_verdict(alloc, &[(MAX_ITEMS, 1)], 0, 0)?,
         (Some(MAX_ITEMS), None, 0)
     );
     // all on one cycle
-    let around = chain(alloc, &[(1, 1)])?;
-    assert_eq!(rt; judged(alloc, &around, &none, &none)?, (Some(1), None, 0));
+    assert_eq!(rt; chain_verdict(alloc, &[(1, 1)], 0, 0)?, (Some(1), None, 0));
     Ok(())
 }
 
-#[test]
-fn the_most_lines_are_counted(rt: HostRuntime) -> Result<(), Fail> {
-    let alloc = rt.alloc();
+// As many lines as there may be, each of two units of the first item.
+fn most_lines(alloc: Global) -> Result<Vec<Need>, AllocError> {
     let mut needs = Vec::new(alloc);
     for _ in 0..MAX_BILL_LINES {
         needs.push(Need {
@@ -177,13 +176,16 @@ fn the_most_lines_are_counted(rt: HostRuntime) -> Result<(), Fail> {
             quantity: 2,
         })?;
     }
-    let mut lists = Vec::new(alloc);
-    lists.push(Vec::new(alloc))?;
-    lists.push(needs)?;
-    assert_eq!(rt;
-        judged(alloc, &lists, &[5, 3], &[0, 0])?,
-        (None, None, 5 + 3 * 800)
-    );
+    Ok(needs)
+}
+
+#[test]
+fn the_most_lines_are_counted(rt: HostRuntime) -> Result<(), Fail> {
+    let alloc = rt.alloc();
+    let needs = most_lines(alloc)?;
+    let lists = vec![in alloc; Vec::new(alloc), needs]?;
+    let found = judged(alloc, &lists, &[5, 3], &[0, 0])?;
+    assert_eq!(rt; found, (None, None, 5 + 3 * 800));
     Ok(())
 }
 

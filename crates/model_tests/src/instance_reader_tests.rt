@@ -11,6 +11,11 @@ fn refusal(alloc: Global, text: &str) -> Result<String, Fail> {
     }
 }
 
+// That of a text which is needed no longer.
+fn refusal_of(alloc: Global, text: String) -> Result<String, Fail> {
+    refusal(alloc, text.as_str())
+}
+
 // A model of a resource and an item that takes time on it, with these lines.
 fn shop(alloc: Global, root: &str, name: &str, more: &str, uses: &str) -> Result<String, Fail> {
     let mut text = String::new(alloc);
@@ -70,8 +75,7 @@ fn damaged_models_are_refused_by_name(rt: HostRuntime) -> Result<(), Fail> {
             "M14 root version",
         ),
     ] {
-        let text = shop(alloc, root, name, more, uses)?;
-        let found = refusal(alloc, text.as_str())?;
+        let found = refusal_of(alloc, shop(alloc, root, name, more, uses)?)?;
         assert!(rt; found.as_str() == want, "{found}");
     }
     Ok(())
@@ -165,8 +169,7 @@ fn lines_and_single_numbers_are_refused_with_their_places(rt: HostRuntime) -> Re
         ("opening = -1", "M5 item 1 opening"),
         ("end_max = 2000000001", "M5 item 1 end_max"),
     ] {
-        let text = two(alloc, more)?;
-        let found = refusal(alloc, text.as_str())?;
+        let found = refusal_of(alloc, two(alloc, more)?)?;
         assert!(rt; found.as_str() == want, "{found}");
     }
     Ok(())
@@ -201,8 +204,7 @@ fn lead_times_and_lots_are_keys_of_version_2(rt: HostRuntime) -> Result<(), Fail
         ),
         (2, "min_lots = 5", "M2 item 1"),
     ] {
-        let text = versioned(alloc, version, more)?;
-        let found = refusal(alloc, text.as_str())?;
+        let found = refusal_of(alloc, versioned(alloc, version, more)?)?;
         assert!(rt; found.as_str() == want, "{found}");
     }
     Ok(())
@@ -211,8 +213,10 @@ fn lead_times_and_lots_are_keys_of_version_2(rt: HostRuntime) -> Result<(), Fail
 #[test]
 fn lead_times_and_lots_are_read(rt: HostRuntime) -> Result<(), Fail> {
     let alloc = rt.alloc();
-    let text = versioned(alloc, 2, "lead = 1\nmin_lot = 2\nmax_lot = 3")?;
-    let read = instance(alloc, text.as_str())?;
+    let read = instance_of(
+        alloc,
+        versioned(alloc, 2, "lead = 1\nmin_lot = 2\nmax_lot = 3")?,
+    )?;
     assert_eq!(rt; read.items(), 2);
     assert_eq!(rt;
         (read.lead(1), read.min_lot(1), read.max_lot(1)),
@@ -225,15 +229,19 @@ fn lead_times_and_lots_are_read(rt: HostRuntime) -> Result<(), Fail> {
     Ok(())
 }
 
+// The refusal of a text where only the first version is asked for, and none where it is read.
+fn first_refusal(alloc: Global, text: String) -> Result<String, Fail> {
+    match read_first_version(alloc, text.as_bytes()) {
+        Ok(_) => Ok(String::from_str(alloc, "none")?),
+        Err(fault) => Ok(fault.to_string(alloc)?),
+    }
+}
+
 #[test]
 fn the_first_version_alone_can_be_asked_for(rt: HostRuntime) -> Result<(), Fail> {
     let alloc = rt.alloc();
     for (version, want) in [(1u32, "none"), (2, "M14 root version")] {
-        let text = versioned(alloc, version, "")?;
-        let found = match read_first_version(alloc, text.as_bytes()) {
-            Ok(_) => String::from_str(alloc, "none")?,
-            Err(fault) => fault.to_string(alloc)?,
-        };
+        let found = first_refusal(alloc, versioned(alloc, version, "")?)?;
         assert!(rt; found.as_str() == want, "{found}");
     }
     Ok(())
@@ -260,6 +268,12 @@ fn hold_costs(alloc: Global, last: &str) -> Result<String, Fail> {
     Ok(text)
 }
 
+// The largest of these models, whose last item has hold costs.
+fn with_hold_costs(alloc: Global, last: &str) -> Result<String, Fail> {
+    let more = hold_costs(alloc, last)?;
+    largest(alloc, more.as_str())
+}
+
 #[test]
 fn the_largest_models_are_read_to_their_last_place(rt: HostRuntime) -> Result<(), Fail> {
     let alloc = rt.alloc();
@@ -270,11 +284,32 @@ fn the_largest_models_are_read_to_their_last_place(rt: HostRuntime) -> Result<()
         ("1, 1", "M6 item 40 hold_cost"),
         ("1, =", "M1 root"),
     ] {
-        let more = hold_costs(alloc, last)?;
-        let text = largest(alloc, more.as_str())?;
-        let found = refusal(alloc, text.as_str())?;
+        let found = refusal_of(alloc, with_hold_costs(alloc, last)?)?;
         assert!(rt; found.as_str() == want, "{found}");
     }
+    Ok(())
+}
+
+// Adds an item with a hold cost for each of 120 periods.
+fn add_item(text: &mut String, item: u32) -> Result<(), Fail> {
+    write!(
+        text,
+        "[[item]]\nname = \"i{item}\"\ndemand = 1\nhold_cost = ["
+    )?;
+    for _period in 1..120u32 {
+        write!(text, "1, ")?;
+    }
+    write!(text, "1]\n")?;
+    Ok(())
+}
+
+// Adds a line for each of 39 items, the last of which has this quantity.
+fn add_needs(text: &mut String, end: &str) -> Result<(), Fail> {
+    write!(text, "needs = [")?;
+    for item in 1..39u32 {
+        write!(text, "{{ item = \"i{item}\", quantity = 1 }}, ")?;
+    }
+    write!(text, "{{ item = \"i39\", quantity = {end} }}]\n")?;
     Ok(())
 }
 
@@ -282,20 +317,9 @@ fn the_largest_models_are_read_to_their_last_place(rt: HostRuntime) -> Result<()
 fn longest(alloc: Global, end: &str) -> Result<String, Fail> {
     let mut text = String::from_str(alloc, "version = 2\nperiods = 120\n")?;
     for item in 1..41u32 {
-        write!(
-            &mut text,
-            "[[item]]\nname = \"i{item}\"\ndemand = 1\nhold_cost = ["
-        )?;
-        for _period in 1..120u32 {
-            write!(&mut text, "1, ")?;
-        }
-        write!(&mut text, "1]\n")?;
+        add_item(&mut text, item)?;
     }
-    write!(&mut text, "needs = [")?;
-    for item in 1..39u32 {
-        write!(&mut text, "{{ item = \"i{item}\", quantity = 1 }}, ")?;
-    }
-    write!(&mut text, "{{ item = \"i39\", quantity = {end} }}]\n")?;
+    add_needs(&mut text, end)?;
     Ok(text)
 }
 
@@ -308,8 +332,7 @@ fn long_models_are_refused_at_their_last_place(rt: HostRuntime) -> Result<(), Fa
         ("0", "M5 item 40 needs 39 quantity"),
         ("=", "M1 root"),
     ] {
-        let text = longest(alloc, end)?;
-        let found = refusal(alloc, text.as_str())?;
+        let found = refusal_of(alloc, longest(alloc, end)?)?;
         assert!(rt; found.as_str() == want, "{found}");
     }
     Ok(())
@@ -320,17 +343,37 @@ fn instance(alloc: Global, text: &str) -> Result<Instance, Fail> {
     Ok(read_instance(alloc, text.as_bytes())?)
 }
 
+// That of a text which is needed no longer.
+fn instance_of(alloc: Global, text: String) -> Result<Instance, Fail> {
+    instance(alloc, text.as_str())
+}
+
 #[test]
 fn defaults_stand_for_absent_keys(rt: HostRuntime) -> Result<(), Fail> {
     let alloc = rt.alloc();
-    let text = two(alloc, "setup_cost = [5, 6]\nopening = 2\nend_min = 3")?;
-    let read = instance(alloc, text.as_str())?;
+    let read = instance_of(
+        alloc,
+        two(alloc, "setup_cost = [5, 6]\nopening = 2\nend_min = 3")?,
+    )?;
     assert_eq!(rt; (read.items(), read.periods(), read.resources()), (2, 2, 0));
     assert_eq!(rt; (read.demand(1, 2), read.demand(2, 2)), (1, 4));
     assert_eq!(rt; (read.setup_cost(1, 2), read.setup_cost(2, 2)), (6, 0));
     assert_eq!(rt; (read.backlog_cost(1, 1), read.hold_cost(1, 1)), (None, 0));
     assert_eq!(rt; (read.end_max(1), read.end_max(2)), (5, 0));
     Ok(())
+}
+
+// How many items a text has, how many lines its first item has, and the last of these.
+fn lines_of_first(alloc: Global, text: String) -> Result<(u32, usize, Option<(u32, u64)>), Fail> {
+    let read = instance(alloc, text.as_str())?;
+    if read.items() < 1 {
+        return Err("no items".into());
+    }
+    let mut last = None;
+    for need in read.needs(1) {
+        last = Some((need.item, need.quantity));
+    }
+    Ok((read.items(), read.needs(1).len(), last))
 }
 
 #[test]
@@ -340,13 +383,8 @@ fn both_spellings_of_lines_are_read(rt: HostRuntime) -> Result<(), Fail> {
         "needs = [{ item = \"B\", quantity = 7 }]",
         "[[item.needs]]\nitem = \"B\"\nquantity = 7",
     ] {
-        let text = two(alloc, more)?;
-        let read = instance(alloc, text.as_str())?;
-        assert_eq!(rt; read.items(), 2);
-        assert_eq!(rt; read.needs(1).len(), 1);
-        for need in read.needs(1) {
-            assert_eq!(rt; (need.item, need.quantity), (2, 7));
-        }
+        let found = lines_of_first(alloc, two(alloc, more)?)?;
+        assert_eq!(rt; found, (2, 1, Some((2, 7))));
     }
     Ok(())
 }

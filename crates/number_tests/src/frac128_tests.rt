@@ -1,4 +1,4 @@
-use frac128::{Frac, plain};
+use frac128::{Frac, Ratio, plain};
 use std::cmp::Ordering;
 use std::test::Fail;
 
@@ -136,6 +136,11 @@ fn quotients(rt: HostRuntime) -> Result<(), Fail> {
     Ok(())
 }
 
+// How one number compares to another, the other to the one, and their opposites.
+fn orders(x: Frac, y: Frac) -> (Ordering, Ordering, Ordering) {
+    (x.compare(y), y.compare(x), (-x).compare(-y))
+}
+
 #[test]
 fn comparisons(rt: HostRuntime) -> Result<(), Fail> {
     for (a, b, c, d, want) in [
@@ -156,12 +161,9 @@ fn comparisons(rt: HostRuntime) -> Result<(), Fail> {
         (1 - MOST, MOST, 1 - MOST, MOST, Ordering::Equal),
     ] {
         let (x, y) = (frac(a, b)?, frac(c, d)?);
-        let (less_x, less_y) = (frac(-a, b)?, frac(-c, d)?);
-        assert_eq!(rt; x.compare(y), want);
-        assert_eq!(rt; y.compare(x), want.reverse());
-        assert_eq!(rt; less_x.compare(less_y), want.reverse());
-        assert_eq!(rt; x.cmp(&y), want);
-        assert_eq!(rt; x.partial_cmp(&y), Some(want));
+        let back = want.reverse();
+        assert_eq!(rt; orders(x, y), (want, back, back));
+        assert_eq!(rt; (x.cmp(&y), x.partial_cmp(&y)), (want, Some(want)));
         assert_eq!(rt; x == y, want == Ordering::Equal);
     }
     Ok(())
@@ -232,16 +234,23 @@ fn drawn_frac(state: &mut u64, top: u32, bottom: u32) -> Result<Frac, Fail> {
     frac(if num % 2 == 0 { num } else { -num }, den)
 }
 
+// Whether a sum, a difference, a product and a quotient are their plain forms.
+fn are_plain(x: Frac, y: Frac) -> (bool, bool, bool, bool) {
+    (
+        parts(x.add(y)) == parts(plain::add(x, y)),
+        parts(x.sub(y)) == parts(plain::sub(x, y)),
+        parts(x.mul(y)) == parts(plain::mul(x, y)),
+        parts(x.div(y)) == parts(plain::div(x, y)),
+    )
+}
+
 #[test]
 fn each_operation_is_its_plain_form(rt: HostRuntime) -> Result<(), Fail> {
     let mut state = 20_261_127u64;
     for round in 0..20_000u32 {
         let x = drawn_frac(&mut state, round % 61 + 1, round % 31 + 1)?;
         let y = drawn_frac(&mut state, round % 7 + 1, round % 59 + 1)?;
-        assert!(rt; parts(x.add(y)) == parts(plain::add(x, y)));
-        assert!(rt; parts(x.sub(y)) == parts(plain::sub(x, y)));
-        assert!(rt; parts(x.mul(y)) == parts(plain::mul(x, y)));
-        assert!(rt; parts(x.div(y)) == parts(plain::div(x, y)));
+        assert_eq!(rt; are_plain(x, y), (true, true, true, true));
         assert!(rt; x.ratio(y).is_some() == x.div(y).is_some());
     }
     Ok(())
@@ -259,15 +268,31 @@ fn whole_numbers_signs_and_opposites(rt: HostRuntime) -> Result<(), Fail> {
         let x = Frac::whole(number).ok_or("no fraction")?;
         assert_eq!(rt; parts(Some(x)), Some((number, 1)));
         assert_eq!(rt; parts(Some(-x)), Some((-number, 1)));
-        assert_eq!(rt; x.is_negative(), negative);
-        assert_eq!(rt; x.is_positive(), positive);
-        assert_eq!(rt; x.is_zero(), number == 0);
+        assert_eq!(rt;
+            (x.is_negative(), x.is_positive(), x.is_zero()),
+            (negative, positive, number == 0)
+        );
     }
+    Ok(())
+}
+
+#[test]
+fn whole_numbers_of_other_widths(rt: HostRuntime) -> Result<(), Fail> {
     assert!(rt; Frac::whole(i128::MIN).is_none());
     assert_eq!(rt; parts(Some(Frac::from(i64::MIN))), Some((-SIGN, 1)));
     assert_eq!(rt; parts(Some(Frac::from(u64::MAX))), Some((WORD - 1, 1)));
     assert_eq!(rt; parts(Some(-frac(3, 7)?)), Some((-3, 7)));
     Ok(())
+}
+
+// One whole number by another.
+fn quotient(num: i128, den: i128) -> Result<Ratio, Fail> {
+    Ok(frac(num, 1)?.ratio(frac(den, 1)?).ok_or("no quotient")?)
+}
+
+// How two of them compare, each to the other.
+fn quotient_orders(x: Ratio, y: Ratio) -> (Ordering, Ordering) {
+    (x.compare(&y), y.compare(&x))
 }
 
 #[test]
@@ -280,15 +305,23 @@ fn quotients_are_compared(rt: HostRuntime) -> Result<(), Fail> {
         (MOST, 3, MOST, 2, Ordering::Less),
         (MOST, MOST, 1, 1, Ordering::Equal),
     ] {
-        let x = frac(a, 1)?.ratio(frac(b, 1)?).ok_or("no quotient")?;
-        let y = frac(c, 1)?.ratio(frac(d, 1)?).ok_or("no quotient")?;
-        assert_eq!(rt; x.compare(&y), want);
-        assert_eq!(rt; y.compare(&x), want.reverse());
+        let found = quotient_orders(quotient(a, b)?, quotient(c, d)?);
+        assert_eq!(rt; found, (want, want.reverse()));
     }
+    Ok(())
+}
+
+// A number by itself, in wide parts.
+#[test]
+fn a_quotient_of_one_is_one(rt: HostRuntime) -> Result<(), Fail> {
     let wide = frac(MOST, THIRD)?;
     let same = wide.ratio(wide).ok_or("no quotient")?;
-    let one = frac(1, 1)?.ratio(frac(1, 1)?).ok_or("no quotient")?;
-    assert_eq!(rt; same.compare(&one), Ordering::Equal);
+    assert_eq!(rt; same.compare(&quotient(1, 1)?), Ordering::Equal);
+    Ok(())
+}
+
+#[test]
+fn quotients_that_there_are_not(rt: HostRuntime) -> Result<(), Fail> {
     assert!(rt; frac(1, 2)?.ratio(frac(0, 1)?).is_none());
     assert!(rt; frac(MOST, 1)?.ratio(frac(1, 2)?).is_none());
     Ok(())

@@ -19,6 +19,16 @@ fn fault(alloc: Global, instance: &Instance, text: &str) -> Result<String, Alloc
     }
 }
 
+// The same of these records after a header.
+fn fault_of_records(
+    alloc: Global,
+    instance: &Instance,
+    records: &str,
+) -> Result<String, AllocError> {
+    let text = format!(in alloc; "item,period,make,setup,stock,backlog\n{records}")?;
+    fault(alloc, instance, text.as_str())
+}
+
 #[test]
 fn faults_are_named_in_the_order_of_the_file(rt: HostRuntime) -> Result<(), Fail> {
     let alloc = rt.alloc();
@@ -34,8 +44,7 @@ fn faults_are_named_in_the_order_of_the_file(rt: HostRuntime) -> Result<(), Fail
         ("A,1,5,1,3,0\nB,2,5,1,0,x\n", "plan row 2"),
         ("A,1,5,1,3,18446744073709551616\nA,2\n", "plan number 1 6"),
     ] {
-        let text = format!(in alloc; "item,period,make,setup,stock,backlog\n{records}")?;
-        let found = fault(alloc, &instance, text.as_str())?;
+        let found = fault_of_records(alloc, &instance, records)?;
         assert_eq!(rt; found.as_str(), want);
     }
     Ok(())
@@ -52,24 +61,43 @@ fn a_header_is_asked_for(rt: HostRuntime) -> Result<(), Fail> {
     Ok(())
 }
 
-#[test]
-fn a_plan_that_is_written_is_read_again(rt: HostRuntime) -> Result<(), Fail> {
-    let alloc = rt.alloc();
-    let instance = instance(alloc)?;
+// What is written of a plan with this backlog throughout.
+fn written(alloc: Global, instance: &Instance, backlog: u64) -> Result<Vec<u8>, AllocError> {
     let (items, periods) = (instance.items(), instance.periods());
     let plan = Plan {
         make: Grid::filled(alloc, items, periods, u64::MAX)?,
         setup: Grid::filled(alloc, items, periods, 1)?,
         stock: Grid::filled(alloc, items, periods, 10)?,
-        backlog: Grid::filled(alloc, items, periods, 0)?,
+        backlog: Grid::filled(alloc, items, periods, backlog)?,
     };
-    let bytes = write_plan(alloc, &instance, &plan)?;
-    let read = read_plan(alloc, &instance, bytes.as_slice())?;
-    assert_eq!(rt; (items, periods), (1, 2));
-    assert_eq!(rt; (read.make.items(), read.make.periods()), (1, 2));
-    assert_eq!(rt; read.make.get(1, 2), u64::MAX);
-    assert_eq!(rt; (read.stock.items(), read.stock.periods()), (1, 2));
-    assert_eq!(rt; read.stock.get(1, 1), 10);
+    write_plan(alloc, instance, &plan)
+}
+
+// The plan that is read from what is written.
+fn read_again(alloc: Global, instance: &Instance, backlog: u64) -> Result<Plan, Fail> {
+    let bytes = written(alloc, instance, backlog)?;
+    Ok(read_plan(alloc, instance, bytes.as_slice())?)
+}
+
+// How many items and periods a grid has, and its number at a place that it has.
+fn at(grid: &Grid, item: u32, period: u32) -> (u32, u32, Option<u64>) {
+    let (items, periods) = (grid.items(), grid.periods());
+    if item < 1 || item > items || period < 1 || period > periods {
+        return (items, periods, None);
+    }
+    (items, periods, Some(grid.get(item, period)))
+}
+
+#[test]
+fn a_plan_that_is_written_is_read_again(rt: HostRuntime) -> Result<(), Fail> {
+    let alloc = rt.alloc();
+    let instance = instance(alloc)?;
+    assert_eq!(rt; (instance.items(), instance.periods()), (1, 2));
+    let read = read_again(alloc, &instance, 0)?;
+    assert_eq!(rt;
+        (at(&read.make, 1, 2), at(&read.stock, 1, 1)),
+        ((1, 2, Some(u64::MAX)), (1, 2, Some(10)))
+    );
     Ok(())
 }
 
@@ -79,36 +107,46 @@ fn long_item(alloc: Global, number: u32) -> Result<DraftItem, AllocError> {
     steady_item(alloc, name.as_str(), 120, [0, 0, 0, 0])
 }
 
-// Forty items over 120 periods.
-fn long_instance(alloc: Global) -> Result<Instance, Fail> {
+// Forty such items.
+fn long_items(alloc: Global) -> Result<Vec<DraftItem>, AllocError> {
     let mut items = Vec::new(alloc);
     for number in 1..41u32 {
         items.push(long_item(alloc, number)?)?;
     }
-    instance_of(alloc, 120, Vec::new(alloc), items)
+    Ok(items)
 }
 
-// At the limits: 4,800 records are written, read again, and refused at the last one.
+// Forty items over 120 periods.
+fn long_instance(alloc: Global) -> Result<Instance, Fail> {
+    instance_of(alloc, 120, Vec::new(alloc), long_items(alloc)?)
+}
+
+// At the limits: 4,800 records are written and read again.
 #[test]
 fn the_longest_plan_is_read_again(rt: HostRuntime) -> Result<(), Fail> {
     let alloc = rt.alloc();
     let instance = long_instance(alloc)?;
-    let (items, periods) = (instance.items(), instance.periods());
-    let plan = Plan {
-        make: Grid::filled(alloc, items, periods, u64::MAX)?,
-        setup: Grid::filled(alloc, items, periods, 1)?,
-        stock: Grid::filled(alloc, items, periods, 10)?,
-        backlog: Grid::filled(alloc, items, periods, 7)?,
-    };
-    let mut bytes = write_plan(alloc, &instance, &plan)?;
-    let read = read_plan(alloc, &instance, bytes.as_slice())?;
-    assert_eq!(rt; (items, periods), (40, 120));
-    assert_eq!(rt; (read.backlog.items(), read.backlog.periods()), (40, 120));
-    assert_eq!(rt; read.backlog.get(40, 120), 7);
+    assert_eq!(rt; (instance.items(), instance.periods()), (40, 120));
+    let read = read_again(alloc, &instance, 7)?;
+    assert_eq!(rt; at(&read.backlog, 40, 120), (40, 120, Some(7)));
+    Ok(())
+}
+
+// Why what is written isn't read without its last two bytes.
+fn fault_of_the_end(alloc: Global, instance: &Instance) -> Result<Option<PlanFault>, AllocError> {
+    let mut bytes = written(alloc, instance, 7)?;
     bytes.pop();
     bytes.pop();
+    Ok(read_plan(alloc, instance, bytes.as_slice()).err())
+}
+
+// They are refused at the last one.
+#[test]
+fn the_longest_plan_is_refused_at_its_end(rt: HostRuntime) -> Result<(), Fail> {
+    let alloc = rt.alloc();
+    let instance = long_instance(alloc)?;
     assert_eq!(rt;
-        read_plan(alloc, &instance, bytes.as_slice()).err(),
+        fault_of_the_end(alloc, &instance)?,
         Some(PlanFault::Number(4_800, 6))
     );
     Ok(())

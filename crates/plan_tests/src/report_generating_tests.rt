@@ -3,7 +3,7 @@ use first_plans::own_period_plan;
 use instance_reader::read_instance;
 use lot_model::{Instance, is_uncoupled};
 use report::{GenFault, generate};
-use std::alloc::Global;
+use std::alloc::{AllocError, Global};
 use std::test::Fail;
 use wagner_whitin::laws::solve_plain;
 use wagner_whitin::solve;
@@ -36,33 +36,54 @@ fn told(alloc: Global, instance: &Instance) -> Result<String, Fail> {
     Ok(text)
 }
 
+// The numbers and lines of each item of a model that is drawn, and how many resources it has.
+fn told_of_drawn(
+    alloc: Global,
+    items: u32,
+    periods: u32,
+    coupled: bool,
+) -> Result<(String, u32), Fail> {
+    let instance = drawn(alloc, items, periods, coupled)?;
+    let resources = instance.resources();
+    Ok((told(alloc, &instance)?, resources))
+}
+
 // The words of the generator of seed 7 and stream 54 were worked out by another program.
 #[test]
 fn numbers_are_drawn_item_by_item(rt: HostRuntime) -> Result<(), Fail> {
-    let alloc = rt.alloc();
-    let free = drawn(alloc, 2, 3, false)?;
-    assert_eq!(rt;
-        told(alloc, &free)?.as_str(),
-        "i1 [3, 28, 33] [230, 180, 299] [3, 3, 3] Some([5, 5, 5])\n[] []\n\
-         i2 [35, 79, 68] [106, 234, 154] [3, 3, 3] None\n[] []\n"
-    );
-    assert_eq!(rt; free.resources(), 0);
-    let coupled = drawn(alloc, 3, 4, true)?;
-    let usage = "[Usage { resource: 1, unit: 1, setup: 5 }]";
-    assert_eq!(rt;
-        told(alloc, &coupled)?.as_str(),
-        format!(in alloc;
-            "i1 [3, 28, 33, 30] [180, 299, 106, 113] [2, 2, 2, 2] None\n\
-             [Need {{ item: 2, quantity: 1 }}] {usage}\n\
-             i2 [9, 8, 6, 4] [154, 130, 165, 237] [1, 1, 1, 1] None\n\
-             [Need {{ item: 3, quantity: 1 }}] {usage}\n\
-             i3 [6, 9, 9, 0] [286, 246, 273, 185] [1, 1, 1, 1] None\n\
-             [] {usage}\n"
-        )?
-        .as_str()
-    );
-    assert_eq!(rt; coupled.resources(), 1);
+    let (text, resources) = told_of_drawn(rt.alloc(), 2, 3, false)?;
+    let want = "i1 [3, 28, 33] [230, 180, 299] [3, 3, 3] Some([5, 5, 5])\n[] []\n\
+         i2 [35, 79, 68] [106, 234, 154] [3, 3, 3] None\n[] []\n";
+    assert_eq!(rt; (text.as_str(), resources), (want, 0));
     Ok(())
+}
+
+// What is told of a drawn model whose items use one resource.
+fn coupled_text(alloc: Global) -> Result<String, AllocError> {
+    let usage = "[Usage { resource: 1, unit: 1, setup: 5 }]";
+    format!(in alloc;
+        "i1 [3, 28, 33, 30] [180, 299, 106, 113] [2, 2, 2, 2] None\n\
+         [Need {{ item: 2, quantity: 1 }}] {usage}\n\
+         i2 [9, 8, 6, 4] [154, 130, 165, 237] [1, 1, 1, 1] None\n\
+         [Need {{ item: 3, quantity: 1 }}] {usage}\n\
+         i3 [6, 9, 9, 0] [286, 246, 273, 185] [1, 1, 1, 1] None\n\
+         [] {usage}\n"
+    )
+}
+
+#[test]
+fn lines_are_drawn_item_by_item(rt: HostRuntime) -> Result<(), Fail> {
+    let alloc = rt.alloc();
+    let want = coupled_text(alloc)?;
+    let (text, resources) = told_of_drawn(alloc, 3, 4, true)?;
+    assert_eq!(rt; (text.as_str(), resources), (want.as_str(), 1));
+    Ok(())
+}
+
+// Whether an instance has a plan that makes each item where it is asked for.
+fn has_own_period_plan(alloc: Global, instance: &Instance) -> Result<bool, Fail> {
+    let plan = own_period_plan(alloc, instance).ok().ok_or("memory")?;
+    Ok(plan.is_some())
 }
 
 #[test]
@@ -70,8 +91,7 @@ fn the_largest_model_has_its_own_period_plan(rt: HostRuntime) -> Result<(), Fail
     let alloc = rt.alloc();
     let instance = drawn(alloc, 40, 60, true)?;
     assert_eq!(rt; (instance.items(), instance.periods()), (40, 60));
-    let plan = own_period_plan(alloc, &instance).ok().ok_or("memory")?;
-    assert!(rt; plan.is_some());
+    assert!(rt; has_own_period_plan(alloc, &instance)?);
     Ok(())
 }
 

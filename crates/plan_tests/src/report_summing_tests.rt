@@ -1,5 +1,5 @@
-use fixtures::{instance_of, need, plain_item, usage};
-use lot_model::{DraftItem, DraftResource, Instance};
+use fixtures::{instance_of, need, plain_item, resource, usage};
+use lot_model::{DraftItem, DraftResource, DraftUse, Instance};
 use plan_rules::{Grid, Plan, judge};
 use report::{parts_add_up, summary};
 use std::alloc::{AllocError, Global};
@@ -35,29 +35,42 @@ fn text(alloc: Global, instance: &Instance, plan: &Plan) -> Result<String, Alloc
     }
 }
 
-// One item on one resource over two periods.
-fn small(alloc: Global) -> Result<Instance, Fail> {
+// An item on a machine.
+fn item(alloc: Global) -> Result<DraftItem, AllocError> {
+    let uses = vec![in alloc; usage(alloc, "m", 1, 1)?]?;
     let mut item = plain_item(alloc, "A", &[2, 8], &[0, 0], &[10, 10], &[1, 1])?;
-    item.uses = vec![in alloc; usage(alloc, "m", 1, 1)?]?;
-    let machine = DraftResource {
-        name: String::from_str(alloc, "m")?,
-        capacity: vec![in alloc; 6i64, 6i64]?,
-    };
-    instance_of(alloc, 2, vec![in alloc; machine]?, vec![in alloc; item]?)
+    item.uses = uses;
+    Ok(item)
 }
 
-#[test]
-fn the_summary_of_one_item(rt: HostRuntime) -> Result<(), Fail> {
-    let alloc = rt.alloc();
-    let instance = small(alloc)?;
-    parts_add_up();
-    let plan = Plan {
+// One item on one resource over two periods.
+fn small(alloc: Global) -> Result<Instance, Fail> {
+    let items = vec![in alloc; item(alloc)?]?;
+    let machine = resource(alloc, "m", &[6, 6])?;
+    instance_of(alloc, 2, vec![in alloc; machine]?, items)
+}
+
+// A plan of it.
+fn small_plan(alloc: Global) -> Result<Plan, AllocError> {
+    Ok(Plan {
         make: grid(alloc, 1, 2, &[5, 5])?,
         setup: grid(alloc, 1, 2, &[1, 1])?,
         stock: grid(alloc, 1, 2, &[3, 0])?,
         backlog: grid(alloc, 1, 2, &[0, 0])?,
-    };
-    let found = text(alloc, &instance, &plan)?;
+    })
+}
+
+// The summary of this plan.
+fn small_summary(alloc: Global) -> Result<String, Fail> {
+    let instance = small(alloc)?;
+    let plan = small_plan(alloc)?;
+    Ok(text(alloc, &instance, &plan)?)
+}
+
+#[test]
+fn the_summary_of_one_item(rt: HostRuntime) -> Result<(), Fail> {
+    parts_add_up();
+    let found = small_summary(rt.alloc())?;
     assert_eq!(rt;
         found.as_str(),
         "{\"cost\":\"23\",\"items\":[{\"backlog\":\"0\",\"hold\":\"3\",\"made\":\"10\",\"name\":\"A\",\"setup\":\"20\",\"setups\":\"2\",\"unit\":\"0\"}],\"periods\":2,\"resources\":[{\"name\":\"m\",\"used\":[\"6\",\"6\"]}]}\n"
@@ -65,48 +78,70 @@ fn the_summary_of_one_item(rt: HostRuntime) -> Result<(), Fail> {
     Ok(())
 }
 
-// A resource over three periods.
-fn resource(alloc: Global, name: &str, capacity: [i64; 3]) -> Result<DraftResource, AllocError> {
-    Ok(DraftResource {
-        name: String::from_str(alloc, name)?,
-        capacity: Vec::from_array(alloc, capacity)?,
-    })
+// What a table takes of the saw and of the paint shop.
+fn uses_of_table(alloc: Global) -> Result<Vec<DraftUse>, AllocError> {
+    let saw = usage(alloc, "saw", 1, 2)?;
+    let paint = usage(alloc, "paint", 3, 0)?;
+    Ok(vec![in alloc; saw, paint]?)
 }
 
 // Tables, which may be late.
 fn table(alloc: Global) -> Result<DraftItem, AllocError> {
-    let legs = need(alloc, "leg", 4)?;
-    let mut made = plain_item(
-        alloc,
-        "table",
-        &[3, 4, 5],
-        &[2, 2, 3],
-        &[20, 20, 20],
-        &[4, 4, 4],
-    )?;
-    made.backlog_cost = Some(Vec::from_array(alloc, [7i64, 8, 9])?);
-    made.needs = Vec::from_array(alloc, [legs])?;
-    made.uses = Vec::from_array(
-        alloc,
-        [usage(alloc, "saw", 1, 2)?, usage(alloc, "paint", 3, 0)?],
-    )?;
+    let needs = vec![in alloc; need(alloc, "leg", 4)?]?;
+    let uses = uses_of_table(alloc)?;
+    let costs = Vec::from_array(alloc, [7i64, 8, 9])?;
+    let (demand, setup_cost) = ([3i64, 4, 5], [20i64, 20, 20]);
+    let mut made = plain_item(alloc, "table", &demand, &[2, 2, 3], &setup_cost, &[4, 4, 4])?;
+    made.backlog_cost = Some(costs);
+    made.needs = needs;
+    made.uses = uses;
     Ok(made)
 }
 
 // Their legs, of which there are ten at first.
 fn leg(alloc: Global) -> Result<DraftItem, AllocError> {
+    let uses = vec![in alloc; usage(alloc, "saw", 1, 3)?]?;
     let mut made = plain_item(alloc, "leg", &[0, 0, 2], &[1, 1, 1], &[5, 5, 6], &[1, 1, 1])?;
     made.opening = 10;
-    made.uses = Vec::from_array(alloc, [usage(alloc, "saw", 1, 3)?])?;
+    made.uses = uses;
     Ok(made)
 }
 
-// Both, on two resources.
+// Both of them.
+fn table_and_leg(alloc: Global) -> Result<Vec<DraftItem>, AllocError> {
+    let table = table(alloc)?;
+    let leg = leg(alloc)?;
+    Ok(vec![in alloc; table, leg]?)
+}
+
+// The saw and the paint shop.
+fn saw_and_paint(alloc: Global) -> Result<Vec<DraftResource>, AllocError> {
+    let saw = resource(alloc, "saw", &[40, 40, 40])?;
+    let paint = resource(alloc, "paint", &[15, 15, 30])?;
+    Ok(vec![in alloc; saw, paint]?)
+}
+
+// Both items, on two resources.
 fn tables(alloc: Global) -> Result<Instance, Fail> {
-    let items = vec![in alloc; table(alloc)?, leg(alloc)?]?;
-    let saw = resource(alloc, "saw", [40, 40, 40])?;
-    let paint = resource(alloc, "paint", [15, 15, 30])?;
-    instance_of(alloc, 3, vec![in alloc; saw, paint]?, items)
+    let resources = saw_and_paint(alloc)?;
+    instance_of(alloc, 3, resources, table_and_leg(alloc)?)
+}
+
+// A plan of them.
+fn plan_of_tables(alloc: Global) -> Result<Plan, AllocError> {
+    Ok(Plan {
+        make: grid(alloc, 2, 3, &[2, 3, 7, 0, 30, 12])?,
+        setup: grid(alloc, 2, 3, &[1, 1, 1, 0, 1, 1])?,
+        stock: grid(alloc, 2, 3, &[0, 0, 0, 2, 20, 2])?,
+        backlog: grid(alloc, 2, 3, &[1, 2, 0, 0, 0, 0])?,
+    })
+}
+
+// The summary of this plan.
+fn summary_of_tables(alloc: Global) -> Result<String, Fail> {
+    let instance = tables(alloc)?;
+    let plan = plan_of_tables(alloc)?;
+    Ok(text(alloc, &instance, &plan)?)
 }
 
 // A table is owed after the first period and two after the second. The tables of the first period take eight
@@ -114,15 +149,7 @@ fn tables(alloc: Global) -> Result<Instance, Fail> {
 // setups and 31 for twelve units, the legs 24 in stock, 11 for two setups and 42 for as many units.
 #[test]
 fn the_summary_of_two_levels(rt: HostRuntime) -> Result<(), Fail> {
-    let alloc = rt.alloc();
-    let instance = tables(alloc)?;
-    let plan = Plan {
-        make: grid(alloc, 2, 3, &[2, 3, 7, 0, 30, 12])?,
-        setup: grid(alloc, 2, 3, &[1, 1, 1, 0, 1, 1])?,
-        stock: grid(alloc, 2, 3, &[0, 0, 0, 2, 20, 2])?,
-        backlog: grid(alloc, 2, 3, &[1, 2, 0, 0, 0, 0])?,
-    };
-    let found = text(alloc, &instance, &plan)?;
+    let found = summary_of_tables(rt.alloc())?;
     assert_eq!(rt;
         found.as_str(),
         "{\"cost\":\"191\",\"items\":[{\"backlog\":\"23\",\"hold\":\"0\",\"made\":\"12\",\"name\":\"table\",\"setup\":\"60\",\"setups\":\"3\",\"unit\":\"31\"},{\"backlog\":\"0\",\"hold\":\"24\",\"made\":\"42\",\"name\":\"leg\",\"setup\":\"11\",\"setups\":\"2\",\"unit\":\"42\"}],\"periods\":3,\"resources\":[{\"name\":\"saw\",\"used\":[\"4\",\"38\",\"24\"]},{\"name\":\"paint\",\"used\":[\"6\",\"9\",\"21\"]}]}\n"

@@ -1,8 +1,8 @@
+use crate::shops::{late, plan, prompt, shop};
 use cert_checker::{CheckFault, Rejected, Why, check, lines_are_bytes};
 use certificate::read_certificate;
-use fixtures::{instance_of, plain_item, resource, usage};
-use lot_model::{DraftItem, Instance};
-use plan_rules::{Broken, Grid, Plan};
+use lot_model::Instance;
+use plan_rules::{Broken, Plan};
 use std::alloc::{AllocError, Global};
 use std::test::Fail;
 
@@ -45,46 +45,6 @@ const EMPTY_SIDE: &str = "lotcert 1\nclaim bound 0\ncuts 0\nbranch y 1 1 0\nline
 
 const NO_ITEM: &str = "lotcert 1\nclaim bound 0\ncuts 2\nls 1 1 1\nls 2 1 1\nlinear 1 0\nend\n";
 
-// An item over two periods, in stock at a cost of 1.
-fn item(alloc: Global, demand: [i64; 2], setup_cost: [i64; 2]) -> Result<DraftItem, AllocError> {
-    plain_item(alloc, "A", &demand, &[0, 0], &setup_cost, &[1, 1])
-}
-
-// It takes a unit of time for each unit and each setup, on a resource with 6 in each period.
-fn shop(alloc: Global) -> Result<Instance, Fail> {
-    let mut only = item(alloc, [2, 8], [10, 10])?;
-    only.uses.push(usage(alloc, "m", 1, 1)?)?;
-    let resource = resource(alloc, "m", &[6, 6])?;
-    instance_of(alloc, 2, vec![in alloc; resource]?, vec![in alloc; only]?)
-}
-
-// It takes no time, and may be owed at a cost of 2, or may not be.
-fn alone(alloc: Global, is_owed: bool) -> Result<Instance, Fail> {
-    let mut only = item(alloc, [4, 6], [100, 20])?;
-    if is_owed {
-        only.backlog_cost = Some(vec![in alloc; 2i64, 2i64]?);
-    }
-    instance_of(alloc, 2, Vec::new(alloc), vec![in alloc; only]?)
-}
-
-// A number for each of the two periods.
-fn grid(alloc: Global, first: u64, second: u64) -> Result<Grid, AllocError> {
-    let mut grid = Grid::filled(alloc, 1, 2, first)?;
-    grid.set(1, 2, second);
-    Ok(grid)
-}
-
-// What is made in each period, with a setup where something is, and what is left or owed after the first.
-fn plan(alloc: Global, make: [u64; 2], stock: u64, backlog: u64) -> Result<Plan, AllocError> {
-    let [first, second] = make;
-    Ok(Plan {
-        make: grid(alloc, first, second)?,
-        setup: grid(alloc, first.min(1), second.min(1))?,
-        stock: grid(alloc, stock, 0)?,
-        backlog: grid(alloc, backlog, 0)?,
-    })
-}
-
 // What is found of a certificate; None where there is none.
 fn found(
     alloc: Global,
@@ -111,73 +71,101 @@ fn refusal(line: u64, why: Why) -> Result<(), Option<CheckFault>> {
     Err(Some(CheckFault::Rejected(Rejected { line, why })))
 }
 
-#[test]
-fn proofs_are_accepted(rt: HostRuntime) -> Result<(), Fail> {
-    let alloc = rt.alloc();
+// What is found of a certificate of the shop, with the plan that makes 5 and 5 or with none.
+fn found_of_shop(
+    alloc: Global,
+    text: &str,
+    has_plan: bool,
+) -> Result<Result<(), Option<CheckFault>>, Fail> {
     let instance = shop(alloc)?;
-    let plan = plan(alloc, [5, 5], 3, 0)?;
-    for text in [BRANCHES, ROUNDED, BOUND] {
-        assert_eq!(rt; found(alloc, &instance, text, Some(&plan)), Ok(()));
+    if !has_plan {
+        return Ok(found(alloc, &instance, text, None));
     }
-    assert_eq!(rt; found(alloc, &instance, BOUND, None), Ok(()));
-    Ok(())
+    let plan = plan(alloc, [5, 5], 3, 0)?;
+    Ok(found(alloc, &instance, text, Some(&plan)))
 }
 
 #[test]
-fn prices_and_potentials_prove_optimal_costs(rt: HostRuntime) -> Result<(), Fail> {
+fn proofs_are_accepted(rt: HostRuntime) -> Result<(), Fail> {
     let alloc = rt.alloc();
-    let owed = alone(alloc, true)?;
-    let late = plan(alloc, [0, 10], 0, 4)?;
-    assert_eq!(rt; found(alloc, &owed, POTENTIALS, Some(&late)), Ok(()));
+    for text in [BRANCHES, ROUNDED, BOUND] {
+        assert_eq!(rt; found_of_shop(alloc, text, true)?, Ok(()));
+    }
+    assert_eq!(rt; found_of_shop(alloc, BOUND, false)?, Ok(()));
+    Ok(())
+}
+
+// A plan that makes all in the second period, or in the first.
+fn plan_alone(alloc: Global, is_late: bool) -> Result<Plan, AllocError> {
+    if is_late {
+        plan(alloc, [0, 10], 0, 4)
+    } else {
+        plan(alloc, [10, 0], 6, 0)
+    }
+}
+
+// What is found of a certificate of the item that may be late, with the plan that is late.
+fn found_of_late(alloc: Global, text: &str) -> Result<Result<(), Option<CheckFault>>, Fail> {
+    let instance = late(alloc)?;
+    let plan = plan_alone(alloc, true)?;
+    Ok(found(alloc, &instance, text, Some(&plan)))
+}
+
+// What is found of the price row of the item that may not be late.
+fn found_of_prompt(alloc: Global, is_late: bool) -> Result<Result<(), Option<CheckFault>>, Fail> {
+    let instance = prompt(alloc)?;
+    let plan = plan_alone(alloc, is_late)?;
+    Ok(found(alloc, &instance, PRICES, Some(&plan)))
+}
+
+#[test]
+fn potentials_prove_optimal_costs(rt: HostRuntime) -> Result<(), Fail> {
+    let alloc = rt.alloc();
+    assert_eq!(rt; found_of_late(alloc, POTENTIALS)?, Ok(()));
     let rise = Why::Block {
         first: 1,
         last: 2,
         server: 2,
     };
-    assert_eq!(rt; found(alloc, &owed, RISING, Some(&late)), refusal(4, rise));
-    let prompt = alone(alloc, false)?;
-    let early = plan(alloc, [10, 0], 6, 0)?;
-    assert_eq!(rt; found(alloc, &prompt, PRICES, Some(&early)), Ok(()));
+    assert_eq!(rt; found_of_late(alloc, RISING)?, refusal(4, rise));
+    Ok(())
+}
+
+#[test]
+fn prices_prove_optimal_costs(rt: HostRuntime) -> Result<(), Fail> {
+    let alloc = rt.alloc();
+    assert_eq!(rt; found_of_prompt(alloc, false)?, Ok(()));
     let broken = Why::Plan(Broken::BacklogNotAllowed { item: 1, period: 1 });
-    assert_eq!(rt;
-        found(alloc, &prompt, PRICES, Some(&late)),
-        refusal(2, broken)
-    );
+    assert_eq!(rt; found_of_prompt(alloc, true)?, refusal(2, broken));
     Ok(())
 }
 
 #[test]
 fn an_optimal_cost_comes_with_its_plan(rt: HostRuntime) -> Result<(), Fail> {
     let alloc = rt.alloc();
-    let instance = shop(alloc)?;
-    let plan = plan(alloc, [5, 5], 3, 0)?;
     assert_eq!(rt;
-        found(alloc, &instance, BRANCHES, None),
+        found_of_shop(alloc, BRANCHES, false)?,
         refusal(2, Why::PlanMissing)
     );
     let costs = Why::Costs {
         plan: 23,
         claim: 22,
     };
-    assert_eq!(rt;
-        found(alloc, &instance, CHEAPER, Some(&plan)),
-        refusal(2, costs)
-    );
+    assert_eq!(rt; found_of_shop(alloc, CHEAPER, true)?, refusal(2, costs));
     Ok(())
 }
 
 #[test]
 fn the_first_fault_is_named_with_its_line(rt: HostRuntime) -> Result<(), Fail> {
     let alloc = rt.alloc();
-    let instance = shop(alloc)?;
     let short = Why::Short { says: 20 };
-    assert_eq!(rt; found(alloc, &instance, TOO_HIGH, None), refusal(6, short));
+    assert_eq!(rt; found_of_shop(alloc, TOO_HIGH, false)?, refusal(6, short));
     assert_eq!(rt;
-        found(alloc, &instance, EMPTY_SIDE, None),
+        found_of_shop(alloc, EMPTY_SIDE, false)?,
         refusal(6, Why::Range)
     );
     assert_eq!(rt;
-        found(alloc, &instance, NO_ITEM, None),
+        found_of_shop(alloc, NO_ITEM, false)?,
         refusal(5, Why::Range)
     );
     Ok(())

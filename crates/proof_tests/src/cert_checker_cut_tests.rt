@@ -1,42 +1,10 @@
+use crate::shops::{alone, item, late, prompt, shop};
 use cert_checker::{CheckFault, Rejected, Why, cut_row};
 use certificate::{Cut, Part};
-use fixtures::{instance_of, plain_item, resource, usage};
 use lin_rows::{Column, Potentials, Prices, Row, RowName, Term};
-use lot_model::{DraftItem, Instance};
-use std::alloc::{AllocError, Global};
+use lot_model::Instance;
+use std::alloc::Global;
 use std::test::Fail;
-
-// An item of which so much is asked in two periods. A unit in stock costs 1.
-fn item(alloc: Global, demand: [i64; 2], setup_cost: [i64; 2]) -> Result<DraftItem, AllocError> {
-    plain_item(
-        alloc,
-        "A",
-        &[demand[0], demand[1]],
-        &[0, 0],
-        &[setup_cost[0], setup_cost[1]],
-        &[1, 1],
-    )
-}
-
-// The item alone.
-fn alone(alloc: Global, item: DraftItem) -> Result<Instance, Fail> {
-    instance_of(alloc, 2, Vec::new(alloc), vec![in alloc; item]?)
-}
-
-// An item that takes a unit of time for each unit and each setup, on a resource with 6 in each period.
-fn shop(alloc: Global) -> Result<Instance, Fail> {
-    let mut only = item(alloc, [2, 8], [10, 10])?;
-    only.uses.push(usage(alloc, "m", 1, 1)?)?;
-    let resource = resource(alloc, "m", &[6, 6])?;
-    instance_of(alloc, 2, vec![in alloc; resource]?, vec![in alloc; only]?)
-}
-
-// An item that may be late, at a cost of 2 for a unit.
-fn late(alloc: Global) -> Result<Instance, Fail> {
-    let mut only = item(alloc, [4, 6], [100, 20])?;
-    only.backlog_cost = Some(vec![in alloc; 2i64; 2]?);
-    alone(alloc, only)
-}
 
 fn x(period: u32, times: i128) -> Term {
     let column = Column::X { item: 1, period };
@@ -127,26 +95,32 @@ fn is_refused(found: Result<Row, CheckFault>, line: u64, why: Why) -> bool {
     }
 }
 
+// Whether a row has these terms, its right side, and whether it is an equation.
+fn sides(found: Result<Row, CheckFault>, terms: &[Term]) -> Result<(bool, i128, bool), CheckFault> {
+    let row = found?;
+    Ok((row.terms() == terms, row.right(), row.is_equal()))
+}
+
 #[test]
 fn rows_of_ls_cuts(rt: HostRuntime) -> Result<(), Fail> {
     let alloc = rt.alloc();
     let instance = shop(alloc)?;
-    let row = ls(alloc, &instance, 1, &[true])?;
-    assert!(rt; row.terms() == &[y(1, 2)][..]);
-    assert_eq!(rt; (row.right(), row.is_equal()), (2, false));
-    let row = ls(alloc, &instance, 2, &[false, true])?;
-    assert!(rt; row.terms() == &[x(1, 1), y(2, 8)][..]);
-    assert_eq!(rt; row.right(), 10);
+    let first = sides(ls(alloc, &instance, 1, &[true]), &[y(1, 2)])?;
+    assert_eq!(rt; first, (true, 2, false));
+    let second = sides(ls(alloc, &instance, 2, &[false, true]), &[x(1, 1), y(2, 8)])?;
+    assert_eq!(rt; second, (true, 10, false));
     Ok(())
 }
 
 #[test]
 fn rows_of_price_cuts(rt: HostRuntime) -> Result<(), Fail> {
     let alloc = rt.alloc();
-    let instance = alone(alloc, item(alloc, [4, 6], [100, 20])?)?;
-    let row = price(alloc, &instance, &[25, 1], &[1, 0])?;
-    assert!(rt; row.terms() == &[y(1, 100), y(2, 6), s(1, 1)][..]);
-    assert_eq!(rt; (row.right(), row.is_equal()), (106, false));
+    let instance = prompt(alloc)?;
+    let found = sides(
+        price(alloc, &instance, &[25, 1], &[1, 0]),
+        &[y(1, 100), y(2, 6), s(1, 1)],
+    )?;
+    assert_eq!(rt; found, (true, 106, false));
     Ok(())
 }
 
@@ -154,9 +128,11 @@ fn rows_of_price_cuts(rt: HostRuntime) -> Result<(), Fail> {
 fn rows_of_block_cuts(rt: HostRuntime) -> Result<(), Fail> {
     let alloc = rt.alloc();
     let instance = late(alloc)?;
-    let row = block(alloc, &instance, &[28, 28])?;
-    assert!(rt; row.terms() == &[y(1, 100), y(2, 20), s(1, 1), s(2, 1), r(1, 2)][..]);
-    assert_eq!(rt; (row.right(), row.is_equal()), (28, false));
+    let found = sides(
+        block(alloc, &instance, &[28, 28]),
+        &[y(1, 100), y(2, 20), s(1, 1), s(2, 1), r(1, 2)],
+    )?;
+    assert_eq!(rt; found, (true, 28, false));
     let why = Why::Block {
         first: 1,
         last: 2,
@@ -167,25 +143,34 @@ fn rows_of_block_cuts(rt: HostRuntime) -> Result<(), Fail> {
     Ok(())
 }
 
+// The rows of the shop whose sum is rounded.
+fn rounded() -> [RowName; 4] {
+    [
+        RowName::Balance(1, 1),
+        RowName::Balance(1, 2),
+        RowName::Link(1, 2),
+        RowName::Capacity(1, 1),
+    ]
+}
+
 #[test]
 fn rows_of_rounding_cuts(rt: HostRuntime) -> Result<(), Fail> {
     let alloc = rt.alloc();
     let instance = shop(alloc)?;
-    let balance = RowName::Balance(1, 2);
-    let link = RowName::Link(1, 2);
-    let rows = [
-        RowName::Balance(1, 1),
-        balance,
-        link,
-        RowName::Capacity(1, 1),
-    ];
-    let row = round(alloc, &instance, rows, 1)?;
-    assert!(rt; row.terms() == &[y(2, 1)][..]);
-    assert_eq!(rt; (row.right(), row.is_equal()), (1, false));
-    assert!(rt; is_refused(round(alloc, &instance, rows, -1), 6, Why::Sign));
-    let large = 1i128 << 126;
-    assert!(rt; is_refused(round(alloc, &instance, rows, large), 3, Why::TooLarge));
+    let found = sides(round(alloc, &instance, rounded(), 1), &[y(2, 1)])?;
+    assert_eq!(rt; found, (true, 1, false));
+    Ok(())
+}
+
+#[test]
+fn rounding_cuts_out_of_form(rt: HostRuntime) -> Result<(), Fail> {
+    let alloc = rt.alloc();
+    let instance = shop(alloc)?;
+    assert!(rt; is_refused(round(alloc, &instance, rounded(), -1), 6, Why::Sign));
+    let large = round(alloc, &instance, rounded(), 1i128 << 126);
+    assert!(rt; is_refused(large, 3, Why::TooLarge));
     for name in [RowName::Path(1), RowName::Cut(1), RowName::Capacity(1, 3)] {
+        let [_, balance, link, _] = rounded();
         let none = [balance, name, link, link];
         assert!(rt; is_refused(round(alloc, &instance, none, 1), 5, Why::Range));
     }
@@ -193,13 +178,20 @@ fn rows_of_rounding_cuts(rt: HostRuntime) -> Result<(), Fail> {
 }
 
 #[test]
-fn cuts_out_of_form(rt: HostRuntime) -> Result<(), Fail> {
+fn ls_cuts_out_of_form(rt: HostRuntime) -> Result<(), Fail> {
     let alloc = rt.alloc();
     let instance = shop(alloc)?;
     assert!(rt; is_refused(ls(alloc, &instance, 0, &[]), 3, Why::Range));
     assert!(rt; is_refused(ls(alloc, &instance, 1, &[true, true]), 3, Why::Range));
     let past = ls(alloc, &instance, 3, &[true, true, true]);
     assert!(rt; is_refused(past, 3, Why::Range));
+    Ok(())
+}
+
+#[test]
+fn price_cuts_out_of_form(rt: HostRuntime) -> Result<(), Fail> {
+    let alloc = rt.alloc();
+    let instance = shop(alloc)?;
     let large = price(alloc, &instance, &[100_000_000_001, 1], &[1, 0]);
     assert!(rt; is_refused(large, 3, Why::Range));
     let short = price(alloc, &instance, &[1], &[1, 0]);
@@ -207,13 +199,18 @@ fn cuts_out_of_form(rt: HostRuntime) -> Result<(), Fail> {
     Ok(())
 }
 
+// An item that is asked for in the second period alone, and comes a period after it is made.
+fn delayed(alloc: Global) -> Result<Instance, Fail> {
+    let mut only = item(alloc, [0, 6], [100, 20])?;
+    only.lead = 1;
+    alone(alloc, only)
+}
+
 // The form comes before the lead time, and that before the potentials.
 #[test]
 fn cuts_of_an_item_with_a_lead_time(rt: HostRuntime) -> Result<(), Fail> {
     let alloc = rt.alloc();
-    let mut only = item(alloc, [0, 6], [100, 20])?;
-    only.lead = 1;
-    let instance = alone(alloc, only)?;
+    let instance = delayed(alloc)?;
     assert!(rt; is_refused(ls(alloc, &instance, 1, &[true]), 3, Why::Lead));
     assert!(rt; is_refused(ls(alloc, &instance, 3, &[true]), 3, Why::Range));
     let row = price(alloc, &instance, &[25, 1], &[1, 0]);

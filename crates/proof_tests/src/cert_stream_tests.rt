@@ -20,6 +20,11 @@ fn shelf_with(alloc: Global, bytes: Vec<u8>, fails: &[u64]) -> Result<MemoryShel
     ))
 }
 
+// A shelf with a file of these bytes, whose fetches don't fail.
+fn shelf_of(alloc: Global, bytes: &[u8]) -> Result<MemoryShelf, AllocError> {
+    shelf_with(alloc, bytes.to_vec(alloc)?, &[])
+}
+
 // A certificate with so many cuts of 21 bytes, of this version.
 fn with_cuts(alloc: Global, version: u32, cuts: u32) -> Result<Vec<u8>, AllocError> {
     let mut text = format!(in alloc; "lotcert {version}\nclaim bound 20\ncuts {cuts}\n")?;
@@ -38,6 +43,22 @@ fn with_digits(alloc: Global, digits: u32) -> Result<Vec<u8>, AllocError> {
     }
     text.push_str("\npoint\nend\n")?;
     Ok(text.into_bytes())
+}
+
+// What a text claims that is read as a whole.
+fn whole_claim(alloc: Global, text: &str) -> Result<Claim, CertTextFault> {
+    let certificate = read_certificate(alloc, text.as_bytes())?;
+    Ok(certificate.claim)
+}
+
+// What a text claims that is fetched, and how many bytes the shelf gave, missed files and failed.
+fn fetched_claim(
+    alloc: Global,
+    text: &str,
+) -> Result<(Result<Claim, ClaimFault>, (u64, u64, u64)), AllocError> {
+    let mut shelf = shelf_of(alloc, text.as_bytes())?;
+    let read = read_claim(alloc, &mut shelf, "c");
+    Ok((read, (shelf.given, shelf.misses, shelf.faults)))
 }
 
 #[test]
@@ -71,33 +92,48 @@ fn small_files(rt: HostRuntime) -> Result<(), Fail> {
             Err(CertTextFault::Shape(5)),
         ),
     ] {
-        let whole = read_certificate(alloc, text.as_bytes());
-        assert_eq!(rt; whole.map(|certificate| certificate.claim), want);
-        let bytes = Vec::from_slice(alloc, text.as_bytes())?;
-        let size = bytes.len() as u64;
-        let mut shelf = shelf_with(alloc, bytes, &[])?;
-        let read = read_claim(alloc, &mut shelf, "c");
+        assert_eq!(rt; whole_claim(alloc, text), want);
+        let (read, counts) = fetched_claim(alloc, text)?;
         assert_eq!(rt; read, want.map_err(|fault| ClaimFault::Text(fault)));
-        assert_eq!(rt; (shelf.given, shelf.misses, shelf.faults), (size, 0, 0));
+        assert_eq!(rt; counts, (text.len() as u64, 0, 0));
     }
     Ok(())
+}
+
+// What a file of 5,000 cuts claims, its length and the bytes given; then what is said of a file that isn't there, and how
+// often files were missed and failed.
+fn long_claims(
+    alloc: Global,
+) -> Result<
+    (
+        (Result<Claim, ClaimFault>, u64, u64),
+        (Result<Claim, ClaimFault>, u64, u64),
+    ),
+    AllocError,
+> {
+    let bytes = with_cuts(alloc, 1, 5000)?;
+    let size = bytes.len() as u64;
+    let mut shelf = shelf_with(alloc, bytes, &[])?;
+    let found = (read_claim(alloc, &mut shelf, "c"), size, shelf.given);
+    let missing = read_claim(alloc, &mut shelf, "d");
+    Ok((found, (missing, shelf.misses, shelf.faults)))
 }
 
 // 65,536 bytes end within a line.
 #[test]
 fn lines_cross_pieces(rt: HostRuntime) -> Result<(), Fail> {
     let alloc = rt.alloc();
-    let bytes = with_cuts(alloc, 1, 5000)?;
-    let size = bytes.len() as u64;
-    let mut shelf = shelf_with(alloc, bytes, &[])?;
-    assert_eq!(rt; read_claim(alloc, &mut shelf, "c"), Ok(Claim::Bound(20)));
-    assert_eq!(rt; (size, shelf.given), (105_045, 105_045));
-    assert_eq!(rt;
-        read_claim(alloc, &mut shelf, "d"),
-        Err(ClaimFault::Missing)
-    );
-    assert_eq!(rt; (shelf.misses, shelf.faults), (1, 0));
+    let (found, missing) = long_claims(alloc)?;
+    assert_eq!(rt; found, (Ok(Claim::Bound(20)), 105_045, 105_045));
+    assert_eq!(rt; missing, (Err(ClaimFault::Missing), 1, 0));
     Ok(())
+}
+
+// What a long file of an unknown version claims, where a fetch fails.
+fn failing_claim(alloc: Global, fails: u64) -> Result<Result<Claim, ClaimFault>, AllocError> {
+    let bytes = with_cuts(alloc, 3, 5000)?;
+    let mut shelf = shelf_with(alloc, bytes, &[fails])?;
+    Ok(read_claim(alloc, &mut shelf, "c"))
 }
 
 // A fetch that fails comes before a line that was wrong.
@@ -110,15 +146,20 @@ fn later_fetches_may_fail(rt: HostRuntime) -> Result<(), Fail> {
         (3, ClaimFault::Failed),
         (4, ClaimFault::Text(CertTextFault::Header(1))),
     ] {
-        let bytes = with_cuts(alloc, 3, 5000)?;
-        let mut shelf = shelf_with(alloc, bytes, &[fails])?;
         assert_eq!(rt;
-            read_claim(alloc, &mut shelf, "c"),
+            failing_claim(alloc, fails)?,
             Err(want),
             "fetch {fails} fails"
         );
     }
     Ok(())
+}
+
+// What a file claims with so many digits in its cut.
+fn claim_with_digits(alloc: Global, digits: u32) -> Result<Result<Claim, ClaimFault>, AllocError> {
+    let bytes = with_digits(alloc, digits)?;
+    let mut shelf = shelf_with(alloc, bytes, &[])?;
+    Ok(read_claim(alloc, &mut shelf, "c"))
 }
 
 // 16,384 bytes are a line, and one more is too long.
@@ -129,9 +170,7 @@ fn lines_have_a_limit(rt: HostRuntime) -> Result<(), Fail> {
         (16_373u32, Ok(Claim::Bound(20))),
         (16_374, Err(ClaimFault::Text(CertTextFault::Line(4)))),
     ] {
-        let bytes = with_digits(alloc, digits)?;
-        let mut shelf = shelf_with(alloc, bytes, &[])?;
-        assert_eq!(rt; read_claim(alloc, &mut shelf, "c"), want);
+        assert_eq!(rt; claim_with_digits(alloc, digits)?, want);
     }
     Ok(())
 }
@@ -140,8 +179,7 @@ fn lines_have_a_limit(rt: HostRuntime) -> Result<(), Fail> {
 #[test]
 fn lines_are_given_in_order(rt: HostRuntime) -> Result<(), Fail> {
     let alloc = rt.alloc();
-    let bytes = Vec::from_slice(alloc, b"point\n\nend")?;
-    let mut shelf = shelf_with(alloc, bytes, &[])?;
+    let mut shelf = shelf_of(alloc, b"point\n\nend")?;
     let mut reader = LineReader::new(alloc)?;
     for (want, line, number) in [
         (Next::Line, "point", 2u64),
@@ -188,8 +226,7 @@ const LINES: &str =
 #[test]
 fn values_are_given_in_order(rt: HostRuntime) -> Result<(), Fail> {
     let alloc = rt.alloc();
-    let bytes = Vec::from_slice(alloc, LINES.as_bytes())?;
-    let mut shelf = shelf_with(alloc, bytes, &[])?;
+    let mut shelf = shelf_of(alloc, LINES.as_bytes())?;
     let mut reader = LineReader::new(alloc)?;
     for want in [
         ("ls", 1i128, 2u32),

@@ -182,6 +182,12 @@ fn paths_of_the_greatest_length(rt: HostRuntime) -> Result<(), Fail> {
     let alloc = rt.alloc();
     let longest = path_of(alloc, 2000)?;
     assert!(rt; comes_again(alloc, &longest)?);
+    Ok(())
+}
+
+#[test]
+fn paths_past_the_greatest_length(rt: HostRuntime) -> Result<(), Fail> {
+    let alloc = rt.alloc();
     let deep = path_of(alloc, 2001)?;
     assert!(rt; fault_of(alloc, &deep) == Some(CertTextFault::Deep(2004)));
     Ok(())

@@ -1,9 +1,9 @@
+use crate::shops::{plan, shop};
 use cert_checker::{CheckFault, Rejected, Why, check, lines_are_bytes};
 use certificate::{CertTextFault, Claim, read_certificate};
-use fixtures::{instance_of, plain_item, resource, usage};
 use lot_io::MemoryShelf;
 use lot_model::Instance;
-use plan_rules::{Grid, Plan};
+use plan_rules::Plan;
 use std::alloc::{AllocError, Global};
 use std::collections::BTreeMap;
 use std::test::Fail;
@@ -30,32 +30,6 @@ const EMPTY_SIDE: &str = "lotcert 1\nclaim bound 0\ncuts 0\nbranch y 1 1 0\nline
 
 const NO_END: &str = "lotcert 1\nclaim bound 0\ncuts 0\nbranch y 1 1 0\nlinear 1 0\n\
     branch y 1 1 1\nlinear 1 0\nlinear 1 0\nlinear 1 0\n";
-
-// An item over two periods, in stock at a cost of 1, which takes a unit of time for each unit and each setup, on a
-// resource with 6 in each period.
-fn shop(alloc: Global) -> Result<Instance, Fail> {
-    let mut item = plain_item(alloc, "A", &[2, 8], &[0, 0], &[10, 10], &[1, 1])?;
-    item.uses.push(usage(alloc, "m", 1, 1)?)?;
-    let resource = resource(alloc, "m", &[6, 6])?;
-    instance_of(alloc, 2, vec![in alloc; resource]?, vec![in alloc; item]?)
-}
-
-// A number for each of the two periods.
-fn grid(alloc: Global, first: u64, second: u64) -> Result<Grid, AllocError> {
-    let mut grid = Grid::filled(alloc, 1, 2, first)?;
-    grid.set(1, 2, second);
-    Ok(grid)
-}
-
-// Five units in each period.
-fn plan(alloc: Global) -> Result<Plan, AllocError> {
-    Ok(Plan {
-        make: grid(alloc, 5, 5)?,
-        setup: grid(alloc, 1, 1)?,
-        stock: grid(alloc, 3, 0)?,
-        backlog: grid(alloc, 0, 0)?,
-    })
-}
 
 // A shelf with one file.
 fn shelf_with(alloc: Global, text: &str) -> Result<MemoryShelf, AllocError> {
@@ -100,11 +74,21 @@ fn refusal(line: u64, why: Why) -> Result<Claim, StreamFault> {
     Err(StreamFault::Rejected(Rejected { line, why }))
 }
 
+// What is found of a text that is fetched, with the plan that makes 5 and 5, and of one that is read as a whole.
+fn both_answers(
+    alloc: Global,
+    text: &str,
+) -> Result<(Result<Claim, StreamFault>, Result<Claim, StreamFault>), Fail> {
+    let instance = shop(alloc)?;
+    let plan = plan(alloc, [5, 5], 3, 0)?;
+    let mut shelf = shelf_with(alloc, text)?;
+    let found = check_stream(alloc, &instance, &mut shelf, "c", Some(&plan));
+    Ok((found, whole(alloc, &instance, text, Some(&plan))))
+}
+
 #[test]
 fn answers_are_those_of_the_whole(rt: HostRuntime) -> Result<(), Fail> {
     let alloc = rt.alloc();
-    let instance = shop(alloc)?;
-    let plan = plan(alloc)?;
     for (text, want) in [
         (BRANCHES, Ok(Claim::Optimal(23))),
         (BOUND, Ok(Claim::Bound(20))),
@@ -112,30 +96,47 @@ fn answers_are_those_of_the_whole(rt: HostRuntime) -> Result<(), Fail> {
         (EMPTY_SIDE, refusal(6, Why::Range)),
         (NO_END, Err(StreamFault::Text(CertTextFault::Shape(9)))),
     ] {
-        let mut shelf = shelf_with(alloc, text)?;
-        let found = check_stream(alloc, &instance, &mut shelf, "c", Some(&plan));
+        let (found, of_whole) = both_answers(alloc, text)?;
         assert_eq!(rt; found, want);
-        assert_eq!(rt; found, whole(alloc, &instance, text, Some(&plan)));
+        assert_eq!(rt; found, of_whole);
     }
     Ok(())
+}
+
+// What a file of the bound claims, with the bytes given by then, and what is found of it thereafter, with all bytes given.
+fn claim_and_check(
+    alloc: Global,
+) -> Result<
+    (
+        (Result<Claim, StreamFault>, u64),
+        (Result<Claim, StreamFault>, u64),
+    ),
+    Fail,
+> {
+    let instance = shop(alloc)?;
+    let mut shelf = shelf_with(alloc, BOUND)?;
+    let claim = (read_claim(alloc, &mut shelf, "c"), shelf.given);
+    let found = check_stream(alloc, &instance, &mut shelf, "c", None);
+    Ok((claim, (found, shelf.given)))
 }
 
 // Each pass fetches each byte once.
 #[test]
 fn a_file_is_fetched_twice(rt: HostRuntime) -> Result<(), Fail> {
+    let size = BOUND.len() as u64;
+    let (claim, found) = claim_and_check(rt.alloc())?;
+    assert_eq!(rt; claim, (Ok(Claim::Bound(20)), size));
+    assert_eq!(rt; found, (Ok(Claim::Bound(20)), 3 * size));
+    Ok(())
+}
+
+#[test]
+fn a_file_that_is_not_there_is_missing(rt: HostRuntime) -> Result<(), Fail> {
     let alloc = rt.alloc();
     let instance = shop(alloc)?;
     let mut shelf = shelf_with(alloc, BOUND)?;
-    let size = BOUND.len() as u64;
-    assert_eq!(rt; read_claim(alloc, &mut shelf, "c"), Ok(Claim::Bound(20)));
-    assert_eq!(rt; shelf.given, size);
-    let found = check_stream(alloc, &instance, &mut shelf, "c", None);
-    assert_eq!(rt; found, Ok(Claim::Bound(20)));
-    assert_eq!(rt; shelf.given, 3 * size);
-    assert_eq!(rt;
-        check_stream(alloc, &instance, &mut shelf, "d", None),
-        Err(StreamFault::Missing)
-    );
+    let found = check_stream(alloc, &instance, &mut shelf, "d", None);
+    assert_eq!(rt; found, Err(StreamFault::Missing));
     Ok(())
 }
 
@@ -151,16 +152,21 @@ fn most_cuts(alloc: Global) -> Result<String, AllocError> {
     Ok(text)
 }
 
+// What is found of it, its length, and the bytes given.
+fn most_cuts_found(alloc: Global) -> Result<(Result<Claim, StreamFault>, usize, u64), Fail> {
+    let text = most_cuts(alloc)?;
+    let instance = shop(alloc)?;
+    let mut shelf = shelf_with(alloc, text.as_str())?;
+    let found = check_stream(alloc, &instance, &mut shelf, "c", None);
+    Ok((found, text.len(), shelf.given))
+}
+
 // It is fetched in three pieces of at most 65,536 bytes.
 #[test]
 fn a_file_of_several_pieces_is_fetched_twice(rt: HostRuntime) -> Result<(), Fail> {
-    let alloc = rt.alloc();
-    let instance = shop(alloc)?;
-    let text = most_cuts(alloc)?;
-    let mut shelf = shelf_with(alloc, text.as_str())?;
-    let found = check_stream(alloc, &instance, &mut shelf, "c", None);
+    let (found, size, given) = most_cuts_found(rt.alloc())?;
     assert_eq!(rt; found, Ok(Claim::Bound(20)));
-    assert_eq!(rt; (text.len(), shelf.given), (180_124, 2 * 180_124));
+    assert_eq!(rt; (size, given), (180_124, 2 * 180_124));
     Ok(())
 }
 

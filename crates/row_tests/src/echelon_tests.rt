@@ -2,8 +2,8 @@ use echelon::{
     EchelonItem, Explosion, MAX_ASKED, SingleItem, echelon_of, explosions_are_one,
     is_echelon_within_bounds, is_within_bounds, lead_free, net_of, positions, single_of,
 };
-use fixtures::{instance_of, need, plain_item, times};
-use lot_model::{Draft, DraftItem, DraftNeed, Instance, is_uncoupled};
+use fixtures::{instance_of, need, plain_item, steady_item, times};
+use lot_model::{DraftItem, DraftNeed, Instance, is_uncoupled};
 use std::alloc::{AllocError, Global};
 use std::test::Fail;
 
@@ -33,21 +33,34 @@ fn bounds_of_items(rt: HostRuntime) -> Result<(), Fail> {
         let single = item(alloc, net, cost, periods)?;
         assert_eq!(rt; is_within_bounds(&single), within, "{net} {cost} {periods}");
     }
-    let mut short = item(alloc, 1, 1, 3)?;
-    short.back = Some(vec![in alloc; 1u64; 2]?);
-    assert!(rt; !is_within_bounds(&short));
     Ok(())
 }
 
 #[test]
-fn positions_are_the_periods_with_a_net_demand(rt: HostRuntime) -> Result<(), Fail> {
+fn backlog_costs_of_too_few_periods_are_out_of_bounds(rt: HostRuntime) -> Result<(), Fail> {
     let alloc = rt.alloc();
-    let mut single = item(alloc, 0, 1, 5)?;
-    single.net = vec![in alloc; 0u128, 7, 0, 0, 1]?;
+    let costs = vec![in alloc; 1u64; 2]?;
+    let mut short = item(alloc, 1, 1, 3)?;
+    short.back = Some(costs);
+    assert!(rt; !is_within_bounds(&short));
+    Ok(())
+}
+
+// The periods of an item with these net demands.
+fn positions_of(alloc: Global, net: &[u128]) -> Result<Vec<u32>, Fail> {
+    let net = net.to_vec(alloc)?;
+    let mut single = item(alloc, 0, 1, net.len())?;
+    single.net = net;
     if !is_within_bounds(&single) {
         return Err("not within bounds".into());
     }
-    assert!(rt; positions(alloc, &single)?.as_slice() == &[2u32, 5][..]);
+    Ok(positions(alloc, &single)?)
+}
+
+#[test]
+fn positions_are_the_periods_with_a_net_demand(rt: HostRuntime) -> Result<(), Fail> {
+    let found = positions_of(rt.alloc(), &[0u128, 7, 0, 0, 1])?;
+    assert!(rt; found.as_slice() == &[2u32, 5][..]);
     Ok(())
 }
 
@@ -68,20 +81,35 @@ fn echelon(
     })
 }
 
+// Whether an echelon has these net demands, and whether so much of the opening stock is left.
+fn has_net(
+    alloc: Global,
+    echelon: &EchelonItem,
+    net: &[u128],
+    left: &[u128],
+) -> Result<(bool, bool), Fail> {
+    if !is_echelon_within_bounds(echelon) {
+        return Err("not within bounds".into());
+    }
+    let found = net_of(alloc, echelon)?;
+    Ok((found.net.as_slice() == net, found.left.as_slice() == left))
+}
+
+#[test]
+fn opening_stock_serves_all(rt: HostRuntime) -> Result<(), Fail> {
+    let alloc = rt.alloc();
+    let all_there = echelon(alloc, &[3u128, 3], 7, 1)?;
+    let found = has_net(alloc, &all_there, &[0u128, 0], &[4u128, 1])?;
+    assert_eq!(rt; found, (true, true));
+    Ok(())
+}
+
 #[test]
 fn opening_stock_serves_first(rt: HostRuntime) -> Result<(), Fail> {
     let alloc = rt.alloc();
-    let all_there = echelon(alloc, &[3u128, 3], 7, 1)?;
     let some_there = echelon(alloc, &[4u128, 6, 2], 5, 3)?;
-    if !is_echelon_within_bounds(&all_there) || !is_echelon_within_bounds(&some_there) {
-        return Err("not within bounds".into());
-    }
-    let net = net_of(alloc, &all_there)?;
-    assert!(rt; net.net.as_slice() == &[0u128, 0][..]);
-    assert!(rt; net.left.as_slice() == &[4u128, 1][..]);
-    let net = net_of(alloc, &some_there)?;
-    assert!(rt; net.net.as_slice() == &[0u128, 5, 5][..]);
-    assert!(rt; net.left.as_slice() == &[1u128, 0, 3][..]);
+    let found = has_net(alloc, &some_there, &[0u128, 5, 5], &[1u128, 0, 3])?;
+    assert_eq!(rt; found, (true, true));
     Ok(())
 }
 
@@ -106,6 +134,26 @@ fn bounds_of_what_is_asked_of_echelons(rt: HostRuntime) -> Result<(), Fail> {
     Ok(())
 }
 
+// Whether an echelon with so many items and periods is within bounds.
+fn is_within(
+    alloc: Global,
+    items: usize,
+    periods: usize,
+    weight: u64,
+    number: u32,
+) -> Result<bool, AllocError> {
+    let item = EchelonItem {
+        item: number,
+        demand: vec![in alloc; 1u128; periods]?,
+        opening: 0,
+        end_min: 0,
+        weights: vec![in alloc; weight; items]?,
+        backs: vec![in alloc; false; items]?,
+        backlogged: false,
+    };
+    Ok(is_echelon_within_bounds(&item))
+}
+
 #[test]
 fn bounds_of_the_lists_of_echelons(rt: HostRuntime) -> Result<(), Fail> {
     let alloc = rt.alloc();
@@ -117,18 +165,28 @@ fn bounds_of_the_lists_of_echelons(rt: HostRuntime) -> Result<(), Fail> {
         (40, 120, 1, 41, false),
         (40, 120, 1, 0, false),
     ] {
-        let mut item = echelon(alloc, &[], 0, 0)?;
-        item.item = number;
-        item.demand = vec![in alloc; 1u128; periods]?;
-        item.weights = vec![in alloc; weight; items]?;
-        item.backs = vec![in alloc; false; items]?;
         assert_eq!(rt;
-            is_echelon_within_bounds(&item),
+            is_within(alloc, items, periods, weight, number)?,
             within,
             "{items} {periods} {weight} {number}"
         );
     }
     Ok(())
+}
+
+// Whether an echelon of two items is within bounds, where the second one has this weight and may be late or
+// not.
+fn is_agreed(alloc: Global, weight: u64, back: bool, backlogged: bool) -> Result<bool, AllocError> {
+    let item = EchelonItem {
+        item: 1,
+        demand: vec![in alloc; 3u128]?,
+        opening: 0,
+        end_min: 0,
+        weights: vec![in alloc; 1, weight]?,
+        backs: vec![in alloc; false, back]?,
+        backlogged,
+    };
+    Ok(is_echelon_within_bounds(&item))
 }
 
 #[test]
@@ -142,16 +200,18 @@ fn what_an_echelon_says_of_backlogs_agrees(rt: HostRuntime) -> Result<(), Fail> 
         (2, false, false, true),
         (2, false, true, false),
     ] {
-        let mut item = echelon(alloc, &[3], 0, 0)?;
-        item.weights = vec![in alloc; 1, weight]?;
-        item.backs = vec![in alloc; false, back]?;
-        item.backlogged = backlogged;
         assert_eq!(rt;
-            is_echelon_within_bounds(&item),
+            is_agreed(alloc, weight, back, backlogged)?,
             within,
             "{weight} {back} {backlogged}"
         );
     }
+    Ok(())
+}
+
+#[test]
+fn an_echelon_says_of_each_item_if_it_may_be_late(rt: HostRuntime) -> Result<(), Fail> {
+    let alloc = rt.alloc();
     let mut item = echelon(alloc, &[3], 0, 0)?;
     item.backs = Vec::new(alloc);
     assert!(rt; !is_echelon_within_bounds(&item));
@@ -160,105 +220,175 @@ fn what_an_echelon_says_of_backlogs_agrees(rt: HostRuntime) -> Result<(), Fail> 
 
 // An item that is asked for 10 and 11, with an opening stock of 3 and a required end stock of 4.
 fn draft_item(alloc: Global) -> Result<DraftItem, AllocError> {
+    let costs = times(alloc, 2, 9)?;
     let mut made = plain_item(alloc, "A", &[10, 11], &[1, 2], &[5, 6], &[7, 8])?;
-    made.backlog_cost = Some(vec![in alloc; 9i64, 9i64]?);
+    made.backlog_cost = Some(costs);
     made.opening = 3;
     made.end_min = 4;
     Ok(made)
 }
 
+// The only item of an instance by itself.
+fn only(alloc: Global, instance: &Instance) -> Result<SingleItem, Fail> {
+    if instance.items() != 1 || !is_uncoupled(instance) {
+        return Err("not one item by itself".into());
+    }
+    Ok(single_of(alloc, instance, 1)?)
+}
+
+// This item by itself.
+fn alone(alloc: Global) -> Result<SingleItem, Fail> {
+    let items = vec![in alloc; draft_item(alloc)?]?;
+    let instance = instance_of(alloc, 2, Vec::new(alloc), items)?;
+    only(alloc, &instance)
+}
+
 #[test]
 fn an_item_of_an_instance_is_taken_by_itself(rt: HostRuntime) -> Result<(), Fail> {
-    let alloc = rt.alloc();
-    let draft = Draft {
-        periods: 2,
-        resources: Vec::new(alloc),
-        items: vec![in alloc; draft_item(alloc)?]?,
-    };
-    let instance = Instance::from_draft(alloc, draft).ok().ok_or("refused")?;
-    assert_eq!(rt; instance.items(), 1);
-    assert!(rt; is_uncoupled(&instance));
-    let single = single_of(alloc, &instance, 1)?;
-    assert!(rt; single.net.as_slice() == [7u128, 15].as_slice());
-    assert!(rt; single.setup.as_slice() == [5u64, 6].as_slice());
-    assert!(rt; single.unit.as_slice() == [1u64, 2].as_slice());
-    assert!(rt; single.hold.as_slice() == [7u64, 8].as_slice());
+    let single = alone(rt.alloc())?;
+    let is_net = single.net.as_slice() == [7u128, 15].as_slice();
+    let is_setup = single.setup.as_slice() == [5u64, 6].as_slice();
+    let is_unit = single.unit.as_slice() == [1u64, 2].as_slice();
+    let is_hold = single.hold.as_slice() == [7u64, 8].as_slice();
+    assert_eq!(rt;
+        (is_net, is_setup, is_unit, is_hold),
+        (true, true, true, true)
+    );
     let back = single.back.ok_or("no backlog costs")?;
     assert!(rt; back.as_slice() == [9u64, 9].as_slice());
     Ok(())
 }
 
-// A part that is asked for 1 in the second period, and takes three of its component.
-fn part(alloc: Global, name: &str, component: Option<&str>) -> Result<DraftItem, AllocError> {
+// So much of a component.
+fn needs(alloc: Global, item: &str, quantity: i64) -> Result<Vec<DraftNeed>, AllocError> {
+    let need = need(alloc, item, quantity)?;
+    Ok(vec![in alloc; need]?)
+}
+
+// A part that is asked for 1 in the second period.
+fn part(alloc: Global, name: &str) -> Result<DraftItem, AllocError> {
     let mut part = plain_item(alloc, name, &[0, 1], &[0, 0], &[0, 0], &[0, 0])?;
     part.opening = 2;
     part.end_min = 5;
-    if let Some(component) = component {
-        part.needs.push(need(alloc, component, 3)?)?;
-    }
     Ok(part)
 }
 
-// One "A" takes two "B", and one "B" three "C".
+// The item "A" with a lead time, of which one takes two "B".
+fn user(alloc: Global, lead: i64) -> Result<DraftItem, AllocError> {
+    let needs = needs(alloc, "B", 2)?;
+    let mut user = draft_item(alloc)?;
+    user.lead = lead;
+    user.needs = needs;
+    Ok(user)
+}
+
+// The part "B" with a lead time, of which one takes three "C".
+fn middle(alloc: Global, lead: i64) -> Result<DraftItem, AllocError> {
+    let needs = needs(alloc, "C", 3)?;
+    let mut middle = part(alloc, "B")?;
+    middle.lead = lead;
+    middle.needs = needs;
+    Ok(middle)
+}
+
+// The parts "C" and "B" and the item "A".
+fn items(alloc: Global, first: i64, second: i64) -> Result<Vec<DraftItem>, AllocError> {
+    let last = part(alloc, "C")?;
+    let user = user(alloc, first)?;
+    let middle = middle(alloc, second)?;
+    Ok(vec![in alloc; last, user, middle]?)
+}
+
+// One "A" takes two "B", and one "B" three "C", with lead times of "A" and of "B".
+fn chain_with_leads(alloc: Global, first: i64, second: i64) -> Result<Instance, Fail> {
+    instance_of(alloc, 2, Vec::new(alloc), items(alloc, first, second)?)
+}
+
+// The same chain, with no lead times.
 fn chain(alloc: Global) -> Result<Instance, Fail> {
-    let mut items = Vec::with_capacity(alloc, 3)?;
-    items.push(part(alloc, "C", None)?)?;
-    let mut first = draft_item(alloc)?;
-    first.needs.push(need(alloc, "B", 2)?)?;
-    items.push(first)?;
-    items.push(part(alloc, "B", Some("C"))?)?;
-    instance_of(alloc, 2, Vec::new(alloc), items)
+    chain_with_leads(alloc, 0, 0)
+}
+
+// How many of the first item go into one of the second, and whether the items come in this order.
+fn exploded(alloc: Global, instance: &Instance, order: &[u32]) -> Result<(u64, bool), Fail> {
+    if instance.items() != 3 {
+        return Err("not three items".into());
+    }
+    let explosion = Explosion::of(alloc, instance)?;
+    Ok((explosion.weight(1, 2), explosion.order() == order))
+}
+
+// The echelon of an item, for which lead times don't count.
+fn echelon_in(alloc: Global, instance: &Instance, item: u32) -> Result<EchelonItem, Fail> {
+    if item < 1 || item > instance.items() {
+        return Err("no such item".into());
+    }
+    let explosion = Explosion::of(alloc, instance)?;
+    if !lead_free(instance, &explosion, item) {
+        return Err("lead times count".into());
+    }
+    Ok(echelon_of(alloc, instance, &explosion, item)?)
+}
+
+// The echelon of an item of the chain.
+fn echelon_in_chain(alloc: Global, item: u32) -> Result<EchelonItem, Fail> {
+    let instance = chain(alloc)?;
+    echelon_in(alloc, &instance, item)
+}
+
+#[test]
+fn an_explosion_counts_what_goes_into_an_item(rt: HostRuntime) -> Result<(), Fail> {
+    let alloc = rt.alloc();
+    let instance = chain(alloc)?;
+    assert_eq!(rt; exploded(alloc, &instance, &[2u32, 3, 1])?, (6, true));
+    Ok(())
 }
 
 #[test]
 fn an_echelon_asks_for_what_its_items_go_into(rt: HostRuntime) -> Result<(), Fail> {
-    let alloc = rt.alloc();
-    let instance = chain(alloc)?;
-    let explosion = Explosion::of(alloc, &instance)?;
-    assert_eq!(rt; instance.items(), 3);
-    assert_eq!(rt; explosion.weight(1, 2), 6);
-    assert!(rt; explosion.order() == &[2u32, 3, 1][..]);
-    assert!(rt; lead_free(&instance, &explosion, 1));
-    let echelon = echelon_of(alloc, &instance, &explosion, 1)?;
+    let echelon = echelon_in_chain(rt.alloc(), 1)?;
     // 6 * 10 and 6 * 11 + 3 * 1 + 1, 6 * 3 + 3 * 2 + 2, and 6 * 4 + 3 * 5 + 5.
     assert!(rt; echelon.demand.as_slice() == &[60u128, 70][..]);
     assert_eq!(rt; (echelon.opening, echelon.end_min), (26, 44));
-    assert!(rt; echelon.weights.as_slice() == &[1u64, 6, 3][..]);
-    assert!(rt; echelon.backs.as_slice() == &[false, true, false][..]);
-    assert!(rt; echelon.backlogged);
-    let net = net_of(alloc, &echelon)?;
-    assert!(rt; net.net.as_slice() == &[34u128, 114][..]);
-    assert!(rt; net.left.as_slice() == &[0u128, 44][..]);
+    let is_weights = echelon.weights.as_slice() == &[1u64, 6, 3][..];
+    let is_backs = echelon.backs.as_slice() == &[false, true, false][..];
+    assert_eq!(rt;
+        (is_weights, is_backs, echelon.backlogged),
+        (true, true, true)
+    );
+    Ok(())
+}
+
+#[test]
+fn the_stock_of_an_echelon_serves_first(rt: HostRuntime) -> Result<(), Fail> {
+    let alloc = rt.alloc();
+    let echelon = echelon_in_chain(alloc, 1)?;
+    let found = has_net(alloc, &echelon, &[34u128, 114], &[0u128, 44])?;
+    assert_eq!(rt; found, (true, true));
     Ok(())
 }
 
 #[test]
 fn an_end_product_is_an_echelon_by_itself(rt: HostRuntime) -> Result<(), Fail> {
-    let alloc = rt.alloc();
-    let instance = chain(alloc)?;
-    let explosion = Explosion::of(alloc, &instance)?;
     explosions_are_one();
-    assert_eq!(rt; instance.items(), 3);
-    assert!(rt; lead_free(&instance, &explosion, 2));
-    let echelon = echelon_of(alloc, &instance, &explosion, 2)?;
+    let echelon = echelon_in_chain(rt.alloc(), 2)?;
     assert_eq!(rt; (echelon.item, echelon.opening, echelon.end_min), (2, 3, 4));
-    assert!(rt; echelon.demand.as_slice() == &[10u128, 11][..]);
-    assert!(rt; echelon.weights.as_slice() == &[0u64, 1, 0][..]);
+    let is_demand = echelon.demand.as_slice() == &[10u128, 11][..];
+    let is_weights = echelon.weights.as_slice() == &[0u64, 1, 0][..];
+    assert_eq!(rt; (is_demand, is_weights), (true, true));
     Ok(())
 }
 
-// The same chain, with lead times of "A" and of "B".
-fn chain_with_leads(alloc: Global, first: i64, second: i64) -> Result<Instance, Fail> {
-    let mut items = Vec::with_capacity(alloc, 3)?;
-    items.push(part(alloc, "C", None)?)?;
-    let mut user = draft_item(alloc)?;
-    user.lead = first;
-    user.needs.push(need(alloc, "B", 2)?)?;
-    items.push(user)?;
-    let mut middle = part(alloc, "B", Some("C"))?;
-    middle.lead = second;
-    items.push(middle)?;
-    instance_of(alloc, 2, Vec::new(alloc), items)
+// Whether lead times don't count for "C", "A" and "B".
+fn are_lead_free(alloc: Global, instance: &Instance) -> Result<(bool, bool, bool), Fail> {
+    if instance.items() != 3 {
+        return Err("not three items".into());
+    }
+    let explosion = Explosion::of(alloc, instance)?;
+    let c = lead_free(instance, &explosion, 1);
+    let a = lead_free(instance, &explosion, 2);
+    let b = lead_free(instance, &explosion, 3);
+    Ok((c, a, b))
 }
 
 #[test]
@@ -270,11 +400,8 @@ fn lead_times_count_for_all_that_an_item_goes_into(rt: HostRuntime) -> Result<()
         (1, 0, false, false, false),
     ] {
         let instance = chain_with_leads(alloc, first, second)?;
-        let explosion = Explosion::of(alloc, &instance)?;
-        assert_eq!(rt; instance.items(), 3);
-        assert_eq!(rt; lead_free(&instance, &explosion, 1), c, "{first} {second}");
-        assert_eq!(rt; lead_free(&instance, &explosion, 2), a, "{first} {second}");
-        assert_eq!(rt; lead_free(&instance, &explosion, 3), b, "{first} {second}");
+        let found = are_lead_free(alloc, &instance)?;
+        assert_eq!(rt; found, (c, a, b), "{first} {second}");
     }
     Ok(())
 }
@@ -287,55 +414,75 @@ fn name(alloc: Global, number: u32) -> Result<String, AllocError> {
 // The periods before the last one.
 const EARLIER: usize = 119;
 
-// An item of a chain, each of which takes two of the next. The first is asked for 1 in the last period.
-fn link(alloc: Global, number: u32) -> Result<DraftItem, AllocError> {
+// The demand for an item of a chain: 1 in the last period for the first item.
+fn asked(alloc: Global, number: u32) -> Result<Vec<i64>, AllocError> {
     let mut demand = times(alloc, EARLIER, 0)?;
     demand.push(if number == 1 { 1 } else { 0 })?;
-    let mut needs = Vec::new(alloc);
-    if number < 40 {
-        needs.push(DraftNeed {
-            item: name(alloc, number + 1)?,
-            quantity: 2,
-        })?;
-    }
-    Ok(DraftItem {
-        name: name(alloc, number)?,
-        demand,
-        unit_cost: times(alloc, EARLIER + 1, 1)?,
-        setup_cost: times(alloc, EARLIER + 1, 1)?,
-        hold_cost: times(alloc, EARLIER + 1, 1)?,
-        backlog_cost: None,
-        opening: 0,
-        end_min: 0,
-        end_max: None,
-        lead: 0,
-        min_lot: 0,
-        max_lot: None,
-        needs,
-        uses: Vec::new(alloc),
-    })
+    Ok(demand)
 }
 
-fn chain_of_forty(alloc: Global) -> Result<Instance, Fail> {
+// What an item of a chain takes: two of the next one, if there is one.
+fn taken(alloc: Global, number: u32) -> Result<Vec<DraftNeed>, AllocError> {
+    if number >= 40 {
+        return Ok(Vec::new(alloc));
+    }
+    let next = name(alloc, number + 1)?;
+    needs(alloc, next.as_str(), 2)
+}
+
+// An item of this number, of which nothing is asked.
+fn idle(alloc: Global, number: u32) -> Result<DraftItem, AllocError> {
+    let name = name(alloc, number)?;
+    steady_item(alloc, name.as_str(), EARLIER + 1, [0, 1, 1, 1])
+}
+
+// An item of a chain, each of which takes two of the next. The first is asked for 1 in the last period.
+fn link(alloc: Global, number: u32) -> Result<DraftItem, AllocError> {
+    let demand = asked(alloc, number)?;
+    let needs = taken(alloc, number)?;
+    let mut made = idle(alloc, number)?;
+    made.demand = demand;
+    made.needs = needs;
+    Ok(made)
+}
+
+// The items of a chain of forty.
+fn links(alloc: Global) -> Result<Vec<DraftItem>, AllocError> {
     let mut items = Vec::with_capacity(alloc, 40)?;
     for number in 1..41u32 {
         items.push(link(alloc, number)?)?;
     }
-    instance_of(alloc, 120, Vec::new(alloc), items)
+    Ok(items)
+}
+
+// The echelon of the last item of a chain of forty.
+fn echelon_of_forty(alloc: Global) -> Result<EchelonItem, Fail> {
+    let instance = instance_of(alloc, 120, Vec::new(alloc), links(alloc)?)?;
+    if instance.items() != 40 {
+        return Err("not forty items".into());
+    }
+    echelon_in(alloc, &instance, 40)
+}
+
+// The last net demand of an echelon.
+fn last_net(alloc: Global, echelon: &EchelonItem) -> Result<Option<u128>, Fail> {
+    if !is_echelon_within_bounds(echelon) {
+        return Err("not within bounds".into());
+    }
+    let found = net_of(alloc, echelon)?;
+    Ok(found.net.last().copied())
 }
 
 #[test]
 fn the_last_of_a_chain_of_forty_has_a_large_echelon(rt: HostRuntime) -> Result<(), Fail> {
     let alloc = rt.alloc();
-    let instance = chain_of_forty(alloc)?;
-    let explosion = Explosion::of(alloc, &instance)?;
-    assert_eq!(rt; instance.items(), 40);
-    assert!(rt; lead_free(&instance, &explosion, 40));
-    let echelon = echelon_of(alloc, &instance, &explosion, 40)?;
-    let net = net_of(alloc, &echelon)?;
+    let echelon = echelon_of_forty(alloc)?;
+    let weight = echelon.weights.first().copied();
     // 2 to the power of 39
     let most = 549_755_813_888;
-    assert!(rt; echelon.weights.first() == Some(&most));
-    assert!(rt; net.net.last() == Some(&u128::from(most)));
+    assert_eq!(rt;
+        (weight, last_net(alloc, &echelon)?),
+        (Some(most), Some(u128::from(most)))
+    );
     Ok(())
 }

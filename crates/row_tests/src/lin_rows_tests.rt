@@ -1,63 +1,102 @@
-use fixtures::{instance_of, need, resource, times, usage};
+use fixtures::{instance_of, need, plain_item, resource, steady_item, times, usage};
 use frac128::Frac;
 use lin_rows::{
     Bound, Column, CutFault, Point, Row, RowFault, RowName, SumFault, Sums, Term, base_row,
     column_at, column_cost, column_count, column_number,
 };
-use lot_model::{DraftItem, Instance};
+use lot_model::{DraftItem, DraftResource, Instance};
 use lot_sizing::limits::{MAX_AMOUNT, MAX_END_STOCK, MAX_ITEMS};
 use std::alloc::{AllocError, Global};
 use std::test::Fail;
 
-// An item over so many periods, of which nothing is asked.
-fn idle_item(alloc: Global, name: String, periods: usize) -> Result<DraftItem, AllocError> {
-    Ok(DraftItem {
-        name,
-        demand: vec![in alloc; 0i64; periods]?,
-        unit_cost: vec![in alloc; 0i64; periods]?,
-        setup_cost: vec![in alloc; 10i64; periods]?,
-        hold_cost: vec![in alloc; 1i64; periods]?,
-        backlog_cost: None,
-        opening: 0,
-        end_min: 0,
-        end_max: None,
-        lead: 0,
-        min_lot: 0,
-        max_lot: None,
-        needs: Vec::new(alloc),
-        uses: Vec::new(alloc),
-    })
-}
-
 // An item over two periods.
 fn item(alloc: Global, name: &str, first: i64, second: i64) -> Result<DraftItem, AllocError> {
-    let mut made = idle_item(alloc, String::from_str(alloc, name)?, 2)?;
-    made.demand = vec![in alloc; first, second]?;
-    Ok(made)
+    plain_item(alloc, name, &[first, second], &[0, 0], &[10, 10], &[1, 1])
+}
+
+// An item that takes a unit of time for each unit and each setup.
+fn made_on_machine(alloc: Global) -> Result<DraftItem, AllocError> {
+    let uses = vec![in alloc; usage(alloc, "m", 1, 1)?]?;
+    let mut only = item(alloc, "A", 2, 8)?;
+    only.uses = uses;
+    Ok(only)
+}
+
+// A resource with so much time in each period.
+fn machine(alloc: Global, capacity: &[i64]) -> Result<Vec<DraftResource>, AllocError> {
+    let machine = resource(alloc, "m", capacity)?;
+    Ok(vec![in alloc; machine]?)
+}
+
+// This item alone.
+fn only(alloc: Global, item: DraftItem) -> Result<Vec<DraftItem>, AllocError> {
+    Ok(vec![in alloc; item]?)
 }
 
 // One item that takes a unit of time for each unit and each setup, on a resource with 6 in each period.
 fn shop(alloc: Global) -> Result<Instance, Fail> {
-    let mut only = item(alloc, "A", 2, 8)?;
-    only.uses.push(usage(alloc, "m", 1, 1)?)?;
-    let resource = resource(alloc, "m", &[6, 6])?;
-    instance_of(alloc, 2, vec![in alloc; resource]?, vec![in alloc; only]?)
+    let items = only(alloc, made_on_machine(alloc)?)?;
+    instance_of(alloc, 2, machine(alloc, &[6, 6])?, items)
 }
 
 // A table that takes two legs and may be late, with one in stock at first.
-fn tables(alloc: Global) -> Result<Instance, Fail> {
-    let mut items = Vec::with_capacity(alloc, 2)?;
+fn table(alloc: Global) -> Result<DraftItem, AllocError> {
+    let needs = vec![in alloc; need(alloc, "leg", 2)?]?;
+    let costs = times(alloc, 2, 1)?;
     let mut table = item(alloc, "table", 3, 5)?;
     table.opening = 1;
-    table.backlog_cost = Some(vec![in alloc; 1i64, 1i64]?);
-    table.needs.push(need(alloc, "leg", 2)?)?;
-    items.push(table)?;
-    items.push(item(alloc, "leg", 0, 0)?)?;
-    instance_of(alloc, 2, Vec::new(alloc), items)
+    table.backlog_cost = Some(costs);
+    table.needs = needs;
+    Ok(table)
+}
+
+// This table and its legs.
+fn table_and_leg(alloc: Global) -> Result<Vec<DraftItem>, AllocError> {
+    let table = table(alloc)?;
+    let leg = item(alloc, "leg", 0, 0)?;
+    Ok(vec![in alloc; table, leg]?)
+}
+
+// The instance of both.
+fn tables(alloc: Global) -> Result<Instance, Fail> {
+    instance_of(alloc, 2, Vec::new(alloc), table_and_leg(alloc)?)
 }
 
 fn row(alloc: Global, instance: &Instance, name: RowName) -> Result<Row, Fail> {
     Ok(base_row(alloc, instance, name).ok().ok_or("no such row")?)
+}
+
+// The right side of a row with just these terms, and whether it is an equation; none where it has other
+// terms.
+fn right_beside(row: &Row, terms: &[Term]) -> Option<(i128, bool)> {
+    if row.terms() == terms {
+        Some((row.right(), row.is_equal()))
+    } else {
+        None
+    }
+}
+
+// The same of a row of an instance.
+fn right_of(
+    alloc: Global,
+    instance: &Instance,
+    name: RowName,
+    terms: &[Term],
+) -> Result<Option<(i128, bool)>, Fail> {
+    let row = row(alloc, instance, name)?;
+    Ok(right_beside(&row, terms))
+}
+
+// The same of a row of the shop.
+fn in_shop(alloc: Global, name: RowName, terms: &[Term]) -> Result<Option<(i128, bool)>, Fail> {
+    let instance = shop(alloc)?;
+    right_of(alloc, &instance, name, terms)
+}
+
+// The same of a row of the tables.
+fn in_tables(alloc: Global, name: RowName, terms: &[Term]) -> Result<Option<(i128, bool)>, Fail> {
+    let instance = tables(alloc)?;
+    right_of(alloc, &instance, name, terms)
 }
 
 fn x(item: u32, period: u32, times: i128) -> Term {
@@ -83,49 +122,52 @@ fn r(item: u32, period: u32, times: i128) -> Term {
 #[test]
 fn balances(rt: HostRuntime) -> Result<(), Fail> {
     let alloc = rt.alloc();
-    let instance = shop(alloc)?;
-    let first = row(alloc, &instance, RowName::Balance(1, 1))?;
-    assert!(rt; first.terms() == &[x(1, 1, 1), s(1, 1, -1)][..]);
-    assert_eq!(rt; (first.right(), first.is_equal()), (2, true));
-    let second = row(alloc, &instance, RowName::Balance(1, 2))?;
-    assert!(rt; second.terms() == &[x(1, 2, 1), s(1, 1, 1), s(1, 2, -1)][..]);
-    assert_eq!(rt; (second.right(), second.is_equal()), (8, true));
+    let first = in_shop(alloc, RowName::Balance(1, 1), &[x(1, 1, 1), s(1, 1, -1)])?;
+    let terms = [x(1, 2, 1), s(1, 1, 1), s(1, 2, -1)];
+    let second = in_shop(alloc, RowName::Balance(1, 2), &terms)?;
+    assert_eq!(rt; (first, second), (Some((2, true)), Some((8, true))));
     Ok(())
 }
 
 #[test]
 fn balances_with_components_and_backlog(rt: HostRuntime) -> Result<(), Fail> {
     let alloc = rt.alloc();
-    let instance = tables(alloc)?;
-    let first = row(alloc, &instance, RowName::Balance(1, 1))?;
-    assert!(rt; first.terms() == &[x(1, 1, 1), s(1, 1, -1), r(1, 1, 1)][..]);
-    assert_eq!(rt; first.right(), 2);
-    let last = row(alloc, &instance, RowName::Balance(1, 2))?;
-    assert!(rt; last.terms() == &[x(1, 2, 1), s(1, 1, 1), s(1, 2, -1), r(1, 1, -1)][..]);
-    let legs = row(alloc, &instance, RowName::Balance(2, 2))?;
-    assert!(rt; legs.terms() == &[x(1, 2, -2), x(2, 2, 1), s(2, 1, 1), s(2, 2, -1)][..]);
-    assert_eq!(rt; legs.right(), 0);
+    let terms = [x(1, 1, 1), s(1, 1, -1), r(1, 1, 1)];
+    let first = in_tables(alloc, RowName::Balance(1, 1), &terms)?;
+    let terms = [x(1, 2, 1), s(1, 1, 1), s(1, 2, -1), r(1, 1, -1)];
+    let last = in_tables(alloc, RowName::Balance(1, 2), &terms)?;
+    assert_eq!(rt; (first, last), (Some((2, true)), Some((5, true))));
+    let terms = [x(1, 2, -2), x(2, 2, 1), s(2, 1, 1), s(2, 2, -1)];
+    let legs = in_tables(alloc, RowName::Balance(2, 2), &terms)?;
+    assert_eq!(rt; legs, Some((0, true)));
     Ok(())
 }
 
 #[test]
 fn inequalities(rt: HostRuntime) -> Result<(), Fail> {
     let alloc = rt.alloc();
-    let instance = shop(alloc)?;
-    let link = row(alloc, &instance, RowName::Link(1, 2))?;
-    assert!(rt; link.terms() == &[x(1, 2, -1), y(1, 2, 10)][..]);
-    assert_eq!(rt; (link.right(), link.is_equal()), (0, false));
-    let capacity = row(alloc, &instance, RowName::Capacity(1, 1))?;
-    assert!(rt; capacity.terms() == &[x(1, 1, -1), y(1, 1, -1)][..]);
-    assert_eq!(rt; capacity.right(), -6);
-    let least = row(alloc, &instance, RowName::EndMin(1))?;
-    assert!(rt; least.terms() == &[s(1, 2, 1)][..]);
-    let largest = row(alloc, &instance, RowName::EndMax(1))?;
-    assert!(rt; largest.terms() == &[s(1, 2, -1)][..]);
-    let top = row(alloc, &instance, RowName::Top(1, 1))?;
-    assert!(rt; top.terms() == &[y(1, 1, -1)][..]);
-    assert_eq!(rt; (least.right(), largest.right(), top.right()), (0, 0, -1));
+    let link = in_shop(alloc, RowName::Link(1, 2), &[x(1, 2, -1), y(1, 2, 10)])?;
+    let capacity = in_shop(alloc, RowName::Capacity(1, 1), &[x(1, 1, -1), y(1, 1, -1)])?;
+    assert_eq!(rt; (link, capacity), (Some((0, false)), Some((-6, false))));
     Ok(())
+}
+
+#[test]
+fn inequalities_of_one_column(rt: HostRuntime) -> Result<(), Fail> {
+    let alloc = rt.alloc();
+    let least = in_shop(alloc, RowName::EndMin(1), &[s(1, 2, 1)])?;
+    let largest = in_shop(alloc, RowName::EndMax(1), &[s(1, 2, -1)])?;
+    let top = in_shop(alloc, RowName::Top(1, 1), &[y(1, 1, -1)])?;
+    assert_eq!(rt;
+        (least, largest, top),
+        (Some((0, false)), Some((0, false)), Some((-1, false)))
+    );
+    Ok(())
+}
+
+// Why a row of an instance isn't made; none where it is.
+fn fault(alloc: Global, instance: &Instance, name: RowName) -> Option<RowFault> {
+    base_row(alloc, instance, name).err()
 }
 
 #[test]
@@ -145,10 +187,11 @@ fn rows_that_do_not_exist(rt: HostRuntime) -> Result<(), Fail> {
         RowName::Path(1),
         RowName::Cut(1),
     ] {
-        match base_row(alloc, &instance, name) {
-            Ok(_) => return Err("a row that the model doesn't have".into()),
-            Err(fault) => assert_eq!(rt; fault, RowFault::NoSuchRow),
-        }
+        assert_eq!(rt;
+            fault(alloc, &instance, name),
+            Some(RowFault::NoSuchRow),
+            "{name}"
+        );
     }
     Ok(())
 }
@@ -193,20 +236,25 @@ fn columns_of_numbers(rt: HostRuntime) -> Result<(), Fail> {
     Ok(())
 }
 
+// What a unit costs in the column of a number, if there is one.
+fn cost_at(instance: &Instance, number: u32) -> Option<u64> {
+    match column_at(instance, number) {
+        Some(column) => Some(column_cost(instance, column)),
+        None => None,
+    }
+}
+
 #[test]
 fn costs_of_columns(rt: HostRuntime) -> Result<(), Fail> {
     let alloc = rt.alloc();
     let instance = tables(alloc)?;
     for (number, cost) in [(1u32, 0u64), (5, 10), (9, 1), (13, 1)] {
-        match column_at(&instance, number) {
-            Some(column) => assert_eq!(rt; column_cost(&instance, column), cost),
-            None => return Err("no such column".into()),
-        }
+        assert_eq!(rt; cost_at(&instance, number), Some(cost));
     }
     Ok(())
 }
 
-// Adds a multiple of a row of an instance to sums.
+// Adds a multiple of a row of an instance to sums; false where they pass 128 bits.
 fn add(
     alloc: Global,
     instance: &Instance,
@@ -218,25 +266,36 @@ fn add(
     if !sums.has_columns(&row) {
         return Err("columns that aren't there".into());
     }
-    match sums.add_times(&row, times) {
-        Ok(()) => Ok(true),
-        Err(SumFault::Passed128) => Ok(false),
+    Ok(sums.add_times(&row, times) != Err(SumFault::Passed128))
+}
+
+// The sums of multiples of rows of an instance.
+fn sums_of(alloc: Global, instance: &Instance, rows: &[(RowName, i128)]) -> Result<Sums, Fail> {
+    let mut sums = Sums::new(alloc, instance)?;
+    for (name, times) in rows {
+        if !add(alloc, instance, &mut sums, *name, *times)? {
+            return Err("sums that pass 128 bits".into());
+        }
     }
+    Ok(sums)
+}
+
+// The sums of multiples of rows of the shop.
+fn sums_in_shop(alloc: Global, rows: &[(RowName, i128)]) -> Result<Sums, Fail> {
+    let instance = shop(alloc)?;
+    sums_of(alloc, &instance, rows)
 }
 
 #[test]
 fn sums_of_rows(rt: HostRuntime) -> Result<(), Fail> {
     let alloc = rt.alloc();
-    let instance = shop(alloc)?;
-    let mut sums = Sums::new(alloc, &instance)?;
-    for name in [
-        RowName::Link(1, 2),
-        RowName::Balance(1, 2),
-        RowName::Capacity(1, 1),
-        RowName::Balance(1, 1),
-    ] {
-        assert!(rt; add(alloc, &instance, &mut sums, name, 1)?);
-    }
+    let rows = [
+        (RowName::Link(1, 2), 1i128),
+        (RowName::Balance(1, 2), 1),
+        (RowName::Capacity(1, 1), 1),
+        (RowName::Balance(1, 1), 1),
+    ];
+    let sums = sums_in_shop(alloc, &rows)?;
     for term in [
         x(1, 1, 0),
         x(1, 2, 0),
@@ -250,22 +309,65 @@ fn sums_of_rows(rt: HostRuntime) -> Result<(), Fail> {
         assert_eq!(rt; sums.column(term.column), term.times);
     }
     assert_eq!(rt; sums.right(), 4);
-    assert!(rt; add(alloc, &instance, &mut sums, RowName::Balance(1, 1), -8)?);
-    assert_eq!(rt; sums.right(), -12);
     Ok(())
+}
+
+// The right side of these sums, before and after eight times a balance is taken away.
+fn right_before_and_after(alloc: Global) -> Result<(i128, bool, i128), Fail> {
+    let instance = shop(alloc)?;
+    let rows = [
+        (RowName::Link(1, 2), 1i128),
+        (RowName::Balance(1, 2), 1),
+        (RowName::Capacity(1, 1), 1),
+        (RowName::Balance(1, 1), 1),
+    ];
+    let mut sums = sums_of(alloc, &instance, &rows)?;
+    let before = sums.right();
+    let is_added = add(alloc, &instance, &mut sums, RowName::Balance(1, 1), -8)?;
+    Ok((before, is_added, sums.right()))
+}
+
+#[test]
+fn rows_that_are_taken_away(rt: HostRuntime) -> Result<(), Fail> {
+    let alloc = rt.alloc();
+    assert_eq!(rt; right_before_and_after(alloc)?, (4, true, -12));
+    Ok(())
+}
+
+// The setup's column and the right side of sums that are cleared, and after twice a row is added to them.
+fn cleared_and_after(
+    alloc: Global,
+    instance: &Instance,
+) -> Result<((i128, i128), bool, (i128, i128)), Fail> {
+    let setup = y(1, 2, 1).column;
+    let mut sums = sums_of(alloc, instance, &[(RowName::Link(1, 2), 1i128)])?;
+    sums.clear();
+    let cleared = (sums.column(setup), sums.right());
+    let is_added = add(alloc, instance, &mut sums, RowName::Link(1, 2), 2)?;
+    Ok((cleared, is_added, (sums.column(setup), sums.right())))
 }
 
 #[test]
 fn sums_that_are_cleared(rt: HostRuntime) -> Result<(), Fail> {
     let alloc = rt.alloc();
     let instance = shop(alloc)?;
-    let mut sums = Sums::new(alloc, &instance)?;
-    assert!(rt; add(alloc, &instance, &mut sums, RowName::Link(1, 2), 1)?);
-    sums.clear();
-    assert_eq!(rt; (sums.column(y(1, 2, 1).column), sums.right()), (0, 0));
-    assert!(rt; add(alloc, &instance, &mut sums, RowName::Link(1, 2), 2)?);
-    assert_eq!(rt; (sums.column(y(1, 2, 1).column), sums.right()), (20, 0));
+    assert_eq!(rt;
+        cleared_and_after(alloc, &instance)?,
+        ((0, 0), true, (20, 0))
+    );
     Ok(())
+}
+
+// Whether a multiple of a row is added to sums, and then the column of the first setup and the right side.
+fn after(
+    alloc: Global,
+    instance: &Instance,
+    sums: &mut Sums,
+    name: RowName,
+    times: i128,
+) -> Result<(bool, i128, i128), Fail> {
+    let is_added = add(alloc, instance, sums, name, times)?;
+    Ok((is_added, sums.column(y(1, 1, 1).column), sums.right()))
 }
 
 #[test]
@@ -274,112 +376,145 @@ fn sums_that_pass_128_bits(rt: HostRuntime) -> Result<(), Fail> {
     let instance = shop(alloc)?;
     let mut sums = Sums::new(alloc, &instance)?;
     let half = 1i128 << 126;
-    let column = Column::Y { item: 1, period: 1 };
-    assert!(rt; add(alloc, &instance, &mut sums, RowName::Top(1, 1), half)?);
-    assert!(rt; !add(alloc, &instance, &mut sums, RowName::Top(1, 1), -half)?);
-    assert_eq!(rt; (sums.column(column), sums.right()), (-half, -half));
-    assert!(rt; add(alloc, &instance, &mut sums, RowName::Top(1, 1), 1 - half)?);
-    assert_eq!(rt; (sums.column(column), sums.right()), (-1, -1));
-    assert!(rt; !add(alloc, &instance, &mut sums, RowName::Link(1, 2), half)?);
-    assert!(rt; !add(alloc, &instance, &mut sums, RowName::Link(1, 2), i128::MIN)?);
+    for (name, times, is_added, sum) in [
+        (RowName::Top(1, 1), half, true, -half),
+        (RowName::Top(1, 1), -half, false, -half),
+        (RowName::Top(1, 1), 1 - half, true, -1),
+        (RowName::Link(1, 2), half, false, -1),
+        (RowName::Link(1, 2), i128::MIN, false, -1),
+    ] {
+        let found = after(alloc, &instance, &mut sums, name, times)?;
+        assert_eq!(rt; found, (is_added, sum, sum), "{name} {times}");
+    }
     Ok(())
 }
 
-// A part that arrives a period after its start, in lots of 3 to 6, over three periods.
-fn lots(alloc: Global) -> Result<Instance, Fail> {
-    let mut part = idle_item(alloc, String::from_str(alloc, "part")?, 3)?;
-    part.demand = vec![in alloc; 2i64, 4i64, 5i64]?;
+// A part that arrives a period after its start, in lots of 3 to 6.
+fn part(alloc: Global) -> Result<DraftItem, AllocError> {
+    let mut part = plain_item(
+        alloc,
+        "part",
+        &[2, 4, 5],
+        &[0, 0, 0],
+        &[10, 10, 10],
+        &[1, 1, 1],
+    )?;
     part.opening = 2;
     part.lead = 1;
     part.min_lot = 3;
     part.max_lot = Some(6);
-    instance_of(alloc, 3, Vec::new(alloc), vec![in alloc; part]?)
+    Ok(part)
+}
+
+// This part over three periods.
+fn lots(alloc: Global) -> Result<Instance, Fail> {
+    let items = only(alloc, part(alloc)?)?;
+    instance_of(alloc, 3, Vec::new(alloc), items)
+}
+
+// The right side of a row of the part with just these terms, and whether it is an equation.
+fn in_lots(alloc: Global, name: RowName, terms: &[Term]) -> Result<Option<(i128, bool)>, Fail> {
+    let instance = lots(alloc)?;
+    right_of(alloc, &instance, name, terms)
 }
 
 #[test]
 fn balances_of_lead_times(rt: HostRuntime) -> Result<(), Fail> {
     let alloc = rt.alloc();
-    let instance = lots(alloc)?;
-    let first = row(alloc, &instance, RowName::Balance(1, 1))?;
-    assert!(rt; first.terms() == &[s(1, 1, -1)][..]);
-    assert_eq!(rt; (first.right(), first.is_equal()), (0, true));
-    let second = row(alloc, &instance, RowName::Balance(1, 2))?;
-    assert!(rt; second.terms() == &[x(1, 1, 1), s(1, 1, 1), s(1, 2, -1)][..]);
-    assert_eq!(rt; second.right(), 4);
+    let first = in_lots(alloc, RowName::Balance(1, 1), &[s(1, 1, -1)])?;
+    let terms = [x(1, 1, 1), s(1, 1, 1), s(1, 2, -1)];
+    let second = in_lots(alloc, RowName::Balance(1, 2), &terms)?;
+    assert_eq!(rt; (first, second), (Some((0, true)), Some((4, true))));
     Ok(())
 }
 
 #[test]
 fn rows_of_lots(rt: HostRuntime) -> Result<(), Fail> {
     let alloc = rt.alloc();
-    let instance = lots(alloc)?;
-    let link = row(alloc, &instance, RowName::Link(1, 2))?;
-    assert!(rt; link.terms() == &[x(1, 2, -1), y(1, 2, 6)][..]);
-    let least = row(alloc, &instance, RowName::Least(1, 2))?;
-    assert!(rt; least.terms() == &[x(1, 2, 1), y(1, 2, -3)][..]);
+    let link = in_lots(alloc, RowName::Link(1, 2), &[x(1, 2, -1), y(1, 2, 6)])?;
+    let least = in_lots(alloc, RowName::Least(1, 2), &[x(1, 2, 1), y(1, 2, -3)])?;
+    assert_eq!(rt; (link, least), (Some((0, false)), Some((0, false))));
     Ok(())
 }
 
 #[test]
 fn rows_of_late_lots(rt: HostRuntime) -> Result<(), Fail> {
     let alloc = rt.alloc();
+    let late = in_lots(alloc, RowName::Late(1, 3), &[x(1, 3, -1)])?;
+    assert_eq!(rt; late, Some((0, false)));
     let instance = lots(alloc)?;
-    let late = row(alloc, &instance, RowName::Late(1, 3))?;
-    assert!(rt; late.terms() == &[x(1, 3, -1)][..]);
-    assert!(rt; !late.is_equal());
-    match base_row(alloc, &instance, RowName::Late(1, 2)) {
-        Ok(_) => Err("a row that the model doesn't have".into()),
-        Err(fault) => {
-            assert_eq!(rt; fault, RowFault::NoSuchRow);
-            Ok(())
-        }
-    }
+    assert_eq!(rt;
+        fault(alloc, &instance, RowName::Late(1, 2)),
+        Some(RowFault::NoSuchRow)
+    );
+    Ok(())
 }
 
 // Most periods of a draft.
 const PERIODS: usize = 120;
 
-// As many items and periods as a draft may have. Each item may be late, and takes a unit of time for each
-// unit and each setup.
-fn largest(alloc: Global) -> Result<Instance, Fail> {
-    let mut items = Vec::with_capacity(alloc, MAX_ITEMS as usize)?;
+// An item that may be late, and takes a unit of time for each unit and each setup.
+fn largest_item(alloc: Global, number: u32) -> Result<DraftItem, AllocError> {
+    let uses = vec![in alloc; usage(alloc, "m", 1, MAX_AMOUNT as i64)?]?;
+    let costs = times(alloc, PERIODS, 2)?;
+    let name = format!(in alloc; "item{number}")?;
+    let mut one = steady_item(alloc, name.as_str(), PERIODS, [0, 0, 10, 1])?;
+    one.backlog_cost = Some(costs);
+    one.end_max = Some(MAX_END_STOCK as i64);
+    one.uses = uses;
+    Ok(one)
+}
+
+// As many of them as a draft may have.
+fn largest_items(alloc: Global) -> Result<Vec<DraftItem>, AllocError> {
+    let mut items = Vec::new(alloc);
     for number in 0..MAX_ITEMS {
-        let name = format!(in alloc; "item{number}")?;
-        let mut one = idle_item(alloc, name, PERIODS)?;
-        one.backlog_cost = Some(times(alloc, PERIODS, 2)?);
-        one.end_max = Some(MAX_END_STOCK as i64);
-        one.uses.push(usage(alloc, "m", 1, MAX_AMOUNT as i64)?)?;
-        items.push(one)?;
+        items.push(largest_item(alloc, number)?)?;
     }
-    let resource = resource(alloc, "m", &times(alloc, PERIODS, MAX_AMOUNT as i64)?)?;
-    instance_of(alloc, PERIODS as i64, vec![in alloc; resource]?, items)
+    Ok(items)
+}
+
+// A resource with as much time in each period as there may be.
+fn largest_machine(alloc: Global) -> Result<Vec<DraftResource>, AllocError> {
+    let capacity = times(alloc, PERIODS, MAX_AMOUNT as i64)?;
+    machine(alloc, &capacity)
+}
+
+// As many items and periods as a draft may have.
+fn largest(alloc: Global) -> Result<Instance, Fail> {
+    let items = largest_items(alloc)?;
+    instance_of(alloc, PERIODS as i64, largest_machine(alloc)?, items)
 }
 
 #[test]
 fn columns_of_the_largest_instance(rt: HostRuntime) -> Result<(), Fail> {
     let alloc = rt.alloc();
     let instance = largest(alloc)?;
-    assert_eq!(rt; column_count(&instance), 19_160);
+    let last = column_number(&instance, r(40, 119, 1).column);
+    let after = column_number(&instance, r(40, 120, 1).column);
     assert_eq!(rt;
-        column_number(&instance, r(40, 119, 1).column),
-        Some(19_160)
+        (column_count(&instance), last, after),
+        (19_160, Some(19_160), None)
     );
-    assert_eq!(rt; column_number(&instance, r(40, 120, 1).column), None);
     Ok(())
+}
+
+// How many terms a row of an instance has, and its right side.
+fn size_of(alloc: Global, instance: &Instance, name: RowName) -> Result<(usize, i128), Fail> {
+    let row = row(alloc, instance, name)?;
+    Ok((row.terms().len(), row.right()))
 }
 
 #[test]
 fn rows_of_the_largest_instance(rt: HostRuntime) -> Result<(), Fail> {
     let alloc = rt.alloc();
     let instance = largest(alloc)?;
-    let capacity = row(alloc, &instance, RowName::Capacity(1, 120))?;
+    let capacity = size_of(alloc, &instance, RowName::Capacity(1, 120))?;
+    let end = right_of(alloc, &instance, RowName::EndMax(40), &[s(40, 120, -1)])?;
     assert_eq!(rt;
-        (capacity.terms().len(), capacity.right()),
-        (80, -1_000_000_000)
+        (capacity, end),
+        ((80, -1_000_000_000), Some((-2_000_000_000, false)))
     );
-    let end = row(alloc, &instance, RowName::EndMax(40))?;
-    assert!(rt; end.terms() == &[s(40, 120, -1)][..]);
-    assert_eq!(rt; end.right(), -2_000_000_000);
     Ok(())
 }
 
@@ -387,8 +522,7 @@ fn rows_of_the_largest_instance(rt: HostRuntime) -> Result<(), Fail> {
 fn sums_of_the_largest_instance(rt: HostRuntime) -> Result<(), Fail> {
     let alloc = rt.alloc();
     let instance = largest(alloc)?;
-    let mut sums = Sums::new(alloc, &instance)?;
-    assert!(rt; add(alloc, &instance, &mut sums, RowName::Capacity(1, 120), 3)?);
+    let sums = sums_of(alloc, &instance, &[(RowName::Capacity(1, 120), 3i128)])?;
     assert_eq!(rt; sums.column(y(40, 120, 1).column), -3_000_000_000);
     Ok(())
 }
@@ -416,13 +550,18 @@ fn texts_of_faults(rt: HostRuntime) -> Result<(), Fail> {
     ] {
         assert_eq!(rt; format!(in alloc; "{fault}")?.as_str(), text);
     }
-    let none = format!(in alloc; "{}", RowFault::NoSuchRow)?;
+    Ok(())
+}
+
+#[test]
+fn text_of_a_row_that_is_not_there(rt: HostRuntime) -> Result<(), Fail> {
+    let none = format!(in rt.alloc(); "{}", RowFault::NoSuchRow)?;
     assert_eq!(rt; none.as_str(), "there is no such row");
     Ok(())
 }
 
 #[test]
-fn texts_of_columns_and_names(rt: HostRuntime) -> Result<(), Fail> {
+fn texts_of_columns(rt: HostRuntime) -> Result<(), Fail> {
     let alloc = rt.alloc();
     for (column, text) in [
         (Column::X { item: 1, period: 2 }, "x 1 2"),
@@ -438,6 +577,12 @@ fn texts_of_columns_and_names(rt: HostRuntime) -> Result<(), Fail> {
     ] {
         assert_eq!(rt; format!(in alloc; "{column}")?.as_str(), text);
     }
+    Ok(())
+}
+
+#[test]
+fn texts_of_names(rt: HostRuntime) -> Result<(), Fail> {
+    let alloc = rt.alloc();
     for (name, text) in [
         (RowName::Balance(1, 2), "balance 1 2"),
         (RowName::Link(1, 2), "link 1 2"),
@@ -492,10 +637,21 @@ fn values_with_backlogs(rt: HostRuntime) -> Result<(), Fail> {
 fn values_without_backlogs(rt: HostRuntime) -> Result<(), Fail> {
     let alloc = rt.alloc();
     let point = numbered(alloc, &shop(alloc)?)?;
-    assert!(rt; point.value(s(1, 2, 1).column) == Frac::from(6u64));
-    assert!(rt; point.value(r(1, 1, 1).column) == Frac::from(0u64));
-    assert_eq!(rt; (point.values().len(), point.into_values().len()), (6, 6));
+    let is_stock = point.value(s(1, 2, 1).column) == Frac::from(6u64);
+    let is_late = point.value(r(1, 1, 1).column) == Frac::from(0u64);
+    let counts = (point.values().len(), point.into_values().len());
+    assert_eq!(rt; (is_stock, is_late, counts), (true, true, (6, 6)));
     Ok(())
+}
+
+// The right side of a bound's row with just this term, and whether it is an equation.
+fn right_of_bound(
+    alloc: Global,
+    bound: Bound,
+    term: Term,
+) -> Result<Option<(i128, bool)>, AllocError> {
+    let row = bound.row(alloc)?;
+    Ok(right_beside(&row, &[term]))
 }
 
 #[test]
@@ -506,17 +662,14 @@ fn rows_of_bounds(rt: HostRuntime) -> Result<(), Fail> {
         column,
         most: true,
         number: 7,
-    }
-    .row(alloc)?;
-    assert!(rt; most.terms() == &[x(1, 2, -1)][..]);
-    assert_eq!(rt; (most.right(), most.is_equal()), (-7, false));
+    };
     let least = Bound {
         column,
         most: false,
         number: 8,
-    }
-    .row(alloc)?;
-    assert!(rt; least.terms() == &[x(1, 2, 1)][..]);
-    assert_eq!(rt; (least.right(), least.is_equal()), (8, false));
+    };
+    let most = right_of_bound(alloc, most, x(1, 2, -1))?;
+    let least = right_of_bound(alloc, least, x(1, 2, 1))?;
+    assert_eq!(rt; (most, least), (Some((-7, false)), Some((8, false))));
     Ok(())
 }

@@ -54,13 +54,21 @@ fn least_cost(alloc: Global, single: &SingleItem) -> Result<Option<u128>, AllocE
     Ok(Some(solve(alloc, single)?.cost))
 }
 
-// What the recursion over servers finds for an item within bounds, and that with counted steps where there
-// is no backlog.
-fn others_of<L: Ledger>(
-    alloc: Global,
-    single: &SingleItem,
-    blank: Blank,
-) -> Result<(Blocks, Blocks), Fail>
+// What the recursion whose steps aren't counted finds for an item within bounds, or that over servers where
+// there is backlog.
+fn uncounted(alloc: Global, single: &SingleItem) -> Result<Blocks, Fail> {
+    if !is_within_bounds(single) {
+        return Err("not within bounds".into());
+    }
+    if single.back.is_some() {
+        return Ok(solve_over_servers(alloc, single)?);
+    }
+    Ok(solve_plain(alloc, single)?)
+}
+
+// What the recursion with counted steps finds for an item within bounds, or that over servers where there is
+// backlog.
+fn counted_on<L: Ledger>(alloc: Global, single: &SingleItem, blank: Blank) -> Result<Blocks, Fail>
     requires name { blank.name ≡ L.name }
     requires parts { blank.parts ≡ L.parts }
     requires some { 0 < L.parts }
@@ -69,12 +77,28 @@ fn others_of<L: Ledger>(
         return Err("not within bounds".into());
     }
     if single.back.is_some() {
-        let found = solve_over_servers(alloc, single)?;
-        return Ok((found, solve_over_servers(alloc, single)?));
+        return Ok(solve_over_servers(alloc, single)?);
     }
     let mut steps = Steps::<L>::new(blank);
-    let counted = solve_counted(alloc, single, &mut steps)?;
-    Ok((solve_plain(alloc, single)?, counted))
+    Ok(solve_counted(alloc, single, &mut steps)?)
+}
+
+// The same on a ledger of its own.
+fn counted(alloc: Global, single: &SingleItem) -> Result<Blocks, Fail> {
+    counted_on::<Brand>(alloc, single, Blank::new(1))
+}
+
+// The costs that these two find.
+fn other_costs(alloc: Global, single: &SingleItem) -> Result<(u128, u128), Fail> {
+    let uncounted = uncounted(alloc, single)?.cost;
+    let counted = counted(alloc, single)?.cost;
+    Ok((uncounted, counted))
+}
+
+// The cost that the recursion finds for an item within bounds.
+fn cost_of(alloc: Global, single: &SingleItem) -> Result<u128, Fail> {
+    let found = blocks_of(alloc, single)?;
+    Ok(found.cost)
 }
 
 // What the plain form finds for an item within bounds.
@@ -172,19 +196,24 @@ fn least_of_all_setups(single: &SingleItem) -> Option<u128> {
     best
 }
 
-#[test]
-fn twelve_periods(rt: HostRuntime) -> Result<(), Fail> {
-    let alloc = rt.alloc();
+// An item over twelve periods.
+fn twelve(alloc: Global) -> Result<SingleItem, AllocError> {
     let net = [69u128, 29, 36, 61, 61, 26, 34, 67, 45, 67, 79, 56];
     let setup = [85u64, 102, 102, 101, 98, 114, 105, 86, 119, 110, 98, 114];
-    let single = item(alloc, &net, &setup, &[0u64; 12], &[1u64; 12], None)?;
-    let found = blocks_of(alloc, &single)?;
-    assert_eq!(rt; found.cost, 864);
-    assert_eq!(rt; found.potentials.last().copied(), Some(864));
-    let (plain, counted) = others_of::<Brand>(alloc, &single, Blank::new(1))?;
-    assert_eq!(rt; (plain.cost, counted.cost), (864, 864));
-    assert!(rt; plain.blocks == found.blocks && counted.blocks == found.blocks);
-    assert!(rt; plain.potentials == found.potentials && counted.potentials == found.potentials);
+    item(alloc, &net, &setup, &[0u64; 12], &[1u64; 12], None)
+}
+
+// What the recursion finds for it.
+fn blocks_of_twelve(alloc: Global) -> Result<Blocks, Fail> {
+    let single = twelve(alloc)?;
+    blocks_of(alloc, &single)
+}
+
+#[test]
+fn twelve_periods(rt: HostRuntime) -> Result<(), Fail> {
+    let found = blocks_of_twelve(rt.alloc())?;
+    let last = found.potentials.last().copied();
+    assert_eq!(rt; (found.cost, last), (864, Some(864)));
     let blocks = [
         (1u32, 2u32, 1u32),
         (3, 4, 3),
@@ -207,84 +236,145 @@ fn twelve_periods(rt: HostRuntime) -> Result<(), Fail> {
     Ok(())
 }
 
+// The cost of what is found, and whether its blocks and potentials are those that were found before.
+fn beside(found: &Blocks, before: &Blocks) -> (u128, bool, bool) {
+    let is_blocks = found.blocks == before.blocks;
+    (found.cost, is_blocks, found.potentials == before.potentials)
+}
+
+// What the recursion finds whose steps aren't counted, beside what was found before.
+fn uncounted_beside(
+    alloc: Global,
+    single: &SingleItem,
+    before: &Blocks,
+) -> Result<(u128, bool, bool), Fail> {
+    let found = uncounted(alloc, single)?;
+    Ok(beside(&found, before))
+}
+
+// The same of the recursion with counted steps.
+fn counted_beside(
+    alloc: Global,
+    single: &SingleItem,
+    before: &Blocks,
+) -> Result<(u128, bool, bool), Fail> {
+    let found = counted(alloc, single)?;
+    Ok(beside(&found, before))
+}
+
 #[test]
-fn known_items(rt: HostRuntime) -> Result<(), Fail> {
+fn other_recursions_over_twelve_periods(rt: HostRuntime) -> Result<(), Fail> {
     let alloc = rt.alloc();
-    let none = item(alloc, &[0u128], &[5u64], &[0u64], &[0u64], None)?;
-    let found = blocks_of(alloc, &none)?;
+    let single = twelve(alloc)?;
+    let before = blocks_of(alloc, &single)?;
+    let uncounted = uncounted_beside(alloc, &single, &before)?;
+    let counted = counted_beside(alloc, &single, &before)?;
     assert_eq!(rt;
-        (found.cost, found.blocks.len(), found.potentials.len()),
-        (0, 0, 0)
-    );
-    let one = item(alloc, &[10u128], &[5u64], &[2u64], &[0u64], None)?;
-    assert_eq!(rt; blocks_of(alloc, &one)?.cost, 25);
-    let two = item(
-        alloc,
-        &[4u128, 6],
-        &[100u64, 20],
-        &[0u64, 0],
-        &[1u64, 1],
-        None,
-    )?;
-    assert_eq!(rt; least_cost(alloc, &two)?, Some(106));
-    let late = item(
-        alloc,
-        &[4u128, 6],
-        &[100u64, 20],
-        &[0u64, 0],
-        &[1u64, 1],
-        Some(&[2u64, 2]),
-    )?;
-    assert_eq!(rt; least_cost(alloc, &late)?, None);
-    let found = blocks_of(alloc, &late)?;
-    assert_eq!(rt; found.cost, 28);
-    assert_eq!(rt;
-        found.blocks.first().copied(),
-        Some(Block {
-            first: 1,
-            last: 2,
-            server: 2
-        })
+        (uncounted, counted),
+        ((864, true, true), (864, true, true))
     );
     Ok(())
 }
 
+// The cost that is found for an item within bounds, and how many blocks and potentials.
+fn sizes_of(alloc: Global, single: &SingleItem) -> Result<(u128, usize, usize), Fail> {
+    let found = blocks_of(alloc, single)?;
+    Ok((found.cost, found.blocks.len(), found.potentials.len()))
+}
+
+#[test]
+fn an_item_of_which_nothing_is_asked(rt: HostRuntime) -> Result<(), Fail> {
+    let alloc = rt.alloc();
+    let none = item(alloc, &[0u128], &[5u64], &[0u64], &[0u64], None)?;
+    assert_eq!(rt; sizes_of(alloc, &none)?, (0, 0, 0));
+    Ok(())
+}
+
+#[test]
+fn an_item_over_one_period(rt: HostRuntime) -> Result<(), Fail> {
+    let alloc = rt.alloc();
+    let one = item(alloc, &[10u128], &[5u64], &[2u64], &[0u64], None)?;
+    assert_eq!(rt; cost_of(alloc, &one)?, 25);
+    Ok(())
+}
+
+// An item over two periods, with these backlog costs.
+fn two_periods(alloc: Global, back: Option<&[u64]>) -> Result<SingleItem, AllocError> {
+    let (net, setup) = ([4u128, 6], [100u64, 20]);
+    item(alloc, &net, &setup, &[0u64, 0], &[1u64, 1], back)
+}
+
+#[test]
+fn an_item_over_two_periods(rt: HostRuntime) -> Result<(), Fail> {
+    let alloc = rt.alloc();
+    let two = two_periods(alloc, None)?;
+    assert_eq!(rt; least_cost(alloc, &two)?, Some(106));
+    Ok(())
+}
+
+// The cost that is found for an item within bounds, and the first block.
+fn first_of(alloc: Global, single: &SingleItem) -> Result<(u128, Option<Block>), Fail> {
+    let found = blocks_of(alloc, single)?;
+    Ok((found.cost, found.blocks.first().copied()))
+}
+
+#[test]
+fn an_item_that_may_be_late(rt: HostRuntime) -> Result<(), Fail> {
+    let alloc = rt.alloc();
+    let late = two_periods(alloc, Some(&[2u64, 2]))?;
+    assert_eq!(rt; least_cost(alloc, &late)?, None);
+    let block = Block {
+        first: 1,
+        last: 2,
+        server: 2,
+    };
+    assert_eq!(rt; first_of(alloc, &late)?, (28, Some(block)));
+    Ok(())
+}
+
+// An item whose numbers are all at their limits, with these backlog costs.
+fn largest(alloc: Global, back: Option<&[u64]>) -> Result<SingleItem, AllocError> {
+    let costs = [1_000_000_000u64; 120];
+    item(
+        alloc,
+        &[8_333_333_333u128; 120],
+        &costs,
+        &costs,
+        &costs,
+        back,
+    )
+}
+
+// Each net demand is made in its own period.
+const LARGEST_COST: u128 = 120 * (1_000_000_000 + 8_333_333_333 * 1_000_000_000);
+
 #[test]
 fn numbers_at_their_limits(rt: HostRuntime) -> Result<(), Fail> {
     let alloc = rt.alloc();
-    let mut single = SingleItem {
-        net: vec![in alloc; 8_333_333_333u128; 120]?,
-        setup: vec![in alloc; 1_000_000_000u64; 120]?,
-        unit: vec![in alloc; 1_000_000_000u64; 120]?,
-        hold: vec![in alloc; 1_000_000_000u64; 120]?,
-        back: Some(vec![in alloc; 1_000_000_000u64; 120]?),
-    };
-    // each net demand is made in its own period
-    let found = blocks_of(alloc, &single)?;
-    assert_eq!(rt;
-        found.cost,
-        120 * (1_000_000_000 + 8_333_333_333 * 1_000_000_000)
-    );
-    single.back = None;
-    assert_eq!(rt; blocks_of(alloc, &single)?.cost, found.cost);
-    assert_eq!(rt;
-        others_of::<Brand>(alloc, &single, Blank::new(1))?.0.cost,
-        found.cost
-    );
+    let late = largest(alloc, Some(&[1_000_000_000u64; 120]))?;
+    assert_eq!(rt; cost_of(alloc, &late)?, LARGEST_COST);
+    Ok(())
+}
+
+#[test]
+fn numbers_at_their_limits_without_backlog(rt: HostRuntime) -> Result<(), Fail> {
+    let alloc = rt.alloc();
+    let single = largest(alloc, None)?;
+    assert_eq!(rt; cost_of(alloc, &single)?, LARGEST_COST);
+    assert_eq!(rt; other_costs(alloc, &single)?, (LARGEST_COST, LARGEST_COST));
     Ok(())
 }
 
 // Compares the recursion with its plain form and with all ways to place setups, for one item.
 fn compare(alloc: Global, single: &SingleItem) -> Result<(), Fail> {
-    let cost = blocks_of(alloc, single)?.cost;
+    let cost = cost_of(alloc, single)?;
     if Some(cost) != least_of_all_setups(single) {
         return Err("another cost than that of all ways to place setups".into());
     }
     if plain_of(alloc, single)? != cost {
         return Err("another cost than that of the plain form".into());
     }
-    let (plain, counted) = others_of::<Brand>(alloc, single, Blank::new(1))?;
-    if plain.cost != cost || counted.cost != cost {
+    if other_costs(alloc, single)? != (cost, cost) {
         return Err("another cost than that of the other recursions".into());
     }
     Ok(())

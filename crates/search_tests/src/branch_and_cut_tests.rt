@@ -3,56 +3,64 @@ ghost use Rattle.std.specs.Prelude.{◌≤◌};
 use branch_and_cut::{Found, Ranges, RootSays, search, search_all};
 use cert_checker::check;
 use certificate::{Claim, is_writable};
-use fixtures::{instance_of, plain_item, usage};
+use fixtures::{instance_of, resource, steady_item, times, usage};
 use lot_model::{DraftItem, DraftResource, DraftUse, Instance};
 use std::alloc::{AllocError, Global};
 use std::test::Fail;
 
-// An item with a setup cost and a hold cost in each of its periods, which takes a unit of time for each unit and for a
-// setup where there is a resource.
-fn item(
-    alloc: Global,
-    demand: &[i64],
-    setup_cost: i64,
-    hold_cost: i64,
-    uses: Vec<DraftUse>,
-) -> Result<DraftItem, AllocError> {
-    let mut setup = Vec::new(alloc);
-    setup.resize(demand.len(), setup_cost)?;
-    let mut hold = Vec::new(alloc);
-    hold.resize(demand.len(), hold_cost)?;
-    let mut unit = Vec::new(alloc);
-    unit.resize(demand.len(), 0)?;
-    let mut made = plain_item(alloc, "A", demand, &unit, &setup, &hold)?;
-    made.uses = uses;
+// An item with this demand, a setup cost of 10 and a hold cost of 1 in each of its periods.
+fn item(alloc: Global, demand: &[i64]) -> Result<DraftItem, AllocError> {
+    let mut made = steady_item(alloc, "A", demand.len(), [0, 0, 10, 1])?;
+    made.demand = demand.to_vec(alloc)?;
     Ok(made)
+}
+
+// A unit of time of the resource for each unit and for a setup.
+fn uses(alloc: Global) -> Result<Vec<DraftUse>, AllocError> {
+    let one = usage(alloc, "M", 1, 1)?;
+    Ok(vec![in alloc; one]?)
+}
+
+// The item, on the resource.
+fn shared(alloc: Global, demand: &[i64]) -> Result<DraftItem, AllocError> {
+    let mut made = item(alloc, demand)?;
+    made.uses = uses(alloc)?;
+    Ok(made)
+}
+
+// The resource, with this capacity in each period.
+fn machines(
+    alloc: Global,
+    periods: usize,
+    capacity: i64,
+) -> Result<Vec<DraftResource>, AllocError> {
+    let capacities = times(alloc, periods, capacity)?;
+    let machine = resource(alloc, "M", &capacities)?;
+    Ok(vec![in alloc; machine]?)
+}
+
+// The model of one item.
+fn one_item(
+    alloc: Global,
+    periods: i64,
+    resources: Vec<DraftResource>,
+    only: DraftItem,
+) -> Result<Instance, Fail> {
+    let items = vec![in alloc; only]?;
+    instance_of(alloc, periods, resources, items)
 }
 
 // One item on a resource of this capacity.
 fn model(alloc: Global, demand: &[i64], capacity: i64) -> Result<Instance, Fail> {
-    let mut times = Vec::new(alloc);
-    times.resize(demand.len(), capacity)?;
-    let resource = DraftResource {
-        name: String::from_str(alloc, "M")?,
-        capacity: times,
-    };
-    let uses = vec![in alloc; usage(alloc, "M", 1, 1)?]?;
-    instance_of(
-        alloc,
-        demand.len() as i64,
-        vec![in alloc; resource]?,
-        vec![in alloc; item(alloc, demand, 10, 1, uses)?]?,
-    )
+    let resources = machines(alloc, demand.len(), capacity)?;
+    let only = shared(alloc, demand)?;
+    one_item(alloc, demand.len() as i64, resources, only)
 }
 
 // One item without a resource.
 fn alone(alloc: Global, demand: &[i64]) -> Result<Instance, Fail> {
-    instance_of(
-        alloc,
-        demand.len() as i64,
-        Vec::new(alloc),
-        vec![in alloc; item(alloc, demand, 10, 1, Vec::new(alloc))?]?,
-    )
+    let only = item(alloc, demand)?;
+    one_item(alloc, demand.len() as i64, Vec::new(alloc), only)
 }
 
 // What is found of one item on a resource of this capacity, once the checker accepts it.
@@ -67,16 +75,36 @@ fn found(alloc: Global, demand: &[i64], capacity: i64, budget: u64) -> Result<Fo
     Ok(found)
 }
 
+// How much a plan makes in the first and the second of two periods.
+fn made(found: &Found) -> Result<(u64, u64), Fail> {
+    match &found.plan {
+        Some(plan) => {
+            if (plan.make.items(), plan.make.periods()) != (1, 2) {
+                return Err("another instance".into());
+            }
+            Ok((plan.make.get(1, 1), plan.make.get(1, 2)))
+        }
+        None => Err("no plan".into()),
+    }
+}
+
+// The claim of one item in two periods on a resource of 6, whether its certificate can be written, and how much its plan
+// makes in each period.
+fn best(alloc: Global, demand: &[i64]) -> Result<(Claim, bool, (u64, u64)), Fail> {
+    let found = found(alloc, demand, 6, 1_000)?;
+    let quantities = made(&found)?;
+    Ok((
+        found.certificate.claim,
+        is_writable(&found.certificate),
+        quantities,
+    ))
+}
+
 // Both periods make 5 units, of which 3 are held.
 #[test]
 fn a_best_plan_is_found(rt: HostRuntime) -> Result<(), Fail> {
     let alloc = rt.alloc();
-    let found = found(alloc, &[2, 8], 6, 1_000)?;
-    assert_eq!(rt; found.certificate.claim, Claim::Optimal(23));
-    assert!(rt; is_writable(&found.certificate));
-    let plan = found.plan.ok_or("no plan")?;
-    assert_eq!(rt; (plan.make.items(), plan.make.periods()), (1, 2));
-    assert_eq!(rt; (plan.make.get(1, 1), plan.make.get(1, 2)), (5, 5));
+    assert_eq!(rt; best(alloc, &[2, 8])?, (Claim::Optimal(23), true, (5, 5)));
     Ok(())
 }
 
@@ -85,25 +113,30 @@ fn a_best_plan_is_found(rt: HostRuntime) -> Result<(), Fail> {
 fn that_there_is_no_plan_is_found(rt: HostRuntime) -> Result<(), Fail> {
     let alloc = rt.alloc();
     let found = found(alloc, &[10], 9, 1)?;
-    assert_eq!(rt; found.certificate.claim, Claim::Infeasible);
+    let claim = found.certificate.claim;
+    assert_eq!(rt; (claim, found.plan.is_none()), (Claim::Infeasible, true));
     assert_eq!(rt; (found.root, found.nodes), (RootSays::Empty, 1));
-    assert!(rt; found.plan.is_none());
     Ok(())
+}
+
+// What is claimed of one item without a resource, what the root says, and the nodes of the search.
+fn said_alone(alloc: Global, demand: &[i64]) -> Result<(Claim, RootSays, u64), Fail> {
+    let instance = alone(alloc, demand)?;
+    let found = search_all(alloc, &instance, 1, None)?;
+    Ok((found.certificate.claim, found.root, found.nodes))
 }
 
 // Without a resource the items are planned by themselves: one setup for both periods costs 10, and holding 8 units costs 8.
 #[test]
 fn an_uncoupled_model_takes_one_node(rt: HostRuntime) -> Result<(), Fail> {
     let alloc = rt.alloc();
-    let instance = alone(alloc, &[2, 8])?;
-    let found = search_all(alloc, &instance, 1, None)?;
-    assert_eq!(rt; found.certificate.claim, Claim::Optimal(18));
-    assert_eq!(rt; (found.root, found.nodes), (RootSays::Uncoupled, 1));
+    let said = (Claim::Optimal(18), RootSays::Uncoupled, 1);
+    assert_eq!(rt; said_alone(alloc, &[2, 8])?, said);
     Ok(())
 }
 
-// What is found of an item in two periods, of which between so much and so much is made in the first one.
-fn between(alloc: Global, instance: &Instance, low: u64, high: u64) -> Result<Found, Fail> {
+// The ranges of an item in two periods, of which between so much and so much is made in the first one.
+fn ranges_of(alloc: Global, instance: &Instance, low: u64, high: u64) -> Result<Ranges, Fail> {
     let mut ranges = Ranges::all(alloc, instance)?;
     if (ranges.low.items(), ranges.low.periods()) != (1, 2)
         || (ranges.high.items(), ranges.high.periods()) != (1, 2)
@@ -112,50 +145,109 @@ fn between(alloc: Global, instance: &Instance, low: u64, high: u64) -> Result<Fo
     }
     ranges.low.set(1, 1, low);
     ranges.high.set(1, 1, high);
+    Ok(ranges)
+}
+
+// What is found within these ranges.
+fn between(alloc: Global, instance: &Instance, low: u64, high: u64) -> Result<Found, Fail> {
+    let ranges = ranges_of(alloc, instance, low, high)?;
     if !ranges.are_of(instance) {
         return Err("no ranges of the instance".into());
     }
     Ok(search(alloc, instance, ranges, 1_000, None)?)
 }
 
-// How much a plan makes in the first and the second of two periods.
-fn made(found: Found) -> Result<(u64, u64), Fail> {
-    let plan = found.plan.ok_or("no plan")?;
-    if (plan.make.items(), plan.make.periods()) != (1, 2) {
-        return Err("another instance".into());
+// A demand of 2 and of 8, on a resource of 11 or by itself.
+fn two_lots(alloc: Global, is_shared: bool) -> Result<Instance, Fail> {
+    if is_shared {
+        model(alloc, &[2, 8], 11)
+    } else {
+        alone(alloc, &[2, 8])
     }
-    Ok((plan.make.get(1, 1), plan.make.get(1, 2)))
 }
 
-// Both lots in one period cost 18. With at most 5 units in the first period two setups are needed, and to hold nothing is
-// best; with no more than 1 unit there nothing is feasible.
+// The claim of a search over all ranges, and how much its plan makes in each period.
+fn best_of_all(alloc: Global, is_shared: bool) -> Result<(Claim, (u64, u64)), Fail> {
+    let instance = two_lots(alloc, is_shared)?;
+    let found = search_all(alloc, &instance, 1_000, None)?;
+    let quantities = made(&found)?;
+    Ok((found.certificate.claim, quantities))
+}
+
+// What is claimed within ranges, and whether there is no plan.
+fn claimed(alloc: Global, is_shared: bool, low: u64, high: u64) -> Result<(Claim, bool), Fail> {
+    let instance = two_lots(alloc, is_shared)?;
+    let found = between(alloc, &instance, low, high)?;
+    Ok((found.certificate.claim, found.plan.is_none()))
+}
+
+// How much the plan within ranges makes in each period.
+fn made_within(alloc: Global, is_shared: bool, low: u64, high: u64) -> Result<(u64, u64), Fail> {
+    let instance = two_lots(alloc, is_shared)?;
+    let found = between(alloc, &instance, low, high)?;
+    made(&found)
+}
+
+// Both lots in one period cost 18.
+#[test]
+fn a_best_plan_of_all_is_found(rt: HostRuntime) -> Result<(), Fail> {
+    let alloc = rt.alloc();
+    let best = (Claim::Optimal(18), (10, 0));
+    assert_eq!(rt; best_of_all(alloc, true)?, best);
+    assert_eq!(rt; best_of_all(alloc, false)?, best);
+    Ok(())
+}
+
+// With at most 5 units in the first period two setups are needed, and to hold nothing is best; with no more than 1 unit there
+// nothing is feasible.
 #[test]
 fn a_best_plan_within_ranges_is_found(rt: HostRuntime) -> Result<(), Fail> {
     let alloc = rt.alloc();
-    for instance in [model(alloc, &[2, 8], 11)?, alone(alloc, &[2, 8])?] {
-        let all = search_all(alloc, &instance, 1_000, None)?;
-        assert_eq!(rt; all.certificate.claim, Claim::Optimal(18));
-        assert_eq!(rt; made(all)?, (10, 0));
-        let whole = between(alloc, &instance, 0, 10)?;
-        assert_eq!(rt; whole.certificate.claim, Claim::Optimal(18));
-        let less = between(alloc, &instance, 0, 5)?;
-        assert_eq!(rt; less.certificate.claim, Claim::Optimal(20));
-        assert_eq!(rt; made(less)?, (2, 8));
-        let one = between(alloc, &instance, 5, 5)?;
-        assert_eq!(rt; one.certificate.claim, Claim::Optimal(23));
-        let none = between(alloc, &instance, 0, 1)?;
-        assert_eq!(rt; none.certificate.claim, Claim::Infeasible);
-        assert!(rt; none.plan.is_none());
+    for (is_shared, low, high, claim) in [
+        (true, 0u64, 10u64, Claim::Optimal(18)),
+        (true, 0, 5, Claim::Optimal(20)),
+        (true, 5, 5, Claim::Optimal(23)),
+        (true, 0, 1, Claim::Infeasible),
+        (false, 0, 10, Claim::Optimal(18)),
+        (false, 0, 5, Claim::Optimal(20)),
+        (false, 5, 5, Claim::Optimal(23)),
+        (false, 0, 1, Claim::Infeasible),
+    ] {
+        let want = (claim, claim == Claim::Infeasible);
+        assert_eq!(rt;
+            claimed(alloc, is_shared, low, high)?,
+            want,
+            "at most {high}"
+        );
     }
     Ok(())
 }
 
 #[test]
+fn a_plan_stays_within_its_ranges(rt: HostRuntime) -> Result<(), Fail> {
+    let alloc = rt.alloc();
+    assert_eq!(rt; made_within(alloc, true, 0, 5)?, (2, 8));
+    assert_eq!(rt; made_within(alloc, false, 0, 5)?, (2, 8));
+    Ok(())
+}
+
+// All ranges of this demand.
+fn all_ranges(alloc: Global, demand: &[i64]) -> Result<Ranges, Fail> {
+    let instance = alone(alloc, demand)?;
+    Ok(Ranges::all(alloc, &instance)?)
+}
+
+// Whether the ranges of one demand are ranges of another.
+fn fit(alloc: Global, demand: &[i64], other: &[i64]) -> Result<bool, Fail> {
+    let ranges = all_ranges(alloc, demand)?;
+    let instance = alone(alloc, other)?;
+    Ok(ranges.are_of(&instance))
+}
+
+#[test]
 fn ranges_of_another_shape_are_told(rt: HostRuntime) -> Result<(), Fail> {
     let alloc = rt.alloc();
-    let longer = alone(alloc, &[2, 8, 1])?;
-    let ranges = Ranges::all(alloc, &alone(alloc, &[2, 8])?)?;
-    assert!(rt; !ranges.are_of(&longer));
-    assert!(rt; Ranges::all(alloc, &longer)?.are_of(&longer));
+    assert!(rt; !fit(alloc, &[2, 8], &[2, 8, 1])?);
+    assert!(rt; fit(alloc, &[2, 8, 1], &[2, 8, 1])?);
     Ok(())
 }

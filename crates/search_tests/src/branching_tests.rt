@@ -62,72 +62,135 @@ fn accepted(alloc: Global, periods: u32, items: Vec<DraftItem>) -> Result<Found,
     Ok(found)
 }
 
+// The text of a certificate, once it is read.
+fn read_text(alloc: Global, bytes: &[u8]) -> Result<Vec<u8>, Fail> {
+    let read = read_certificate(alloc, bytes).ok().ok_or("not read")?;
+    Ok(write_certificate(alloc, &read)?)
+}
+
 // The text of what is found, once it is read back.
 fn text(alloc: Global, found: &Found) -> Result<Vec<u8>, Fail> {
     let bytes = write_certificate(alloc, &found.certificate)?;
-    let read = read_certificate(alloc, &bytes).ok().ok_or("not read")?;
-    let again = write_certificate(alloc, &read)?;
+    let again = read_text(alloc, &bytes)?;
     if again.as_slice() != bytes.as_slice() {
         return Err("another certificate".into());
     }
     Ok(bytes)
 }
 
+// Whether what is found is read back as this text.
+fn is_text(alloc: Global, found: &Found, want: &str) -> Result<bool, Fail> {
+    let bytes = text(alloc, found)?;
+    Ok(bytes.as_slice() == want.as_bytes())
+}
+
+// What is found of A and of another item, once the checker accepts it.
+fn found_with(alloc: Global, other: DraftItem) -> Result<Found, Fail> {
+    let first = item(alloc, "A", 0)?;
+    let items = vec![in alloc; first, other]?;
+    accepted(alloc, 2, items)
+}
+
+// What is found of A and of B, which may be late.
+fn found_late(alloc: Global) -> Result<Found, Fail> {
+    let mut owed = item(alloc, "B", 0)?;
+    owed.backlog_cost = Some(vec![in alloc; 2i64, 2i64]?);
+    found_with(alloc, owed)
+}
+
+// What is found of A and of B, of which more is left than may be.
+fn found_full(alloc: Global) -> Result<Found, Fail> {
+    let mut full = item(alloc, "B", 16)?;
+    full.end_max = Some(5);
+    found_with(alloc, full)
+}
+
+// How much is made of the first of two items in the first of two periods, and of the second one in the second.
+fn made(found: &Found) -> Result<(u64, u64), Fail> {
+    match &found.plan {
+        Some(plan) => {
+            if (plan.make.items(), plan.make.periods()) != (2, 2) {
+                return Err("another instance".into());
+            }
+            Ok((plan.make.get(1, 1), plan.make.get(2, 2)))
+        }
+        None => Err("no plan".into()),
+    }
+}
+
 #[test]
 fn a_best_plan_is_proved(rt: HostRuntime) -> Result<(), Fail> {
     let alloc = rt.alloc();
-    let mut owed = item(alloc, "B", 0)?;
-    owed.backlog_cost = Some(vec![in alloc; 2i64, 2i64]?);
-    let found = accepted(alloc, 2, vec![in alloc; item(alloc, "A", 0)?, owed]?)?;
-    assert_eq!(rt; found.certificate.claim, Claim::Optimal(134));
-    assert_eq!(rt; found.certificate.cuts.len(), 2);
+    let found = found_late(alloc)?;
+    let certificate = &found.certificate;
+    assert_eq!(rt;
+        (certificate.claim, certificate.cuts.len()),
+        (Claim::Optimal(134), 2)
+    );
     assert_eq!(rt; (found.root, found.nodes), (RootSays::Uncoupled, 1));
-    assert!(rt; text(alloc, &found)?.as_slice() == BEST.as_bytes());
-    let plan = found.plan.ok_or("no plan")?;
-    assert_eq!(rt; (plan.make.items(), plan.make.periods()), (2, 2));
-    assert_eq!(rt; (plan.make.get(1, 1), plan.make.get(2, 2)), (10, 10));
+    assert!(rt; is_text(alloc, &found, BEST)?);
+    Ok(())
+}
+
+#[test]
+fn a_best_plan_is_made(rt: HostRuntime) -> Result<(), Fail> {
+    let alloc = rt.alloc();
+    let found = found_late(alloc)?;
+    assert_eq!(rt; made(&found)?, (10, 10));
     Ok(())
 }
 
 #[test]
 fn that_there_is_no_room_is_proved(rt: HostRuntime) -> Result<(), Fail> {
     let alloc = rt.alloc();
-    let mut full = item(alloc, "B", 16)?;
-    full.end_max = Some(5);
-    let found = accepted(alloc, 2, vec![in alloc; item(alloc, "A", 0)?, full]?)?;
-    assert_eq!(rt; found.certificate.claim, Claim::Infeasible);
-    assert!(rt; found.plan.is_none());
+    let found = found_full(alloc)?;
+    let claim = found.certificate.claim;
+    assert_eq!(rt; (claim, found.plan.is_none()), (Claim::Infeasible, true));
     assert_eq!(rt; (found.root, found.nodes), (RootSays::Uncoupled, 1));
-    assert!(rt; text(alloc, &found)?.as_slice() == FULL.as_bytes());
+    assert!(rt; is_text(alloc, &found, FULL)?);
     Ok(())
+}
+
+// What is claimed of one item with the largest amounts in one period.
+fn largest(alloc: Global) -> Result<Claim, Fail> {
+    let only = steady(alloc, 1, 1, [MOST, MOST, MOST])?;
+    let items = vec![in alloc; only]?;
+    let found = accepted(alloc, 1, items)?;
+    Ok(found.certificate.claim)
 }
 
 #[test]
 fn the_largest_amounts_are_proved(rt: HostRuntime) -> Result<(), Fail> {
     let alloc = rt.alloc();
-    let found = accepted(
-        alloc,
-        1,
-        vec![in alloc; steady(alloc, 1, 1, [MOST, MOST, MOST])?]?,
-    )?;
-    assert_eq!(rt;
-        found.certificate.claim,
-        Claim::Optimal(1_000_000_001_000_000_000)
-    );
+    assert_eq!(rt; largest(alloc)?, Claim::Optimal(1_000_000_001_000_000_000));
     Ok(())
+}
+
+// As many items as there may be, which are asked for a unit in each period.
+fn most_items(alloc: Global) -> Result<Vec<DraftItem>, AllocError> {
+    let mut items = Vec::new(alloc);
+    for number in 1u32..=MAX_ITEMS {
+        items.push(steady(alloc, number, MAX_PERIODS as usize, [1, 0, 5])?)?;
+    }
+    Ok(items)
+}
+
+// What is found of as many items and periods as there may be.
+fn found_most(alloc: Global) -> Result<Found, Fail> {
+    let items = most_items(alloc)?;
+    accepted(alloc, MAX_PERIODS, items)
 }
 
 #[test]
 fn the_most_items_are_proved(rt: HostRuntime) -> Result<(), Fail> {
     let alloc = rt.alloc();
-    let mut items = Vec::new(alloc);
-    for number in 1u32..=MAX_ITEMS {
-        items.push(steady(alloc, number, MAX_PERIODS as usize, [1, 0, 5])?)?;
-    }
-    let found = accepted(alloc, MAX_PERIODS, items)?;
+    let found = found_most(alloc)?;
     // One setup of each item, in the first period.
-    assert_eq!(rt; found.certificate.claim, Claim::Optimal(200));
-    assert_eq!(rt; found.certificate.cuts.len(), 40);
+    let certificate = &found.certificate;
+    assert_eq!(rt;
+        (certificate.claim, certificate.cuts.len()),
+        (Claim::Optimal(200), 40)
+    );
     assert!(rt; is_writable(&found.certificate));
     text(alloc, &found)?;
     Ok(())

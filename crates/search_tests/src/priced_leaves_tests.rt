@@ -2,87 +2,118 @@ use cert_checker::{check, lines_are_bytes};
 use cert_lines::{Claim, Cut, Leaf, Part};
 use certificate::{Certificate, Tree, read_certificate, write_certificate};
 use echelon::Explosion;
-use fixtures::{need, plain_item, resource, times, usage};
+use fixtures::{instance_of, need, resource, steady_item, times, usage};
 use lin_rows::{Bound, Column, RowName};
-use lot_model::{Draft, DraftItem, Instance};
+use lot_model::{DraftItem, DraftNeed, DraftResource, DraftUse, Instance};
 use priced_leaves::{
-    DualPrices, Held, Priced, Pricing, Reached, Rounds, dropped_leaf, fixed_setups, priced_leaf,
-    split_prices,
+    DualPrices, Fixed, Held, Priced, Pricing, Reached, Rounds, dropped_leaf, fixed_setups,
+    priced_leaf, split_prices,
 };
 use std::alloc::{AllocError, Global};
 use std::boxed::Box;
 use std::test::Fail;
 
+// An hour of the resource for each unit and for a setup.
+fn uses(alloc: Global) -> Result<Vec<DraftUse>, AllocError> {
+    let one = usage(alloc, "m", 1, 1)?;
+    Ok(vec![in alloc; one]?)
+}
+
 // An item with these demands. A setup costs 10 and takes an hour, as each unit does; a unit in stock costs 1.
 fn item(alloc: Global, name: &str, demand: &[i64]) -> Result<DraftItem, AllocError> {
-    let usage = usage(alloc, "m", 1, 1)?;
-    let mut made = plain_item(
-        alloc,
-        name,
-        demand,
-        &times(alloc, demand.len(), 0)?,
-        &times(alloc, demand.len(), 10)?,
-        &times(alloc, demand.len(), 1)?,
-    )?;
-    made.uses = vec![in alloc; usage]?;
+    let mut made = steady_item(alloc, name, demand.len(), [0, 0, 10, 1])?;
+    made.demand = demand.to_vec(alloc)?;
+    made.uses = uses(alloc)?;
     Ok(made)
+}
+
+// The resource, with so many hours in each period.
+fn machines(alloc: Global, hours: &[i64]) -> Result<Vec<DraftResource>, AllocError> {
+    let machine = resource(alloc, "m", hours)?;
+    Ok(vec![in alloc; machine]?)
 }
 
 // Items on a resource with so many hours in each period.
 fn shop(alloc: Global, hours: &[i64], items: Vec<DraftItem>) -> Result<Instance, Fail> {
-    let resource = resource(alloc, "m", hours)?;
-    let periods = i64::try_from(hours.len()).ok().ok_or("too many")?;
-    let draft = Draft {
-        periods,
-        resources: vec![in alloc; resource]?,
-        items,
-    };
-    Ok(Instance::from_draft(alloc, draft).ok().ok_or("refused")?)
+    let resources = machines(alloc, hours)?;
+    instance_of(alloc, hours.len() as i64, resources, items)
 }
 
 // One item with demands 2 and 8: what it costs at least without whole setups is 77/4.
 fn alone(alloc: Global, hours: i64) -> Result<Instance, Fail> {
     let only = item(alloc, "A", &[2, 8])?;
-    shop(alloc, &[hours, hours], vec![in alloc; only]?)
+    let items = vec![in alloc; only]?;
+    shop(alloc, &[hours, hours], items)
 }
 
-// A goes into nothing and takes two of B, which takes one of C. B and C are there at first.
-fn chain(alloc: Global) -> Result<Vec<DraftItem>, AllocError> {
-    let mut top = item(alloc, "A", &[3, 0, 7, 4])?;
-    let mut middle = item(alloc, "B", &[0, 5, 1, 1])?;
-    let mut low = item(alloc, "C", &[0, 0, 2, 0])?;
-    top.hold_cost = times(alloc, 4, 5)?;
-    top.needs.push(need(alloc, "B", 2)?)?;
-    middle.needs.push(need(alloc, "C", 1)?)?;
-    middle.opening = 4;
-    middle.end_max = Some(0);
-    low.opening = 9;
-    low.end_max = Some(0);
-    Ok(vec![in alloc; top, middle, low]?)
+// So many of an item that go into another one.
+fn needs(alloc: Global, name: &str, quantity: i64) -> Result<Vec<DraftNeed>, AllocError> {
+    let one = need(alloc, name, quantity)?;
+    Ok(vec![in alloc; one]?)
 }
 
-// The chain alone, with end stocks of A from 1 to 6, with backlogs of A, and with a lead time of C.
-fn models(alloc: Global) -> Result<Vec<Instance>, Fail> {
-    let mut loose = chain(alloc)?;
-    let mut late = chain(alloc)?;
-    let mut slow = chain(alloc)?;
-    for first in loose.iter_mut().take(1) {
-        first.end_min = 1;
-        first.end_max = Some(6);
-    }
-    for first in late.iter_mut().take(1) {
-        first.backlog_cost = Some(times(alloc, 4, 6)?);
-    }
-    for last in slow.iter_mut().skip(2) {
-        last.lead = 1;
-    }
-    let hours = [22, 22, 22, 22];
-    Ok(vec![in alloc;
-        shop(alloc, &hours, chain(alloc)?)?,
-        shop(alloc, &hours, loose)?,
-        shop(alloc, &hours, late)?,
-        shop(alloc, &hours, slow)?,
-    ]?)
+// A goes into nothing and takes two of B.
+fn first_item(alloc: Global) -> Result<DraftItem, AllocError> {
+    let mut made = item(alloc, "A", &[3, 0, 7, 4])?;
+    made.hold_cost = times(alloc, 4, 5)?;
+    made.needs = needs(alloc, "B", 2)?;
+    Ok(made)
+}
+
+// B takes one of C, and is there at first.
+fn second_item(alloc: Global) -> Result<DraftItem, AllocError> {
+    let mut made = item(alloc, "B", &[0, 5, 1, 1])?;
+    made.needs = needs(alloc, "C", 1)?;
+    made.opening = 4;
+    made.end_max = Some(0);
+    Ok(made)
+}
+
+// C takes nothing, and is there at first.
+fn third_item(alloc: Global) -> Result<DraftItem, AllocError> {
+    let mut made = item(alloc, "C", &[0, 0, 2, 0])?;
+    made.opening = 9;
+    made.end_max = Some(0);
+    Ok(made)
+}
+
+// The chain of A, B and C.
+fn chain(alloc: Global, first: DraftItem, last: DraftItem) -> Result<Instance, Fail> {
+    let second = second_item(alloc)?;
+    let items = vec![in alloc; first, second, last]?;
+    shop(alloc, &[22, 22, 22, 22], items)
+}
+
+// The chain alone.
+fn plain(alloc: Global) -> Result<Instance, Fail> {
+    let first = first_item(alloc)?;
+    let last = third_item(alloc)?;
+    chain(alloc, first, last)
+}
+
+// The chain with end stocks of A from 1 to 6.
+fn loose(alloc: Global) -> Result<Instance, Fail> {
+    let mut first = first_item(alloc)?;
+    first.end_min = 1;
+    first.end_max = Some(6);
+    let last = third_item(alloc)?;
+    chain(alloc, first, last)
+}
+
+// The chain with backlogs of A.
+fn late(alloc: Global) -> Result<Instance, Fail> {
+    let mut first = first_item(alloc)?;
+    first.backlog_cost = Some(times(alloc, 4, 6)?);
+    let last = third_item(alloc)?;
+    chain(alloc, first, last)
+}
+
+// The chain with a lead time of C.
+fn slow(alloc: Global) -> Result<Instance, Fail> {
+    let first = first_item(alloc)?;
+    let mut last = third_item(alloc)?;
+    last.lead = 1;
+    chain(alloc, first, last)
 }
 
 // Whether the checker takes the text of a certificate.
@@ -127,6 +158,17 @@ fn pricing_of(alloc: Global, instance: &Instance) -> Result<Pricing, Fail> {
     Ok(Pricing::new(alloc, instance, &explosion)?)
 }
 
+// Rounds that start at the prices of the split.
+fn started(
+    alloc: Global,
+    instance: &Instance,
+    pricing: &Pricing,
+    fixed: &Fixed,
+) -> Result<Rounds, Fail> {
+    let start = split_prices(alloc, instance, pricing)?;
+    Ok(Rounds::start(alloc, instance, pricing, start, None, fixed)?)
+}
+
 // The prices of so many rounds at a node, what their leaf is to say, and what was reached.
 fn improved(
     alloc: Global,
@@ -135,9 +177,8 @@ fn improved(
     count: u32,
 ) -> Result<(DualPrices, u128, Reached), Fail> {
     let pricing = pricing_of(alloc, instance)?;
-    let start = split_prices(alloc, instance, &pricing)?;
     let fixed = fixed_setups(alloc, instance, path)?;
-    let mut rounds = Rounds::start(alloc, instance, &pricing, start, None, &fixed)?;
+    let mut rounds = started(alloc, instance, &pricing, &fixed)?;
     let reached = rounds.go_on(alloc, instance, &pricing, &fixed, None, count)?;
     let found = rounds.number();
     let improved = rounds.into_improved();
@@ -184,42 +225,93 @@ fn says(
     is_accepted(alloc, instance, &made)
 }
 
+// The leaf of so many rounds at a node, and what it is to say.
+fn leaf_of_rounds(
+    alloc: Global,
+    instance: &Instance,
+    path: &[Bound],
+    count: u32,
+    first_cut: u32,
+) -> Result<(Priced, u128), Fail> {
+    let (prices, amount, _) = improved(alloc, instance, path, count)?;
+    let found = proposal(alloc, instance, path, &prices, first_cut)?;
+    Ok((found, amount))
+}
+
+// The cuts of one leaf, and those of another after them.
+fn joined(cuts: Vec<Cut>, more: Vec<Cut>) -> Result<Vec<Cut>, AllocError> {
+    let mut all = cuts;
+    for cut in more {
+        all.push(cut)?;
+    }
+    Ok(all)
+}
+
+// A tree with one leaf where the first setup is 0 and another where it is 1.
+fn split(alloc: Global, low: Leaf, high: Leaf) -> Result<Tree, AllocError> {
+    Ok(Tree::Branch {
+        column: first_setup(true).column,
+        at: 0,
+        low: Box::new(alloc, Tree::Leaf(low))?,
+        high: Box::new(alloc, Tree::Leaf(high))?,
+    })
+}
+
+// A certificate of a claim with leaves at both sides of the first setup.
+fn split_certificate(
+    alloc: Global,
+    claim: Claim,
+    low: Priced,
+    high: Priced,
+) -> Result<Certificate, AllocError> {
+    let tree = split(alloc, leaf(low.parts, low.den), leaf(high.parts, high.den))?;
+    let cuts = joined(low.cuts, high.cuts)?;
+    Ok(Certificate {
+        version: 1,
+        claim,
+        cuts,
+        tree,
+    })
+}
+
 // Whether the leaves of rounds at both sides of the first setup say an amount that takes them both.
 fn split_says(alloc: Global, instance: &Instance, count: u32, more: u128) -> Result<bool, Fail> {
-    let (low_path, high_path) = ([first_setup(true)], [first_setup(false)]);
-    let (low_prices, low_says, _) = improved(alloc, instance, &low_path, count)?;
-    let (high_prices, high_says, _) = improved(alloc, instance, &high_path, count)?;
-    let low = proposal(alloc, instance, &low_path, &low_prices, 1)?;
-    let mut cuts = low.cuts;
-    let first = u32::try_from(cuts.len().saturating_add(1))
+    let (low, low_says) = leaf_of_rounds(alloc, instance, &[first_setup(true)], count, 1)?;
+    let first = u32::try_from(low.cuts.len().saturating_add(1))
         .ok()
         .ok_or("too many")?;
-    let high = proposal(alloc, instance, &high_path, &high_prices, first)?;
-    for cut in high.cuts {
-        cuts.push(cut)?;
-    }
-    let made = Certificate {
-        version: 1,
-        claim: Claim::Bound(low_says.min(high_says).saturating_add(more)),
-        cuts,
-        tree: Tree::Branch {
-            column: first_setup(true).column,
-            at: 0,
-            low: Box::new(alloc, Tree::Leaf(leaf(low.parts, low.den)))?,
-            high: Box::new(alloc, Tree::Leaf(leaf(high.parts, high.den)))?,
-        },
-    };
+    let (high, high_says) = leaf_of_rounds(alloc, instance, &[first_setup(false)], count, first)?;
+    let claim = Claim::Bound(low_says.min(high_says).saturating_add(more));
+    let made = split_certificate(alloc, claim, low, high)?;
     is_accepted(alloc, instance, &made)
+}
+
+// The scale of the prices of the split, and what their leaf is to say.
+fn scale_and_amount(alloc: Global, instance: &Instance) -> Result<(u64, u128), Fail> {
+    let (prices, amount, _) = improved(alloc, instance, &[], 0)?;
+    Ok((prices.scale, amount))
+}
+
+#[test]
+fn a_split_leaf_has_an_amount(rt: HostRuntime) -> Result<(), Fail> {
+    let alloc = rt.alloc();
+    let instance = alone(alloc, 6)?;
+    // All is made in the first period: 10 and the holding of 8 units.
+    assert_eq!(rt; scale_and_amount(alloc, &instance)?, (4096, 18));
+    Ok(())
+}
+
+// The leaf of the prices of the split, whose cuts have numbers from this one.
+fn split_leaf(alloc: Global, hours: i64, first_cut: u32) -> Result<Priced, Fail> {
+    let instance = alone(alloc, hours)?;
+    let (found, _) = leaf_of_rounds(alloc, &instance, &[], 0, first_cut)?;
+    Ok(found)
 }
 
 #[test]
 fn a_split_leaf_has_a_cut(rt: HostRuntime) -> Result<(), Fail> {
     let alloc = rt.alloc();
-    let instance = alone(alloc, 6)?;
-    let (prices, amount, _) = improved(alloc, &instance, &[], 0)?;
-    // All is made in the first period: 10 and the holding of 8 units.
-    assert_eq!(rt; (prices.scale, amount), (4096, 18));
-    let found = proposal(alloc, &instance, &[], &prices, 7)?;
+    let found = split_leaf(alloc, 6, 7)?;
     let part = Part {
         row: RowName::Cut(7),
         times: 1,
@@ -230,15 +322,33 @@ fn a_split_leaf_has_a_cut(rt: HostRuntime) -> Result<(), Fail> {
     Ok(())
 }
 
+// What so many rounds at the root claim, whether the leaf of their prices says it, and whether it says one more.
+fn claimed(alloc: Global, instance: &Instance, count: u32) -> Result<(u128, bool, bool), Fail> {
+    let (prices, amount, _) = improved(alloc, instance, &[], count)?;
+    let as_much = says(alloc, instance, &prices, amount)?;
+    let more = says(alloc, instance, &prices, amount.saturating_add(1))?;
+    Ok((amount, as_much, more))
+}
+
 #[test]
 fn rounds_come_near_their_limit(rt: HostRuntime) -> Result<(), Fail> {
     let alloc = rt.alloc();
     let instance = alone(alloc, 6)?;
-    let (prices, amount, _) = improved(alloc, &instance, &[], 100)?;
-    assert_eq!(rt; amount, 20);
-    assert!(rt; says(alloc, &instance, &prices, 20)?);
-    assert!(rt; !says(alloc, &instance, &prices, 21)?);
+    assert_eq!(rt; claimed(alloc, &instance, 100)?, (20, true, false));
     Ok(())
+}
+
+// What is reached where a plan costs 18, and where one costs 30 after that.
+fn two_ends(
+    alloc: Global,
+    instance: &Instance,
+    pricing: &Pricing,
+    fixed: &Fixed,
+) -> Result<(Reached, Reached), Fail> {
+    let mut rounds = started(alloc, instance, pricing, fixed)?;
+    let first = rounds.go_on(alloc, instance, pricing, fixed, Some(18), 10)?;
+    let second = rounds.go_on(alloc, instance, pricing, fixed, Some(30), 10)?;
+    Ok((first, second))
 }
 
 #[test]
@@ -246,28 +356,86 @@ fn rounds_end_at_the_cost_of_a_plan(rt: HostRuntime) -> Result<(), Fail> {
     let alloc = rt.alloc();
     let instance = alone(alloc, 6)?;
     let pricing = pricing_of(alloc, &instance)?;
-    let start = split_prices(alloc, &instance, &pricing)?;
     let fixed = fixed_setups(alloc, &instance, &[])?;
-    let mut rounds = Rounds::start(alloc, &instance, &pricing, start, None, &fixed)?;
+    let ends = two_ends(alloc, &instance, &pricing, &fixed)?;
     // The leaf of the first prices says 18.
-    let first = rounds.go_on(alloc, &instance, &pricing, &fixed, Some(18), 10)?;
-    assert_eq!(rt; first, Reached::Closed);
-    let second = rounds.go_on(alloc, &instance, &pricing, &fixed, Some(30), 10)?;
-    assert_eq!(rt; second, Reached::Open);
+    assert_eq!(rt; ends, (Reached::Closed, Reached::Open));
     Ok(())
+}
+
+// Whether the leaf of rounds at the root says what they claim, and one more.
+fn root_says(alloc: Global, instance: &Instance) -> Result<(bool, bool), Fail> {
+    let (_, as_much, more) = claimed(alloc, instance, 25)?;
+    Ok((as_much, more))
+}
+
+// Whether the leaves of rounds at both sides of the first setup say what they claim, and one more.
+fn sides_say(alloc: Global, instance: &Instance) -> Result<(bool, bool), Fail> {
+    let as_much = split_says(alloc, instance, 25, 0)?;
+    let more = split_says(alloc, instance, 25, 1)?;
+    Ok((as_much, more))
 }
 
 #[test]
 fn leaves_say_what_rounds_claim(rt: HostRuntime) -> Result<(), Fail> {
     let alloc = rt.alloc();
-    for instance in models(alloc)?.iter() {
-        let (prices, amount, _) = improved(alloc, instance, &[], 25)?;
-        assert!(rt; says(alloc, instance, &prices, amount)?);
-        assert!(rt; !says(alloc, instance, &prices, amount.saturating_add(1))?);
-        assert!(rt; split_says(alloc, instance, 25, 0)?);
-        assert!(rt; !split_says(alloc, instance, 25, 1)?);
-    }
+    let instance = plain(alloc)?;
+    assert_eq!(rt; root_says(alloc, &instance)?, (true, false));
+    assert_eq!(rt; sides_say(alloc, &instance)?, (true, false));
     Ok(())
+}
+
+#[test]
+fn leaves_say_what_rounds_claim_with_end_stocks(rt: HostRuntime) -> Result<(), Fail> {
+    let alloc = rt.alloc();
+    let instance = loose(alloc)?;
+    assert_eq!(rt; root_says(alloc, &instance)?, (true, false));
+    assert_eq!(rt; sides_say(alloc, &instance)?, (true, false));
+    Ok(())
+}
+
+#[test]
+fn leaves_say_what_rounds_claim_with_backlogs(rt: HostRuntime) -> Result<(), Fail> {
+    let alloc = rt.alloc();
+    let instance = late(alloc)?;
+    assert_eq!(rt; root_says(alloc, &instance)?, (true, false));
+    assert_eq!(rt; sides_say(alloc, &instance)?, (true, false));
+    Ok(())
+}
+
+#[test]
+fn leaves_say_what_rounds_claim_with_a_lead_time(rt: HostRuntime) -> Result<(), Fail> {
+    let alloc = rt.alloc();
+    let instance = slow(alloc)?;
+    assert_eq!(rt; root_says(alloc, &instance)?, (true, false));
+    assert_eq!(rt; sides_say(alloc, &instance)?, (true, false));
+    Ok(())
+}
+
+// The leaf of prices with all costs dropped.
+fn dropped(alloc: Global, instance: &Instance, prices: &DualPrices) -> Result<Priced, Fail> {
+    let pricing = pricing_of(alloc, instance)?;
+    let fixed = fixed_setups(alloc, instance, &[])?;
+    let found = dropped_leaf(alloc, instance, &pricing, prices, &fixed, 1)?;
+    Ok(found.ok_or("no leaf")?)
+}
+
+// Whether the checker takes a leaf as one that refutes the rows.
+fn refutes(alloc: Global, instance: &Instance, found: Priced) -> Result<bool, Fail> {
+    let made = Certificate {
+        version: 1,
+        claim: Claim::Infeasible,
+        cuts: found.cuts,
+        tree: Tree::Leaf(Leaf::Farkas { parts: found.parts }),
+    };
+    is_accepted(alloc, instance, &made)
+}
+
+// What so many rounds reach, and whether the leaf of their prices with all costs dropped refutes the rows.
+fn refuted(alloc: Global, instance: &Instance, count: u32) -> Result<(Reached, bool), Fail> {
+    let (prices, _, reached) = improved(alloc, instance, &[], count)?;
+    let found = dropped(alloc, instance, &prices)?;
+    Ok((reached, refutes(alloc, instance, found)?))
 }
 
 #[test]
@@ -275,34 +443,27 @@ fn too_few_hours_are_refuted(rt: HostRuntime) -> Result<(), Fail> {
     let alloc = rt.alloc();
     // 10 units and a setup take 11 hours.
     let instance = alone(alloc, 5)?;
-    let (prices, _, reached) = improved(alloc, &instance, &[], 60)?;
-    assert_eq!(rt; reached, Reached::Refuted);
-    let pricing = pricing_of(alloc, &instance)?;
-    let fixed = fixed_setups(alloc, &instance, &[])?;
-    let dropped = dropped_leaf(alloc, &instance, &pricing, &prices, &fixed, 1)?;
-    let dropped = dropped.ok_or("no leaf")?;
-    let made = Certificate {
-        version: 1,
-        claim: Claim::Infeasible,
-        cuts: dropped.cuts,
-        tree: Tree::Leaf(Leaf::Farkas {
-            parts: dropped.parts,
-        }),
-    };
-    assert!(rt; is_accepted(alloc, &instance, &made)?);
+    assert_eq!(rt; refuted(alloc, &instance, 60)?, (Reached::Refuted, true));
     Ok(())
+}
+
+// What a bound on the first setup holds of the first two setups.
+fn held(alloc: Global, instance: &Instance, most: bool) -> Result<(Held, Held), Fail> {
+    let fixed = fixed_setups(alloc, instance, &[first_setup(most)])?;
+    Ok((fixed.get(1, 1), fixed.get(1, 2)))
 }
 
 #[test]
 fn paths_fix_setups(rt: HostRuntime) -> Result<(), Fail> {
     let alloc = rt.alloc();
     let instance = alone(alloc, 6)?;
-    let path = [first_setup(false)];
-    let fixed = fixed_setups(alloc, &instance, &path)?;
-    assert_eq!(rt; fixed.get(1, 1), Held::AtLeastOne(1));
-    assert_eq!(rt; fixed.get(1, 2), Held::Free);
-    let path = [first_setup(true)];
-    let fixed = fixed_setups(alloc, &instance, &path)?;
-    assert_eq!(rt; fixed.get(1, 1), Held::AtMostZero(1));
+    assert_eq!(rt;
+        held(alloc, &instance, false)?,
+        (Held::AtLeastOne(1), Held::Free)
+    );
+    assert_eq!(rt;
+        held(alloc, &instance, true)?,
+        (Held::AtMostZero(1), Held::Free)
+    );
     Ok(())
 }

@@ -1,7 +1,7 @@
 use cert_checker::{check, lines_are_bytes};
 use certificate::{Certificate, Claim, Leaf, Tree, read_certificate, write_certificate};
-use fixtures::{instance_of, need, resource, times, usage};
-use lot_model::{Draft, DraftItem, DraftUse, Instance};
+use fixtures::{instance_of, need, resource, steady_item, times, usage};
+use lot_model::{DraftItem, DraftNeed, DraftResource, DraftUse, Instance};
 use root_rounds::{Root, RootSays, root};
 use std::alloc::{AllocError, Global};
 use std::test::Fail;
@@ -10,32 +10,26 @@ use std::test::Fail;
 fn item(
     alloc: Global,
     name: &str,
-    demand: Vec<i64>,
+    demand: &[i64],
     setup_cost: i64,
     hold_cost: i64,
 ) -> Result<DraftItem, AllocError> {
-    let periods = demand.len();
-    Ok(DraftItem {
-        name: String::from_str(alloc, name)?,
-        demand,
-        unit_cost: times(alloc, periods, 0)?,
-        setup_cost: times(alloc, periods, setup_cost)?,
-        hold_cost: times(alloc, periods, hold_cost)?,
-        backlog_cost: None,
-        opening: 0,
-        end_min: 0,
-        end_max: None,
-        lead: 0,
-        min_lot: 0,
-        max_lot: None,
-        needs: Vec::new(alloc),
-        uses: Vec::new(alloc),
-    })
+    let mut made = steady_item(alloc, name, demand.len(), [0, 0, setup_cost, hold_cost])?;
+    made.demand = demand.to_vec(alloc)?;
+    Ok(made)
 }
 
 // The use of the machine.
-fn machine_use(alloc: Global, unit: i64, setup: i64) -> Result<DraftUse, AllocError> {
-    usage(alloc, "m", unit, setup)
+fn machine_use(alloc: Global, unit: i64, setup: i64) -> Result<Vec<DraftUse>, AllocError> {
+    let one = usage(alloc, "m", unit, setup)?;
+    Ok(vec![in alloc; one]?)
+}
+
+// The machine, with this capacity in each period.
+fn machines(alloc: Global, periods: u32, capacity: i64) -> Result<Vec<DraftResource>, AllocError> {
+    let capacities = times(alloc, periods as usize, capacity)?;
+    let machine = resource(alloc, "m", &capacities)?;
+    Ok(vec![in alloc; machine]?)
 }
 
 // An instance of items, with a machine of this capacity in each period.
@@ -45,20 +39,25 @@ fn with_machine(
     capacity: i64,
     items: Vec<DraftItem>,
 ) -> Result<Instance, Fail> {
-    let machine = resource(alloc, "m", &times(alloc, periods as usize, capacity)?)?;
-    instance_of(alloc, i64::from(periods), vec![in alloc; machine]?, items)
+    let resources = machines(alloc, periods, capacity)?;
+    instance_of(alloc, i64::from(periods), resources, items)
 }
 
-// Whether the cuts and the leaf, as a certificate that is written and read back, prove a claim.
-fn proves(alloc: Global, instance: &Instance, claim: Claim, found: Root) -> Result<bool, Fail> {
-    lines_are_bytes();
+// The text of a certificate of the cuts and the leaf.
+fn text_of(alloc: Global, claim: Claim, found: Root) -> Result<Vec<u8>, Fail> {
     let certificate = Certificate {
         version: 1,
         claim,
         cuts: found.cuts,
         tree: Tree::Leaf(found.leaf.ok_or("no leaf")?),
     };
-    let bytes = write_certificate(alloc, &certificate)?;
+    Ok(write_certificate(alloc, &certificate)?)
+}
+
+// Whether the cuts and the leaf, as a certificate that is written and read back, prove a claim.
+fn proves(alloc: Global, instance: &Instance, claim: Claim, found: Root) -> Result<bool, Fail> {
+    lines_are_bytes();
+    let bytes = text_of(alloc, claim, found)?;
     if bytes.len() > 10_000 {
         return Err("too long".into());
     }
@@ -68,80 +67,130 @@ fn proves(alloc: Global, instance: &Instance, claim: Claim, found: Root) -> Resu
     }
 }
 
+// Whether the root of an instance proves a claim.
+fn root_proves(alloc: Global, instance: &Instance, claim: Claim) -> Result<bool, Fail> {
+    let found = root(alloc, instance)?;
+    proves(alloc, instance, claim, found)
+}
+
+// What is said at the root, the number of its cuts, and whether there is no leaf.
+fn said(alloc: Global, instance: &Instance) -> Result<(RootSays, usize, bool), Fail> {
+    let found = root(alloc, instance)?;
+    Ok((found.says, found.cuts.len(), found.leaf.is_none()))
+}
+
+// Whether the root's leaf is one of a sum of rows, and whether it is one that refutes them.
+fn kinds(alloc: Global, instance: &Instance) -> Result<(bool, bool), Fail> {
+    let found = root(alloc, instance)?;
+    Ok((
+        matches!(&found.leaf, Some(Leaf::Linear { .. })),
+        matches!(&found.leaf, Some(Leaf::Farkas { .. })),
+    ))
+}
+
+// One item on a machine with 6 hours, of which a unit and a setup take one each.
+fn shop(alloc: Global) -> Result<Instance, Fail> {
+    let mut only = item(alloc, "A", &[2, 8], 10, 1)?;
+    only.uses = machine_use(alloc, 1, 1)?;
+    let items = vec![in alloc; only]?;
+    with_machine(alloc, 2, 6, items)
+}
+
 #[test]
 fn a_shop_is_closed(rt: HostRuntime) -> Result<(), Fail> {
     let alloc = rt.alloc();
-    let mut only = item(alloc, "A", vec![in alloc; 2i64, 8i64]?, 10, 1)?;
-    only.uses.push(machine_use(alloc, 1, 1)?)?;
-    let instance = with_machine(alloc, 2, 6, vec![in alloc; only]?)?;
-    let found = root(alloc, &instance)?;
-    assert_eq!(rt; found.says, RootSays::Closed(20));
-    assert!(rt; found.cuts.len() >= 2);
-    assert!(rt; matches!(&found.leaf, Some(Leaf::Linear { .. })));
-    assert!(rt; proves(alloc, &instance, Claim::Bound(20), found)?);
-    let again = root(alloc, &instance)?;
-    assert!(rt; !proves(alloc, &instance, Claim::Bound(21), again)?);
+    let instance = shop(alloc)?;
+    let (says, cuts, _) = said(alloc, &instance)?;
+    assert_eq!(rt; (says, cuts >= 2), (RootSays::Closed(20), true));
+    assert_eq!(rt; kinds(alloc, &instance)?, (true, false));
+    assert!(rt; root_proves(alloc, &instance, Claim::Bound(20))?);
+    assert!(rt; !root_proves(alloc, &instance, Claim::Bound(21))?);
     Ok(())
+}
+
+// Two of B.
+fn needs(alloc: Global) -> Result<Vec<DraftNeed>, AllocError> {
+    let two = need(alloc, "B", 2)?;
+    Ok(vec![in alloc; two]?)
+}
+
+// A, which is asked for in the second period, and two of B that go into each.
+fn bill(alloc: Global) -> Result<Instance, Fail> {
+    let mut upper = item(alloc, "A", &[0, 5], 10, 3)?;
+    upper.needs = needs(alloc)?;
+    let lower = item(alloc, "B", &[0, 0], 10, 1)?;
+    let items = vec![in alloc; upper, lower]?;
+    instance_of(alloc, 2, Vec::new(alloc), items)
 }
 
 #[test]
 fn a_bill_is_closed(rt: HostRuntime) -> Result<(), Fail> {
     let alloc = rt.alloc();
-    let mut upper = item(alloc, "A", vec![in alloc; 0i64, 5i64]?, 10, 3)?;
-    upper.needs.push(need(alloc, "B", 2)?)?;
-    let lower = item(alloc, "B", vec![in alloc; 0i64, 0i64]?, 10, 1)?;
-    let draft = Draft {
-        periods: 2,
-        resources: Vec::new(alloc),
-        items: vec![in alloc; upper, lower]?,
-    };
-    let instance = Instance::from_draft(alloc, draft).ok().ok_or("refused")?;
-    let found = root(alloc, &instance)?;
-    assert_eq!(rt; found.says, RootSays::Closed(20));
-    assert!(rt; proves(alloc, &instance, Claim::Bound(20), found)?);
+    let instance = bill(alloc)?;
+    let (says, _, _) = said(alloc, &instance)?;
+    assert_eq!(rt; says, RootSays::Closed(20));
+    assert!(rt; root_proves(alloc, &instance, Claim::Bound(20))?);
     Ok(())
+}
+
+// One item of which 10 are asked for, with 9 hours on the machine.
+fn too_little(alloc: Global) -> Result<Instance, Fail> {
+    let mut only = item(alloc, "A", &[10], 0, 0)?;
+    only.uses = machine_use(alloc, 1, 0)?;
+    let items = vec![in alloc; only]?;
+    with_machine(alloc, 1, 9, items)
 }
 
 #[test]
 fn too_little_time_is_empty(rt: HostRuntime) -> Result<(), Fail> {
     let alloc = rt.alloc();
-    let mut only = item(alloc, "A", vec![in alloc; 10i64]?, 0, 0)?;
-    only.uses.push(machine_use(alloc, 1, 0)?)?;
-    let instance = with_machine(alloc, 1, 9, vec![in alloc; only]?)?;
-    let found = root(alloc, &instance)?;
-    assert_eq!(rt; found.says, RootSays::Empty);
-    assert!(rt; matches!(&found.leaf, Some(Leaf::Farkas { .. })));
-    assert!(rt; proves(alloc, &instance, Claim::Infeasible, found)?);
+    let instance = too_little(alloc)?;
+    let (says, _, _) = said(alloc, &instance)?;
+    assert_eq!(rt; says, RootSays::Empty);
+    assert_eq!(rt; kinds(alloc, &instance)?, (false, true));
+    assert!(rt; root_proves(alloc, &instance, Claim::Infeasible)?);
     Ok(())
+}
+
+// An item over 60 periods on the machine, with this number as its name.
+fn long_item(alloc: Global, number: u32) -> Result<DraftItem, AllocError> {
+    let name = number.to_string(alloc)?;
+    let mut one = steady_item(alloc, name.as_str(), 60, [1, 0, 1, 1])?;
+    one.uses = machine_use(alloc, 1, 0)?;
+    Ok(one)
+}
+
+// 40 items over 60 periods.
+fn large_items(alloc: Global) -> Result<Vec<DraftItem>, AllocError> {
+    let mut items = Vec::new(alloc);
+    for number in 1u32..=40 {
+        items.push(long_item(alloc, number)?)?;
+    }
+    Ok(items)
 }
 
 #[test]
 fn a_large_program_is_skipped(rt: HostRuntime) -> Result<(), Fail> {
     let alloc = rt.alloc();
-    let mut items = Vec::new(alloc);
-    for number in 1u32..=40 {
-        let name = number.to_string(alloc)?;
-        let mut one = item(alloc, &name, times(alloc, 60, 1)?, 1, 1)?;
-        one.uses.push(machine_use(alloc, 1, 0)?)?;
-        items.push(one)?;
-    }
+    let items = large_items(alloc)?;
     let instance = with_machine(alloc, 60, 100, items)?;
-    let found = root(alloc, &instance)?;
     // 9,740 rows and 7,200 columns.
-    assert_eq!(rt; found.says, RootSays::Skipped { cells: 70_144_941 });
-    assert!(rt; found.cuts.is_empty());
-    assert!(rt; found.leaf.is_none());
+    let skipped = RootSays::Skipped { cells: 70_144_941 };
+    assert_eq!(rt; said(alloc, &instance)?, (skipped, 0, true));
     Ok(())
+}
+
+// One item that takes no time on the machine.
+fn by_itself(alloc: Global) -> Result<Instance, Fail> {
+    let only = item(alloc, "A", &[2, 8], 10, 1)?;
+    let items = vec![in alloc; only]?;
+    with_machine(alloc, 2, 6, items)
 }
 
 #[test]
 fn an_item_by_itself_is_uncoupled(rt: HostRuntime) -> Result<(), Fail> {
     let alloc = rt.alloc();
-    let only = item(alloc, "A", vec![in alloc; 2i64, 8i64]?, 10, 1)?;
-    let instance = with_machine(alloc, 2, 6, vec![in alloc; only]?)?;
-    let found = root(alloc, &instance)?;
-    assert_eq!(rt; found.says, RootSays::Uncoupled);
-    assert!(rt; found.cuts.is_empty());
-    assert!(rt; found.leaf.is_none());
+    let instance = by_itself(alloc)?;
+    assert_eq!(rt; said(alloc, &instance)?, (RootSays::Uncoupled, 0, true));
     Ok(())
 }

@@ -1,4 +1,0 @@
-use Rattle.row_tests.proofs.wagner_whitin_tests.twelve_periods.Given as goal
-
-abbrev pub ghosts-others_of : goal.ghosts-others_of
-ghosts-others_of g a = record { name = a.blank.name; parts = a.blank.parts }
