@@ -17,7 +17,6 @@ use Rattle.acceptance.specs.Accepts.{IsTrueOf}
 use Rattle.cert_checker.specs.Checks.{ComesWith, plan_given}
 use Rattle.apart.specs.declared.found.Apart.{Apart}
 use Rattle.apart.specs.Apart.{ApartIsOne}
-use Rattle.first_plans.specs.Made.{IsMade}
 use Rattle.branching.specs.declared.found.Found.{Found}
 use Rattle.branching.specs.declared.found.RootSays.{RootSays}
 use Rattle.branching.specs.declared.found.RootSays.TheVariants as root
@@ -31,12 +30,15 @@ use Rattle.branch_and_cut.specs.declared.knowing.Known.{Known}
 use Rattle.branch_and_cut.specs.Answer.{IsAnswer, IsAnswerWithin, IsRootOf}
 use Rattle.branch_and_cut.specs.Beginning.{AreApart}
 use Rattle.branch_and_cut.specs.Finishing.{IsFinished, IsSearched}
-use Rattle.branch_and_cut.specs.Knowing.{KeepsGiven, KeepsOwnMade, IsNoWorse, cost_kept, plan_kept, ranges_in}
-use Rattle.branch_and_cut.specs.Search.{CostsAtMost, GoesTogether, IsClaimedAtLeast, IsDecided, IsGoodPlan, IsImpossibleByOne, IsNoLessThanApart, IsSaidAtRoot, IsVersionOf, KeepsFirst, KeepsOwn, UsesRoot}
-use Rattle.branch_and_cut.specs.SearchWithin.{HasEvidenceWithin, IsGoodWithin, IsProvedWithin, IsUndecidedWithin, LieInWhole, WholeIsProved}
-use Rattle.branch_and_cut.specs.Within.{AllLieWithin, IsMadeWithin, IsWhole}
+use Rattle.known_plans.specs.Kept.{KeepsGiven, KeepsOwnMade, IsNoWorse, cost_kept, plan_kept, IsMadeWithin}
+use Rattle.branch_and_cut.specs.Knowing.{ranges_in}
+use Rattle.branch_and_cut.specs.Search.{CostsAtMost, GoesTogether, IsClaimedAtLeast, IsDecided, IsImpossibleByOne, IsNoLessThanApart, IsSaidAtRoot, IsVersionOf, KeepsFirst, KeepsOwn, UsesRoot}
+use Rattle.known_plans.specs.Good.{IsGoodPlan, IsGoodWithin}
+use Rattle.branch_and_cut.specs.SearchWithin.{HasEvidenceWithin, IsProvedWithin, IsUndecidedWithin, WholeIsProved}
+use Rattle.search_ranges.specs.Within.{LieInWhole, AllLieWithin, IsWhole}
 use Rattle.branch_and_cut.specs.Search as shown
-use Rattle.branch_and_cut.proofs.Best.{first_kept, given_on, good_first, good_kept, own_kept}
+use Rattle.branch_and_cut.proofs.Best.{first_kept, good_first, good_kept, own_kept}
+use Rattle.known_plans.proofs.Best.{given_on}
 use Rattle.branch_and_cut.proofs.Finished.{made_of}
 use Rattle.branch_and_cut.proofs.Overall.{cause_whole, one_within, shows_whole}
 use Rattle.branch_and_cut.proofs.Evidence.{at_most_on}

@@ -27,9 +27,9 @@ use Rattle.root_rows.specs.Rounds.{IsLs}
 use Rattle.root_rounds.specs.declared.round_leaf.Root.{Root}
 use Rattle.root_rounds.specs.Root.{HasLeafLines, HaveRootRows, SaysNone, SaysOf, root_cuts}
 use Rattle.branch_and_cut.specs.Answer.{IsRootOf}
-use Rattle.branch_and_cut.specs.Nodes.{LeafSaysWithin}
+use Rattle.branch_and_cut.specs.Leaves.{LeafSaysWithin}
 use Rattle.branch_and_cut.specs.SearchWithin.{IsCertifiedWithin, IsProvedWithin}
-use Rattle.branch_and_cut.specs.Within.{AreInside}
+use Rattle.search_ranges.specs.Within.{AreInside}
 use Rattle.branch_and_cut.proofs.Proved.{Grounds, IsEnoughAt, IsShownBy, proved_shape}
 
 small_ls : (m : Problem) (total : ℕ → ℕ) (weight : ℕ → ℕ → ℕ) (earlier : List LinRow) (cuts : List CutShape) (rows : List LinRow) → All IsLs cuts → AreCutRows m total weight earlier cuts rows → AreSmallCuts m total earlier cuts rows

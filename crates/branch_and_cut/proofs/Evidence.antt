@@ -22,7 +22,7 @@ use Rattle.branch_and_bound.specs.declared.node.Range.{Range}
 use Rattle.branch_and_bound.specs.declared.proposal.Proposal.{Proposal}
 use Rattle.branch_and_bound.specs.Costs.{IsAtMost}
 use Rattle.branch_and_cut.specs.Branching.{within_any}
-use Rattle.branch_and_cut.specs.Nodes.{IsKept, IsRaised, IsToldAt, LeafSaysWithin, marked_asked, said}
+use Rattle.branch_and_cut.specs.Leaves.{IsKept, IsRaised, IsToldAt, LeafSaysWithin, marked_asked, said}
 use Rattle.branch_and_cut.specs.Search.{IsEvidence}
 
 -- a leaf of the path without cuts is one over any rows

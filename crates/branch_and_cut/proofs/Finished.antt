@@ -46,11 +46,12 @@ use Rattle.branch_and_bound.specs.Trees.{AtLeaf, EachLeaf, IsSplitTree, SomeLeaf
 use Rattle.branch_and_cut.specs.declared.guiding.Model.{Model}
 use Rattle.branch_and_cut.specs.declared.knowing.Known.{Known}
 use Rattle.branch_and_cut.specs.Finishing.{IsFinished, IsSearched}
-use Rattle.branch_and_cut.specs.Knowing.{cost_kept, plan_kept, ranges_in, shapes}
-use Rattle.branch_and_cut.specs.Nodes.{IsGoodLeafWithin, IsKept, IsNodeOf, IsToldAt, choice_place, choice_rules, said}
+use Rattle.known_plans.specs.Kept.{cost_kept, plan_kept, IsMadeWithin}
+use Rattle.branch_and_cut.specs.Knowing.{ranges_in, shapes}
+use Rattle.branch_and_cut.specs.Leaves.{IsGoodLeafWithin, IsKept, IsToldAt, said}
+use Rattle.search_ranges.specs.Nodes.{IsNodeOf, choice_place, choice_rules}
 use Rattle.branch_and_cut.specs.Search.{GoesTogether, IsBelowPlan, IsClaimedAtLeast, IsDecided, IsEvidence}
 use Rattle.branch_and_cut.specs.SearchWithin.{HasEvidenceWithin, IsCertifiedWithin, IsDeepIfOpenWithin, IsProvedWithin, IsUndecidedWithin, SaysAmountWithin}
-use Rattle.branch_and_cut.specs.Within.{IsMadeWithin}
 use Rattle.branch_and_cut.specs.Search as shown
 use Rattle.branch_and_cut.proofs.Proved.{Grounds, IsEnoughAt, IsShownBy, proved_shape}
 use Rattle.branch_and_cut.proofs.Translating.{each_on, each_two, some_on, split_tree}

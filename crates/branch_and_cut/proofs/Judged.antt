@@ -21,7 +21,7 @@ use Rattle.leaf_growth.proofs.Amounts.{amount_small}
 use Rattle.branch_and_bound.specs.declared.proposal.Proposal.{Proposal}
 use Rattle.branch_and_bound.specs.Costs.{IsAtMost}
 use Rattle.branch_and_cut.specs.Adding.{IsJudged, IsTested}
-use Rattle.branch_and_cut.specs.Nodes.{IsLasting, said}
+use Rattle.branch_and_cut.specs.Leaves.{IsLasting, said}
 use Rattle.branch_and_cut.proofs.Evidence.{at_most_on}
 
 parts_for : (version : ℕ) (parts : List Part) → All (λ p. HasLine 1 (PartLine p)) parts → All (λ p. HasLine version (PartLine p)) parts

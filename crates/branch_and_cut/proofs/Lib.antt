@@ -4,11 +4,9 @@ mod Answering
 mod Openings
 mod Points
 mod Best
-mod Filled
 mod Translating
 mod Proved
 mod Overall
-mod Cells
 mod Finished
 mod Added
 mod Judged

@@ -36,7 +36,7 @@ use Rattle.branch_and_bound.specs.Costs.{IsAtMost}
 use Rattle.branch_and_cut.specs.declared.beginning.Opening.{Opening}
 use Rattle.branch_and_cut.specs.Beginning.{AreApart, BeginsWith, IsClosedBy}
 use Rattle.branch_and_cut.specs.Begun.{AreKnownCuts, IsBegun}
-use Rattle.branch_and_cut.specs.Nodes.{said}
+use Rattle.branch_and_cut.specs.Leaves.{said}
 
 -- ---- rows of cuts one by one
 pub record AreMadeTo (m : Problem) (cuts : List CutShape) (k : ℕ) (rows : List LinRow) : Type 0 where

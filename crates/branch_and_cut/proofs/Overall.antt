@@ -1,5 +1,5 @@
 -- Ranges that are the whole ones, and a certificate of one leaf over any ranges.
-use Rattle.std.proofs.Common.{◌≡◌, ◌≤◌, ◌+◌, ⊎_elim, inl, inr, ℕ, sym, ap, subst, arith, List, [], Option, Some, None}
+use Rattle.std.proofs.Common.{◌≡◌, ◌≤◌, ⊎_elim, inl, inr, ℕ, sym, ap, subst, arith, List, [], Option, Some, None}
 use Rattle.std.specs.Prelude.{IfSome}
 use Rattle.lot_sizing.specs.Bill.{AreWeights, bill_of}
 use Rattle.lot_sizing.specs.Least.{SameCells}
@@ -19,10 +19,9 @@ use Rattle.cert_lines.specs.declared.parts.Claim.TheVariants.{Optimal, Infeasibl
 use Rattle.cert_lines.specs.Shapes.{FarkasLeaf, LeafShape, LinearLeaf, PointLeaf}
 use Rattle.certificate.specs.Counts.{node_count}
 use Rattle.certificate.specs.Shapes.{End, Shape, Split, TreeShape, shape_of}
-use Rattle.split_trees.specs.Laws.{PlansAreWithin}
 use Rattle.split_trees.specs.Paths.{left_to}
 use Rattle.split_trees.specs.Ranges.{IsChoice, IsWithin, Ranges, whole_ranges}
-use Rattle.split_trees.specs.Spans.{IsIn, Span}
+use Rattle.split_trees.specs.Spans.{Span}
 use Rattle.split_trees.specs.Trees.{EachLeaf, IsSplitTree, high_path, low_path}
 use Rattle.acceptance.specs.declared.says.LeafSays.{LeafSays}
 use Rattle.acceptance.specs.declared.says.LeafSays.TheVariants.{NoPlan, AtLeast}
@@ -36,20 +35,10 @@ use Rattle.branching.specs.declared.found.Found.{Found}
 use Rattle.branching.specs.Found.{IsProved}
 use Rattle.root_rounds.specs.Root.{HasFigures}
 use Rattle.branch_and_cut.specs.Search.{HasEvidence, IfBound, IsDeepIfOpen, IsEvidence, IsUndecided, SaysAmount, SomeLeaf, WithRows, tree_in}
-use Rattle.branch_and_cut.specs.SearchWithin.{HasEvidenceWithin, IsCertifiedWithin, IsDeepIfOpenWithin, IsProvedWithin, IsUndecidedWithin, LieInWhole, SaysAmountWithin, WholeIsProved}
-use Rattle.branch_and_cut.specs.Within.{IsWhole}
-use Rattle.branch_and_cut.proofs.Points.{least_on, none_on}
+use Rattle.branch_and_cut.specs.SearchWithin.{HasEvidenceWithin, IsCertifiedWithin, IsDeepIfOpenWithin, IsProvedWithin, IsUndecidedWithin, SaysAmountWithin, WholeIsProved}
+use Rattle.search_ranges.specs.Within.{IsWhole}
+use Rattle.known_plans.proofs.Chosen.{least_on, none_on}
 use Rattle.branch_and_cut.proofs.Proved.{each_map, goes_within}
-
--- ---- plans
-pub lie_whole : (m : Problem) → IsInstance m → PlansAreWithin → LieInWhole m
-lie_whole m instance within = λ ranges all p feasible i t i_low i_high t_low t_high.
-    let (total, totals, small) = instance.totals in
-    let is = within m instance.ranked.0 total instance.limits.some_period instance.ranked.1 totals p feasible i t i_low i_high t_low t_high in
-    let cell : IsCell m i t = (i_low, i_high, t_low, t_high) in (
-      subst (λ (s : Span). IsIn s (p.make i t)) (sym (all total totals (X i t) cell)) is.0,
-      subst (λ (s : Span). IsIn s (p.setup i t)) (sym (all total totals (Y i t) cell)) is.1,
-    )
 
 -- ---- certificates
 pub proved_whole : (m : Problem) → IsInstance m → HasFigures m → AcceptedByBoth → CutRowsAreOne → AcceptedIsTrue → WholeIsProved m

@@ -35,9 +35,9 @@ use Rattle.cert_checker.specs.Checks.{ComesWith, HaveGoodRows, line_count, plan_
 use Rattle.cert_checker.specs.Cuts.{OfProblem}
 use Rattle.leaf_growth.specs.declared.limits.TheConstants.{MAX_NODES}
 use Rattle.leaf_growth.specs.Written.{AreSmallTotals, FewLines, HasVersion, LeafHasLines, MadeIsWritable}
-use Rattle.branch_and_cut.specs.Nodes.{LeafSaysWithin}
+use Rattle.branch_and_cut.specs.Leaves.{LeafSaysWithin}
 use Rattle.branch_and_cut.specs.SearchWithin.{IsCertifiedWithin}
-use Rattle.branch_and_cut.specs.Within.{AreInside}
+use Rattle.search_ranges.specs.Within.{AreInside}
 
 -- the laws that are used
 pub record Grounds (m : Problem) : Type 0 where

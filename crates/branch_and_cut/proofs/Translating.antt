@@ -21,10 +21,10 @@ use Rattle.branch_and_bound.specs.Counts.{longest}
 use Rattle.branch_and_bound.specs.Ranges.{IsSplitAt, high_side, low_side}
 use Rattle.branch_and_bound.specs.Stripped.{IsStripped}
 use Rattle.branch_and_bound.specs.Trees.{AtLeaf, EachLeaf, IsSplitTree, SomeLeaf, high_path, low_path}
-use Rattle.branch_and_cut.specs.Nodes.{IsNodeOf, choice_place}
+use Rattle.search_ranges.specs.Nodes.{IsNodeOf, choice_place}
 use Rattle.branch_and_cut.specs.Search as shown
-use Rattle.branch_and_cut.specs.Numbering.{choice_from}
-use Rattle.branch_and_cut.specs.Branching.{node_side}
+use Rattle.search_ranges.specs.Numbering.{choice_from}
+use Rattle.search_ranges.specs.Sides.{node_side}
 
 -- what holds of a leaf of a certificate, and the path to it
 abbrev pub OnPath : Type 1

@@ -5,15 +5,14 @@ use Rattle.lot_sizing.specs.Problem.{Problem}
 use Rattle.lin_rows.specs.declared.bound.Bound.{Bound}
 use Rattle.lin_rows.specs.Rows.{LinRow}
 use Rattle.cert_lines.specs.Line.{HasForm, HasLine}
-use Rattle.cert_lines.specs.Shapes.{BlockCut, CutShape, LeafShape, LsCut, PartLine, PriceCut, RoundCut, leaf_first, leaf_parts}
+use Rattle.cert_lines.specs.Shapes.{BlockCut, CutShape, LeafShape, LsCut, PartLine, PriceCut, RoundCut, leaf_first, leaf_parts, leaf_shape}
 use Rattle.split_trees.specs.Ranges.{WithTotals}
 use Rattle.acceptance.specs.Accepts.{IsSmallCut}
 use Rattle.cert_checker.specs.Cuts.{HasItsColumns, IsRowOfCut}
 use Rattle.leaf_growth.specs.Growth.{IsOfRows, LeafSaysSmall}
 use Rattle.leaf_growth.specs.Written.{LeafHasLines}
 use Rattle.branch_and_bound.specs.declared.proposal.Proposal.{Proposal}
-use Rattle.branch_and_cut.specs.Nodes.{said}
-use Rattle.cert_lines.specs.Shapes.{leaf_shape}
+use Rattle.branch_and_cut.specs.Leaves.{said}
 
 -- ---- cuts
 abbrev pub IsBlock : CutShape → Type 0

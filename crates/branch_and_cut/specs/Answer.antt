@@ -8,9 +8,10 @@ use Rattle.branching.specs.Found.{IsProved}
 use Rattle.split_trees.specs.Ranges.{Ranges}
 use Rattle.root_rounds.specs.declared.round_leaf.Root.{Root}
 use Rattle.root_rounds.specs.Root.{AreWritable, BoundsPlans, HasFigures, RootMeans, root_cuts}
-use Rattle.branch_and_cut.specs.Search.{DecidesSmall, GoesTogether, HasEvidence, IfBound, IsGoodPlan, IsNoLessThanApart, IsSaidAtRoot, IsUndecided, IsVersionOf, KeepsFirst, KeepsOwn, UsesRoot, WithRows}
-use Rattle.branch_and_cut.specs.SearchWithin.{HasEvidenceWithin, IsGoodWithin, IsProvedWithin, IsUndecidedWithin}
-use Rattle.branch_and_cut.specs.Within.{IsWhole}
+use Rattle.branch_and_cut.specs.Search.{DecidesSmall, GoesTogether, HasEvidence, IfBound, IsNoLessThanApart, IsSaidAtRoot, IsUndecided, IsVersionOf, KeepsFirst, KeepsOwn, UsesRoot, WithRows}
+use Rattle.known_plans.specs.Good.{IsGoodPlan, IsGoodWithin}
+use Rattle.branch_and_cut.specs.SearchWithin.{HasEvidenceWithin, IsProvedWithin, IsUndecidedWithin}
+use Rattle.search_ranges.specs.Within.{IsWhole}
 
 -- what the root promises
 pub record IsRootOf (m : Problem) (r : Root) : Type 0 where

@@ -10,7 +10,7 @@ use Rattle.certificate.specs.Values.{AreLines, all_cut_values}
 use Rattle.cert_checker.specs.Checks.{HaveGoodRows}
 use Rattle.leaf_growth.specs.Written.{HasVersion}
 use Rattle.branch_and_bound.specs.declared.proposal.Proposal.{Proposal}
-use Rattle.branch_and_cut.specs.Nodes.{IsLasting}
+use Rattle.branch_and_cut.specs.Leaves.{IsLasting}
 
 -- cuts with their rows, few enough for a certificate, each with its lines
 pub record AreKnownCuts (m : Problem) (version : ℕ) (cuts : List CutShape) (rows : List LinRow) : Type 0 where

@@ -1,8 +1,6 @@
 -- What a search has shown when it ends.
 use Rattle.std.specs.Prelude.{◌≡◌, ℕ, ◌+◌, ◌*◌, ◌≤◌, List, []}
-use Rattle.lot_sizing.specs.Problem.{Problem, item_count}
 use Rattle.cert_lines.specs.declared.limits.TheConstants.{MAX_BRANCHES}
-use Rattle.split_trees.specs.Ranges.{Ranges, WithTotals}
 use Rattle.branching.specs.declared.found.Found.{Found}
 use Rattle.branch_and_bound.specs.declared.node.Range.{Range}
 use Rattle.branch_and_bound.specs.declared.sought.Searched.{Searched}
@@ -10,19 +8,15 @@ use Rattle.branch_and_bound.specs.Claims.{IsBound, IsShown, IsTold, IsUndecided 
 use Rattle.branch_and_bound.specs.Counts.{longest, nodes}
 use Rattle.branch_and_bound.specs.Ranges.{height, volume}
 use Rattle.branch_and_bound.specs.Trees.{EachLeaf, IsSplitTree}
-use Rattle.branch_and_bound.specs.Whole.{whole_height, whole_ranges}
 use Rattle.branch_and_cut.specs.declared.guiding.Model.{Model}
 use Rattle.branch_and_cut.specs.declared.knowing.Known.{Known}
-use Rattle.branch_and_cut.specs.Knowing.{IsKeptIn, IsKnown, IsNodeIn, IsToldIn, cost_kept, ranges_in}
-use Rattle.branch_and_cut.specs.Nodes.{choice_place, choice_rules}
+use Rattle.branch_and_cut.specs.Knowing.{IsKeptIn, IsKnown, IsNodeIn, IsToldIn, ranges_in}
+use Rattle.known_plans.specs.Kept.{cost_kept}
+use Rattle.search_ranges.specs.Nodes.{choice_place, choice_rules}
 use Rattle.branch_and_cut.specs.Search.{DecidesSmall, GoesTogether, IfBound, IsClaimedAtLeast, WithRows}
 use Rattle.branch_and_cut.specs.SearchWithin.{HasEvidenceWithin, IsUndecidedWithin}
-use Rattle.branch_and_cut.specs.Within.{IsWhole}
-
--- the list of these ranges has no more height than the whole ranges, and is their list where they are whole
-pub record AreListed (m : Problem) (ranges : Ranges) (rs : List Range) : Type 0 where
-  pub height : WithTotals m (λ total. height rs ≤ whole_height (item_count m) m.periods total)
-  pub whole : IsWhole m ranges → WithTotals m (λ total. rs ≡ whole_ranges (item_count m) m.periods total)
+use Rattle.search_ranges.specs.Listed.{AreListed}
+use Rattle.search_ranges.specs.Within.{IsWhole}
 
 -- a tree over the ranges that were given, whose leaves say what is claimed
 pub record IsSearched (g : Model) (k : Known) (budget : ℕ) (rs : List Range) (s : Searched) : Type 0 where

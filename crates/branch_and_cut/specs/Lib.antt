@@ -1,13 +1,10 @@
 pub mod Search
-pub mod Within
 pub mod SearchWithin
-pub mod Listed
-pub mod Nodes
+pub mod Leaves
 pub mod Begun
 pub mod Beginning
 pub mod Adding
 pub mod Knowing
 pub mod Finishing
 pub mod Answer
-pub mod Numbering
 pub mod Branching

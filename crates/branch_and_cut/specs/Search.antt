@@ -3,7 +3,6 @@ use Rattle.std.specs.Prelude.{◌≡◌, ◌⊎◌, ℕ, ◌+◌, ◌*◌, ◌�
 use Rattle.lot_sizing.specs.Problem.{IsPlain, Problem, item_count}
 use Rattle.lot_sizing.specs.Plan as terms
 use Rattle.plan_rules.specs.declared.plan.Plan.{Plan}
-use Rattle.plan_rules.specs.Held.{AllFit, plan_of}
 use Rattle.lin_rows.specs.declared.bound.Bound.{Bound}
 use Rattle.lin_rows.specs.Rows.{LinRow}
 use Rattle.cert_lines.specs.declared.limits.TheConstants.{MAX_BRANCHES}
@@ -23,20 +22,13 @@ use Rattle.branching.specs.declared.found.RootSays.TheVariants as root
 use Rattle.root_rounds.specs.declared.round_leaf.Root.{Root}
 use Rattle.root_rounds.specs.Root.{RootMeans}
 use Rattle.first_plans.specs.OwnPeriod.{IsOwnPeriod}
+pub use Rattle.known_plans.specs.Good.{IsGoodPlan, cost_of}
 use Rattle.apart.specs.Apart.{IsApart}
 use Rattle.path_relaxation.specs.declared.says.Exempt.{Exempt}
 use Rattle.path_relaxation.specs.Path.{IsExempt, IsMetAt}
 use Rattle.branch_and_bound.specs.Whole.{whole_height, whole_volume}
 
 -- ---- plans
--- a feasible plan with a number for each item and period of the problem
-pub record IsGoodPlan (m : Problem) (p : Plan) : Type 0 where
-  pub fits : AllFit m p
-  pub feasible : terms.IsFeasible m (plan_of p)
-
-abbrev pub cost_of : Problem → Plan → ℕ
-cost_of m p = terms.cost m (plan_of p)
-
 -- there is a plan, and it costs no more than this
 abbrev pub CostsAtMost : Problem → Option Plan → ℕ → Type 0
 CostsAtMost m None amount = ⊥

@@ -2,7 +2,6 @@
 use Rattle.std.specs.Prelude.{◌≡◌, ◌⊎◌, ℕ, ◌+◌, ◌≤◌, ◌<◌, ◌^◌, List, [], length, Option}
 use Rattle.lot_sizing.specs.Problem.{Problem, item_count}
 use Rattle.plan_rules.specs.declared.plan.Plan.{Plan}
-use Rattle.plan_rules.specs.Held.{plan_of}
 use Rattle.lin_rows.specs.declared.bound.Bound.{Bound}
 use Rattle.lin_rows.specs.Rows.{LinRow}
 use Rattle.cert_lines.specs.declared.limits.TheConstants.{MAX_BRANCHES}
@@ -10,7 +9,7 @@ use Rattle.cert_lines.specs.Shapes.{LeafShape}
 use Rattle.certificate.specs.Counts.{longest_path, node_count}
 use Rattle.certificate.specs.Limits.{IsWritable}
 use Rattle.certificate.specs.Shapes.{Shape, shape_of}
-use Rattle.split_trees.specs.Ranges.{IsWithin, Ranges, WithTotals}
+use Rattle.split_trees.specs.Ranges.{Ranges, WithTotals}
 use Rattle.split_trees.specs.Trees.{EachLeaf}
 use Rattle.acceptance.specs.declared.says.LeafSays.TheVariants.{AtLeast}
 use Rattle.acceptance.specs.Accepts.{Fits, IsAccepted, IsTrueWithin}
@@ -21,14 +20,8 @@ use Rattle.cert_checker.specs.Cuts.{OfProblem}
 use Rattle.branching.specs.declared.found.Found.{Found}
 use Rattle.branching.specs.Found.{IsProved}
 use Rattle.branch_and_bound.specs.Whole.{whole_height}
-use Rattle.branch_and_cut.specs.Within.{AllLieWithin, IsWhole}
-use Rattle.branch_and_cut.specs.Search.{IsBelowPlan, IsEvidence, IsGoodPlan, SomeLeaf, tree_in}
-
--- ---- plans
--- a feasible plan with a number for each item and period of the problem, within the ranges
-pub record IsGoodWithin (m : Problem) (ranges : Ranges) (p : Plan) : Type 0 where
-  pub good : IsGoodPlan m p
-  pub within : IsWithin m ranges (plan_of p)
+use Rattle.search_ranges.specs.Within.{IsWhole}
+use Rattle.branch_and_cut.specs.Search.{IsBelowPlan, IsEvidence, SomeLeaf, tree_in}
 
 -- ---- certificates
 -- a certificate is accepted over the ranges with the plan that was given, and its sums are small
@@ -72,10 +65,6 @@ abbrev pub IsUndecidedWithin : Problem → Ranges → ℕ → Found → List Lin
 IsUndecidedWithin m ranges budget found rows = (budget < found.nodes + 2) ⊎ IsDeepWithin m ranges found rows
 
 -- ---- the whole ranges
--- each feasible plan is within them
-abbrev pub LieInWhole : Problem → Type 0
-LieInWhole m = (ranges : Ranges) → IsWhole m ranges → AllLieWithin m ranges
-
 -- what is proved over them is proved of all plans
 abbrev pub WholeIsProved : Problem → Type 0
 WholeIsProved m = (ranges : Ranges) → IsWhole m ranges → (found : Found) → IsProvedWithin m ranges found → IsProved m found

@@ -3,7 +3,7 @@ ghost use Rattle.std.specs.Prelude.{◌≡◌, true, IfOk, Some};
 ghost use Rattle.leaf_growth.specs.Written.{HasVersion};
 ghost use Rattle.branch_and_bound.specs.Costs.{IsAtMost};
 ghost use Rattle.branch_and_cut.specs.Knowing.{IsKeptAs, IsNodeIn, IsToldIn};
-ghost use Rattle.branch_and_cut.specs.Nodes.{IsRaised, marked_asked};
+ghost use Rattle.branch_and_cut.specs.Leaves.{IsRaised, marked_asked};
 
 use crate::guiding::Model;
 use branch_and_bound::{Node, Proposal};

@@ -3,22 +3,25 @@ ghost use Rattle.std.specs.Prelude.{◌≡◌, true, false, IfOk, OnOk};
 ghost use Rattle.cert_lines.specs.Shapes.{leaf_shape};
 ghost use Rattle.branch_and_bound.specs.Costs.{IsBelow};
 ghost use Rattle.branch_and_bound.specs.Ranges.{AreOrdered, IsPoint};
-ghost use Rattle.branch_and_cut.specs.Branching.{after_on, after_same, kept_lasts, kept_stays, node_side};
-ghost use Rattle.branch_and_cut.specs.Knowing.{IsAfter, IsKeptIn, IsKnown, IsLastingIn, IsNoWorse, IsNodeIn, IsToldIn, cost_kept, ranges_in};
-ghost use Rattle.branch_and_cut.specs.Nodes.{choice_rules};
+ghost use Rattle.branch_and_cut.specs.Branching.{after_on, after_same, kept_lasts, kept_stays};
+ghost use Rattle.search_ranges.specs.Sides.{node_side};
+ghost use Rattle.branch_and_cut.specs.Knowing.{IsAfter, IsKeptIn, IsKnown, IsLastingIn, IsNodeIn, IsToldIn, ranges_in};
+ghost use Rattle.known_plans.specs.Kept.{IsNoWorse, cost_kept};
+ghost use Rattle.search_ranges.specs.Nodes.{choice_rules};
 
 use crate::asking::told;
-use crate::knowing::{Known, best_cost};
+use crate::knowing::Known;
 use crate::pointing::{at_point, keep_built};
 use crate::pricing::priced;
-use crate::splitting::{open_setup, split_of};
-use crate::within::Ranges;
 use branch_and_bound::{Guide, Node, Proposal, Split, is_below, open_place};
 use branching::RootSays;
 use cert_lines::copy_leaf;
 use echelon::Explosion;
+use known_plans::best_cost;
 use lot_model::Instance;
+use node_splits::split_of;
 use priced_leaves::Pricing;
+use search_ranges::{Ranges, open_setup};
 use std::alloc::{AllocError, Global};
 
 /// What is known of a model before any branch.
@@ -170,7 +173,7 @@ impl Guide<Known> for Model<'_> {
     }
 
     fn branch(&self, node: &Node, proposal: &Proposal, state: &Known) -> Split {
-        split_of(self.instance, &node.ranges, state.memory.get(proposal.note))
+        split_of(self.instance, &node.ranges, state.notes.get(proposal.note))
     }
 
     fn ask(

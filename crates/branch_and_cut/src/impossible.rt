@@ -6,9 +6,8 @@ ghost use Rattle.leaf_growth.specs.Written.{HasVersion};
 ghost use Rattle.branch_and_cut.specs.Answer.{IsRootOf};
 ghost use Rattle.branch_and_cut.specs.Search.{IsImpossibleByOne};
 ghost use Rattle.branch_and_cut.specs.SearchWithin.{IsProvedWithin};
-ghost use Rattle.branch_and_cut.specs.Within.{AreInside, given_ranges};
+ghost use Rattle.search_ranges.specs.Within.{AreInside, given_ranges};
 
-use crate::within::Ranges;
 use acceptance::accepted_over_ranges;
 use branching::Found;
 use certificate::{Certificate, Claim, Leaf, Tree};
@@ -16,6 +15,7 @@ use leaf_growth::{few_lines, made_is_writable};
 use lot_model::Instance;
 use lot_sizing::totals_are_one;
 use root_rounds::Root;
+use search_ranges::Ranges;
 
 // The tree of a leaf alone. The root has one.
 fn tree_of(leaf: Option<Leaf>) -> Tree

@@ -8,7 +8,7 @@ ghost use Rattle.plan_rules.specs.Rows.{IfFound};
 ghost use Rattle.branch_and_bound.specs.Costs.{IsAtMost};
 ghost use Rattle.branch_and_cut.specs.Adding.{IsTested};
 ghost use Rattle.branch_and_cut.specs.Knowing.{IsJudgedIn, IsKnown, IsLastingIn, IsNodeIn};
-ghost use Rattle.branch_and_cut.specs.Nodes.{said};
+ghost use Rattle.branch_and_cut.specs.Leaves.{said};
 
 use crate::guiding::Model;
 use crate::knowing::Known;

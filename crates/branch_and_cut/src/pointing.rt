@@ -1,43 +1,19 @@
 // A node that is one choice of quantities and setups.
-ghost use Rattle.std.specs.Prelude.{◌≡◌, false, IfOk, OnOk, length};
+ghost use Rattle.std.specs.Prelude.{◌≡◌, false, IfOk, OnOk};
 ghost use Rattle.branch_and_bound.specs.Costs.{IsBelow};
 ghost use Rattle.branch_and_bound.specs.Ranges.{IsPoint};
-ghost use Rattle.lot_sizing.specs.Least.{HasChoice};
-ghost use Rattle.plan_rules.specs.Held.{plan_of};
-ghost use Rattle.plan_rules.specs.Rows.{IfFound, IfNoneFound};
-ghost use Rattle.first_plans.specs.Made.{IsMade};
-ghost use Rattle.branch_and_cut.specs.Knowing.{IsAfter, IsKeptIn, IsKnown, IsNoWorse, IsNodeIn, cost_kept};
-ghost use Rattle.acceptance.specs.Says.{HasNone, IsLeastCost};
-ghost use Rattle.branch_and_cut.specs.Nodes.{choice_count, least_make, least_setup};
+ghost use Rattle.branch_and_cut.specs.Knowing.{IsAfter, IsKeptIn, IsKnown, IsNodeIn};
+ghost use Rattle.known_plans.specs.Kept.{IsNoWorse, cost_kept};
 
 use crate::guiding::Model;
-use crate::knowing::{Known, best_cost, keep_within};
-use crate::places::least_grid;
-use branch_and_bound::{Node, Proposal, Range};
+use crate::knowing::Known;
+use branch_and_bound::{Node, Proposal};
 use cert_lines::Leaf;
 use first_plans::built_plan;
-use lot_model::Instance;
-use plan_rules::{Planned, complete_at_cost};
+use known_plans::{best_cost, keep_within, plan_at};
+use search_ranges::least_grid;
 use split_trees::ranges_are_left;
 use std::alloc::{AllocError, Global};
-
-// A cheapest plan that has the least numbers of the ranges, if there is one.
-fn plan_at(
-    alloc: Global,
-    instance: &Instance,
-    ranges: &[Range],
-) -> Result<Option<Planned>, AllocError>
-    requires { length ranges.now ≡ choice_count instance.now }
-    ensures made { IfFound result (IsMade instance.now) }
-    ensures choice { IfFound result (λ made. HasChoice instance.now (least_make instance.now ranges.now) (least_setup instance.now ranges.now) (plan_of made.plan)) }
-    ensures least { IfFound result (λ made. IsLeastCost instance.now (least_make instance.now ranges.now) (least_setup instance.now ranges.now) made.cost) }
-    ensures none { IfNoneFound result (HasNone instance.now (least_make instance.now ranges.now) (least_setup instance.now ranges.now)) }
-{
-    let cells = instance.items() as usize * instance.periods() as usize;
-    let make = least_grid(alloc, instance, ranges, 0)?;
-    let setup = least_grid(alloc, instance, ranges, cells)?;
-    complete_at_cost(alloc, instance, make, setup)
-}
 
 /// The leaf of a node that is one choice: what a cheapest plan costs that has it, or that there is none. The plan is kept
 /// where it is better than the best so far.

@@ -8,19 +8,19 @@ ghost use Rattle.leaf_growth.specs.Growth.{IsOfRows};
 ghost use Rattle.plan_rules.specs.Rows.{IfFound};
 ghost use Rattle.priced_leaves.specs.Proposals.{IsProposal};
 ghost use Rattle.branch_and_bound.specs.Costs.{IsAtMost};
-ghost use Rattle.branch_and_cut.specs.Knowing.{IsAfter, IsBestSoFar, IsJudgedIn, IsKnown, IsLastingIn, IsNoWorse, IsNoWorseBest, IsNodeIn};
+ghost use Rattle.branch_and_cut.specs.Knowing.{IsAfter, IsJudgedIn, IsKnown, IsLastingIn, IsNodeIn};
+ghost use Rattle.known_plans.specs.Kept.{IsBestSoFar, IsNoWorse, IsNoWorseBest};
 
 use crate::adding::add_cuts;
-use crate::choosing::{Choice, choice_for};
 use crate::guiding::Model;
 use crate::judging::{judged, stronger};
-use crate::knowing::{Known, best_cost};
-use crate::remembering::{Memory, Note};
-use crate::trying::try_average;
+use crate::knowing::Known;
 use branch_and_bound::{Node, Proposal, is_below};
 use cert_lines::{Leaf, Part};
 use certificate::{Cut, MAX_CUTS};
+use known_plans::{Effort, best_cost, try_average};
 use lot_model::Instance;
+use node_splits::{Choice, Note, Notes, choice_for};
 use plan_rules::Planned;
 use priced_leaves::{
     Fixed, Improved, Priced, Reached, Rounds, dropped_leaf, fixed_setups, priced_leaf, split_prices,
@@ -57,11 +57,11 @@ fn first_rounds(
     node: &Node,
     above: Option<usize>,
     fixed: &Fixed,
-    memory: &mut Memory,
+    notes: &mut Notes,
 ) -> Result<Rounds, AllocError> {
     let instance = model.instance;
     let pricing = &model.pricing;
-    match memory.hand_down(alloc, above, &node.path)? {
+    match notes.hand_down(alloc, above, &node.path)? {
         Some(
             Note {
                 prices,
@@ -138,7 +138,7 @@ fn improve(
     node: &Node,
     rounds: &mut Rounds,
     fixed: &Fixed,
-    memory: &mut Memory,
+    effort: &mut Effort,
     best: &mut Option<Planned>,
 ) -> Result<Reached, AllocError>
     requires { IsBestSoFar model.now.instance.now model.now.ranges.now best.old }
@@ -151,7 +151,7 @@ fn improve(
             _ => return Ok(reached),
         }
         let average = rounds.average();
-        try_average(alloc, model.instance, model.ranges, average, memory, best)?;
+        try_average(alloc, model.instance, model.ranges, average, effort, best)?;
     }
     Ok(Reached::Open)
 }
@@ -297,17 +297,21 @@ fn branch_at(
         return Ok(None);
     }
     let number = u32::try_from(node.path.len()).unwrap_or(u32::MAX);
-    choice_for(alloc, model, rounds, fixed, cost, number.saturating_add(1))
+    choice_for(
+        alloc,
+        model.instance,
+        &model.pricing,
+        rounds,
+        fixed,
+        cost,
+        number.saturating_add(1),
+    )
 }
 
 // Remembers what rounds came to and the setup on which a node is to be branched, and gives the place of the note.
-fn note_of(
-    memory: &mut Memory,
-    rounds: Rounds,
-    choice: Option<Choice>,
-) -> Result<usize, AllocError> {
+fn note_of(notes: &mut Notes, rounds: Rounds, choice: Option<Choice>) -> Result<usize, AllocError> {
     let Improved { prices, average } = rounds.into_improved();
-    memory.put(Note {
+    notes.put(Note {
         prices,
         average,
         choice,
@@ -323,14 +327,14 @@ fn noted(
     fixed: Fixed,
     says: Option<u128>,
     best: &Option<Planned>,
-    memory: &mut Memory,
+    notes: &mut Notes,
 ) -> Result<Option<usize>, AllocError> {
     if !is_below(says, best_cost(best)) {
         return Ok(None);
     }
     let mut held = fixed;
     let choice = branch_at(alloc, model, node, &rounds, &mut held, best_cost(best))?;
-    Ok(Some(note_of(memory, rounds, choice)?))
+    Ok(Some(note_of(notes, rounds, choice)?))
 }
 
 // The proposal with another note.
@@ -366,8 +370,8 @@ fn stronger_noted(
     let stronger = stronger(model, node, known, proposal, found);
     let says = stronger.says;
     let best = &known.best;
-    let memory = &mut known.memory;
-    let note = noted(alloc, model, node, rounds, fixed, says, best, memory)?;
+    let notes = &mut known.notes;
+    let note = noted(alloc, model, node, rounds, fixed, says, best, notes)?;
     Ok(with_note(stronger, note))
 }
 
@@ -395,10 +399,11 @@ pub(crate) fn priced(
         return Ok(proposal);
     }
     let fixed = fixed_setups(alloc, model.instance, &node.path)?;
-    let memory = &mut known.memory;
-    let mut rounds = first_rounds(alloc, model, node, proposal.note, &fixed, memory)?;
+    let notes = &mut known.notes;
+    let mut rounds = first_rounds(alloc, model, node, proposal.note, &fixed, notes)?;
     let best = &mut known.best;
-    let reached = improve(alloc, model, node, &mut rounds, &fixed, memory, best)?;
+    let effort = &mut known.effort;
+    let reached = improve(alloc, model, node, &mut rounds, &fixed, effort, best)?;
     let refuted = matches!(reached, Reached::Refuted);
     let says = proposal.says;
     let found = leaf_of(alloc, model, node, known, &rounds, refuted, &fixed, says)?;

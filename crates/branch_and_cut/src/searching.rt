@@ -6,30 +6,30 @@ ghost use Rattle.branching.specs.declared.found.RootSays.TheVariants.{Empty, Unc
 ghost use Rattle.leaf_growth.specs.Written.{HasVersion};
 ghost use Rattle.branch_and_cut.specs.Answer.{IsAnswer, IsAnswerWithin, IsRootOf};
 ghost use Rattle.branch_and_cut.specs.Beginning.{AreApart};
-ghost use Rattle.branch_and_cut.specs.Search.{DecidesSmall, GoesTogether, HasEvidence, IfBound, IsGoodPlan, IsNoLessThanApart, IsSaidAtRoot, IsUndecided, IsVersionOf, KeepsFirst, KeepsOwn, UsesRoot, WithRows};
-ghost use Rattle.branch_and_cut.specs.SearchWithin.{HasEvidenceWithin, IsGoodWithin, IsProvedWithin, IsUndecidedWithin};
-ghost use Rattle.branch_and_cut.specs.Within.{AreGiven, IsWhole, given_ranges};
+ghost use Rattle.branch_and_cut.specs.Search.{DecidesSmall, GoesTogether, HasEvidence, IfBound, IsNoLessThanApart, IsSaidAtRoot, IsUndecided, IsVersionOf, KeepsFirst, KeepsOwn, UsesRoot, WithRows};
+ghost use Rattle.known_plans.specs.Good.{IsGoodPlan, IsGoodWithin};
+ghost use Rattle.branch_and_cut.specs.SearchWithin.{HasEvidenceWithin, IsProvedWithin, IsUndecidedWithin};
+ghost use Rattle.search_ranges.specs.Within.{AreGiven, IsWhole, given_ranges};
 
 use crate::beginning::begin;
 use crate::finishing::finish;
 use crate::guiding::Model;
 use crate::impossible::none_found;
 use crate::knowing::Known;
-use crate::places::listed;
-use crate::programs::best_by_programs;
-use crate::remembering::Memory;
-use crate::whole::{lie_in_whole, whole_is_proved};
-use crate::within::{Ranges, lies_within};
+use crate::whole::whole_is_proved;
 use apart::{Apart, apart, apart_is_one};
 use branch_and_bound as engine;
 use branching::{Found, RootSays, plan_uncoupled};
 use cert_checker::NamedSums;
 use certificate::{FIRST_VERSION, MAX_VERSION};
 use echelon::Explosion;
+use known_plans::{Effort, best_by_programs};
 use lot_model::{Instance, is_plain};
+use node_splits::Notes;
 use plan_rules::Plan;
 use priced_leaves::Pricing;
 use root_rounds::{Root, root};
+use search_ranges::{Ranges, lie_in_whole, lies_within, listed};
 use std::alloc::{AllocError, Global};
 
 // Branches are tried before one is chosen in a model with at most so many items times periods.
@@ -98,7 +98,8 @@ fn searched(
         rows: begun.rows,
         best,
         sums,
-        memory: Memory::new(alloc),
+        notes: Notes::new(alloc),
+        effort: Effort::new(alloc),
     };
     let list = listed(alloc, instance, ranges)?;
     let found = engine::search(alloc, &model, list, &mut known, budget)?;

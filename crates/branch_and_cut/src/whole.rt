@@ -1,19 +1,9 @@
 // What holds where the ranges are the whole ones.
 ghost use Rattle.root_rounds.specs.Root.{HasFigures};
-ghost use Rattle.branch_and_cut.specs.SearchWithin.{LieInWhole, WholeIsProved};
+ghost use Rattle.branch_and_cut.specs.SearchWithin.{WholeIsProved};
 
 use acceptance::{acceptance_is_one, accepted_is_true, cut_rows_are_one};
 use lot_model::Instance;
-use split_trees::plans_are_within;
-
-/// Each feasible plan lies within the whole ranges.
-pub(crate) fn lie_in_whole(instance: &Instance)
-    ensures { LieInWhole instance.now }
-{
-    plans_are_within();
-    // It reads that the instance is one.
-    let _periods = instance.periods();
-}
 
 /// What is proved over the whole ranges is proved of all plans.
 pub(crate) fn whole_is_proved(instance: &Instance)

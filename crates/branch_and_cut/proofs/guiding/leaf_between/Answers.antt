@@ -1,7 +1,7 @@
 use Rattle.std.proofs.Common.{refl}
 use Rattle.branch_and_cut.proofs.Evidence.{anyway, at_most_on, ok_on}
 use Rattle.branch_and_cut.proofs.Points.{kept_from}
-use Rattle.branch_and_cut.specs.Knowing.{cost_kept}
+use Rattle.known_plans.specs.Kept.{cost_kept}
 use Rattle.branch_and_cut.proofs.guiding.leaf_between.Goals as goal
 
 pub returns-clause-leaf : goal.returns-clause-leaf

@@ -1,7 +1,7 @@
 use Rattle.std.proofs.Common.{refl}
 use Rattle.branch_and_cut.proofs.Emptied.{none_proved}
 use Rattle.branch_and_cut.proofs.Proved.{Grounds}
-use Rattle.branch_and_cut.specs.Within.{given_ranges}
+use Rattle.search_ranges.specs.Within.{given_ranges}
 use Rattle.branch_and_cut.proofs.impossible.none_found.Goals as goal
 
 pub returns-clause-proved : goal.returns-clause-proved

@@ -4,9 +4,10 @@ use Rattle.lot_sizing.specs.Least.{HasChoice}
 use Rattle.plan_rules.specs.Held.{plan_of}
 use Rattle.acceptance.specs.Says.{HasNone, IsLeastCost}
 use Rattle.branch_and_bound.specs.Costs.{IsBelow}
-use Rattle.branch_and_cut.specs.Nodes.{least_make, least_setup}
+use Rattle.search_ranges.specs.Nodes.{least_make, least_setup}
 use Rattle.branch_and_cut.proofs.Points.{after_kept, known_kept, not_below, point_better, point_kept}
-use Rattle.branch_and_cut.specs.Knowing.{cost_kept, ranges_in}
+use Rattle.known_plans.specs.Kept.{cost_kept}
+use Rattle.branch_and_cut.specs.Knowing.{ranges_in}
 use Rattle.branch_and_cut.proofs.pointing.at_point.Goals as goal
 
 pub returns-clause-known : goal.returns-clause-known

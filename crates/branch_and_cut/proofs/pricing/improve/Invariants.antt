@@ -1,4 +1,4 @@
-use Rattle.branch_and_cut.specs.Knowing.{IsNoWorseBest}
+use Rattle.known_plans.specs.Kept.{IsNoWorseBest}
 use Rattle.branch_and_cut.proofs.pricing.improve.Given as goal
 
 abbrev pub invariant-loop-time : goal.invariant-loop-time

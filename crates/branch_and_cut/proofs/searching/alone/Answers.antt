@@ -1,4 +1,4 @@
-use Rattle.branch_and_cut.specs.Within.{given_ranges}
+use Rattle.search_ranges.specs.Within.{given_ranges}
 use Rattle.branch_and_cut.proofs.Answering.{all_alone, alone_within, fits_alone, plan_alone}
 use Rattle.branch_and_cut.proofs.searching.alone.Goals as goal
 

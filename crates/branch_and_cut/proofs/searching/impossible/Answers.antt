@@ -1,6 +1,6 @@
 use Rattle.std.proofs.Common.{subst, sym}
 use Rattle.branch_and_cut.specs.Search.{IsVersionOf}
-use Rattle.branch_and_cut.specs.Within.{given_ranges}
+use Rattle.search_ranges.specs.Within.{given_ranges}
 use Rattle.branch_and_cut.proofs.Answering.{none_within}
 use Rattle.branch_and_cut.proofs.searching.impossible.Goals as goal
 

@@ -1,4 +1,4 @@
-use Rattle.branch_and_cut.specs.Within.{given_ranges}
+use Rattle.search_ranges.specs.Within.{given_ranges}
 use Rattle.branch_and_cut.proofs.Best.{first_within}
 use Rattle.branch_and_cut.proofs.Evidence.{ok_on}
 use Rattle.branch_and_cut.proofs.searching.search_all.Goals as goal

@@ -1,5 +1,0 @@
-use Rattle.branch_and_cut.proofs.Overall.{lie_whole}
-use Rattle.branch_and_cut.proofs.whole.lie_in_whole.Goals as goal
-
-pub returns : goal.returns
-returns c = lie_whole c.args.instance.now c.periods-periods.ensures.instance c.plans_are_within.ensures

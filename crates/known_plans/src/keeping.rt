@@ -1,0 +1,113 @@
+// The best plan so far, and which plans are kept.
+ghost use Rattle.std.specs.Prelude.{◌≡◌, ◌⊎◌, IfOk, IfSome, Some};
+ghost use Rattle.plan_rules.specs.Held.{plan_of};
+ghost use Rattle.split_trees.specs.Ranges.{IsWithin};
+ghost use Rattle.first_plans.specs.Made.{IsMade};
+ghost use Rattle.search_ranges.specs.Within.{given_ranges};
+ghost use Rattle.known_plans.specs.Good.{IsGoodWithin};
+ghost use Rattle.known_plans.specs.Kept.{IsBestSoFar, IsFirstBest, IsFirstWithin, IsMadeWithin, IsNoWorse, IsNoWorseBest, KeepsGiven, cost_kept, plan_kept};
+
+use first_plans::candidates;
+use lot_model::Instance;
+use plan_rules::{Plan, Planned, judge};
+use search_ranges::{Ranges, is_within};
+use std::alloc::{AllocError, Global};
+
+/// The cost of the best plan, in money; None where there is no plan.
+///
+/// It takes no memory.
+pub fn best_cost(best: &Option<Planned>) -> Option<u128>
+    ensures { result ≡ cost_kept best.now }
+{
+    match best {
+        Some(made) => Some(made.cost),
+        None => None,
+    }
+}
+
+/// The best plan without its cost; None where there is no plan.
+///
+/// It takes no memory.
+pub fn best_plan(best: Option<Planned>) -> Option<Plan>
+    ensures { result ≡ plan_kept best }
+{
+    match best {
+        Some(made) => Some(made.plan),
+        None => None,
+    }
+}
+
+// The better of a plan and of the best so far.
+fn better(best: Option<Planned>, made: Planned) -> Option<Planned>
+    ensures either { (result ≡ best) ⊎ (result ≡ Some made) }
+    ensures best { IsNoWorse result best }
+    ensures made { IsNoWorse result (Some made) }
+{
+    match best {
+        Some(old) => {
+            if old.cost <= made.cost {
+                Some(old)
+            } else {
+                Some(made)
+            }
+        }
+        None => Some(made),
+    }
+}
+
+// The plan that was given, with its cost.
+fn given(instance: &Instance, ranges: &Ranges, first: Option<Plan>) -> Option<Planned>
+    requires { IfSome first (IsGoodWithin instance.now (given_ranges ranges.now)) }
+    ensures made { IfSome result (IsMadeWithin instance.now (given_ranges ranges.now)) }
+    ensures kept { KeepsGiven instance.now first result }
+{
+    let plan = first?;
+    match judge(instance, &plan) {
+        Ok(cost) => Some(Planned { plan, cost }),
+        // It is feasible, so no rule is broken.
+        Err(_) => None,
+    }
+}
+
+/// Keeps a plan that was found, with its cost, if it lies within the ranges and costs less than the best so far; the best plan,
+/// if there is one, is never let go for a dearer one.
+///
+/// The ranges have a number for each item and period of the instance, and the best plan so far lies within them. It takes no
+/// memory.
+pub fn keep_within(
+    instance: &Instance,
+    ranges: &Ranges,
+    best: &mut Option<Planned>,
+    found: Option<Planned>,
+)
+    requires best { IsBestSoFar instance.now ranges.now best.old }
+    requires found { IfSome found (IsMade instance.now) }
+    ensures best { IsNoWorseBest instance.now ranges.now best.new best.old }
+    ensures found { IfSome found (λ made. IsWithin instance.now (given_ranges ranges.now) (plan_of made.plan) → IsNoWorse best.new (Some made)) }
+{
+    if let Some(made) = found {
+        if is_within(instance, ranges, &made.plan) {
+            let old = best.take();
+            *best = better(old, made);
+        }
+    }
+}
+
+/// The best plan to begin with: of the one that was given, and of those that are made without a search and lie within the
+/// ranges.
+pub(crate) fn best_to_begin(
+    alloc: Global,
+    instance: &Instance,
+    ranges: &Ranges,
+    first: Option<Plan>,
+) -> Result<Option<Planned>, AllocError>
+    requires { IsFirstWithin instance.now ranges.now first }
+    ensures { IfOk result (IsFirstBest instance.now ranges.now first) }
+{
+    let mut best = given(instance, ranges, first);
+    let mut list = candidates(alloc, instance)?;
+    while let Some(made) = list.pop() {
+        keep_within(instance, ranges, &mut best, Some(made));
+    }
+    Ok(best)
+}
