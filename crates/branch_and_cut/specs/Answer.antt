@@ -11,7 +11,8 @@ use Rattle.root_rounds.specs.Root.{AreWritable, BoundsPlans, HasFigures, RootMea
 use Rattle.branch_and_cut.specs.Search.{DecidesSmall, GoesTogether, HasEvidence, IfBound, IsNoLessThanApart, IsSaidAtRoot, IsUndecided, IsVersionOf, KeepsFirst, KeepsOwn, UsesRoot, WithRows}
 use Rattle.known_plans.specs.Good.{IsGoodPlan, IsGoodWithin}
 use Rattle.branch_and_cut.specs.SearchWithin.{HasEvidenceWithin, IsProvedWithin, IsUndecidedWithin}
-use Rattle.search_ranges.specs.Within.{IsWhole}
+use Rattle.search_ranges.specs.declared.within.Ranges.{Ranges as Given}
+use Rattle.search_ranges.specs.Within.{AreGiven, IsWhole, given_ranges}
 
 -- what the root promises
 pub record IsRootOf (m : Problem) (r : Root) : Type 0 where
@@ -20,6 +21,13 @@ pub record IsRootOf (m : Problem) (r : Root) : Type 0 where
   pub uncoupled : r.says ≡ Uncoupled ↔ IsUncoupled m
   pub bounds : BoundsPlans m r.says
   pub figures : HasFigures m
+
+-- a search is asked within ranges of the problem: with room for a node, with a plan within the ranges to begin with, if one was given, and after what was said at the root
+pub record IsAsked (m : Problem) (r : Given) (budget : ℕ) (first : Option Plan) (said : Root) : Type 0 where
+  pub room : 1 ≤ budget
+  pub given : AreGiven m r
+  pub good : IfSome first (IsGoodWithin m (given_ranges r))
+  pub root : IsRootOf m said
 
 -- over all ranges
 pub record IsAnswer (m : Problem) (budget : ℕ) (first : Option Plan) (found : Found) : Type 0 where

@@ -3,13 +3,18 @@ use Rattle.std.proofs.lemmas.List.{length-map}
 use Rattle.cert_lines.specs.Shapes.{cut_shape}
 use Rattle.branch_and_cut.proofs.searching.search.Goals as goal
 
-pub answer-requires-clause-said : goal.answer-requires-clause-said
-answer-requires-clause-said c = record {
-  means = c.in_ok-said.ensures.means;
-  writable = c.in_ok-said.ensures.writable;
-  uncoupled = c.in_ok-said.ensures.uncoupled;
-  bounds = c.in_ok-said.ensures.bounds;
-  figures = c.in_ok-said.ensures.figures;
+pub answer-requires-clause-asked : goal.answer-requires-clause-asked
+answer-requires-clause-asked c = record {
+  room = c.requires.budget;
+  given = c.requires.ranges;
+  good = c.requires.first;
+  root = record {
+    means = c.in_ok-said.ensures.means;
+    writable = c.in_ok-said.ensures.writable;
+    uncoupled = c.in_ok-said.ensures.uncoupled;
+    bounds = c.in_ok-said.ensures.bounds;
+    figures = c.in_ok-said.ensures.figures;
+  };
 }
 
 pub answer-requires-clause-apart : goal.answer-requires-clause-apart
