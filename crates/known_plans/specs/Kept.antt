@@ -55,6 +55,10 @@ pub record IsNoWorseBest (m : Problem) (r : Given) (new old : Option Planned) : 
   pub made : IfSome new (IsMadeWithin m (given_ranges r))
   pub kept : IsNoWorse new old
 
+-- it is at least as good as a plan that was found, where that lies within the ranges
+abbrev pub IsNoWorseIfWithin : Problem → Given → Option Planned → Planned → Type 0
+IsNoWorseIfWithin m r best made = IsWithin m (given_ranges r) (plan_of made.plan) → IsNoWorse best (Some made)
+
 -- the ranges have the problem's shape, and the plan that was given is a feasible one within them, if there is one
 pub record IsFirstWithin (m : Problem) (r : Given) (first : Option Plan) : Type 0 where
   pub shape : HaveShape m r

@@ -1,11 +1,10 @@
 // The plan that quantities and setups are completed to.
 ghost use Rattle.std.specs.Prelude.{◌≡◌, length};
-ghost use Rattle.lot_sizing.specs.Least.{HasChoice};
 ghost use Rattle.plan_rules.specs.Held.{plan_of};
 ghost use Rattle.plan_rules.specs.Rows.{IfFound, IfNoneFound};
-ghost use Rattle.acceptance.specs.Says.{HasNone, IsLeastCost};
 ghost use Rattle.first_plans.specs.Made.{IsMade};
-ghost use Rattle.search_ranges.specs.Nodes.{choice_count, least_make, least_setup};
+ghost use Rattle.search_ranges.specs.Nodes.{choice_count};
+ghost use Rattle.known_plans.specs.Completed.{HasLeastNumbers, IsLeastCostOfLeast, NoneHasLeast};
 
 use branch_and_bound::Range;
 use lot_model::Instance;
@@ -24,9 +23,9 @@ pub fn plan_at(
 ) -> Result<Option<Planned>, AllocError>
     requires { length ranges.now ≡ choice_count instance.now }
     ensures made { IfFound result (IsMade instance.now) }
-    ensures choice { IfFound result (λ made. HasChoice instance.now (least_make instance.now ranges.now) (least_setup instance.now ranges.now) (plan_of made.plan)) }
-    ensures least { IfFound result (λ made. IsLeastCost instance.now (least_make instance.now ranges.now) (least_setup instance.now ranges.now) made.cost) }
-    ensures none { IfNoneFound result (HasNone instance.now (least_make instance.now ranges.now) (least_setup instance.now ranges.now)) }
+    ensures choice { IfFound result (λ made. HasLeastNumbers instance.now ranges.now (plan_of made.plan)) }
+    ensures least { IfFound result (λ made. IsLeastCostOfLeast instance.now ranges.now made.cost) }
+    ensures none { IfNoneFound result (NoneHasLeast instance.now ranges.now) }
 {
     let cells = instance.items() as usize * instance.periods() as usize;
     let make = least_grid(alloc, instance, ranges, 0)?;

@@ -1,11 +1,9 @@
 // The best plan so far, and which plans are kept.
 ghost use Rattle.std.specs.Prelude.{◌≡◌, ◌⊎◌, IfOk, IfSome, Some};
-ghost use Rattle.plan_rules.specs.Held.{plan_of};
-ghost use Rattle.split_trees.specs.Ranges.{IsWithin};
 ghost use Rattle.first_plans.specs.Made.{IsMade};
 ghost use Rattle.search_ranges.specs.Within.{given_ranges};
 ghost use Rattle.known_plans.specs.Good.{IsGoodWithin};
-ghost use Rattle.known_plans.specs.Kept.{IsBestSoFar, IsFirstBest, IsFirstWithin, IsMadeWithin, IsNoWorse, IsNoWorseBest, KeepsGiven, cost_kept, plan_kept};
+ghost use Rattle.known_plans.specs.Kept.{IsBestSoFar, IsFirstBest, IsFirstWithin, IsMadeWithin, IsNoWorse, IsNoWorseBest, IsNoWorseIfWithin, KeepsGiven, cost_kept, plan_kept};
 
 use first_plans::candidates;
 use lot_model::Instance;
@@ -83,7 +81,7 @@ pub fn keep_within(
     requires best { IsBestSoFar instance.now ranges.now best.old }
     requires found { IfSome found (IsMade instance.now) }
     ensures best { IsNoWorseBest instance.now ranges.now best.new best.old }
-    ensures found { IfSome found (λ made. IsWithin instance.now (given_ranges ranges.now) (plan_of made.plan) → IsNoWorse best.new (Some made)) }
+    ensures found { IfSome found (IsNoWorseIfWithin instance.now ranges.now best.new) }
 {
     if let Some(made) = found {
         if is_within(instance, ranges, &made.plan) {

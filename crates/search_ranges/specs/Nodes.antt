@@ -1,7 +1,8 @@
 -- The places of quantities and setups in one list, and the ranges of a node there.
 use Rattle.std.specs.Prelude.{◌≡◌, ℕ, ◌+◌, ◌-◌, ◌*◌, ◌<◌, ◌&&◌, nat_le, Bool, List, length, if◌then◌else◌}
 use Rattle.lot_sizing.specs.Problem.{Problem, item_count}
-use Rattle.lot_sizing.specs.Plan.{Table}
+use Rattle.lot_sizing.specs.Plan.{EachCell, Table}
+use Rattle.plan_rules.specs.Cells.{Cells, table_of}
 use Rattle.lin_rows.specs.declared.bound.Bound.{Bound}
 use Rattle.lin_rows.specs.declared.column.Column.{Column}
 use Rattle.lin_rows.specs.declared.column.Column.TheVariants.{X, Y, S, R}
@@ -56,6 +57,10 @@ least_make m rs i t = (range_at rs (cell_place m i t)).low
 
 abbrev pub least_setup : Problem → List Range → Table
 least_setup m rs i t = (range_at rs (cell_count m + cell_place m i t)).low
+
+-- the grid has the least number of each item and period, where the range of the first one stands at this place
+abbrev pub HasLeastFrom : Problem → List Range → ℕ → Cells → Type 0
+HasLeastFrom m rs first g = EachCell m (λ i t. table_of g i t ≡ (range_at rs (first + cell_place m i t)).low)
 
 -- the range at the place leaves more than one number
 abbrev pub IsOpenAt : List Range → ℕ → Type 0

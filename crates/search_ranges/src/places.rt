@@ -1,13 +1,12 @@
 // The ranges of all quantities and setups in one list, and what stands at a place of it.
 ghost use Rattle.std.specs.Prelude.{◌≡◌, ◌≤◌, ◌<◌, ◌+◌, ◌-◌, ◌++◌, ℕ, [], IfOk, OnOk, length};
 ghost use Rattle.lot_sizing.specs.Problem.{item_count};
-ghost use Rattle.lot_sizing.specs.Plan.{EachCell};
 ghost use Rattle.lin_rows.specs.Columns.{cell_count};
 ghost use Rattle.plan_rules.specs.Cells.{Fits, table_of};
 ghost use Rattle.plan_rules.specs.Rows.{OtherRowsSame};
 ghost use Rattle.branch_and_bound.specs.Ranges.{AreOrdered, range_at};
 ghost use Rattle.search_ranges.specs.Listed.{AreListed, grid_list, row_list};
-ghost use Rattle.search_ranges.specs.Nodes.{IsNodeOf, cell_place, choice_count, choice_place};
+ghost use Rattle.search_ranges.specs.Nodes.{HasLeastFrom, IsNodeOf, choice_count, choice_place};
 ghost use Rattle.search_ranges.specs.Within.{AreGiven, given_ranges};
 
 use crate::within::Ranges;
@@ -106,7 +105,7 @@ pub fn least_grid(
 ) -> Result<Grid, AllocError>
     requires { first + cell_count instance.now ≤ length ranges.now }
     ensures fits { IfOk result (Fits instance.now) }
-    ensures least { IfOk result (λ grid. EachCell instance.now (λ i t. table_of grid i t ≡ (range_at ranges.now (first + cell_place instance.now i t)).low)) }
+    ensures least { IfOk result (HasLeastFrom instance.now ranges.now first) }
 {
     let periods = instance.periods();
     let mut grid = Grid::filled(alloc, instance.items(), periods, 0)?;
