@@ -164,3 +164,8 @@ asked_asked old new same = ap (λ (p : Proposal). p.asked) same
 pub anyway : {A E : Type 0} (r : Result A E) (P : Type 0) → P → OnOk r P
 anyway (Ok a) P is = is
 anyway (Err e) P is = tt
+
+-- and so does what follows of it
+pub then_on : {A E : Type 0} (r : Result A E) (P Q : Type 0) → (P → Q) → OnOk r P → OnOk r Q
+then_on (Ok a) P Q f is = f is
+then_on (Err e) P Q f is = tt

@@ -9,6 +9,7 @@ use Rattle.split_trees.specs.Ranges.{Ranges}
 use Rattle.branch_and_cut.specs.declared.knowing.Known.{Known}
 use Rattle.branch_and_cut.specs.declared.guiding.Model.{Model}
 use Rattle.lin_rows.specs.declared.bound.Bound.{Bound}
+use Rattle.branch_and_bound.specs.declared.node.Node.{Node}
 use Rattle.branch_and_bound.specs.declared.node.Range.{Range}
 use Rattle.branch_and_bound.specs.declared.proposal.Proposal.{Proposal}
 use Rattle.branch_and_cut.specs.Begun.{AreKnownCuts, IsBegun}
@@ -16,7 +17,7 @@ use Rattle.branch_and_cut.specs.Leaves.{IsKept, IsLasting, IsToldAt}
 use Rattle.search_ranges.specs.Nodes.{IsNodeOf}
 use Rattle.branch_and_cut.specs.Adding.{IsJudged}
 use Rattle.search_ranges.specs.Within.{AreGiven, given_ranges}
-use Rattle.known_plans.specs.Kept.{IsMadeWithin}
+use Rattle.known_plans.specs.Kept.{IsMadeWithin, IsNoWorse}
 
 -- ---- cuts
 abbrev pub shapes : Known → List CutShape
@@ -41,6 +42,24 @@ pub record IsKnown (g : Model) (k : Known) : Type 0 where
   pub sums : IsReadyFor g.instance.now k.sums
   pub explosion : IsExplosionOf g.instance.now g.explosion
 
+-- it is known later: more rows may follow, and the best plan is at least as good
+pub record KnowsMore (g : Model) (old new : Known) : Type 0 where
+  pub known : IsKnown g new
+  pub after : IsAfter old new
+  pub kept : IsNoWorse new.best old.best
+
+-- more rows may follow, with the same best plan
+pub record KnowsMoreRows (g : Model) (old new : Known) : Type 0 where
+  pub known : IsKnown g new
+  pub after : IsAfter old new
+  pub best : new.best ≡ old.best
+
+-- the rows and the best plan are as they were
+pub record KnowsTheSame (g : Model) (old new : Known) : Type 0 where
+  pub known : IsKnown g new
+  pub rows : new.rows ≡ old.rows
+  pub best : new.best ≡ old.best
+
 -- ---- leaves and nodes, over what is known
 abbrev pub IsLastingIn : Model → Known → List Bound → Proposal → Type 0
 IsLastingIn g k path p = IsLasting g.instance.now g.version g.least k.rows.items path p
@@ -51,6 +70,11 @@ IsJudgedIn g k path p = IsJudged g.instance.now g.version k.rows.items path p
 
 abbrev pub IsNodeIn : Model → List Range → List Bound → Type 0
 IsNodeIn g rs path = IsNodeOf g.instance.now (ranges_in g) rs path
+
+-- the search has come to a node with this knowledge
+pub record IsReached (g : Model) (k : Known) (node : Node) : Type 0 where
+  pub is_node : IsNodeIn g node.ranges.items node.path.items
+  pub known : IsKnown g k
 
 abbrev pub IsKeptIn : Model → Known → List Range → List Bound → Proposal → Type 0
 IsKeptIn g k rs path p = IsKept g.instance.now (ranges_in g) g.version g.least k.rows.items rs path p

@@ -1,11 +1,11 @@
 // Cuts that are added while a search goes on.
-ghost use Rattle.std.specs.Prelude.{◌≡◌, ◌<◌, true, IfOk, OnOk, length};
+ghost use Rattle.std.specs.Prelude.{◌≡◌, ◌<◌, true, OnOk, length};
 ghost use Rattle.cert_lines.specs.declared.limits.TheConstants.{MAX_CUTS};
 ghost use Rattle.cert_lines.specs.Line.{HasForm};
 ghost use Rattle.cert_lines.specs.Shapes.{cut_first, cut_shape};
 ghost use Rattle.plan_rules.specs.Rows.{IfFound};
 ghost use Rattle.branch_and_cut.specs.Adding.{IsBlock, IsNextRow};
-ghost use Rattle.branch_and_cut.specs.Knowing.{IsAfter, IsKnown};
+ghost use Rattle.branch_and_cut.specs.Knowing.{IsKnown, KnowsMoreRows};
 
 use crate::guiding::Model;
 use crate::knowing::Known;
@@ -51,9 +51,7 @@ fn push_cut(model: &Model, known: &mut Known, cut: Cut, row: Row) -> Result<(), 
     requires block { IsBlock (cut_shape cut) }
     requires form { HasForm (cut_first (cut_shape cut)) }
     requires row { IsNextRow model.now.instance.now known.old.rows.items (cut_shape cut) row }
-    ensures known { OnOk result (IsKnown model.now known.new) }
-    ensures after { OnOk result (IsAfter known.old known.new) }
-    ensures best { OnOk result (known.new.best ≡ known.old.best) }
+    ensures { OnOk result (KnowsMoreRows model.now known.old known.new) }
 {
     cut_rows_go_on();
     known.cuts.push(cut)?;
@@ -64,9 +62,7 @@ fn push_cut(model: &Model, known: &mut Known, cut: Cut, row: Row) -> Result<(), 
 // Adds a cut with its row, if there is room and the checker takes it, and says whether it was added.
 fn add_cut(alloc: Global, model: &Model, known: &mut Known, cut: Cut) -> Result<bool, AllocError>
     requires known { IsKnown model.now known.old }
-    ensures known { OnOk result (IsKnown model.now known.new) }
-    ensures after { OnOk result (IsAfter known.old known.new) }
-    ensures best { OnOk result (known.new.best ≡ known.old.best) }
+    ensures { OnOk result (KnowsMoreRows model.now known.old known.new) }
 {
     if known.cuts.len() >= MAX_CUTS as usize || !is_block(&cut) || !is_cut_line(&cut) {
         return Ok(false);
@@ -89,9 +85,7 @@ pub(crate) fn add_cuts(
     cuts: Vec<Cut>,
 ) -> Result<bool, AllocError>
     requires known { IsKnown model.now known.old }
-    ensures known { OnOk result (IsKnown model.now known.new) }
-    ensures after { OnOk result (IsAfter known.old known.new) }
-    ensures best { OnOk result (known.new.best ≡ known.old.best) }
+    ensures { OnOk result (KnowsMoreRows model.now known.old known.new) }
 {
     for cut in cuts {
         if !add_cut(alloc, model, known, cut)? {

@@ -5,8 +5,8 @@ ghost use Rattle.branch_and_bound.specs.Costs.{IsBelow};
 ghost use Rattle.branch_and_bound.specs.Ranges.{AreOrdered, IsPoint};
 ghost use Rattle.branch_and_cut.specs.Branching.{after_on, after_same, kept_lasts, kept_stays};
 ghost use Rattle.search_ranges.specs.Sides.{node_side};
-ghost use Rattle.branch_and_cut.specs.Knowing.{IsAfter, IsKeptIn, IsKnown, IsLastingIn, IsNodeIn, IsToldIn, ranges_in};
-ghost use Rattle.known_plans.specs.Kept.{IsNoWorse, cost_kept};
+ghost use Rattle.branch_and_cut.specs.Knowing.{IsAfter, IsKeptIn, IsKnown, IsLastingIn, IsNodeIn, IsReached, IsToldIn, KnowsMore, ranges_in};
+ghost use Rattle.known_plans.specs.Kept.{cost_kept};
 ghost use Rattle.search_ranges.specs.Nodes.{choice_rules};
 
 use crate::asking::told;
@@ -94,12 +94,9 @@ fn leaf_between(
     above: &Proposal,
     known: &mut Known,
 ) -> Result<Proposal, AllocError>
-    requires node { IsNodeIn model.now node.now.ranges.items node.now.path.items }
-    requires known { IsKnown model.now known.old }
+    requires reached { IsReached model.now known.old node.now }
     requires above { IsLastingIn model.now known.old node.now.path.items above.now }
-    ensures known { OnOk result (IsKnown model.now known.new) }
-    ensures after { OnOk result (IsAfter known.old known.new) }
-    ensures kept { OnOk result (IsNoWorse known.new.best known.old.best) }
+    ensures more { OnOk result (KnowsMore model.now known.old known.new) }
     ensures leaf { IfOk result (IsKeptIn model.now known.new node.now.ranges.items node.now.path.items) }
     ensures told { IfOk result (λ p. p.asked ≡ true → IsToldIn model.now node.now.path.items p) }
 {
@@ -121,12 +118,9 @@ fn leaf_for(
     known: &mut Known,
 ) -> Result<Proposal, AllocError>
     requires ordered { AreOrdered node.now.ranges.items }
-    requires node { IsNodeIn model.now node.now.ranges.items node.now.path.items }
-    requires known { IsKnown model.now known.old }
+    requires reached { IsReached model.now known.old node.now }
     requires above { IsLastingIn model.now known.old node.now.path.items above.now }
-    ensures known { OnOk result (IsKnown model.now known.new) }
-    ensures after { OnOk result (IsAfter known.old known.new) }
-    ensures kept { OnOk result (IsNoWorse known.new.best known.old.best) }
+    ensures more { OnOk result (KnowsMore model.now known.old known.new) }
     ensures leaf { IfOk result (IsKeptIn model.now known.new node.now.ranges.items node.now.path.items) }
     ensures told { IfOk result (λ p. p.asked ≡ true → IsToldIn model.now node.now.path.items p) }
     ensures closed { IfOk result (λ p. IsBelow p.says (cost_kept known.new.best) → IsPoint node.now.ranges.items → ⊥) }

@@ -1,13 +1,10 @@
 // Leaves that are proposed, judged as the checker of certificates does.
-ghost use Rattle.std.specs.Prelude.{◌≡◌, false, true, IfOk, IfSome, OnOk};
-ghost use Rattle.std.specs.List.{All};
-ghost use Rattle.cert_lines.specs.Line.{HasLine};
-ghost use Rattle.cert_lines.specs.Shapes.{PartLine, leaf_parts, leaf_shape};
-ghost use Rattle.leaf_growth.specs.Growth.{IsOfRows};
+ghost use Rattle.std.specs.Prelude.{◌≡◌, false, IfSome, OnOk};
+ghost use Rattle.cert_lines.specs.Shapes.{leaf_shape};
 ghost use Rattle.plan_rules.specs.Rows.{IfFound};
 ghost use Rattle.branch_and_bound.specs.Costs.{IsAtMost};
-ghost use Rattle.branch_and_cut.specs.Adding.{IsTested};
-ghost use Rattle.branch_and_cut.specs.Knowing.{IsJudgedIn, IsKnown, IsLastingIn, IsNodeIn};
+ghost use Rattle.branch_and_cut.specs.Adding.{HasRowParts, IsTested};
+ghost use Rattle.branch_and_cut.specs.Knowing.{IsJudgedIn, IsLastingIn, IsReached, KnowsTheSame};
 ghost use Rattle.branch_and_cut.specs.Leaves.{said};
 
 use crate::guiding::Model;
@@ -43,12 +40,9 @@ fn bound_of(
     known: &mut Known,
     leaf: Leaf,
 ) -> Result<Option<Proposal>, AllocError>
-    requires node { IsNodeIn model.now node.now.ranges.items node.now.path.items }
-    requires known { IsKnown model.now known.old }
+    requires reached { IsReached model.now known.old node.now }
     requires tested { IsTested (leaf_shape leaf) }
-    ensures known { OnOk result (IsKnown model.now known.new) }
-    ensures rows { OnOk result (known.new.rows ≡ known.old.rows) }
-    ensures best { OnOk result (known.new.best ≡ known.old.best) }
+    ensures same { OnOk result (KnowsTheSame model.now known.old known.new) }
     ensures judged { IfFound result (IsJudgedIn model.now known.old node.now.path.items) }
 {
     // It reads that the instance is one.
@@ -78,13 +72,9 @@ pub(crate) fn judged(
     known: &mut Known,
     leaf: Leaf,
 ) -> Result<Option<Proposal>, AllocError>
-    requires node { IsNodeIn model.now node.now.ranges.items node.now.path.items }
-    requires known { IsKnown model.now known.old }
-    requires parts { All (λ part. HasLine 1 (PartLine part)) (leaf_parts (leaf_shape leaf)) }
-    requires kind { IsOfRows (leaf_shape leaf) }
-    ensures known { OnOk result (IsKnown model.now known.new) }
-    ensures rows { OnOk result (known.new.rows ≡ known.old.rows) }
-    ensures best { OnOk result (known.new.best ≡ known.old.best) }
+    requires reached { IsReached model.now known.old node.now }
+    requires parts { HasRowParts (leaf_shape leaf) }
+    ensures same { OnOk result (KnowsTheSame model.now known.old known.new) }
     ensures judged { IfFound result (IsJudgedIn model.now known.old node.now.path.items) }
 {
     if is_leaf_line(&leaf) {

@@ -2,7 +2,7 @@
 ghost use Rattle.std.specs.Prelude.{◌≡◌, false, IfOk, OnOk};
 ghost use Rattle.branch_and_bound.specs.Costs.{IsBelow};
 ghost use Rattle.branch_and_bound.specs.Ranges.{IsPoint};
-ghost use Rattle.branch_and_cut.specs.Knowing.{IsAfter, IsKeptIn, IsKnown, IsNodeIn};
+ghost use Rattle.branch_and_cut.specs.Knowing.{IsKeptIn, IsKnown, IsReached, KnowsMore};
 ghost use Rattle.known_plans.specs.Kept.{IsNoWorse, cost_kept};
 
 use crate::guiding::Model;
@@ -23,12 +23,9 @@ pub(crate) fn at_point(
     node: &Node,
     known: &mut Known,
 ) -> Result<Proposal, AllocError>
-    requires node { IsNodeIn model.now node.now.ranges.items node.now.path.items }
+    requires reached { IsReached model.now known.old node.now }
     requires point { IsPoint node.now.ranges.items }
-    requires known { IsKnown model.now known.old }
-    ensures known { OnOk result (IsKnown model.now known.new) }
-    ensures after { OnOk result (IsAfter known.old known.new) }
-    ensures kept { OnOk result (IsNoWorse known.new.best known.old.best) }
+    ensures more { OnOk result (KnowsMore model.now known.old known.new) }
     ensures leaf { IfOk result (IsKeptIn model.now known.new node.now.ranges.items node.now.path.items) }
     ensures asked { IfOk result (λ p. p.asked ≡ false) }
     ensures closed { IfOk result (λ p. IsBelow p.says (cost_kept known.new.best) → ⊥) }
@@ -54,8 +51,7 @@ pub(crate) fn keep_built(
     node: &Node,
     known: &mut Known,
 ) -> Result<(), AllocError>
-    requires node { IsNodeIn model.now node.now.ranges.items node.now.path.items }
-    requires known { IsKnown model.now known.old }
+    requires reached { IsReached model.now known.old node.now }
     ensures known { OnOk result (IsKnown model.now known.new) }
     ensures rows { OnOk result (known.new.rows ≡ known.old.rows) }
     ensures kept { OnOk result (IsNoWorse known.new.best known.old.best) }

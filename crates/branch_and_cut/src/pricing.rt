@@ -1,15 +1,13 @@
 // Leaves by prices of capacity and of stock, and the plans that their rounds lead to.
 ghost use Rattle.std.specs.Prelude.{◌≡◌, ◌≤◌, ◌<◌, ◌^◌, false, IfOk, IfSome, OnOk, length};
-ghost use Rattle.std.specs.List.{All};
 ghost use Rattle.cert_lines.specs.declared.limits.TheConstants.{MAX_CUTS};
-ghost use Rattle.cert_lines.specs.Line.{HasLine};
-ghost use Rattle.cert_lines.specs.Shapes.{PartLine, leaf_parts, leaf_shape};
+ghost use Rattle.cert_lines.specs.Shapes.{leaf_parts, leaf_shape};
 ghost use Rattle.leaf_growth.specs.Growth.{IsOfRows};
 ghost use Rattle.plan_rules.specs.Rows.{IfFound};
 ghost use Rattle.priced_leaves.specs.Proposals.{IsProposal};
-ghost use Rattle.branch_and_bound.specs.Costs.{IsAtMost};
-ghost use Rattle.branch_and_cut.specs.Knowing.{IsAfter, IsJudgedIn, IsKnown, IsLastingIn, IsNodeIn};
-ghost use Rattle.known_plans.specs.Kept.{IsBestSoFar, IsNoWorse, IsNoWorseBest};
+ghost use Rattle.branch_and_cut.specs.Adding.{HasRowParts};
+ghost use Rattle.branch_and_cut.specs.Knowing.{IsJudgedIn, IsKnown, IsLastingIn, IsReached, KnowsMore, KnowsMoreRows, KnowsTheSame};
+ghost use Rattle.known_plans.specs.Kept.{IsBestSoFar, IsNoWorseBest};
 
 use crate::adding::add_cuts;
 use crate::guiding::Model;
@@ -196,13 +194,9 @@ fn judged_with(
     cuts: Vec<Cut>,
     leaf: Leaf,
 ) -> Result<Option<Proposal>, AllocError>
-    requires node { IsNodeIn model.now node.now.ranges.items node.now.path.items }
-    requires known { IsKnown model.now known.old }
-    requires parts { All (λ part. HasLine 1 (PartLine part)) (leaf_parts (leaf_shape leaf)) }
-    requires kind { IsOfRows (leaf_shape leaf) }
-    ensures known { OnOk result (IsKnown model.now known.new) }
-    ensures after { OnOk result (IsAfter known.old known.new) }
-    ensures best { OnOk result (known.new.best ≡ known.old.best) }
+    requires reached { IsReached model.now known.old node.now }
+    requires parts { HasRowParts (leaf_shape leaf) }
+    ensures more { OnOk result (KnowsMoreRows model.now known.old known.new) }
     ensures judged { IfFound result (IsJudgedIn model.now known.new node.now.path.items) }
 {
     if !add_cuts(alloc, model, known, cuts)? {
@@ -220,12 +214,9 @@ fn judged_priced(
     priced: Priced,
     refuted: bool,
 ) -> Result<Option<Proposal>, AllocError>
-    requires node { IsNodeIn model.now node.now.ranges.items node.now.path.items }
-    requires known { IsKnown model.now known.old }
+    requires reached { IsReached model.now known.old node.now }
     requires priced { IsProposal model.now.instance.now priced }
-    ensures known { OnOk result (IsKnown model.now known.new) }
-    ensures after { OnOk result (IsAfter known.old known.new) }
-    ensures best { OnOk result (known.new.best ≡ known.old.best) }
+    ensures more { OnOk result (KnowsMoreRows model.now known.old known.new) }
     ensures judged { IfFound result (IsJudgedIn model.now known.new node.now.path.items) }
 {
     let Priced { cuts, parts, den } = priced;
@@ -267,11 +258,8 @@ fn leaf_of(
     fixed: &Fixed,
     says: Option<u128>,
 ) -> Result<Option<Proposal>, AllocError>
-    requires node { IsNodeIn model.now node.now.ranges.items node.now.path.items }
-    requires known { IsKnown model.now known.old }
-    ensures known { OnOk result (IsKnown model.now known.new) }
-    ensures after { OnOk result (IsAfter known.old known.new) }
-    ensures best { OnOk result (known.new.best ≡ known.old.best) }
+    requires reached { IsReached model.now known.old node.now }
+    ensures more { OnOk result (KnowsMoreRows model.now known.old known.new) }
     ensures judged { IfFound result (IsJudgedIn model.now known.new node.now.path.items) }
 {
     if !refuted && !is_promising(rounds, says) {
@@ -361,9 +349,7 @@ fn stronger_noted(
     requires lasting { IsLastingIn model.now known.old node.now.path.items proposal }
     requires judged { IfSome found (IsJudgedIn model.now known.old node.now.path.items) }
     requires asked { proposal.asked ≡ false }
-    ensures known { OnOk result (IsKnown model.now known.new) }
-    ensures rows { OnOk result (known.new.rows ≡ known.old.rows) }
-    ensures best { OnOk result (known.new.best ≡ known.old.best) }
+    ensures same { OnOk result (KnowsTheSame model.now known.old known.new) }
     ensures lasting { IfOk result (IsLastingIn model.now known.old node.now.path.items) }
     ensures asked { IfOk result (λ p. p.asked ≡ false) }
 {
@@ -384,13 +370,10 @@ pub(crate) fn priced(
     proposal: Proposal,
     known: &mut Known,
 ) -> Result<Proposal, AllocError>
-    requires node { IsNodeIn model.now node.now.ranges.items node.now.path.items }
-    requires known { IsKnown model.now known.old }
+    requires reached { IsReached model.now known.old node.now }
     requires lasting { IsLastingIn model.now known.old node.now.path.items proposal }
     requires asked { proposal.asked ≡ false }
-    ensures known { OnOk result (IsKnown model.now known.new) }
-    ensures after { OnOk result (IsAfter known.old known.new) }
-    ensures kept { OnOk result (IsNoWorse known.new.best known.old.best) }
+    ensures more { OnOk result (KnowsMore model.now known.old known.new) }
     ensures lasting { IfOk result (IsLastingIn model.now known.new node.now.path.items) }
     ensures asked { IfOk result (λ p. p.asked ≡ false) }
 {

@@ -10,12 +10,14 @@ use Rattle.known_plans.specs.Kept.{cost_kept}
 use Rattle.branch_and_cut.specs.Knowing.{ranges_in}
 use Rattle.branch_and_cut.proofs.pointing.at_point.Goals as goal
 
-pub returns-clause-known : goal.returns-clause-known
-returns-clause-known c =
-    known_kept c.args.model.now c.args.known.now _ refl refl refl c.keep_within.ensures.best.made c.requires.known
-
-pub returns-clause-after : goal.returns-clause-after
-returns-clause-after c = after_kept c.args.known.now _ refl
+pub returns-clause-more : goal.returns-clause-more
+returns-clause-more c =
+    let best = c.keep_within.ensures.best in
+    record {
+      known = known_kept c.args.model.now c.args.known.now _ refl refl refl best.made c.requires.reached.known;
+      after = after_kept c.args.known.now _ refl;
+      kept = best.kept;
+    }
 
 pub returns-clause-leaf : goal.returns-clause-leaf
 returns-clause-leaf c =
@@ -25,7 +27,7 @@ returns-clause-leaf c =
     let found = c.in_ok-found.found in
     let least = subst (λ rs. IfSome found (λ made. IsLeastCost m (least_make m rs) (least_setup m rs) made.cost)) c.deref.ensures.value c.in_ok-found.ensures.least in
     let none = subst (λ rs. IfNone found (HasNone m (least_make m rs) (least_setup m rs))) c.deref.ensures.value c.in_ok-found.ensures.none in
-    point_kept g.instance.now (ranges_in g) g.version g.least c.args.known.now.rows.items node.ranges.items node.path.items c.in_ok-found.found _ c.requires.node c.requires.point c.requires.known.begun.floor c.in_ok-found.ensures.made least none refl c.best_cost-says.ensures
+    point_kept g.instance.now (ranges_in g) g.version g.least c.args.known.now.rows.items node.ranges.items node.path.items c.in_ok-found.found _ c.requires.reached.is_node c.requires.point c.requires.reached.known.begun.floor c.in_ok-found.ensures.made least none refl c.best_cost-says.ensures
 
 pub returns-clause-closed : goal.returns-clause-closed
 returns-clause-closed c = λ below.
@@ -35,5 +37,5 @@ returns-clause-closed c = λ below.
     let found = c.in_ok-found.found in
     let best = c.keep_within.new.best in
     let choice = subst (λ rs. IfSome found (λ made. HasChoice m (least_make m rs) (least_setup m rs) (plan_of made.plan))) c.deref.ensures.value c.in_ok-found.ensures.choice in
-    let better = point_better m (ranges_in g) node.ranges.items node.path.items c.requires.node c.ranges_are_left.ensures.plans c.requires.point best found choice c.keep_within.ensures.found in
+    let better = point_better m (ranges_in g) node.ranges.items node.path.items c.requires.reached.is_node c.ranges_are_left.ensures.plans c.requires.point best found choice c.keep_within.ensures.found in
     not_below (cost_kept best) (cost_kept found) better (subst (λ s. IsBelow s (cost_kept best)) c.best_cost-says.ensures below)
