@@ -89,11 +89,11 @@ const CERTIFICATE_WRITTEN: &str = "The certificate file, which is written";
 const SEED: &str = "The number that is drawn from, below 2^64";
 
 // The texts of help are literals; a test compares the limits in them with the constants.
-pub(crate) const ITEMS: &str = "How many items, 1 to 40";
+const ITEMS: &str = "How many items, 1 to 40";
 
-pub(crate) const PERIODS: &str = "How many periods, 1 to 60";
+const PERIODS: &str = "How many periods, 1 to 60";
 
-pub(crate) const NODES: &str =
+const NODES: &str =
     "The most nodes of the certificate's tree, 1 to 1000000 [usually 1000]";
 
 // A command's name, what it does, and what it prints.

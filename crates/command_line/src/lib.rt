@@ -17,6 +17,4 @@ mod requests;
 pub use commands::{Command, Names, Reading, TwoNames, UpgradeNames};
 pub use laws::{commands_are_allowed, plain_words_keep_their_meaning};
 pub use reader::read_words;
-
-#[cfg(test)]
-mod tests;
+pub use requests::{LARGEST_BUDGET, USUAL_BUDGET};

@@ -7,7 +7,8 @@
 //! once, `own_period_plan` and `built_plan`, are passed on from `built_plans`.
 //!
 //! Family: search. It stands on `built_plans`, which builds plans, on `item_lots`, which makes an item's lots anew, on
-//! `plan_rules`, which judges what comes out, and on `rand_pcg`; `branch_and_cut` and `lotplan` stand on it.
+//! `plan_rules`, which judges what comes out, and on `rand_pcg`; `known_plans`, `branch_and_cut` and
+//! `lotplan` stand on it.
 #![tactic(auto)]
 
 mod by_families;

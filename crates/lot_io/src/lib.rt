@@ -22,6 +22,3 @@ pub use real::{DiskShelf, StdSink};
 pub use shelf::{Shelf, ShelfFault, WriteFailed};
 pub use sink::{Sink, SinkFailed};
 pub use whole_numbers::{NumberFault, read_whole};
-
-#[cfg(test)]
-mod tests;

@@ -9,6 +9,3 @@
 mod digits;
 
 pub use digits::{NumberFault, read_whole};
-
-#[cfg(test)]
-mod tests;

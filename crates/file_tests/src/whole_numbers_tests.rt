@@ -1,4 +1,4 @@
-use crate::{NumberFault, read_whole};
+use whole_numbers::{NumberFault, read_whole};
 
 #[test]
 fn whole_numbers_are_read(rt: HostRuntime) {

@@ -1,4 +1,4 @@
-use crate::{DiskShelf, MemoryShelf, MemorySink, ReadFault, Sink, StdSink, read_file, write_file};
+use lot_io::{DiskShelf, MemoryShelf, MemorySink, ReadFault, Sink, StdSink, read_file, write_file};
 use std::alloc::{AllocError, Global};
 use std::collections::BTreeMap;
 use std::test::Fail;
