@@ -93,8 +93,7 @@ const ITEMS: &str = "How many items, 1 to 40";
 
 const PERIODS: &str = "How many periods, 1 to 60";
 
-const NODES: &str =
-    "The most nodes of the certificate's tree, 1 to 1000000 [usually 1000]";
+const NODES: &str = "The most nodes of the certificate's tree, 1 to 1000000 [usually 1000]";
 
 // A command's name, what it does, and what it prints.
 #[derive(Clone, Copy)]

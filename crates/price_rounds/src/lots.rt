@@ -1,6 +1,7 @@
 // Quantities, setups, stocks and backlogs of single-item plans.
+use path_setups::{Fixed, Held};
 use priced_items::numbers::{UNIT, at, less, plus, times, write};
-use priced_items::{Fixed, Held, IntegerGrid, Item, Served, clear};
+use priced_items::{IntegerGrid, Item, Served, clear};
 use std::alloc::{AllocError, Global};
 
 /// Averages of single-item plans, by item and period, in units of 1/`UNIT`.

@@ -5,8 +5,9 @@ use crate::lots::Average;
 use crate::slopes::Slopes;
 use crate::valuing::Planning;
 use lot_model::Instance;
+use path_setups::Fixed;
 use priced_items::numbers::{ONE, Rate, UNIT};
-use priced_items::{DualPrices, Fixed, Pricing, settle};
+use priced_items::{DualPrices, Pricing, settle};
 use std::alloc::{AllocError, Global};
 use std::marker::Model;
 

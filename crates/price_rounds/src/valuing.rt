@@ -4,8 +4,9 @@ ghost use Rattle.lot_sizing.specs.Problem.{item_count};
 
 use crate::lots::{Average, Spare};
 use lot_model::Instance;
+use path_setups::{Fixed, Held};
 use priced_items::numbers::{at, dot, dot_amounts, less, wide};
-use priced_items::{Costs, DualPrices, Fixed, Held, Item, Pricing, Serving};
+use priced_items::{Costs, DualPrices, Item, Pricing, Serving};
 use std::alloc::{AllocError, Global};
 
 // The lists in which single items are planned, one after the other.

@@ -2,7 +2,6 @@
 ghost use Rattle.std.specs.Prelude.{◌≤◌};
 ghost use Rattle.lot_sizing.specs.Problem.{item_count};
 
-use crate::fixed::{Fixed, Held};
 use crate::grid::clear;
 use crate::numbers::{
     add_times, less, none_is_negative, of_amount, plus, refill, refill_scaled, sum_of, times,
@@ -11,6 +10,7 @@ use crate::prices::DualPrices;
 use crate::pricing::Item;
 use echelon_rows::limits::MAX_PRICE;
 use lot_model::{Instance, Usage};
+use path_setups::{Fixed, Held};
 use std::alloc::{AllocError, Global};
 
 /// What an item costs in each period, all times the scale of the prices: lists with an entry for each period.

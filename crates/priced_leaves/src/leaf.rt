@@ -8,8 +8,9 @@ use crate::writable::tested;
 use cert_lines::{Cut, Part};
 use lin_rows::RowName;
 use lot_model::Instance;
+use path_setups::{Fixed, Held};
 use priced_items::numbers::{at, less, of_amount, times};
-use priced_items::{Costs, DualPrices, Fixed, Held, IntegerGrid, Item, Pricing, Serving};
+use priced_items::{Costs, DualPrices, IntegerGrid, Item, Pricing, Serving};
 use std::alloc::{AllocError, Global};
 
 /// Block cuts, and the parts of a leaf that takes each of them once.

@@ -1,7 +1,7 @@
 //! Strong proposals for leaves, from prices of capacity and of stock.
 //!
-//! Family: search. It stands on `price_rounds`, which finds the prices, and on `cert_lines`, whose cuts and parts it makes;
-//! `known_plans`, `node_splits` and `branch_and_cut` stand on it.
+//! Family: search. It stands on `price_rounds`, which finds the prices, on `path_setups` for what a path says of setups, and
+//! on `cert_lines`, whose cuts and parts it makes; `known_plans`, `node_splits` and `branch_and_cut` stand on it.
 //!
 //! With a price for time and a price for stock each item is planned by itself, and what the items then cost, less what the
 //! time is worth, bounds the cost of every plan (Lagrangean relaxation; Trigeiro, Thomas and McClain 1989). A block cut of
@@ -19,6 +19,7 @@ mod leaf;
 mod writable;
 
 pub use leaf::{Priced, dropped_leaf, priced_leaf};
+pub use path_setups::{Fixed, Held, fixed_setups};
 pub use price_rounds::{Average, GROWTH_PARTS, Improved, Reached, Rounds};
 pub use priced_items::numbers::ONE;
-pub use priced_items::{DualPrices, Fixed, Held, Pricing, fixed_setups, split_prices};
+pub use priced_items::{DualPrices, Pricing, split_prices};

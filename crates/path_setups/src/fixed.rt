@@ -1,9 +1,9 @@
 // What a path says of setups.
-ghost use Rattle.std.specs.Prelude.{◌≡◌, ◌↔◌, IsTrue, ◌<◌, ◌^◌, ℕ, IfOk, length, replicate};
+ghost use Rattle.std.specs.Prelude.{◌≡◌, ◌↔◌, IsTrue, ◌<◌, ◌≤◌, ◌^◌, [], ℕ, IfOk, length, replicate};
 ghost use Rattle.lin_rows.specs.Columns.{IsCell};
 ghost use Rattle.lin_rows.specs.declared.column.Column.TheVariants.{Y};
-ghost use Rattle.priced_items.specs.declared.fixed.Held.TheVariants.{Free};
-ghost use Rattle.priced_items.specs.Holding.{AreTold, IsHeld, IsToldOf, IsPlace, held_at, told_by, with_held};
+ghost use Rattle.path_setups.specs.declared.fixed.Held.TheVariants.{Free};
+ghost use Rattle.path_setups.specs.Holding.{AreTold, IsHeld, IsToldOf, IsPlace, held_at, line_of, told_by, with_held};
 
 use lin_rows::{Bound, Column};
 use lot_model::Instance;
@@ -29,7 +29,7 @@ pub struct Fixed {
 
 impl Model for Fixed {
     ghost use Rattle.std.specs.Prelude.{List, map};
-    ghost use Rattle.priced_items.specs.declared.fixed.Held.{Held};
+    ghost use Rattle.path_setups.specs.declared.fixed.Held.{Held};
 
     ghost Value = { List (List Held) };
 
@@ -61,11 +61,15 @@ impl Fixed {
     }
 
     /// What is said of the setups of an item, by period; nothing where there is no such item. It takes no memory.
-    pub fn line(&self, item: u32) -> &[Held] {
-        match self.items.get((item as usize).wrapping_sub(1)) {
-            Some(found) => found.as_slice(),
-            None => &[],
+    #[tactic(auto, using(crate::proofs::Places::line_map))]
+    pub fn line(&self, item: u32) -> &[Held]
+        ensures inside { 1 ≤ item → item ≤ length self.now → result.now ≡ line_of self.now item }
+        ensures outside { length self.now < item → result.now ≡ [] }
+    {
+        if item < 1 || item as usize > self.items.len() {
+            return &[];
         }
+        self.items[(item - 1) as usize].as_slice()
     }
 
     /// What is said of the setup of an item in a period, both counted from 1; nothing outside. It takes no memory.

@@ -3,12 +3,12 @@ use Rattle.std.specs.Prelude.{◌≡◌, ◌≢◌, ℕ, zero, suc, ◌+◌, ◌
 use Rattle.std.proofs.Common.{◌∙◌, ap, arith, refl, sym, subst}
 use Rattle.std.proofs.lemmas.List.{drop_all, map_push, replicate_more, get_or-map, get_or-replicate, length-replicate, get_or-set_other, get_or-set_same, length-set, map-set}
 use Rattle.std.proofs.lemmas.Bool.{eqb-false, eqb-true}
-use Rattle.priced_items.specs.Holding.{IsHeld, IsPlace, IsToldOf, held_at, held_or, line_of, last_held, or_held, says, told_by, told_of, with_held}
+use Rattle.path_setups.specs.Holding.{IsHeld, IsPlace, IsToldOf, held_at, held_or, line_of, last_held, or_held, says, told_by, told_of, with_held}
 use Rattle.std.proofs.Math.Seq.{drop-cons}
 use Rattle.lin_rows.specs.declared.bound.Bound.{Bound}
 use Rattle.lin_rows.specs.declared.column.Column.TheVariants.{Y}
-use Rattle.priced_items.specs.declared.fixed.Held.{Held}
-use Rattle.priced_items.specs.declared.fixed.Held.TheVariants.{AtLeastOne, AtMostZero, Free}
+use Rattle.path_setups.specs.declared.fixed.Held.{Held}
+use Rattle.path_setups.specs.declared.fixed.Held.TheVariants.{AtLeastOne, AtMostZero, Free}
 
 pub line_map : {X Y : Type 0} (f : X → List Y) (xs : List X) (i : ℕ) (d : X) → i < length xs → slice_index_or (map f xs) i [] ≡ f (get_or xs i d)
 line_map f xs i d lt = get_or-map f xs i d [] lt

@@ -1,7 +1,7 @@
 use Rattle.std.proofs.Common.{◌≡◌, ◌+◌, arith, refl}
-use Rattle.priced_items.proofs.Places.{told_after, told_last}
-use Rattle.priced_items.specs.Holding.{held_at, last_held}
-use Rattle.priced_items.proofs.fixed.fixed_setups.Goals as goal
+use Rattle.path_setups.proofs.Places.{told_after, told_last}
+use Rattle.path_setups.specs.Holding.{held_at, last_held}
+use Rattle.path_setups.proofs.fixed.fixed_setups.Goals as goal
 
 pub loop-bound-preserved : goal.loop-bound-preserved
 loop-bound-preserved c few = (number, λ i t cell. told_after c.args.path.now c.loop-bound.bound-index c.saturating_add-number.result i t _ _ c.loop-bound.fixed c.take.new.self (last_held c.args.path.now 1 i t) c.loop-bound-test.true number refl c.take.ensures ((c.loop-bound.invariant few).1 i t cell).0 ((c.loop-bound.invariant few).1 i t cell).1)

@@ -3,8 +3,8 @@ use Rattle.std.specs.Prelude.{◌≡◌, ◌==◌, ◌&&◌, if◌then◌else◌
 use Rattle.lin_rows.specs.declared.bound.Bound.{Bound}
 use Rattle.lin_rows.specs.declared.column.Column.{Column}
 use Rattle.lin_rows.specs.declared.column.Column.TheVariants.{X, Y, S, R}
-use Rattle.priced_items.specs.declared.fixed.Held.{Held}
-use Rattle.priced_items.specs.declared.fixed.Held.TheVariants.{AtLeastOne, AtMostZero, Free}
+use Rattle.path_setups.specs.declared.fixed.Held.{Held}
+use Rattle.path_setups.specs.declared.fixed.Held.TheVariants.{AtLeastOne, AtMostZero, Free}
 
 -- the setups of an item
 abbrev pub line_of : List (List Held) → ℕ → List Held

@@ -1,7 +1,7 @@
 use Rattle.std.proofs.Common.{subst, sym}
 use Rattle.lin_rows.specs.declared.column.Column.TheVariants.{Y}
-use Rattle.priced_items.specs.Holding.{IsToldOf, told_by}
-use Rattle.priced_items.proofs.fixed.Fixed.take.Goals as goal
+use Rattle.path_setups.specs.Holding.{IsToldOf, told_by}
+use Rattle.path_setups.proofs.fixed.Fixed.take.Goals as goal
 
 pub returns-in-Y : goal.returns-in-Y
 returns-in-Y c =
