@@ -1,7 +1,7 @@
 //! Tests of the crates of plans: the judge, plan files, summaries and generated models.
 //!
-//! Family: tests. It stands on `plan_rules`, `plan_file` and `report`, and on `wagner_whitin` for the items of models that
-//! `report` draws, and calls them as any other crate does; nothing stands on it.
+//! Family: tests. It stands on `plan_rules`, `plan_file` and `report`, on `wagner_whitin` for the items of models that
+//! `report` draws, and on `first_plans` for their own-period plans, and calls them as any other crate does; nothing stands on it.
 //!
 //! Each crate that is tested has files of its own. The crate `fixtures` has what they make their instances of.
 #![tactic(auto)]
