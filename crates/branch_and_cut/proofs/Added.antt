@@ -15,7 +15,7 @@ use Rattle.cert_checker.specs.Cuts.{HasDivisor}
 use Rattle.cert_checker.specs.Named.{IsReadyFor}
 use Rattle.branch_and_cut.specs.declared.knowing.Known.{Known}
 use Rattle.branch_and_cut.specs.declared.guiding.Model.{Model}
-use Rattle.branch_and_cut.specs.Adding.{IsBlock, IsNextRow}
+use Rattle.branch_and_cut.specs.Adding.{IsBlockCut, IsNextRow}
 use Rattle.branch_and_cut.specs.Begun.{AreKnownCuts, IsBegun}
 use Rattle.branch_and_cut.specs.Branching.{good_stays}
 use Rattle.branch_and_cut.specs.Knowing.{IsKnown, ranges_in, shapes}
@@ -23,19 +23,19 @@ use Rattle.known_plans.specs.Kept.{IsMadeWithin}
 use Rattle.branch_and_cut.proofs.Openings.{columns_more}
 
 -- ---- block cuts
-pub block_divisor : (c : CutShape) → IsBlock c → HasDivisor c
+pub block_divisor : (c : CutShape) → IsBlockCut c → HasDivisor c
 block_divisor (LsCut item last chosen) is = absurd is
 block_divisor (PriceCut item a) is = absurd is
 block_divisor (BlockCut item a) is = tt
 block_divisor (RoundCut divisor parts) is = absurd is
 
-pub block_parts : (c : CutShape) → IsBlock c → length (cut_parts c) ≡ 0
+pub block_parts : (c : CutShape) → IsBlockCut c → length (cut_parts c) ≡ 0
 block_parts (LsCut item last chosen) is = absurd is
 block_parts (PriceCut item a) is = absurd is
 block_parts (BlockCut item a) is = refl
 block_parts (RoundCut divisor parts) is = absurd is
 
-block_lines : (version : ℕ) (c : CutShape) → IsBlock c → HasForm (cut_first c) → AreLines version (cut_values c)
+block_lines : (version : ℕ) (c : CutShape) → IsBlockCut c → HasForm (cut_first c) → AreLines version (cut_values c)
 block_lines version (LsCut item last chosen) is form = absurd is
 block_lines version (PriceCut item a) is form = absurd is
 block_lines version (BlockCut item a) is form = (record { text = refl; form = form; known = tt }, tt)
@@ -82,7 +82,7 @@ begun_more g rows more is = record {
   amount = is.amount;
 }
 
-pub known_more : (g : Model) (old new : Known) (cut : Cut) (row : LinRow) → CutRowsGoOn → SmallCutsGoOn → length old.cuts.items < MAX_CUTS → IsBlock (cut_shape cut) → HasForm (cut_first (cut_shape cut)) → IsNextRow g.instance.now old.rows.items (cut_shape cut) row → new.cuts.items ≡ old.cuts.items ++ (cut ∷ []) → new.rows.items ≡ old.rows.items ++ (row ∷ []) → new.best ≡ old.best → new.sums ≡ old.sums → IsKnown g old → IsKnown g new
+pub known_more : (g : Model) (old new : Known) (cut : Cut) (row : LinRow) → CutRowsGoOn → SmallCutsGoOn → length old.cuts.items < MAX_CUTS → IsBlockCut (cut_shape cut) → HasForm (cut_first (cut_shape cut)) → IsNextRow g.instance.now old.rows.items (cut_shape cut) row → new.cuts.items ≡ old.cuts.items ++ (cut ∷ []) → new.rows.items ≡ old.rows.items ++ (row ∷ []) → new.best ≡ old.best → new.sums ≡ old.sums → IsKnown g old → IsKnown g new
 known_more g old new cut row go_on small_go_on few block form next cuts rows best sums is =
     let shape = cut_shape cut in
     let fewer : length (shapes old) < MAX_CUTS = omega (arith, few, length-map old.cuts.items cut_shape) in

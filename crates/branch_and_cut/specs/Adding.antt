@@ -6,6 +6,7 @@ use Rattle.lin_rows.specs.declared.bound.Bound.{Bound}
 use Rattle.lin_rows.specs.Rows.{LinRow}
 use Rattle.cert_lines.specs.Line.{HasForm, HasLine}
 use Rattle.cert_lines.specs.Shapes.{BlockCut, CutShape, LeafShape, LsCut, PartLine, PriceCut, RoundCut, leaf_first, leaf_parts, leaf_shape}
+use Rattle.cert_lines.specs.declared.limits.TheConstants.{FIRST_VERSION}
 use Rattle.split_trees.specs.Ranges.{WithTotals}
 use Rattle.acceptance.specs.Accepts.{IsSmallCut}
 use Rattle.cert_checker.specs.Cuts.{HasItsColumns, IsRowOfCut}
@@ -15,11 +16,11 @@ use Rattle.branch_and_bound.specs.declared.proposal.Proposal.{Proposal}
 use Rattle.branch_and_cut.specs.Leaves.{said}
 
 -- ---- cuts
-abbrev pub IsBlock : CutShape → Type 0
-IsBlock (LsCut item last chosen) = ⊥
-IsBlock (PriceCut item lists) = ⊥
-IsBlock (BlockCut item lists) = ⊤
-IsBlock (RoundCut divisor parts) = ⊥
+abbrev pub IsBlockCut : CutShape → Type 0
+IsBlockCut (LsCut item last chosen) = ⊥
+IsBlockCut (PriceCut item lists) = ⊥
+IsBlockCut (BlockCut item lists) = ⊤
+IsBlockCut (RoundCut divisor parts) = ⊥
 
 -- the row of a cut after these rows; its sums are small, and the problem has its columns
 pub record IsNextRow (m : Problem) (rows : List LinRow) (cut : CutShape) (row : LinRow) : Type 0 where
@@ -31,13 +32,13 @@ pub record IsNextRow (m : Problem) (rows : List LinRow) (cut : CutShape) (row : 
 -- a leaf that takes rows by their names, whose parts have lines in texts of each version
 pub record HasRowParts (leaf : LeafShape) : Type 0 where
   pub of_rows : IsOfRows leaf
-  pub parts : All (λ part. HasLine 1 (PartLine part)) (leaf_parts leaf)
+  pub parts : All (λ part. HasLine FIRST_VERSION (PartLine part)) (leaf_parts leaf)
 
 -- a leaf that takes rows by their names, whose lines are those of texts
 pub record IsTested (leaf : LeafShape) : Type 0 where
   pub of_rows : IsOfRows leaf
   pub form : HasForm (leaf_first leaf)
-  pub parts : All (λ part. HasLine 1 (PartLine part)) (leaf_parts leaf)
+  pub parts : All (λ part. HasLine FIRST_VERSION (PartLine part)) (leaf_parts leaf)
 
 -- a leaf that takes rows by their names says what is told of it, its sums and the amount are small, and it can be written
 pub record IsJudged (m : Problem) (version : ℕ) (rows : List LinRow) (path : List Bound) (p : Proposal) : Type 0 where

@@ -23,7 +23,7 @@ pub record IsRootOf (m : Problem) (r : Root) : Type 0 where
   pub figures : HasFigures m
 
 -- a search is asked within ranges of the problem: with room for a node, with a plan within the ranges to begin with, if one was given, and after what was said at the root
-pub record IsAsked (m : Problem) (r : Given) (budget : ℕ) (first : Option Plan) (said : Root) : Type 0 where
+pub record StartsWell (m : Problem) (r : Given) (budget : ℕ) (first : Option Plan) (said : Root) : Type 0 where
   pub room : 1 ≤ budget
   pub given : AreGiven m r
   pub good : IfSome first (IsGoodWithin m (given_ranges r))

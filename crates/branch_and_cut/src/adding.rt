@@ -4,7 +4,7 @@ ghost use Rattle.cert_lines.specs.declared.limits.TheConstants.{MAX_CUTS};
 ghost use Rattle.cert_lines.specs.Line.{HasForm};
 ghost use Rattle.cert_lines.specs.Shapes.{cut_first, cut_shape};
 ghost use Rattle.plan_rules.specs.Rows.{IfFound};
-ghost use Rattle.branch_and_cut.specs.Adding.{IsBlock, IsNextRow};
+ghost use Rattle.branch_and_cut.specs.Adding.{IsBlockCut, IsNextRow};
 ghost use Rattle.branch_and_cut.specs.Knowing.{IsKnown, KnowsMoreRows};
 
 use crate::guiding::Model;
@@ -18,7 +18,7 @@ use std::alloc::{AllocError, Global};
 
 // Whether a cut is one of blocks.
 fn is_block(cut: &Cut) -> bool
-    ensures { result ≡ true → IsBlock (cut_shape cut.now) }
+    ensures { result ≡ true → IsBlockCut (cut_shape cut.now) }
 {
     match cut {
         Cut::Block { .. } => true,
@@ -34,7 +34,7 @@ fn next_row(
     cut: &Cut,
 ) -> Result<Option<Row>, AllocError>
     requires known { IsKnown model.now known.now }
-    requires block { IsBlock (cut_shape cut.now) }
+    requires block { IsBlockCut (cut_shape cut.now) }
     ensures { IfFound result (IsNextRow model.now.instance.now known.now.rows.items (cut_shape cut.now)) }
 {
     match cut_row_in(alloc, model.instance, &model.explosion, &known.rows, cut, 0) {
@@ -48,7 +48,7 @@ fn next_row(
 fn push_cut(model: &Model, known: &mut Known, cut: Cut, row: Row) -> Result<(), AllocError>
     requires known { IsKnown model.now known.old }
     requires few { length known.old.cuts.items < MAX_CUTS }
-    requires block { IsBlock (cut_shape cut) }
+    requires block { IsBlockCut (cut_shape cut) }
     requires form { HasForm (cut_first (cut_shape cut)) }
     requires row { IsNextRow model.now.instance.now known.old.rows.items (cut_shape cut) row }
     ensures { OnOk result (KnowsMoreRows model.now known.old known.new) }

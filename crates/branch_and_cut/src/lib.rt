@@ -1,5 +1,8 @@
 //! The search of every model: branching on quantities and setups, with cuts, and a certificate of what is found.
 //!
+//! `search_all` searches the plans of a model, and `search` those within `Ranges` that are given. Each gives a `Found`: a plan,
+//! if there is one, and a certificate of what is claimed.
+//!
 //! Family: search. It stands on `branch_and_bound` for the tree, on `search_ranges` for the ranges, on `root_rounds`, `apart`,
 //! `priced_leaves` and `path_relaxation` for cuts and leaves, on `known_plans` and `first_plans` for plans, on `node_splits` for
 //! branches, on `branching` for uncoupled models, and on `leaf_growth`, `cert_checker` and `acceptance` for what certificates

@@ -4,7 +4,7 @@ ghost use Rattle.lot_sizing.specs.Problem.{IsUncoupled};
 ghost use Rattle.branching.specs.Found.{IsProved};
 ghost use Rattle.branching.specs.declared.found.RootSays.TheVariants.{Empty, Uncoupled};
 ghost use Rattle.leaf_growth.specs.Written.{HasVersion};
-ghost use Rattle.branch_and_cut.specs.Answer.{IsAnswer, IsAnswerWithin, IsAsked};
+ghost use Rattle.branch_and_cut.specs.Answer.{IsAnswer, IsAnswerWithin, StartsWell};
 ghost use Rattle.branch_and_cut.specs.Beginning.{AreApart};
 ghost use Rattle.branch_and_cut.specs.Search.{DecidesSmall, GoesTogether, HasEvidence, IfBound, IsNoLessThanApart, IsSaidAtRoot, IsUndecided, IsVersionOf, KeepsFirst, KeepsOwn, UsesRoot, WithRows};
 ghost use Rattle.known_plans.specs.Good.{IsGoodPlan, IsGoodWithin};
@@ -62,7 +62,7 @@ fn searched(
     said: Root,
     apart: Apart,
 ) -> Result<Found, AllocError>
-    requires asked { IsAsked instance.now ranges.now budget first said }
+    requires asked { StartsWell instance.now ranges.now budget first said }
     requires coupled { IsWhole instance.now (given_ranges ranges.now) → said.says ≡ Uncoupled → ⊥ }
     requires some { said.says ≡ Empty → ⊥ }
     requires apart { AreApart instance.now apart }
@@ -114,7 +114,7 @@ fn alone(
     said: Root,
     apart: Apart,
 ) -> Result<Found, AllocError>
-    requires asked { IsAsked instance.now ranges.now budget first said }
+    requires asked { StartsWell instance.now ranges.now budget first said }
     requires uncoupled { said.says ≡ Uncoupled }
     requires apart { AreApart instance.now apart }
     ensures { IfOk result (IsAnswerWithin instance.now (given_ranges ranges.now) budget first) }
@@ -136,7 +136,7 @@ fn impossible(
     first: Option<Plan>,
     said: Root,
 ) -> Found
-    requires asked { IsAsked instance.now ranges.now budget first said }
+    requires asked { StartsWell instance.now ranges.now budget first said }
     requires none { said.says ≡ Empty }
     ensures { IsAnswerWithin instance.now (given_ranges ranges.now) budget first result }
 {
@@ -155,7 +155,7 @@ fn answer(
     said: Root,
     apart: Apart,
 ) -> Result<Found, AllocError>
-    requires asked { IsAsked instance.now ranges.now budget first said }
+    requires asked { StartsWell instance.now ranges.now budget first said }
     requires apart { AreApart instance.now apart }
     ensures { IfOk result (IsAnswerWithin instance.now (given_ranges ranges.now) budget first) }
 {

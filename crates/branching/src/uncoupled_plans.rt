@@ -56,7 +56,7 @@ fn none_found(alloc: Global, instance: &Instance, item: u32) -> Result<Found, Al
 
 /// Plans an uncoupled instance, and proves the plan.
 ///
-/// The certificate is of version 1 and has one node. Where there is a plan, it claims that the plan's cost, in money,
+/// The certificate is of `FIRST_VERSION` and has one node. Where there is a plan, it claims that the plan's cost, in money,
 /// is optimal; where an item has no room for what is left of its opening stock, that no plan is feasible. `cert_checker`
 /// accepts it with the plan (`proved`). The error is that memory ran out.
 ///

@@ -285,7 +285,7 @@ MayLeave (Some bytes) budget = (problem : Problem) × BytesMean bytes (Ok proble
 
 -- ---- what each status says
 -- the words ask to plan a model file with a budget of nodes
-pub record IsAsked (asked : Option Request) (model_file plan_file certificate_file : List ℕ) (budget : ℕ) : Type 0 where
+pub record AsksToPlan (asked : Option Request) (model_file plan_file certificate_file : List ℕ) (budget : ℕ) : Type 0 where
   pub is : asked ≡ Some (planning model_file plan_file certificate_file budget)
 
 -- the plan file holds a best plan of the problem in the model file, the certificate file proves that it is, and the lines have its cost
@@ -302,7 +302,7 @@ pub record FindsNoPlan (asked : Option Request) (before after : Files) (out_old 
   pub plan_file : List ℕ
   pub certificate_file : List ℕ
   pub budget : ℕ
-  pub words : IsAsked asked model_file plan_file certificate_file budget
+  pub words : AsksToPlan asked model_file plan_file certificate_file budget
   pub says : RootSays
   pub nodes : ℕ
   pub holds : OfModel before model_file (λ problem. WritesInfeasible before after problem plan_file certificate_file budget says nodes)
@@ -323,7 +323,7 @@ pub record LeavesOpen (asked : Option Request) (before after : Files) (out_old o
   pub plan_file : List ℕ
   pub certificate_file : List ℕ
   pub budget : ℕ
-  pub words : IsAsked asked model_file plan_file certificate_file budget
+  pub words : AsksToPlan asked model_file plan_file certificate_file budget
   pub answer : PlanAnswer
   pub holds : OfModel before model_file (λ problem. IsLeftOpen before after problem plan_file certificate_file budget answer)
   pub lines : Gains (plan_line answer) out_old out_new
@@ -334,7 +334,7 @@ pub record FailsToWrite (asked : Option Request) (old new : Shelved) (out_old ou
   pub plan_file : List ℕ
   pub certificate_file : List ℕ
   pub budget : ℕ
-  pub words : IsAsked asked model_file plan_file certificate_file budget
+  pub words : AsksToPlan asked model_file plan_file certificate_file budget
   pub file : List ℕ
   pub failed : Rose old.write_faults new.write_faults
   pub left : FailsAt (λ P. IsTrue old.told → OfModel old.file model_file P) plan_file certificate_file old new file

@@ -11,6 +11,7 @@ use Rattle.lin_rows.specs.Costs.{point_cost}
 use Rattle.lin_rows.specs.Rows.{LinPoint}
 use Rattle.cert_lines.specs.Limits.{IsVersion}
 use Rattle.cert_lines.specs.Shapes.{LeafShape, LinearLeaf, FarkasLeaf, PointLeaf, leaf_shape}
+use Rattle.cert_lines.specs.declared.limits.TheConstants.{FIRST_VERSION}
 use Rattle.certificate.specs.Values.{AreLines, leaf_values}
 use Rattle.tableau.specs.declared.outcome.Outcome.{Outcome}
 use Rattle.tableau.specs.declared.outcome.Outcome.TheVariants as outcome
@@ -63,9 +64,9 @@ pub record IsMetBy (m : Problem) (total : ℕ → ℕ) (path : List Bound) (boun
 abbrev pub IsMetAt : Problem → List Bound → ℕ → Type 0
 IsMetAt m path bound = WithTotals m (λ total. IsMetBy m total path bound)
 
--- the lines of the leaf are within the limits, in texts of version 2, and in those of version 1 where the problem is plain
+-- the lines of the leaf are within the limits, in texts of the latest version, and in those of the first where the problem is plain
 abbrev pub IsWritableLeaf : Problem → LeafShape → Type 0
-IsWritableLeaf m leaf = (version : ℕ) → IsVersion version → (version ≡ 1 → IsPlain m) → AreLines version (leaf_values leaf)
+IsWritableLeaf m leaf = (version : ℕ) → IsVersion version → (version ≡ FIRST_VERSION → IsPlain m) → AreLines version (leaf_values leaf)
 
 -- without cuts the leaf says this on the path; its sums are small, and it can be written
 pub record IsGoodLeaf (m : Problem) (path : List Bound) (leaf : LeafShape) (says : LeafSays) : Type 0 where

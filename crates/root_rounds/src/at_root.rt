@@ -95,8 +95,8 @@ fn make_rounds(
 ///   in it, is 2^127 or more.
 ///
 /// Each cut has its row, which holds at every plan. A leaf is there exactly after `Closed` and
-/// `Empty`. Cuts and leaf have lines in a certificate of version 2 and, where the model is plain, of
-/// version 1 too: there are at most `MAX_CUTS` cuts and `MAX_PARTS` parts (of `cert_lines`), and each
+/// `Empty`. Cuts and leaf have lines in a certificate of `MAX_VERSION` and, where the model is plain, of
+/// `FIRST_VERSION` too: there are at most `MAX_CUTS` cuts and `MAX_PARTS` parts (of `cert_lines`), and each
 /// number is below 2^127 in absolute value. The error is that memory ran out.
 ///
 /// It keeps one program, its tableau and the cuts; it makes a tableau anew in each round.

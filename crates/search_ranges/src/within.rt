@@ -197,7 +197,7 @@ pub fn is_within(instance: &Instance, ranges: &Ranges, plan: &Plan) -> bool
     true
 }
 
-/// Whether a plan lies within the ranges, if there is one; none lies within any.
+/// Whether a plan lies within the ranges, if there is one; true where there is none.
 ///
 /// The ranges and the plan have a number for each item and period of the instance. It takes no memory.
 pub fn lies_within(instance: &Instance, ranges: &Ranges, plan: &Option<Plan>) -> bool
