@@ -11,6 +11,7 @@ use Rattle.lot_sizing.specs.Totals.{AreLargestTotals, IsRanking}
 use Rattle.lin_rows.specs.declared.column.Column.TheVariants.{Y}
 use Rattle.lin_rows.specs.declared.base.RowName.{RowName}
 use Rattle.lin_rows.specs.declared.base.RowName.TheVariants.{Balance, Link, Capacity, Path, Cut}
+use Rattle.cert_lines.specs.declared.limits.TheConstants.{FIRST_CERT_VERSION}
 use Rattle.cert_lines.specs.declared.parts.Claim.TheVariants.{Optimal}
 use Rattle.cert_lines.specs.declared.parts.Part.{Part}
 use Rattle.cert_lines.specs.Shapes.{CutShape, FarkasLeaf, LinearLeaf, LsCut, PriceCut, BlockCut, RoundCut}
@@ -79,7 +80,7 @@ tree =
     Split (Y 1 1) 0 (End (FarkasLeaf first)) (Split (Y 1 2) 0 (End (FarkasLeaf second)) (End (LinearLeaf (pos 1) third)))
 
 abbrev pub by_branches : Shape
-by_branches = record { version = 1; claim = Optimal 23; cuts = []; tree = tree }
+by_branches = record { version = FIRST_CERT_VERSION; claim = Optimal 23; cuts = []; tree = tree }
 
 -- by cuts: the (l,S) row says 2*y[1] >= 2, the rounding row y[2] >= 1; the price row and the block row are not needed
 abbrev pub rounded : List Part
@@ -102,7 +103,7 @@ whole =
     part (Balance 1 2) (pos 1) ∷ (part (Capacity 1 2) (pos 1) ∷ (part (Cut 1) (pos 5) ∷ (part (Cut 2) (pos 11) ∷ [])))
 
 abbrev pub by_cuts : Shape
-by_cuts = record { version = 1; claim = Optimal 23; cuts = cuts; tree = End (LinearLeaf (pos 1) whole) }
+by_cuts = record { version = FIRST_CERT_VERSION; claim = Optimal 23; cuts = cuts; tree = End (LinearLeaf (pos 1) whole) }
 
 -- a certificate is accepted with the plan, and its sums are small
 abbrev pub IsAcceptedHere : Shape → Type 0

@@ -15,7 +15,7 @@ use Rattle.cert_lines.specs.Limits.{Is127, Is32, Is64, bound_127, bound_32, boun
 use Rattle.cert_lines.specs.Line.{HasForm, IsFirstName, IsKnown, IsSmallColumn, IsSmallLine, IsSmallName, later_line}
 use Rattle.cert_lines.specs.Shapes.{BlockCut, BranchLine, CutLine, EndLine, FarkasLine, LineShape, LinearLine, LsCut, PartLine, PointLine, PriceCut, RoundCut, RoundLine}
 use Rattle.cert_lines.specs.Text.{list_text, price_head, block_head}
-use Rattle.certificate.specs.Needs.{StartsWith}
+use Rattle.certificate.specs.Dues.{StartsWith}
 use Rattle.certificate.specs.Values.{value_text}
 use Rattle.existence.proofs.Deciding.{Decided, if_or_not, le_or_not}
 use Rattle.answers_exist.proofs.Searching.{IsListOf, Searched, bits, both, integers, lists, made, numbers, pairs}

@@ -14,7 +14,7 @@ ghost use Rattle.answers_exist.specs.Checking.{CertificatesComeOut, PlansAreHeld
 use acceptance::{cut_rows_go_on, cuts_hold, echelon_rows_are_one};
 use base_bound::base_bounds_are_floors;
 use bill::totals_exist;
-use cert_stream::runs_are_bodies;
+use cert_stream::taken_are_bodies;
 use existence::{plans_are_judged, runs_come_out};
 use lot_sizing::{least_stocks_are_best, totals_are_one, weights_are_one};
 use root_rows::{base_names_are_all, empty_is_said, least_is_said};
@@ -38,7 +38,7 @@ pub fn bounds_come_out()
 pub fn texts_come_out()
     ensures { TextsComeOut }
 {
-    runs_are_bodies();
+    taken_are_bodies();
 }
 
 /// Each certificate that has a text, with a plan or without one, is accepted with small sums, or has a line and a cause

@@ -1,14 +1,13 @@
 // The base bound of a model.
 ghost use Rattle.std.specs.Prelude.{IfOk};
 ghost use Rattle.lot_sizing.specs.Best.{IsFloor, IsImpossible};
-ghost use Rattle.lot_model.specs.Views.{IsInstance};
 ghost use Rattle.base_bound.specs.Bounds.{HasNoBasePoint, IfBound, IfEmpty, IsBaseBound, PassesAsRun, SkipsExactly};
 ghost use Rattle.base_bound.specs.Solved.{IsAmountRounded, IsSolved};
 
 use crate::laws::base_bounds_are_floors;
 use frac128::Frac;
 use least_index::solve_to_end;
-use lot_model::Instance;
+use lot_model::{Instance, an_instance_breaks_no_rule};
 use root_rows::{MAX_CELLS, base_names_are_all, base_program, empty_is_said, least_is_said};
 use std::alloc::{AllocError, Global};
 use tableau::{Lp, Outcome};
@@ -34,13 +33,6 @@ pub enum BoundSays {
         /// The number of the column's nonbasic variable before the pivot, and 0 for the constants.
         column: u32,
     },
-}
-
-// What holds of each instance.
-fn is_instance(instance: &Instance)
-    ensures { IsInstance instance.now }
-{
-    let _ = instance.periods();
 }
 
 // The amount of a cost rounded up. No cost is below 0.
@@ -81,7 +73,7 @@ pub fn base_bound(alloc: Global, instance: &Instance) -> Result<BoundSays, Alloc
     empty_is_said();
     base_names_are_all();
     base_bounds_are_floors();
-    is_instance(instance);
+    an_instance_breaks_no_rule(instance);
     let round = base_program(alloc, instance)?;
     let cells = round.lp.cells();
     if cells > MAX_CELLS {

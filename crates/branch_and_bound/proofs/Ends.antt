@@ -26,7 +26,7 @@ pub leaf_later : (H K T : AtLeaf) (best less : Option ℕ) → IsAtMost less bes
 leaf_later H K T best less h stay rs path leaf s =
     record {
       holds = stay rs path leaf s.holds;
-      told = s.told;
+      evident = s.evident;
       apart = λ below. s.apart (below-more leaf.says less best below h);
     }
 

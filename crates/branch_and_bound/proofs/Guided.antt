@@ -52,7 +52,7 @@ later_if (Err e) G guide a b c grows_on first next = next
 pub tree_later : {Self S : Type 0} (G : Ghosts Self S) (guide : Self) (before after : S) → IsLater G guide before after → ((rs : List Range) (path : List Bound) (leaf : Leaf) → G.Holds guide before rs path leaf → G.Holds guide after rs path leaf) → (tree : Tree) (rs : List Range) (path : List Bound) → IsSoundTree G guide before tree rs path → IsSoundTree G guide after tree rs path
 tree_later G guide before after later stay tree rs path h = record {
   branches = h.branches;
-  sound = sound_later (G.Holds guide before) (G.Holds guide after) (G.Tells guide) (G.cost before) (G.cost after) later.kept stay rs path tree h.sound;
+  sound = sound_later (G.Holds guide before) (G.Holds guide after) (G.IsEvident guide) (G.cost before) (G.cost after) later.kept stay rs path tree h.sound;
 }
 
 pub side_later : {Self S : Type 0} (G : Ghosts Self S) (guide : Self) (before after : S) → IsLater G guide before after → ((rs : List Range) (path : List Bound) (leaf : Leaf) → G.Holds guide before rs path leaf → G.Holds guide after rs path leaf) → (most : Bool) (node : Node) (split : Split) (tree : Tree) → AtSide most node split (IsSoundTree G guide before tree) → AtSide most node split (IsSoundTree G guide after tree)
@@ -63,7 +63,7 @@ side_later G guide before after later stay most node split tree h =
 pub tree_joined : {Self S : Type 0} (G : Ghosts Self S) (guide : Self) (state : S) (node : Node) (split : Split) (low high tree : Tree) → IsBranch tree split.column split.place split.at low high → AtNode node (IsBranchOf (G.rules guide) split) → AtSide true node split (IsSoundTree G guide state low) → AtSide false node split (IsSoundTree G guide state high) → AtNode node (IsSoundTree G guide state tree)
 tree_joined G guide state node split low high tree is here one two = record {
   branches = branches_joined (G.rules guide) node.ranges.items node.path.items split.column split.place split.at low high tree is here one.branches two.branches;
-  sound = ends_joined (IsSound (G.Holds guide state) (G.Tells guide) (G.cost state)) node.ranges.items node.path.items split.column split.place split.at low high tree is one.sound two.sound;
+  sound = ends_joined (IsSound (G.Holds guide state) (G.IsEvident guide) (G.cost state)) node.ranges.items node.path.items split.column split.place split.at low high tree is one.sound two.sound;
 }
 
 -- leaves of a side that are deep are so against a lesser cost

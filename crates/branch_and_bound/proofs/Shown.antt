@@ -12,7 +12,7 @@ use Rattle.branch_and_bound.specs.Ranges.{IsAllowed, IsSplitAt, high_side, low_s
 use Rattle.branch_and_bound.specs.Costs.{IsBelow}
 use Rattle.branch_and_bound.specs.Trees.{AtLeaf, EachLeaf, IsAllowedTree, IsSplitTree, Rules, high_path, least_said, low_path}
 use Rattle.branch_and_bound.specs.Growing.{AreBranches, EachEnd, IsMarkedDeep, IsSettled, IsSound, wanted, wanted_of}
-use Rattle.branch_and_bound.specs.Claims.{IsLeastClaim, IsOpenDeep, IsTold}
+use Rattle.branch_and_bound.specs.Claims.{IsLeastClaim, IsOpenDeep, IsEvidenced}
 use Rattle.branch_and_bound.proofs.Endless.{below_endless}
 use Rattle.branch_and_bound.proofs.Trees.{IsGrown, IsOpenApart, each_both, each_map, high_path-length, low_path-length}
 
@@ -73,26 +73,26 @@ pub held : (rules : Rules) (H T : AtLeaf) (best : Option ℕ) (rs : List Range) 
 held rules H T best rs tree b s = each_map rules.place (IsSound H T best) H (λ x y leaf h. h.holds) rs [] tree (each_of_ends rules (IsSound H T best) rs [] tree b s)
 
 -- where no leaf that says just this is to be asked, all of them were
-all_asked : (bound : ℕ) (rs : List Range) (path : List BoundOf) (tree : Tree) → wanted bound tree ≡ 0 → EachEnd (λ rs path leaf. leaf.says ≡ Some bound → leaf.asked ≡ true) rs path tree
-all_asked bound rs path (Branch' c spot at p low q high) h =
-    (all_asked bound (low_side rs spot at) (low_path path c at) low (omega (arith, h)), all_asked bound (high_side rs spot at) (high_path path c at) high (omega (arith, h)))
-all_asked bound rs path (LeafOf leaf) h = grind arith
+all_examined : (bound : ℕ) (rs : List Range) (path : List BoundOf) (tree : Tree) → wanted bound tree ≡ 0 → EachEnd (λ rs path leaf. leaf.says ≡ Some bound → leaf.examined ≡ true) rs path tree
+all_examined bound rs path (Branch' c spot at p low q high) h =
+    (all_examined bound (low_side rs spot at) (low_path path c at) low (omega (arith, h)), all_examined bound (high_side rs spot at) (high_path path c at) high (omega (arith, h)))
+all_examined bound rs path (LeafOf leaf) h = grind arith
 
-pub told : (rules : Rules) (H T : AtLeaf) (best least : Option ℕ) (rs : List Range) (tree : Tree) (claim : Claim) → AreBranches rules rs [] tree → EachEnd (IsSound H T best) rs [] tree → IsSettled best tree → least_said tree ≡ least → IsLeastClaim best least claim → IsTold rules T rs tree claim
-told rules H T best least rs tree (Optimal cost) b s settled e h = tt
-told rules H T best least rs tree Infeasible b s settled e h = tt
-told rules H T best least rs tree (Bound bound) b s settled e h =
+pub evident : (rules : Rules) (H T : AtLeaf) (best least : Option ℕ) (rs : List Range) (tree : Tree) (claim : Claim) → AreBranches rules rs [] tree → EachEnd (IsSound H T best) rs [] tree → IsSettled best tree → least_said tree ≡ least → IsLeastClaim best least claim → IsEvidenced rules T rs tree claim
+evident rules H T best least rs tree (Optimal cost) b s settled e h = tt
+evident rules H T best least rs tree Infeasible b s settled e h = tt
+evident rules H T best least rs tree (Bound bound) b s settled e h =
     let is : least_said tree ≡ Some bound = e ∙ h.0 in
     let below : IsBelow (least_said tree) best = subst (λ x. IsBelow x best) (sym e) h.1 in
     let none : wanted bound tree ≡ 0 = subst (λ x. wanted_of x tree ≡ 0) is (settled below) in
     each_map rules.place
-    (λ x y leaf. IsSound H T best x y leaf × (leaf.says ≡ Some bound → leaf.asked ≡ true))
+    (λ x y leaf. IsSound H T best x y leaf × (leaf.says ≡ Some bound → leaf.examined ≡ true))
     (λ x y leaf. leaf.says ≡ Some bound → T x y leaf)
-    (λ x y leaf h says. h.0.told (h.1 says))
+    (λ x y leaf h says. h.0.evident (h.1 says))
     rs [] tree
-    (each_both rules.place (IsSound H T best) (λ x y leaf. leaf.says ≡ Some bound → leaf.asked ≡ true) rs [] tree
+    (each_both rules.place (IsSound H T best) (λ x y leaf. leaf.says ≡ Some bound → leaf.examined ≡ true) rs [] tree
     (each_of_ends rules (IsSound H T best) rs [] tree b s)
-    (each_of_ends rules (λ x y leaf. leaf.says ≡ Some bound → leaf.asked ≡ true) rs [] tree b (all_asked bound rs [] tree none)))
+    (each_of_ends rules (λ x y leaf. leaf.says ≡ Some bound → leaf.examined ≡ true) rs [] tree b (all_examined bound rs [] tree none)))
 
 -- the claim of what is known
 pub claimed : (best cost least : Option ℕ) (tree : Tree) (claim : Claim) → cost ≡ best → least ≡ least_said tree → IsLeastClaim cost least claim → IsLeastClaim best (least_said tree) claim

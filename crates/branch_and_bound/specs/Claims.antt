@@ -32,10 +32,10 @@ IsBound Infeasible = ⊥
 IsBound (Bound bound) = Unit {0}
 
 -- where a bound is claimed, there is evidence at each leaf that says just this number
-abbrev pub IsTold : Rules → AtLeaf → List Range → Tree → Claim → Type 0
-IsTold rules Tells rs tree (Optimal cost) = Unit {0}
-IsTold rules Tells rs tree Infeasible = Unit {0}
-IsTold rules Tells rs tree (Bound bound) = EachLeaf rules.place (λ rs path leaf. leaf.says ≡ Some bound → Tells rs path leaf) rs [] tree
+abbrev pub IsEvidenced : Rules → AtLeaf → List Range → Tree → Claim → Type 0
+IsEvidenced rules IsEvident rs tree (Optimal cost) = Unit {0}
+IsEvidenced rules IsEvident rs tree Infeasible = Unit {0}
+IsEvidenced rules IsEvident rs tree (Bound bound) = EachLeaf rules.place (λ rs path leaf. leaf.says ≡ Some bound → IsEvident rs path leaf) rs [] tree
 
 -- a leaf that is open against a best cost has MAX_BRANCHES branches above it
 abbrev pub IsOpenDeep : Rules → Option ℕ → List Range → List PathBound → Proposal → Type 0

@@ -34,9 +34,9 @@ EachEnd P rs path (Branch' c spot at p low q high) =
 EachEnd P rs path (LeafOf leaf) = P rs path leaf
 
 -- what holds of a leaf that was proposed: evidence was given if it was asked for, and a leaf that is open against the best cost doesn't lie at a point
-pub record IsSound (Holds Tells : AtLeaf) (best : Option ℕ) (rs : List Range) (path : List Bound) (leaf : Leaf) : Type 0 where
+pub record IsSound (Holds IsEvident : AtLeaf) (best : Option ℕ) (rs : List Range) (path : List Bound) (leaf : Leaf) : Type 0 where
   pub holds : Holds rs path leaf
-  pub told : leaf.asked ≡ true → Tells rs path leaf
+  pub evident : leaf.examined ≡ true → IsEvident rs path leaf
   pub apart : IsBelow leaf.says best → IsPoint rs → ⊥
 
 -- a leaf below a mark that is open against a best cost has MAX_BRANCHES branches above it
@@ -49,17 +49,17 @@ is_cost bound None = false
 is_cost bound (Some cost) = cost == bound
 
 -- 1 for a leaf at which no evidence was asked for, and else 0
-abbrev pub unasked_at : Leaf → ℕ
-unasked_at leaf = if leaf.asked then 0 else 1
+abbrev pub unexamined_at : Leaf → ℕ
+unexamined_at leaf = if leaf.examined then 0 else 1
 
 -- and the same of leaves that say just this number
 abbrev pub wanted_at : ℕ → Leaf → ℕ
-wanted_at bound leaf = if leaf.asked then 0 else if is_cost bound leaf.says then 1 else 0
+wanted_at bound leaf = if leaf.examined then 0 else if is_cost bound leaf.says then 1 else 0
 
 -- how many leaves there are at which no evidence was asked for
-abbrev pub unasked : Tree → ℕ
-unasked (Branch' c spot at p low q high) = unasked low + unasked high
-unasked (LeafOf leaf) = unasked_at leaf
+abbrev pub unexamined : Tree → ℕ
+unexamined (Branch' c spot at p low q high) = unexamined low + unexamined high
+unexamined (LeafOf leaf) = unexamined_at leaf
 
 -- how many of them say just this number
 abbrev pub wanted : ℕ → Tree → ℕ

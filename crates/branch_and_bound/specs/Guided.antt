@@ -55,7 +55,7 @@ module _ {Self S : Type 0} (G : Ghosts Self S) (guide : Self) where
 
   -- a leaf that was proposed
   abbrev pub IsSoundLeaf : S → Leaf → List Range → List Bound → Type 0
-  IsSoundLeaf state leaf rs path = IsSound (G.Holds guide state) (G.Tells guide) (G.cost state) rs path leaf
+  IsSoundLeaf state leaf rs path = IsSound (G.Holds guide state) (G.IsEvident guide) (G.cost state) rs path leaf
 
   -- and one for each side of a split
   pub record AreSoundSides (state : S) (node : Node) (split : Split) (sides : Sides) : Type 0 where
@@ -65,7 +65,7 @@ module _ {Self S : Type 0} (G : Ghosts Self S) (guide : Self) where
   -- a tree of branches, with leaves that were proposed
   pub record IsSoundTree (state : S) (tree : Tree) (rs : List Range) (path : List Bound) : Type 0 where
     pub branches : AreBranches (G.rules guide) rs path tree
-    pub sound : EachEnd (IsSound (G.Holds guide state) (G.Tells guide) (G.cost state)) rs path tree
+    pub sound : EachEnd (IsSound (G.Holds guide state) (G.IsEvident guide) (G.cost state)) rs path tree
 
 module _ {Self S : Type 0} (G : Ghosts Self S) where
   -- if each open leaf of the old tree was deep in the first state, so is each of the new tree in the second one

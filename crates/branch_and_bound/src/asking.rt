@@ -2,7 +2,7 @@
 ghost use Rattle.std.specs.Prelude.{◌≡◌, ◌≤◌, ◌+◌, ◌<◌, ℕ, List, OnOk, IfOk, length, true, false, None};
 ghost use Rattle.branch_and_bound.specs.Costs.{IsAtMost};
 ghost use Rattle.branch_and_bound.specs.Counts.{branches};
-ghost use Rattle.branch_and_bound.specs.Growing.{unasked, unasked_at, wanted, wanted_at};
+ghost use Rattle.branch_and_bound.specs.Growing.{unexamined, unexamined_at, wanted, wanted_at};
 ghost use Rattle.branch_and_bound.specs.Guided.{AtNode, AtSide, IsBranchOf, IsGuided, IsLater, IsSameNode, IsSoundLeaf, IsSoundTree, StaysDeep, StaysDeepJoined};
 
 use crate::counting::is_wanted;
@@ -26,7 +26,7 @@ fn ask_leaf<S, G: Guide<S>>(
     requires sound { AtNode node.now (IsSoundLeaf G.Guide guide.now state.old proposal) }
     ensures later { OnOk result (IsLater G.Guide guide.now state.old state.new) }
     ensures sound { IfOk result (λ p. AtNode node.now (IsSoundLeaf G.Guide guide.now state.new p)) }
-    ensures fewer { IfOk result (λ p. unasked_at p + wanted_at bound proposal ≡ unasked_at proposal) }
+    ensures fewer { IfOk result (λ p. unexamined_at p + wanted_at bound proposal ≡ unexamined_at proposal) }
     ensures more { IfOk result (λ p. IsAtMost proposal.says p.says) }
 {
     if is_wanted(&proposal, bound) {
@@ -53,7 +53,7 @@ pub fn ask_tree<S, G: Guide<S>>(
     ensures later { OnOk result (IsLater G.Guide guide.now state.old state.new) }
     ensures count { IfOk result (λ t. branches t ≡ branches tree) }
     ensures tree { IfOk result (λ t. AtNode node.old (IsSoundTree G.Guide guide.now state.new t)) }
-    ensures fewer { IfOk result (λ t. unasked t + wanted bound tree ≡ unasked tree) }
+    ensures fewer { IfOk result (λ t. unexamined t + wanted bound tree ≡ unexamined tree) }
     ensures deep { IfOk result (λ t. AtNode node.old (StaysDeep G.Guide state.old state.new tree t)) }
 {
     match tree {
@@ -101,7 +101,7 @@ fn ask_branch<S, G: Guide<S>>(
     ensures count { IfOk result (λ t. branches t ≡ branches low + branches high + 1) }
     ensures tree { IfOk result (λ t. AtNode node.old (IsSoundTree G.Guide guide.now state.new t)) }
     ensures fewer { IfOk result (λ t.
-        unasked t + wanted bound low + wanted bound high ≡ unasked low + unasked high) }
+        unexamined t + wanted bound low + wanted bound high ≡ unexamined low + unexamined high) }
     ensures deep { IfOk result (StaysDeepJoined G.Guide state.old state.new node.old split low high) }
 {
     let left = ask_side(alloc, guide, node, state, bound, split, true, low)?;
@@ -129,12 +129,12 @@ fn ask_side<S, G: Guide<S>>(
     ensures later { OnOk result (IsLater G.Guide guide.now state.old state.new) }
     ensures count { IfOk result (λ t. branches t ≡ branches tree) }
     ensures tree { IfOk result (λ t. AtSide most node.old split (IsSoundTree G.Guide guide.now state.new t)) }
-    ensures fewer { IfOk result (λ t. unasked t + wanted bound tree ≡ unasked tree) }
+    ensures fewer { IfOk result (λ t. unexamined t + wanted bound tree ≡ unexamined tree) }
     ensures deep { IfOk result (λ t.
         AtSide most node.old split (StaysDeep G.Guide state.old state.new tree t)) }
 {
     let range = enter::<S, G>(guide, node, split, most)?;
-    let asked = ask_tree(alloc, guide, node, state, bound, tree)?;
+    let examined = ask_tree(alloc, guide, node, state, bound, tree)?;
     leave(node, split.place, range);
-    Ok(asked)
+    Ok(examined)
 }

@@ -1,7 +1,7 @@
 // What the leaves of a tree say together.
 ghost use Rattle.std.specs.Prelude.{◌≡◌, ◌≤◌, true, false};
 ghost use Rattle.branch_and_bound.specs.Trees.{least_said};
-ghost use Rattle.branch_and_bound.specs.Growing.{unasked_at, wanted, wanted_at};
+ghost use Rattle.branch_and_bound.specs.Growing.{unexamined_at, wanted, wanted_at};
 
 use crate::costs::least_of;
 use crate::{Proposal, Sought};
@@ -18,11 +18,11 @@ pub fn least_number(tree: &Sought) -> Option<u128>
 
 // Whether evidence is still to be asked for at a leaf, if it says just this number.
 pub fn is_wanted(proposal: &Proposal, bound: u128) -> bool
-    ensures is { result ≡ true → (wanted_at bound proposal.now ≡ 1) × (unasked_at proposal.now ≡ 1) }
+    ensures is { result ≡ true → (wanted_at bound proposal.now ≡ 1) × (unexamined_at proposal.now ≡ 1) }
     ensures not { result ≡ false → wanted_at bound proposal.now ≡ 0 }
 {
     match proposal.says {
-        Some(number) => number == bound && !proposal.asked,
+        Some(number) => number == bound && !proposal.examined,
         None => false,
     }
 }

@@ -11,7 +11,7 @@ pub struct Proposal {
     /// The number, in units of money, and None where there is no plan.
     pub says: Option<u128>,
     /// Whether evidence was asked for that no more can be said here.
-    pub asked: bool,
+    pub examined: bool,
     /// The place of what the guide remembers of the node, counted from 0; None where it remembers nothing.
     pub note: Option<usize>,
 }

@@ -1,4 +1,4 @@
-// What a search is told of its nodes.
+// What a guide says of the nodes of a search.
 ghost use Rattle.std.specs.Prelude.{◌≡◌, ℕ, Bool, true, List, length, Option, IfOk, OnOk};
 ghost use Rattle.branch_and_bound.specs.Ranges.{AreOrdered, IsAllowed, IsPoint, IsSplitAt};
 ghost use Rattle.branch_and_bound.specs.Costs.{IsAtMost, IsBelow};
@@ -12,7 +12,7 @@ ghost use Rattle.lin_rows.specs.declared.bound.Bound.{Bound};
 use crate::{Node, Proposal, Split};
 use std::alloc::{AllocError, Global};
 
-/// What a search is told of its nodes, with a state of type `S` that has the best plan so far and whatever
+/// What a guide says of the nodes of a search, with a state of type `S` that has the best plan so far and whatever
 /// the leaves stand on. The state only grows: what holds of a leaf goes on to hold.
 pub trait Guide<S> {
     /// Where the columns' ranges stand.
@@ -31,7 +31,7 @@ pub trait Guide<S> {
     ghost IsHeir: { Self → S → List Range → List Bound → Proposal → Type 0 };
 
     /// What holds of each leaf at which evidence was asked for. It depends on no state and not on the note.
-    ghost Tells: { Self → List Range → List Bound → Proposal → Type 0 };
+    ghost IsEvident: { Self → List Range → List Bound → Proposal → Type 0 };
 
     /// What holds of the state, as that its plan is feasible and has the cost.
     ghost IsState: { Self → S → Type 0 };
@@ -52,7 +52,7 @@ pub trait Guide<S> {
         ensures grows { OnOk result (Grows state.old state.new) }
         ensures kept { OnOk result (IsAtMost (cost state.new) (cost state.old)) }
         ensures holds { IfOk result (λ p. Holds self.now state.new node.now.ranges.items node.now.path.items p) }
-        ensures told { IfOk result (λ p. p.asked ≡ true → Tells self.now node.now.ranges.items node.now.path.items p) }
+        ensures evident { IfOk result (λ p. p.examined ≡ true → IsEvident self.now node.now.ranges.items node.now.path.items p) }
         ensures point { IfOk result (λ p. IsBelow p.says (cost state.new) → IsPoint node.now.ranges.items → ⊥) };
 
     /// A leaf for a side of a branch, where `above` is the leaf of the node that was branched on. It may better
@@ -72,7 +72,7 @@ pub trait Guide<S> {
         ensures grows { OnOk result (Grows state.old state.new) }
         ensures kept { OnOk result (IsAtMost (cost state.new) (cost state.old)) }
         ensures holds { IfOk result (λ p. Holds self.now state.new node.now.ranges.items node.now.path.items p) }
-        ensures told { IfOk result (λ p. p.asked ≡ true → Tells self.now node.now.ranges.items node.now.path.items p) }
+        ensures evident { IfOk result (λ p. p.examined ≡ true → IsEvident self.now node.now.ranges.items node.now.path.items p) }
         ensures point { IfOk result (λ p. IsBelow p.says (cost state.new) → IsPoint node.now.ranges.items → ⊥) };
 
     /// A branch of a node with this leaf.
@@ -102,8 +102,8 @@ pub trait Guide<S> {
         ensures grows { OnOk result (Grows state.old state.new) }
         ensures kept { OnOk result (IsAtMost (cost state.new) (cost state.old)) }
         ensures holds { IfOk result (λ p. Holds self.now state.new node.now.ranges.items node.now.path.items p) }
-        ensures asked { IfOk result (λ p. p.asked ≡ true) }
-        ensures told { IfOk result (λ p. Tells self.now node.now.ranges.items node.now.path.items p) }
+        ensures examined { IfOk result (λ p. p.examined ≡ true) }
+        ensures evident { IfOk result (λ p. IsEvident self.now node.now.ranges.items node.now.path.items p) }
         ensures more { IfOk result (λ p. IsAtMost proposal.says p.says) };
 
     /// Both sides of a branch are nodes where it is one.

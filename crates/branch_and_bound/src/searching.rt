@@ -7,7 +7,7 @@ ghost use Rattle.branch_and_bound.specs.Costs.{IsAtMost};
 ghost use Rattle.branch_and_bound.specs.Trees.{EachLeaf, IsSplitTree};
 ghost use Rattle.branch_and_bound.specs.Growing.{IsSettled};
 ghost use Rattle.branch_and_bound.specs.Guided.{AreDeep, IsGuided, IsLater, IsSoundTree};
-ghost use Rattle.branch_and_bound.specs.Claims.{IsBound, IsLeastClaim, IsShown, IsTold, IsUndecided};
+ghost use Rattle.branch_and_bound.specs.Claims.{IsBound, IsLeastClaim, IsShown, IsEvidenced, IsUndecided};
 
 use crate::counting::least_number;
 use crate::passes::grow_all;
@@ -85,7 +85,7 @@ pub fn search<S, G: Guide<S>>(
     ensures split { IfOk result (λ s. IsSplitTree (G.rules guide.now).place ranges.items s.tree) }
     ensures holds { IfOk result (λ s. EachLeaf (G.rules guide.now).place (G.Holds guide.now state.new) ranges.items [] s.tree) }
     ensures shown { IfOk result (λ s. IsShown (G.rules guide.now) (G.cost state.new) ranges.items s.tree s.claim) }
-    ensures evidence { IfOk result (λ s. IsTold (G.rules guide.now) (G.Tells guide.now) ranges.items s.tree s.claim) }
+    ensures evidence { IfOk result (λ s. IsEvidenced (G.rules guide.now) (G.IsEvident guide.now) ranges.items s.tree s.claim) }
     ensures cause { IfOk result (λ s. IsBound s.claim → IsUndecided (G.rules guide.now) (G.cost state.new) budget ranges.items s.tree) }
     ensures decided { IfOk result (λ s. 2 * volume ranges.items ≤ budget + 1 → height ranges.items ≤ MAX_BRANCHES → IsBound s.claim → ⊥) }
 {

@@ -1,7 +1,7 @@
 // Evidence at the leaves that say the least number.
 ghost use Rattle.std.specs.Prelude.{◌≡◌, ◌≤◌, ◌<◌, ◌+◌, ℕ, List, OnOk, IfOk, IfSome, None, Some, true, false};
 ghost use Rattle.branch_and_bound.specs.Counts.{branches};
-ghost use Rattle.branch_and_bound.specs.Growing.{IsSettled, IsWanting, unasked};
+ghost use Rattle.branch_and_bound.specs.Growing.{IsSettled, IsWanting, unexamined};
 ghost use Rattle.branch_and_bound.specs.Guided.{AtNode, IsGuided, IsLater, IsSameNode, IsSoundTree, StaysDeep};
 
 use crate::asking::ask_tree;
@@ -36,7 +36,7 @@ fn ask_least<S, G: Guide<S>>(
     ensures later { OnOk result (IsLater G.Guide guide.now state.old state.new) }
     ensures count { IfOk result (λ t. branches t ≡ branches tree) }
     ensures tree { IfOk result (λ t. AtNode node.old (IsSoundTree G.Guide guide.now state.new t)) }
-    ensures fewer { IfOk result (λ t. IsWanting tree → unasked t < unasked tree) }
+    ensures fewer { IfOk result (λ t. IsWanting tree → unexamined t < unexamined tree) }
     ensures deep { IfOk result (λ t. AtNode node.old (StaysDeep G.Guide state.old state.new tree t)) }
 {
     match least_number(&tree) {

@@ -22,7 +22,7 @@ use Rattle.branch_and_bound.specs.declared.node.Range.{Range}
 use Rattle.branch_and_bound.specs.declared.proposal.Proposal.{Proposal}
 use Rattle.branch_and_bound.specs.Costs.{IsAtMost}
 use Rattle.branch_and_cut.specs.Branching.{within_any}
-use Rattle.branch_and_cut.specs.Leaves.{IsKept, IsRaised, IsToldAt, LeafSaysWithin, marked_asked, said}
+use Rattle.branch_and_cut.specs.Leaves.{IsKept, IsRaised, IsEvidentAt, LeafSaysWithin, marked_examined, said}
 use Rattle.branch_and_cut.specs.Search.{IsEvidence}
 
 -- a leaf of the path without cuts is one over any rows
@@ -66,9 +66,9 @@ kept_of m ranges version least rows rs path p leaf says same amount is lines no_
   kind = inl (subst IsOfRows (sym same) of);
 }
 
-pub asked_kept : (m : Problem) (ranges : Ranges) (version least : ℕ) (rows : List LinRow) (rs : List Range) (path : List Bound) (p new : Proposal) → new ≡ marked_asked p → IsKept m ranges version least rows rs path p → IsKept m ranges version least rows rs path new
-asked_kept m ranges version least rows rs path p new same is =
-    let here : IsKept m ranges version least rows rs path (marked_asked p) = record {
+pub examined_kept : (m : Problem) (ranges : Ranges) (version least : ℕ) (rows : List LinRow) (rs : List Range) (path : List Bound) (p new : Proposal) → new ≡ marked_examined p → IsKept m ranges version least rows rs path p → IsKept m ranges version least rows rs path new
+examined_kept m ranges version least rows rs path p new same is =
+    let here : IsKept m ranges version least rows rs path (marked_examined p) = record {
       good = record { says = is.good.says; lines = is.good.lines; no_less = is.good.no_less; small = is.good.small };
       kind = is.kind;
     } in
@@ -77,7 +77,7 @@ asked_kept m ranges version least rows rs path p new same is =
 pub raised_kept : (m : Problem) (ranges : Ranges) (version least : ℕ) (total : ℕ → ℕ) (rows : List LinRow) (rs : List Range) (path : List Bound) (old new : Proposal) (leaf : Leaf) (bound : ℕ) → AreLargestTotals m total → HasVersion m version → SaysAtLeast m path (leaf_shape leaf) bound → IsRaised old leaf bound new → IsKept m ranges version least rows rs path old → IsKept m ranges version least rows rs path new
 raised_kept m ranges version least total rows rs path old new leaf bound totals known says raised is =
     ⊎_elim
-    (λ same. asked_kept m ranges version least rows rs path old new same.0 is)
+    (λ same. examined_kept m ranges version least rows rs path old new same.0 is)
     (λ more.
     let n = number m version rows path (leaf_shape leaf) bound known says in
     kept_of m ranges version least rows rs path new (leaf_shape leaf) (Some bound) (ap leaf_shape more.0) more.1 n.says n.lines (at_most_on (Some least) old.says (Some bound) is.good.no_less more.3)
@@ -120,8 +120,8 @@ met_at_most : (m : Problem) (root : RootSays) (path : List Bound) (bound : ℕ) 
 met_at_most m root path bound None less met = tt
 met_at_most m root path bound (Some amount) less met = inl (met_more m path bound amount less met)
 
-pub raised_told : (m : Problem) (root : RootSays) (path : List Bound) (old new : Proposal) (leaf : Leaf) (bound : ℕ) → IsMetAt m path bound → IsRaised old leaf bound new → IsToldAt m root path new
-raised_told m root path old new leaf bound met raised short =
+pub raised_evident : (m : Problem) (root : RootSays) (path : List Bound) (old new : Proposal) (leaf : Leaf) (bound : ℕ) → IsMetAt m path bound → IsRaised old leaf bound new → IsEvidentAt m root path new
+raised_evident m root path old new leaf bound met raised short =
     ⊎_elim
     (λ same. subst (λ (p : Proposal). IfSome p.says (IsEvidence m root path)) (sym same.0) (met_at_most m root path bound old.says same.1 met))
     (λ more. subst (λ s. IfSome s (IsEvidence m root path)) (sym more.1) (inl met))
@@ -143,22 +143,22 @@ some_evidence : (m : Problem) (root : RootSays) (path : List Bound) (says : Opti
 some_evidence m root path None all = tt
 some_evidence m root path (Some amount) all = all amount
 
-pub asked_told : (m : Problem) (root : RootSays) (path : List Bound) (old new : Proposal) → new ≡ marked_asked old → ((amount : ℕ) → IsEvidence m root path amount) → IsToldAt m root path new
-asked_told m root path old new same all short = some_evidence m root path new.says all
+pub examined_evident : (m : Problem) (root : RootSays) (path : List Bound) (old new : Proposal) → new ≡ marked_examined old → ((amount : ℕ) → IsEvidence m root path amount) → IsEvidentAt m root path new
+examined_evident m root path old new same all short = some_evidence m root path new.says all
 
-pub asked_more : (old new : Proposal) → new ≡ marked_asked old → IsAtMost old.says new.says
-asked_more old new same = subst (λ (p : Proposal). IsAtMost old.says p.says) (sym same) (at_most_same old.says)
+pub examined_more : (old new : Proposal) → new ≡ marked_examined old → IsAtMost old.says new.says
+examined_more old new same = subst (λ (p : Proposal). IsAtMost old.says p.says) (sym same) (at_most_same old.says)
 
 -- what follows of what came back
 pub ok_on : {A E : Type 0} (r : Result A E) (P Q : A → Type 0) → ((a : A) → P a → Q a) → IfOk r P → IfOk r Q
 ok_on (Ok a) P Q f is = f a is
 ok_on (Err e) P Q f is = tt
 
-pub raised_asked : (old new : Proposal) (leaf : Leaf) (bound : ℕ) → IsRaised old leaf bound new → new.asked ≡ true
-raised_asked old new leaf bound raised = ⊎_elim (λ same. ap (λ (p : Proposal). p.asked) same.0) (λ more. more.2) raised
+pub raised_examined : (old new : Proposal) (leaf : Leaf) (bound : ℕ) → IsRaised old leaf bound new → new.examined ≡ true
+raised_examined old new leaf bound raised = ⊎_elim (λ same. ap (λ (p : Proposal). p.examined) same.0) (λ more. more.2) raised
 
-pub asked_asked : (old new : Proposal) → new ≡ marked_asked old → new.asked ≡ true
-asked_asked old new same = ap (λ (p : Proposal). p.asked) same
+pub marked_is_examined : (old new : Proposal) → new ≡ marked_examined old → new.examined ≡ true
+marked_is_examined old new same = ap (λ (p : Proposal). p.examined) same
 
 -- what holds anyway holds on success
 pub anyway : {A E : Type 0} (r : Result A E) (P : Type 0) → P → OnOk r P

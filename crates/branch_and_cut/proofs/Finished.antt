@@ -35,7 +35,7 @@ use Rattle.branch_and_bound.specs.declared.node.Range.{Range}
 use Rattle.branch_and_bound.specs.declared.proposal.Proposal.{Proposal}
 use Rattle.branch_and_bound.specs.declared.sought.Sought.{Sought}
 use Rattle.branch_and_bound.specs.declared.sought.Sought.TheVariants.{Branch', Leaf}
-use Rattle.branch_and_bound.specs.Claims.{IsBound, IsOpenDeep, IsShown, IsTold, SomeSays}
+use Rattle.branch_and_bound.specs.Claims.{IsBound, IsOpenDeep, IsShown, IsEvidenced, SomeSays}
 use Rattle.branch_and_bound.specs.Costs.{IsAtMost, IsBelow}
 use Rattle.branch_and_bound.specs.Counts.{longest, nodes}
 use Rattle.branch_and_bound.specs.declared.sought.Searched.{Searched}
@@ -48,7 +48,7 @@ use Rattle.branch_and_cut.specs.declared.knowing.Known.{Known}
 use Rattle.branch_and_cut.specs.Finishing.{IsFinished, IsSearched}
 use Rattle.known_plans.specs.Kept.{cost_kept, plan_kept, IsMadeWithin}
 use Rattle.branch_and_cut.specs.Knowing.{ranges_in, shapes}
-use Rattle.branch_and_cut.specs.Leaves.{IsGoodLeafWithin, IsKept, IsToldAt, said}
+use Rattle.branch_and_cut.specs.Leaves.{IsGoodLeafWithin, IsKept, IsEvidentAt, said}
 use Rattle.search_ranges.specs.Nodes.{IsNodeOf, choice_place, choice_rules}
 use Rattle.branch_and_cut.specs.Search.{GoesTogether, IsBelowPlan, IsClaimedAtLeast, IsDecided, IsEvidence}
 use Rattle.branch_and_cut.specs.SearchWithin.{HasEvidenceWithin, IsCertifiedWithin, IsDeepIfOpenWithin, IsProvedWithin, IsUndecidedWithin, SaysAmountWithin}
@@ -151,17 +151,17 @@ module _ (m : Problem) (ranges : Ranges) (version least : ℕ) (rows : List LinR
       from_said None n e = cc e
       from_said (Some k) n e = let same : k ≡ n = cc e in ap Some same
 
-  pub all_evidence : SaysAreOne → (total : ℕ → ℕ) → AreLargestTotals m total → (root : RootSays) (bound : ℕ) (t : Tree) → IsNodeOf m ranges rs [] → longest sought ≤ MAX_BRANCHES → IsSplitTree (choice_place m) rs sought → IsStripped sought t → EachLeaf (choice_place m) (λ rs path p. IsKept m ranges version least rows rs path p) rs [] sought → EachLeaf (choice_place m) (λ rs path p. p.says ≡ Some bound → IsToldAt m root path p) rs [] sought → split.EachLeaf (λ path leaf. SaysAmountWithin m ranges rows bound path leaf → IsEvidence m root path bound) [] (tree_shape t)
-  all_evidence one total totals root bound t node short is same each told =
+  pub all_evidence : SaysAreOne → (total : ℕ → ℕ) → AreLargestTotals m total → (root : RootSays) (bound : ℕ) (t : Tree) → IsNodeOf m ranges rs [] → longest sought ≤ MAX_BRANCHES → IsSplitTree (choice_place m) rs sought → IsStripped sought t → EachLeaf (choice_place m) (λ rs path p. IsKept m ranges version least rows rs path p) rs [] sought → EachLeaf (choice_place m) (λ rs path p. p.says ≡ Some bound → IsEvidentAt m root path p) rs [] sought → split.EachLeaf (λ path leaf. SaysAmountWithin m ranges rows bound path leaf → IsEvidence m root path bound) [] (tree_shape t)
+  all_evidence one total totals root bound t node short is same each evident =
       each_on m ranges
-      (λ rs path p. IsKept m ranges version least rows rs path p × (p.says ≡ Some bound → IsToldAt m root path p))
+      (λ rs path p. IsKept m ranges version least rows rs path p × (p.says ≡ Some bound → IsEvidentAt m root path p))
       (λ path leaf. SaysAmountWithin m ranges rows bound path leaf → IsEvidence m root path bound)
       (λ rs path p here deep both says.
       let e = says_is one total totals path p bound both.0.good says in
       let P : Option ℕ → Type 0 = λ s. IfSome s (IsEvidence m root path) in
       subst P e (both.1 e deep))
       rs [] sought t node (omega (arith, short)) is same
-      (each_two (choice_place m) (λ rs path p. IsKept m ranges version least rows rs path p) (λ rs path p. p.says ≡ Some bound → IsToldAt m root path p) rs [] sought each told)
+      (each_two (choice_place m) (λ rs path p. IsKept m ranges version least rows rs path p) (λ rs path p. p.says ≡ Some bound → IsEvidentAt m root path p) rs [] sought each evident)
 
   pub some_amount : (bound : ℕ) (t : Tree) → IsStripped sought t → EachLeaf (choice_place m) (λ rs path p. IsKept m ranges version least rows rs path p) rs [] sought → SomeSays (choice_rules m) bound rs sought → shown.SomeLeaf (SaysAmountWithin m ranges rows bound) [] (tree_shape t)
   some_amount bound t same each some =
@@ -274,14 +274,14 @@ finished g k budget rs s t found measured one total totals is of claim_is cuts_a
       evidence = if_bound found.certificate.claim (λ amount. shown.WithRows m found (HasEvidenceWithin m ranges found amount)) (λ amount e.
           let b = bound_of amount e in
           let shows : IsShown (choice_rules m) (cost_kept k.best) rs s.tree (BoundOf amount) = subst (IsShown (choice_rules m) (cost_kept k.best) rs s.tree) b is.shown in
-          let told : IsTold (choice_rules m) (λ list path p. IsToldAt m g.root path p) rs s.tree (BoundOf amount) = subst (IsTold (choice_rules m) (λ list path p. IsToldAt m g.root path p) rs s.tree) b is.told in (
+          let evident : IsEvidenced (choice_rules m) (λ list path p. IsEvidentAt m g.root path p) rs s.tree (BoundOf amount) = subst (IsEvidenced (choice_rules m) (λ list path p. IsEvidentAt m g.root path p) rs s.tree) b is.evident in (
             rows,
             good,
             record {
               some = subst (λ x. shown.SomeLeaf (SaysAmountWithin m ranges rows amount) [] x) (sym tree_same) (some_amount m ranges g.version g.least rows rs s.tree amount t of.stripped is.holds shows.2);
               each = subst (λ x. split.EachLeaf (λ path leaf. SaysAmountWithin m ranges rows amount path leaf → IsEvidence m found.root path amount) [] x) (sym tree_same)
                   (subst (λ r. split.EachLeaf (λ path leaf. SaysAmountWithin m ranges rows amount path leaf → IsEvidence m r path amount) [] (tree_shape t)) (sym root_is)
-                  (all_evidence m ranges g.version g.least rows rs s.tree one total totals g.root amount t is.node is.short is.split of.stripped is.holds told));
+                  (all_evidence m ranges g.version g.least rows rs s.tree one total totals g.root amount t is.node is.short is.split of.stripped is.holds evident));
             },
           ));
       complete = λ all other others enough. subst IsDecided (sym claim_is) (is_decided s.claim (is.decided

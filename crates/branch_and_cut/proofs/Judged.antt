@@ -47,16 +47,16 @@ small_said m total rows path leaf None totals of is = tt
 small_said m total rows path leaf (Some amount) totals of is =
     amount_small (names m total rows path) (whole_ranges total) leaf amount of (record { said = is.said total totals; small = is.small total totals })
 
-pub judged_of : (m : Problem) (version : ℕ) (total : ℕ → ℕ) (rows : List LinRow) (path : List Bound) (leaf : LeafShape) (says : LeafSays) (p : Proposal) → AreLargestTotals m total → IsTested leaf → LeafSaysThis m rows path leaf says → LeafIsSmall m rows path leaf → leaf_shape p.leaf ≡ leaf → said p.says ≡ says → p.asked ≡ false → IsJudged m version rows path p
-judged_of m version total rows path leaf says p totals tested is small same amount unasked =
+pub judged_of : (m : Problem) (version : ℕ) (total : ℕ → ℕ) (rows : List LinRow) (path : List Bound) (leaf : LeafShape) (says : LeafSays) (p : Proposal) → AreLargestTotals m total → IsTested leaf → LeafSaysThis m rows path leaf says → LeafIsSmall m rows path leaf → leaf_shape p.leaf ≡ leaf → said p.says ≡ says → p.examined ≡ false → IsJudged m version rows path p
+judged_of m version total rows path leaf says p totals tested is small same amount unexamined =
     let here : LeafSaysSmall m rows path leaf says = record { said = is; small = small } in
-    let told : LeafSaysSmall m rows path leaf (said p.says) = subst (λ s. LeafSaysSmall m rows path leaf s) (sym amount) here in
+    let evident : LeafSaysSmall m rows path leaf (said p.says) = subst (λ s. LeafSaysSmall m rows path leaf s) (sym amount) here in
     record {
-      says = subst (λ l. LeafSaysSmall m rows path l (said p.says)) (sym same) told;
+      says = subst (λ l. LeafSaysSmall m rows path l (said p.says)) (sym same) evident;
       lines = subst (LeafHasLines version) (sym same) (tested_lines version leaf tested);
-      small = small_said m total rows path leaf p.says totals tested.of_rows told;
+      small = small_said m total rows path leaf p.says totals tested.of_rows evident;
       of_rows = subst IsOfRows (sym same) tested.of_rows;
-      unasked = unasked;
+      unexamined = unexamined;
     }
 
 -- ---- the stronger one

@@ -6,7 +6,7 @@ use Rattle.lin_rows.specs.declared.bound.Bound.{Bound}
 use Rattle.lin_rows.specs.Rows.{LinRow}
 use Rattle.cert_lines.specs.Line.{HasForm, HasLine}
 use Rattle.cert_lines.specs.Shapes.{BlockCut, CutShape, LeafShape, LsCut, PartLine, PriceCut, RoundCut, leaf_first, leaf_parts, leaf_shape}
-use Rattle.cert_lines.specs.declared.limits.TheConstants.{FIRST_VERSION}
+use Rattle.cert_lines.specs.declared.limits.TheConstants.{FIRST_CERT_VERSION}
 use Rattle.split_trees.specs.Ranges.{WithTotals}
 use Rattle.acceptance.specs.Accepts.{IsSmallCut}
 use Rattle.cert_checker.specs.Cuts.{HasItsColumns, IsRowOfCut}
@@ -32,18 +32,18 @@ pub record IsNextRow (m : Problem) (rows : List LinRow) (cut : CutShape) (row : 
 -- a leaf that takes rows by their names, whose parts have lines in texts of each version
 pub record HasRowParts (leaf : LeafShape) : Type 0 where
   pub of_rows : IsOfRows leaf
-  pub parts : All (λ part. HasLine FIRST_VERSION (PartLine part)) (leaf_parts leaf)
+  pub parts : All (λ part. HasLine FIRST_CERT_VERSION (PartLine part)) (leaf_parts leaf)
 
 -- a leaf that takes rows by their names, whose lines are those of texts
 pub record IsTested (leaf : LeafShape) : Type 0 where
   pub of_rows : IsOfRows leaf
   pub form : HasForm (leaf_first leaf)
-  pub parts : All (λ part. HasLine FIRST_VERSION (PartLine part)) (leaf_parts leaf)
+  pub parts : All (λ part. HasLine FIRST_CERT_VERSION (PartLine part)) (leaf_parts leaf)
 
--- a leaf that takes rows by their names says what is told of it, its sums and the amount are small, and it can be written
+-- a leaf that takes rows by their names says what the proposal says, its sums and the amount are small, and it can be written
 pub record IsJudged (m : Problem) (version : ℕ) (rows : List LinRow) (path : List Bound) (p : Proposal) : Type 0 where
   pub says : LeafSaysSmall m rows path (leaf_shape p.leaf) (said p.says)
   pub lines : LeafHasLines version (leaf_shape p.leaf)
   pub small : IfSome p.says (λ amount. amount < 2 ^ 127)
   pub of_rows : IsOfRows (leaf_shape p.leaf)
-  pub unasked : p.asked ≡ false
+  pub unexamined : p.examined ≡ false

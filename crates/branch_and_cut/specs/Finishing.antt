@@ -4,13 +4,13 @@ use Rattle.cert_lines.specs.declared.limits.TheConstants.{MAX_BRANCHES}
 use Rattle.branching.specs.declared.found.Found.{Found}
 use Rattle.branch_and_bound.specs.declared.node.Range.{Range}
 use Rattle.branch_and_bound.specs.declared.sought.Searched.{Searched}
-use Rattle.branch_and_bound.specs.Claims.{IsBound, IsShown, IsTold, IsUndecided as IsLeftOpen}
+use Rattle.branch_and_bound.specs.Claims.{IsBound, IsShown, IsEvidenced, IsUndecided as IsLeftOpen}
 use Rattle.branch_and_bound.specs.Counts.{longest, nodes}
 use Rattle.branch_and_bound.specs.Ranges.{height, volume}
 use Rattle.branch_and_bound.specs.Trees.{EachLeaf, IsSplitTree}
 use Rattle.branch_and_cut.specs.declared.guiding.Model.{Model}
 use Rattle.branch_and_cut.specs.declared.knowing.Known.{Known}
-use Rattle.branch_and_cut.specs.Knowing.{IsKeptIn, IsKnown, IsNodeIn, IsToldIn, ranges_in}
+use Rattle.branch_and_cut.specs.Knowing.{IsKeptIn, IsKnown, IsNodeIn, IsEvidentIn, ranges_in}
 use Rattle.known_plans.specs.Kept.{cost_kept}
 use Rattle.search_ranges.specs.Nodes.{choice_place, choice_rules}
 use Rattle.branch_and_cut.specs.Search.{DecidesSmall, GoesTogether, IfBound, IsClaimedAtLeast, WithRows}
@@ -29,7 +29,7 @@ pub record IsSearched (g : Model) (k : Known) (budget : ℕ) (rs : List Range) (
   pub split : IsSplitTree (choice_place g.instance.now) rs s.tree
   pub holds : EachLeaf (choice_place g.instance.now) (IsKeptIn g k) rs [] s.tree
   pub shown : IsShown (choice_rules g.instance.now) (cost_kept k.best) rs s.tree s.claim
-  pub told : IsTold (choice_rules g.instance.now) (λ rs path p. IsToldIn g path p) rs s.tree s.claim
+  pub evident : IsEvidenced (choice_rules g.instance.now) (λ rs path p. IsEvidentIn g path p) rs s.tree s.claim
   pub cause : IsBound s.claim → IsLeftOpen (choice_rules g.instance.now) (cost_kept k.best) budget rs s.tree
   pub decided : 2 * volume rs ≤ budget + 1 → height rs ≤ MAX_BRANCHES → IsBound s.claim → ⊥
 

@@ -13,7 +13,7 @@ use Rattle.branch_and_bound.specs.declared.node.Node.{Node}
 use Rattle.branch_and_bound.specs.declared.node.Range.{Range}
 use Rattle.branch_and_bound.specs.declared.proposal.Proposal.{Proposal}
 use Rattle.branch_and_cut.specs.Begun.{AreKnownCuts, IsBegun}
-use Rattle.branch_and_cut.specs.Leaves.{IsKept, IsLasting, IsToldAt}
+use Rattle.branch_and_cut.specs.Leaves.{IsKept, IsLasting, IsEvidentAt}
 use Rattle.search_ranges.specs.Nodes.{IsNodeOf}
 use Rattle.branch_and_cut.specs.Adding.{IsJudged}
 use Rattle.search_ranges.specs.Within.{AreGiven, given_ranges}
@@ -86,5 +86,5 @@ IsKeptAs g rs path old new =
     → IsKept g.instance.now (ranges_in g) g.version least rows rs path old
     → IsKept g.instance.now (ranges_in g) g.version least rows rs path new
 
-abbrev pub IsToldIn : Model → List Bound → Proposal → Type 0
-IsToldIn g path p = IsToldAt g.instance.now g.root path p
+abbrev pub IsEvidentIn : Model → List Bound → Proposal → Type 0
+IsEvidentIn g path p = IsEvidentAt g.instance.now g.root path p

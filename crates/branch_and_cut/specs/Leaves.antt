@@ -26,7 +26,7 @@ abbrev pub said : Option ℕ → LeafSays
 said None = NoPlan
 said (Some amount) = AtLeast amount
 
--- the leaf says what is told of it over the rows of the cuts, its sums and the amount are small, it can be written, and it says no less than what is known of all plans
+-- the leaf says what the proposal says over the rows of the cuts, its sums and the amount are small, it can be written, and it says no less than what is known of all plans
 pub record IsGoodLeaf (m : Problem) (version least : ℕ) (rows : List LinRow) (path : List Bound) (p : Proposal) : Type 0 where
   pub says : LeafSaysSmall m rows path (leaf_shape p.leaf) (said p.says)
   pub lines : LeafHasLines version (leaf_shape p.leaf)
@@ -56,15 +56,15 @@ pub record IsKept (m : Problem) (ranges : Ranges) (version least : ℕ) (rows : 
   pub kind : IsOfRows (leaf_shape p.leaf) ⊎ IsPoint rs
 
 -- there is evidence at the leaf, where its path isn't too long for a certificate
-abbrev pub IsToldAt : Problem → RootSays → List Bound → Proposal → Type 0
-IsToldAt m root path p = length path ≤ MAX_BRANCHES → IfSome p.says (IsEvidence m root path)
+abbrev pub IsEvidentAt : Problem → RootSays → List Bound → Proposal → Type 0
+IsEvidentAt m root path p = length path ≤ MAX_BRANCHES → IfSome p.says (IsEvidence m root path)
 
 -- the proposal with evidence asked for
-abbrev pub marked_asked : Proposal → Proposal
-marked_asked p = record p { asked = true }
+abbrev pub marked_examined : Proposal → Proposal
+marked_examined p = record p { examined = true }
 
 -- it says at least the bound and is as it was, or has this leaf and says the bound, which is no less
 abbrev pub IsRaised : Proposal → Leaf → ℕ → Proposal → Type 0
 IsRaised old leaf bound new =
-    ((new ≡ marked_asked old) × IsAtMost (Some bound) old.says)
-    ⊎ ((new.leaf ≡ leaf) × (new.says ≡ Some bound) × (new.asked ≡ true) × IsAtMost old.says (Some bound))
+    ((new ≡ marked_examined old) × IsAtMost (Some bound) old.says)
+    ⊎ ((new.leaf ≡ leaf) × (new.says ≡ Some bound) × (new.examined ≡ true) × IsAtMost old.says (Some bound))

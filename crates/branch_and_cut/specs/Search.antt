@@ -5,7 +5,7 @@ use Rattle.lot_sizing.specs.Plan as terms
 use Rattle.plan_rules.specs.declared.plan.Plan.{Plan}
 use Rattle.lin_rows.specs.declared.bound.Bound.{Bound}
 use Rattle.lin_rows.specs.Rows.{LinRow}
-use Rattle.cert_lines.specs.declared.limits.TheConstants.{FIRST_VERSION, MAX_BRANCHES, MAX_VERSION}
+use Rattle.cert_lines.specs.declared.limits.TheConstants.{FIRST_CERT_VERSION, MAX_BRANCHES, MAX_CERT_VERSION}
 use Rattle.cert_lines.specs.declared.parts.Claim.{Claim}
 use Rattle.cert_lines.specs.declared.parts.Claim.TheVariants.{Optimal, Infeasible, Bound as BoundOf}
 use Rattle.cert_lines.specs.Shapes.{CutShape, LeafShape, cut_shape}
@@ -161,5 +161,5 @@ DecidesSmall m budget claim = WithTotals m (λ total. HasBudgetForAll m budget t
 -- ---- versions
 -- the text is of the first version where the problem is plain, and of the second otherwise
 pub record IsVersionOf (m : Problem) (version : ℕ) : Type 0 where
-  pub plain : IsPlain m → version ≡ FIRST_VERSION
-  pub other : (IsPlain m → ⊥) → version ≡ MAX_VERSION
+  pub plain : IsPlain m → version ≡ FIRST_CERT_VERSION
+  pub other : (IsPlain m → ⊥) → version ≡ MAX_CERT_VERSION

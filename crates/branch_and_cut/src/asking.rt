@@ -2,22 +2,23 @@
 ghost use Rattle.std.specs.Prelude.{◌≡◌, true, IfOk, Some};
 ghost use Rattle.leaf_growth.specs.Written.{HasVersion};
 ghost use Rattle.branch_and_bound.specs.Costs.{IsAtMost};
-ghost use Rattle.branch_and_cut.specs.Knowing.{IsKeptAs, IsNodeIn, IsToldIn};
-ghost use Rattle.branch_and_cut.specs.Leaves.{IsRaised, marked_asked};
+ghost use Rattle.branch_and_cut.specs.Knowing.{IsKeptAs, IsNodeIn, IsEvidentIn};
+ghost use Rattle.branch_and_cut.specs.Leaves.{IsRaised, marked_examined};
 
 use crate::guiding::Model;
 use branch_and_bound::{Node, Proposal};
 use branching::RootSays;
 use cert_lines::{Leaf, MAX_BRANCHES};
+use lot_model::an_instance_breaks_no_rule;
 use path_relaxation::{PathSays, path_relaxation};
 use std::alloc::{AllocError, Global};
 
 // The proposal as it was, now that evidence was asked for.
-fn asked(proposal: Proposal) -> Proposal
-    ensures { result ≡ marked_asked proposal }
+fn mark_examined(proposal: Proposal) -> Proposal
+    ensures { result ≡ marked_examined proposal }
 {
     Proposal {
-        asked: true,
+        examined: true,
         ..proposal
     }
 }
@@ -31,18 +32,18 @@ fn raised(proposal: Proposal, leaf: Leaf, bound: u128) -> Proposal
             return Proposal {
                 leaf,
                 says: Some(bound),
-                asked: true,
+                examined: true,
                 note: proposal.note,
             };
         }
     }
-    asked(proposal)
+    mark_examined(proposal)
 }
 
 /// Asks for evidence at a node. The relaxation without cuts on the path is solved: where it says more than the leaf, its
 /// leaf takes the place, and otherwise its least point shows that no leaf without cuts says more. Where the root's program
 /// has too many cells, no relaxation is tried.
-pub(crate) fn told(
+pub(crate) fn with_evidence(
     alloc: Global,
     model: &Model,
     node: &Node,
@@ -51,27 +52,26 @@ pub(crate) fn told(
     requires version { HasVersion model.now.instance.now model.now.version }
     requires node { IsNodeIn model.now node.now.ranges.items node.now.path.items }
     ensures kept { IfOk result (IsKeptAs model.now node.now.ranges.items node.now.path.items proposal) }
-    ensures told { IfOk result (IsToldIn model.now node.now.path.items) }
-    ensures asked { IfOk result (λ p. p.asked ≡ true) }
+    ensures evident { IfOk result (IsEvidentIn model.now node.now.path.items) }
+    ensures examined { IfOk result (λ p. p.examined ≡ true) }
     ensures more { IfOk result (λ p. IsAtMost proposal.says p.says) }
 {
-    // It reads that the instance is one.
-    let _periods = model.instance.periods();
+    an_instance_breaks_no_rule(model.instance);
     if let RootSays::Skipped { .. } = model.root {
-        return Ok(asked(proposal));
+        return Ok(mark_examined(proposal));
     }
     // No path of a certificate is longer.
     if node.path.len() > MAX_BRANCHES as usize {
-        return Ok(asked(proposal));
+        return Ok(mark_examined(proposal));
     }
     match path_relaxation(alloc, model.instance, &node.path)? {
         PathSays::AtLeast { leaf, bound } => Ok(raised(proposal, leaf, bound)),
         PathSays::NoPoint { leaf } => Ok(Proposal {
             leaf,
             says: None,
-            asked: true,
+            examined: true,
             note: None,
         }),
-        PathSays::Exempt(_) => Ok(asked(proposal)),
+        PathSays::Exempt(_) => Ok(mark_examined(proposal)),
     }
 }

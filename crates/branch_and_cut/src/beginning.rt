@@ -24,7 +24,7 @@ use cert_checker::cut_row_in;
 use certificate::{Cut, Leaf};
 use echelon::Explosion;
 use lin_rows::Row;
-use lot_model::Instance;
+use lot_model::{Instance, an_instance_breaks_no_rule};
 use root_rounds::Root;
 use std::alloc::{AllocError, Global};
 
@@ -46,7 +46,7 @@ fn proposal_of(leaf: Leaf, amount: u128) -> Proposal
     Proposal {
         leaf,
         says: Some(amount),
-        asked: false,
+        examined: false,
         note: None,
     }
 }
@@ -126,8 +126,7 @@ fn begin_closed(
     ensures least { IfOk result (λ b. b.least ≡ amount) }
 {
     cut_rows_are_one();
-    // It reads that the instance is one.
-    let _periods = instance.periods();
+    an_instance_breaks_no_rule(instance);
     let rows = rows_of(alloc, instance, &cuts)?;
     Ok(Opening {
         cuts,

@@ -15,6 +15,7 @@ use branching::Found;
 use certificate::{Certificate, shapes_are_counted};
 use known_plans::best_plan;
 use leaf_growth::{MAX_NODES, few_lines, made_is_writable};
+use lot_model::an_instance_breaks_no_rule;
 use lot_sizing::totals_are_one;
 use std::alloc::{AllocError, Global};
 
@@ -40,8 +41,7 @@ pub(crate) fn finish(
     shapes_are_counted();
     totals_are_one();
     whole_is_measured();
-    // It reads that the instance is one.
-    let _periods = model.instance.periods();
+    an_instance_breaks_no_rule(model.instance);
     if searched.nodes > MAX_NODES {
         return Err(AllocError);
     }

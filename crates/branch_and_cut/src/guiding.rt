@@ -1,15 +1,15 @@
-// What the search of a model is told of its nodes.
+// What the guide of a model's search says of its nodes.
 ghost use Rattle.std.specs.Prelude.{◌≡◌, true, false, IfOk, OnOk};
 ghost use Rattle.cert_lines.specs.Shapes.{leaf_shape};
 ghost use Rattle.branch_and_bound.specs.Costs.{IsBelow};
 ghost use Rattle.branch_and_bound.specs.Ranges.{AreOrdered, IsPoint};
 ghost use Rattle.branch_and_cut.specs.Branching.{after_on, after_same, kept_lasts, kept_stays};
 ghost use Rattle.search_ranges.specs.Sides.{node_side};
-ghost use Rattle.branch_and_cut.specs.Knowing.{IsAfter, IsKeptIn, IsKnown, IsLastingIn, IsNodeIn, IsReached, IsToldIn, KnowsMore, ranges_in};
+ghost use Rattle.branch_and_cut.specs.Knowing.{IsAfter, IsKeptIn, IsKnown, IsLastingIn, IsNodeIn, IsReached, IsEvidentIn, KnowsMore, ranges_in};
 ghost use Rattle.known_plans.specs.Kept.{cost_kept};
 ghost use Rattle.search_ranges.specs.Nodes.{choice_rules};
 
-use crate::asking::told;
+use crate::asking::with_evidence;
 use crate::knowing::Known;
 use crate::pointing::{at_point, keep_built};
 use crate::pricing::priced;
@@ -51,12 +51,12 @@ pub(crate) struct Model<'a> {
 fn taken_over(alloc: Global, above: &Proposal) -> Result<Proposal, AllocError>
     ensures leaf { IfOk result (λ p. leaf_shape p.leaf ≡ leaf_shape above.now.leaf) }
     ensures says { IfOk result (λ p. p.says ≡ above.now.says) }
-    ensures asked { IfOk result (λ p. p.asked ≡ false) }
+    ensures examined { IfOk result (λ p. p.examined ≡ false) }
 {
     Ok(Proposal {
         leaf: copy_leaf(alloc, &above.leaf)?,
         says: above.says,
-        asked: false,
+        examined: false,
         note: above.note,
     })
 }
@@ -71,7 +71,7 @@ fn inherited(
 ) -> Result<Proposal, AllocError>
     requires above { IsLastingIn model.now known.now node.now.path.items above.now }
     ensures lasting { IfOk result (IsLastingIn model.now known.now node.now.path.items) }
-    ensures asked { IfOk result (λ p. p.asked ≡ false) }
+    ensures examined { IfOk result (λ p. p.examined ≡ false) }
 {
     taken_over(alloc, above)
 }
@@ -98,7 +98,7 @@ fn leaf_between(
     requires above { IsLastingIn model.now known.old node.now.path.items above.now }
     ensures more { OnOk result (KnowsMore model.now known.old known.new) }
     ensures leaf { IfOk result (IsKeptIn model.now known.new node.now.ranges.items node.now.path.items) }
-    ensures told { IfOk result (λ p. p.asked ≡ true → IsToldIn model.now node.now.path.items p) }
+    ensures evident { IfOk result (λ p. p.examined ≡ true → IsEvidentIn model.now node.now.path.items p) }
 {
     let same = inherited(alloc, model, node, above, known)?;
     let proposal = priced(alloc, model, node, same, known)?;
@@ -106,7 +106,7 @@ fn leaf_between(
         return Ok(proposal);
     }
     keep_built(alloc, model, node, known)?;
-    told(alloc, model, node, proposal)
+    with_evidence(alloc, model, node, proposal)
 }
 
 // A leaf for a node, where that of the node above says as much here.
@@ -122,7 +122,7 @@ fn leaf_for(
     requires above { IsLastingIn model.now known.old node.now.path.items above.now }
     ensures more { OnOk result (KnowsMore model.now known.old known.new) }
     ensures leaf { IfOk result (IsKeptIn model.now known.new node.now.ranges.items node.now.path.items) }
-    ensures told { IfOk result (λ p. p.asked ≡ true → IsToldIn model.now node.now.path.items p) }
+    ensures evident { IfOk result (λ p. p.examined ≡ true → IsEvidentIn model.now node.now.path.items p) }
     ensures closed { IfOk result (λ p. IsBelow p.says (cost_kept known.new.best) → IsPoint node.now.ranges.items → ⊥) }
 {
     if open_place(&node.ranges).is_none() {
@@ -142,7 +142,7 @@ impl Guide<Known> for Model<'_> {
 
     ghost IsHeir = { λ g k rs path p. IsLastingIn g k path p };
 
-    ghost Tells = { λ g rs path p. IsToldIn g path p };
+    ghost IsEvident = { λ g rs path p. IsEvidentIn g path p };
 
     ghost IsState = { λ g k. IsKnown g k };
 
@@ -177,7 +177,7 @@ impl Guide<Known> for Model<'_> {
         proposal: Proposal,
         _state: &mut Known,
     ) -> Result<Proposal, AllocError> {
-        told(alloc, self, node, proposal)
+        with_evidence(alloc, self, node, proposal)
     }
 
     ghost sides = { λ g most rs path c at node split. node_side g.instance.now (ranges_in g) most rs path c at node split };

@@ -12,7 +12,7 @@ use acceptance::accepted_over_ranges;
 use branching::Found;
 use certificate::{Certificate, Claim, Leaf, Tree};
 use leaf_growth::{few_lines, made_is_writable};
-use lot_model::Instance;
+use lot_model::{Instance, an_instance_breaks_no_rule};
 use lot_sizing::totals_are_one;
 use root_rounds::Root;
 use search_ranges::Ranges;
@@ -44,8 +44,7 @@ pub(crate) fn none_found(instance: &Instance, ranges: &Ranges, version: u32, roo
     few_lines();
     made_is_writable();
     totals_are_one();
-    // It reads that the instance is one.
-    let _periods = instance.periods();
+    an_instance_breaks_no_rule(instance);
     let Root { says, cuts, leaf } = root;
     let tree = tree_of(leaf);
     Found {

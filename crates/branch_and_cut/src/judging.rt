@@ -13,13 +13,14 @@ use acceptance::LeafSays;
 use branch_and_bound::{Node, Proposal, is_below};
 use cert_checker::{CheckFault, leaf_bound_in};
 use cert_lines::{Leaf, is_leaf_line};
+use lot_model::an_instance_breaks_no_rule;
 use std::alloc::{AllocError, Global};
 
 // A leaf with what it says.
 fn proposal_of(leaf: Leaf, says: LeafSays) -> Proposal
     ensures leaf { result.leaf ≡ leaf }
     ensures says { said result.says ≡ says }
-    ensures asked { result.asked ≡ false }
+    ensures examined { result.examined ≡ false }
 {
     Proposal {
         leaf,
@@ -27,7 +28,7 @@ fn proposal_of(leaf: Leaf, says: LeafSays) -> Proposal
             LeafSays::NoPlan => None,
             LeafSays::AtLeast(amount) => Some(amount),
         },
-        asked: false,
+        examined: false,
         note: None,
     }
 }
@@ -45,8 +46,7 @@ fn bound_of(
     ensures same { OnOk result (KnowsTheSame model.now known.old known.new) }
     ensures judged { IfFound result (IsJudgedIn model.now known.old node.now.path.items) }
 {
-    // It reads that the instance is one.
-    let _periods = model.instance.periods();
+    an_instance_breaks_no_rule(model.instance);
     let sums = &mut known.sums;
     let said = leaf_bound_in(
         alloc,
@@ -94,10 +94,10 @@ pub(crate) fn stronger(
 ) -> Proposal
     requires lasting { IsLastingIn model.now known.now node.now.path.items proposal }
     requires judged { IfSome found (IsJudgedIn model.now known.now node.now.path.items) }
-    requires asked { proposal.asked ≡ false }
+    requires examined { proposal.examined ≡ false }
     ensures lasting { IsLastingIn model.now known.now node.now.path.items result }
     ensures more { IsAtMost proposal.says result.says }
-    ensures asked { result.asked ≡ false }
+    ensures examined { result.examined ≡ false }
 {
     match found {
         Some(other) => {

@@ -27,7 +27,7 @@ pub(crate) fn at_point(
     requires point { IsPoint node.now.ranges.items }
     ensures more { OnOk result (KnowsMore model.now known.old known.new) }
     ensures leaf { IfOk result (IsKeptIn model.now known.new node.now.ranges.items node.now.path.items) }
-    ensures asked { IfOk result (λ p. p.asked ≡ false) }
+    ensures examined { IfOk result (λ p. p.examined ≡ false) }
     ensures closed { IfOk result (λ p. IsBelow p.says (cost_kept known.new.best) → ⊥) }
 {
     // A plan that has the numbers of a node lies within the ranges of its path.
@@ -38,7 +38,7 @@ pub(crate) fn at_point(
     Ok(Proposal {
         leaf: Leaf::Point,
         says,
-        asked: false,
+        examined: false,
         note: None,
     })
 }

@@ -43,7 +43,7 @@ const NODE_WORK: u32 = 20_000;
 const LEAST_ROUNDS: u32 = 5;
 
 // Whether there is room for a cut of each item.
-fn has_room(instance: &Instance, known: &Known) -> bool {
+fn may_add_cuts(instance: &Instance, known: &Known) -> bool {
     let most = MAX_CUTS as usize;
     known.cuts.len() <= most && most - known.cuts.len() >= instance.items() as usize
 }
@@ -88,19 +88,20 @@ fn count_at(instance: &Instance, node: &Node) -> u32 {
     (NODE_WORK / size.max(1)).min(NODE_ROUNDS).max(LEAST_ROUNDS)
 }
 
-// What the rounds lack of a cost, times the scale; 0 where there is none.
-fn lack(rounds: &Rounds, cost: Option<u128>) -> i128 {
-    let Some(cost) = cost else {
-        return 0;
-    };
-    match i128::try_from(cost) {
-        Ok(cost) => {
-            let scale = i128::from(rounds.prices().scale);
-            cost.saturating_mul(scale)
-                .saturating_sub(rounds.number())
-                .max(0)
-        }
-        Err(_) => 0,
+// What the rounds lack of a cost, times the scale; None where there is no cost, or where it or their number doesn't fit.
+fn lack(rounds: &Rounds, cost: Option<u128>) -> Option<i128> {
+    let cost = i128::try_from(cost?).ok()?;
+    let number = rounds.number()?;
+    let scale = i128::from(rounds.prices().scale);
+    let lacking = cost.saturating_mul(scale).saturating_sub(number);
+    Some(lacking.max(0))
+}
+
+// Whether what rounds lack of a cost became less by more than a part of it; not so where it wasn't known before or isn't now.
+fn came_closer(before: Option<i128>, after: Option<i128>) -> bool {
+    match (before, after) {
+        (Some(before), Some(after)) => before.saturating_sub(after) > before / NODE_PART,
+        _ => false,
     }
 }
 
@@ -122,7 +123,7 @@ fn go_further(
             Reached::Open => {}
             reached => return Ok(reached),
         }
-        if before.saturating_sub(lack(rounds, cost)) <= before / NODE_PART {
+        if !came_closer(before, lack(rounds, cost)) {
             break;
         }
     }
@@ -154,12 +155,15 @@ fn improve(
     Ok(Reached::Open)
 }
 
-// Whether the leaf of the rounds is expected to say more than a leaf that says this.
+// Whether the leaf of the rounds is expected to say more than a leaf that says this; not so where their number doesn't fit.
 fn is_promising(rounds: &Rounds, says: Option<u128>) -> bool {
     let scale = i128::from(rounds.prices().scale);
+    let Some(number) = rounds.number() else {
+        return false;
+    };
     match says {
         Some(amount) => match i128::try_from(amount) {
-            Ok(amount) => rounds.number() > amount.saturating_mul(scale),
+            Ok(amount) => number > amount.saturating_mul(scale),
             Err(_) => false,
         },
         None => false,
@@ -329,7 +333,7 @@ fn noted(
 fn with_note(proposal: Proposal, note: Option<usize>) -> Proposal
     ensures leaf { result.leaf ≡ proposal.leaf }
     ensures says { result.says ≡ proposal.says }
-    ensures asked { result.asked ≡ proposal.asked }
+    ensures examined { result.examined ≡ proposal.examined }
 {
     Proposal { note, ..proposal }
 }
@@ -348,10 +352,10 @@ fn stronger_noted(
     requires known { IsKnown model.now known.old }
     requires lasting { IsLastingIn model.now known.old node.now.path.items proposal }
     requires judged { IfSome found (IsJudgedIn model.now known.old node.now.path.items) }
-    requires asked { proposal.asked ≡ false }
+    requires examined { proposal.examined ≡ false }
     ensures same { OnOk result (KnowsTheSame model.now known.old known.new) }
     ensures lasting { IfOk result (IsLastingIn model.now known.old node.now.path.items) }
-    ensures asked { IfOk result (λ p. p.asked ≡ false) }
+    ensures examined { IfOk result (λ p. p.examined ≡ false) }
 {
     let stronger = stronger(model, node, known, proposal, found);
     let says = stronger.says;
@@ -372,13 +376,13 @@ pub(crate) fn priced(
 ) -> Result<Proposal, AllocError>
     requires reached { IsReached model.now known.old node.now }
     requires lasting { IsLastingIn model.now known.old node.now.path.items proposal }
-    requires asked { proposal.asked ≡ false }
+    requires examined { proposal.examined ≡ false }
     ensures more { OnOk result (KnowsMore model.now known.old known.new) }
     ensures lasting { IfOk result (IsLastingIn model.now known.new node.now.path.items) }
-    ensures asked { IfOk result (λ p. p.asked ≡ false) }
+    ensures examined { IfOk result (λ p. p.examined ≡ false) }
 {
     let is_open = is_below(proposal.says, best_cost(&known.best));
-    if !is_open || !has_room(model.instance, known) {
+    if !is_open || !may_add_cuts(model.instance, known) {
         return Ok(proposal);
     }
     let fixed = fixed_setups(alloc, model.instance, &node.path)?;

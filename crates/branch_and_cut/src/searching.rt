@@ -21,7 +21,7 @@ use apart::{Apart, apart, apart_is_one};
 use branch_and_bound as engine;
 use branching::{Found, RootSays, plan_uncoupled};
 use cert_checker::NamedSums;
-use certificate::{FIRST_VERSION, MAX_VERSION};
+use certificate::{FIRST_CERT_VERSION, MAX_CERT_VERSION};
 use echelon::Explosion;
 use known_plans::{Effort, best_by_programs};
 use lot_model::{Instance, is_plain};
@@ -46,9 +46,9 @@ fn version_of(instance: &Instance) -> u32
     ensures known { HasVersion instance.now result }
 {
     if is_plain(instance) {
-        FIRST_VERSION
+        FIRST_CERT_VERSION
     } else {
-        MAX_VERSION
+        MAX_CERT_VERSION
     }
 }
 
@@ -62,7 +62,7 @@ fn searched(
     said: Root,
     apart: Apart,
 ) -> Result<Found, AllocError>
-    requires asked { StartsWell instance.now ranges.now budget first said }
+    requires start { StartsWell instance.now ranges.now budget first said }
     requires coupled { IsWhole instance.now (given_ranges ranges.now) → said.says ≡ Uncoupled → ⊥ }
     requires some { said.says ≡ Empty → ⊥ }
     requires apart { AreApart instance.now apart }
@@ -114,7 +114,7 @@ fn alone(
     said: Root,
     apart: Apart,
 ) -> Result<Found, AllocError>
-    requires asked { StartsWell instance.now ranges.now budget first said }
+    requires start { StartsWell instance.now ranges.now budget first said }
     requires uncoupled { said.says ≡ Uncoupled }
     requires apart { AreApart instance.now apart }
     ensures { IfOk result (IsAnswerWithin instance.now (given_ranges ranges.now) budget first) }
@@ -136,7 +136,7 @@ fn impossible(
     first: Option<Plan>,
     said: Root,
 ) -> Found
-    requires asked { StartsWell instance.now ranges.now budget first said }
+    requires start { StartsWell instance.now ranges.now budget first said }
     requires none { said.says ≡ Empty }
     ensures { IsAnswerWithin instance.now (given_ranges ranges.now) budget first result }
 {
@@ -155,7 +155,7 @@ fn answer(
     said: Root,
     apart: Apart,
 ) -> Result<Found, AllocError>
-    requires asked { StartsWell instance.now ranges.now budget first said }
+    requires start { StartsWell instance.now ranges.now budget first said }
     requires apart { AreApart instance.now apart }
     ensures { IfOk result (IsAnswerWithin instance.now (given_ranges ranges.now) budget first) }
 {

@@ -3,7 +3,7 @@ ghost use Rattle.root_rounds.specs.Root.{HasFigures};
 ghost use Rattle.branch_and_cut.specs.SearchWithin.{WholeIsProved};
 
 use acceptance::{acceptance_is_one, accepted_is_true, cut_rows_are_one};
-use lot_model::Instance;
+use lot_model::{Instance, an_instance_breaks_no_rule};
 
 /// What is proved over the whole ranges is proved of all plans.
 pub(crate) fn whole_is_proved(instance: &Instance)
@@ -13,6 +13,5 @@ pub(crate) fn whole_is_proved(instance: &Instance)
     acceptance_is_one();
     accepted_is_true();
     cut_rows_are_one();
-    // It reads that the instance is one.
-    let _periods = instance.periods();
+    an_instance_breaks_no_rule(instance);
 }

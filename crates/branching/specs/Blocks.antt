@@ -10,7 +10,7 @@ use Rattle.lin_rows.specs.declared.base.RowName.TheVariants.{Cut}
 use Rattle.lin_rows.specs.declared.prices.Potentials.{Potentials}
 use Rattle.lin_rows.specs.Rows.{LinRow}
 use Rattle.backlog_dp.specs.BlockRow.{block_row_of}
-use Rattle.cert_lines.specs.declared.limits.TheConstants.{FIRST_VERSION}
+use Rattle.cert_lines.specs.declared.limits.TheConstants.{FIRST_CERT_VERSION}
 use Rattle.cert_lines.specs.declared.parts.Claim.TheVariants.{Optimal}
 use Rattle.cert_lines.specs.declared.parts.Part.{Part}
 use Rattle.cert_lines.specs.Shapes.{BlockCut, CutShape, LeafShape, LinearLeaf, block_lists}
@@ -63,7 +63,7 @@ leaf_of n = LinearLeaf (pos 1) (each_once 1 n)
 
 -- the certificate that a plan of this cost is best: a block cut of each item, and one leaf, which takes each of them once
 abbrev pub blocks_shape : ℕ → List Potentials → Shape
-blocks_shape amount list = record { version = FIRST_VERSION; claim = Optimal amount; cuts = block_cuts 1 list; tree = End (leaf_of (length list)) }
+blocks_shape amount list = record { version = FIRST_CERT_VERSION; claim = Optimal amount; cuts = block_cuts 1 list; tree = End (leaf_of (length list)) }
 
 -- it is accepted with a feasible plan of this cost, where the lists prove each item and their floors add to this cost
 abbrev pub BlockLeavesAreCertified : Type 0

@@ -2,7 +2,7 @@
 use Rattle.std.specs.Prelude.{◌≡◌, ◌<◌, ◌^◌, Option, IsSome, IsNone}
 use Rattle.lot_sizing.specs.Problem.{Problem}
 use Rattle.plan_rules.specs.declared.plan.Plan.{Plan}
-use Rattle.cert_lines.specs.declared.limits.TheConstants.{FIRST_VERSION}
+use Rattle.cert_lines.specs.declared.limits.TheConstants.{FIRST_CERT_VERSION}
 use Rattle.cert_lines.specs.declared.parts.Claim.{Claim}
 use Rattle.cert_lines.specs.declared.parts.Claim.TheVariants.{Optimal, Infeasible, Bound as BoundOf}
 use Rattle.certificate.specs.Shapes.{shape_of}
@@ -32,4 +32,4 @@ pub record IsDecidedAlone (found : Found) : Type 0 where
   pub decided : GoesWithPlan found.certificate.claim found.plan
   pub root : found.root ≡ root.Uncoupled
   pub alone : found.nodes ≡ 1
-  pub version : found.certificate.version ≡ FIRST_VERSION
+  pub version : found.certificate.version ≡ FIRST_CERT_VERSION

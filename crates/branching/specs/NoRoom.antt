@@ -3,7 +3,7 @@ use Rattle.std.specs.Prelude.{ℕ, zero, suc, ℤ, pos, negsuc, None, List, [], 
 use Rattle.lot_sizing.specs.Problem.{IsUncoupled, IsWithinLimits, Problem}
 use Rattle.lin_rows.specs.declared.base.RowName.{RowName}
 use Rattle.lin_rows.specs.declared.base.RowName.TheVariants.{Balance, EndMax}
-use Rattle.cert_lines.specs.declared.limits.TheConstants.{FIRST_VERSION}
+use Rattle.cert_lines.specs.declared.limits.TheConstants.{FIRST_CERT_VERSION}
 use Rattle.cert_lines.specs.declared.parts.Claim.TheVariants.{Infeasible}
 use Rattle.cert_lines.specs.declared.parts.Part.{Part}
 use Rattle.cert_lines.specs.Shapes.{FarkasLeaf}
@@ -24,7 +24,7 @@ abbrev pub no_room_parts : ℕ → ℕ → List Part
 no_room_parts periods i = balances i periods ++ (part (EndMax i) (pos 1) ∷ [])
 
 abbrev pub no_room_shape : Problem → ℕ → Shape
-no_room_shape m i = record { version = FIRST_VERSION; claim = Infeasible; cuts = []; tree = End (FarkasLeaf (no_room_parts m.periods i)) }
+no_room_shape m i = record { version = FIRST_CERT_VERSION; claim = Infeasible; cuts = []; tree = End (FarkasLeaf (no_room_parts m.periods i)) }
 
 -- it is accepted, whatever the largest totals and the weights are
 abbrev pub NoRoomIsCertified : Type 0

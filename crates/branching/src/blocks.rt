@@ -5,7 +5,7 @@ ghost use Rattle.cert_lines.specs.Shapes.{cut_shape};
 ghost use Rattle.certificate.specs.Shapes.{shape_of};
 ghost use Rattle.branching.specs.Blocks.{block_cuts, blocks_shape, each_once};
 
-use certificate::{Certificate, Claim, Cut, FIRST_VERSION, Leaf, Part, Tree};
+use certificate::{Certificate, Claim, Cut, FIRST_CERT_VERSION, Leaf, Part, Tree};
 use lin_rows::{Potentials, RowName};
 use std::alloc::{AllocError, Global};
 
@@ -53,7 +53,7 @@ pub(crate) fn blocks_certificate(
 {
     let parts = cuts_once(alloc, lists.len() as u32)?;
     Ok(Certificate {
-        version: FIRST_VERSION,
+        version: FIRST_CERT_VERSION,
         claim: Claim::Optimal(cost),
         cuts: item_cuts(alloc, lists)?,
         tree: Tree::Leaf(Leaf::Linear { den: 1, parts }),

@@ -4,7 +4,7 @@ ghost use Rattle.lot_sizing.specs.declared.limits.TheConstants.{MAX_PERIODS};
 ghost use Rattle.certificate.specs.Shapes.{shape_of};
 ghost use Rattle.branching.specs.NoRoom.{NoRoomIsCertified, no_room_parts, no_room_shape};
 
-use certificate::{Certificate, Claim, FIRST_VERSION, Leaf, Part, Tree};
+use certificate::{Certificate, Claim, FIRST_CERT_VERSION, Leaf, Part, Tree};
 use lin_rows::RowName;
 use lot_model::Instance;
 use std::alloc::{AllocError, Global};
@@ -46,7 +46,7 @@ pub(crate) fn no_room_certificate(
 {
     let parts = refuting_parts(alloc, instance.periods(), item)?;
     Ok(Certificate {
-        version: FIRST_VERSION,
+        version: FIRST_CERT_VERSION,
         claim: Claim::Infeasible,
         cuts: Vec::new(alloc),
         tree: Tree::Leaf(Leaf::Farkas { parts }),

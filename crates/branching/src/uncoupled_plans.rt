@@ -7,7 +7,7 @@ ghost use Rattle.branching.specs.Found.{IsDecidedAlone, IsProved};
 use crate::blocks::blocks_certificate;
 use crate::no_room::no_room_certificate;
 use crate::{Found, RootSays, block_leaves_are_certified, no_room_is_certified};
-use lot_model::Instance;
+use lot_model::{Instance, an_instance_breaks_no_rule};
 use lot_sizing::room_decides;
 use std::alloc::{AllocError, Global};
 use uncoupled::{ItemPlans, PlannedItems, plan_items};
@@ -20,8 +20,7 @@ fn best_found(alloc: Global, instance: &Instance, plans: ItemPlans) -> Result<Fo
     ensures decided { IfOk result IsDecidedAlone }
 {
     block_leaves_are_certified();
-    // It reads that the instance is one.
-    let _periods = instance.periods();
+    an_instance_breaks_no_rule(instance);
     let ItemPlans {
         plan,
         cost,
@@ -44,8 +43,7 @@ fn none_found(alloc: Global, instance: &Instance, item: u32) -> Result<Found, Al
 {
     no_room_is_certified();
     room_decides();
-    // It reads that the instance is one.
-    let _periods = instance.periods();
+    an_instance_breaks_no_rule(instance);
     Ok(Found {
         certificate: no_room_certificate(alloc, instance, item)?,
         plan: None,
@@ -56,7 +54,7 @@ fn none_found(alloc: Global, instance: &Instance, item: u32) -> Result<Found, Al
 
 /// Plans an uncoupled instance, and proves the plan.
 ///
-/// The certificate is of `FIRST_VERSION` and has one node. Where there is a plan, it claims that the plan's cost, in money,
+/// The certificate is of `FIRST_CERT_VERSION` and has one node. Where there is a plan, it claims that the plan's cost, in money,
 /// is optimal; where an item has no room for what is left of its opening stock, that no plan is feasible. `cert_checker`
 /// accepts it with the plan (`proved`). The error is that memory ran out.
 ///

@@ -118,7 +118,7 @@ fn open(instance: &Instance, wanted: &Grid, built: &mut Construction, period: u3
 {
     for item in 1..instance.items() + 1 {
         let may = all || period == 1 || is_wanted(instance, wanted, built, item, period);
-        built.limit[(item - 1) as usize] = if may { u64::MAX } else { 0 };
+        built.limit[(item - 1) as usize] = if may { None } else { Some(0) };
     }
 }
 

@@ -22,8 +22,8 @@ pub struct Construction {
     pub left: Vec<u64>,
     /// Units that later periods ask for.
     pub carried: Vec<u64>,
-    /// The most that may be made in the period at hand.
-    pub limit: Vec<u64>,
+    /// The most that may be made in the period at hand; None where it isn't bounded.
+    pub limit: Vec<Option<u64>>,
     /// So many periods late is the demand that may be late.
     pub late: u32,
 }
@@ -64,7 +64,7 @@ pub fn begin(alloc: Global, instance: &Instance, late: u32) -> Result<Constructi
     fill(instance, &mut make, &mut setup);
     let left = row_totals(alloc, instance, &make)?;
     let carried = vec![in alloc; 0u64; instance.items() as usize]?;
-    let limit = vec![in alloc; 0u64; instance.items() as usize]?;
+    let limit = vec![in alloc; Some(0u64); instance.items() as usize]?;
     Ok(Construction {
         make,
         setup,
@@ -78,20 +78,18 @@ pub fn begin(alloc: Global, instance: &Instance, late: u32) -> Result<Constructi
 
 /// Whether a setup of an item is wanted in a period, or a lot was moved there.
 pub(crate) fn is_wanted(
-    instance: &Instance,
+    _instance: &Instance,
     wanted: &Grid,
     built: &Construction,
     item: u32,
     period: u32,
 ) -> bool
-    requires wanted { Fits instance.now wanted.now }
-    requires shape { HasShape instance.now built.now }
+    requires wanted { Fits _instance.now wanted.now }
+    requires shape { HasShape _instance.now built.now }
     requires item_low { 1 ≤ item }
-    requires item_high { item ≤ item_count instance.now }
+    requires item_high { item ≤ item_count _instance.now }
     requires low { 1 ≤ period }
-    requires high { period ≤ instance.now.periods }
+    requires high { period ≤ _instance.now.periods }
 {
-    // Its clauses speak of the instance, whose grids these are.
-    let _of = instance;
     wanted.get(item, period) == 1 || built.earlier.get(item, period) == 1
 }

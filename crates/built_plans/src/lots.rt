@@ -45,7 +45,7 @@ fn due_in(instance: &Instance, built: &Construction, item: u32, period: u32) -> 
 
 // Units of an item that are asked for in a period: by its demand, by the lots of the items that it goes into,
 // by the end, and by later periods.
-fn asked_in(instance: &Instance, built: &Construction, item: u32, period: u32) -> u64
+fn units_asked(instance: &Instance, built: &Construction, item: u32, period: u32) -> u64
     requires shape { HasShape instance.now built.now }
     requires item_low { 1 ≤ item }
     requires item_high { item ≤ item_count instance.now }
@@ -75,10 +75,12 @@ fn set_lot(instance: &Instance, built: &mut Construction, item: u32, period: u32
     requires high { period ≤ instance.now.periods }
     ensures { HasShape instance.now built.new }
 {
-    let asked = asked_in(instance, built, item, period);
-    let limit = built.limit[(item - 1) as usize];
+    let asked = units_asked(instance, built, item, period);
     let left = built.left[(item - 1) as usize];
-    let lot = asked.min(limit).min(left);
+    let lot = match built.limit[(item - 1) as usize] {
+        Some(limit) => asked.min(limit).min(left),
+        None => asked.min(left),
+    };
     built.make.set(item, period, lot);
     built.setup.set(item, period, lot.min(1));
 }
@@ -126,7 +128,7 @@ fn settle_item(instance: &Instance, built: &mut Construction, item: u32, period:
     requires high { period ≤ instance.now.periods }
     ensures { HasShape instance.now built.new }
 {
-    let asked = asked_in(instance, built, item, period);
+    let asked = units_asked(instance, built, item, period);
     let lot = built.make.get(item, period);
     let left = built.left[(item - 1) as usize];
     built.carried[(item - 1) as usize] = asked.saturating_sub(lot);

@@ -84,16 +84,14 @@ fn single_with(
 }
 
 // Wants a setup of an item in the period of each block.
-fn want_servers(single: &SingleItem, blocks: &[Block], item: u32, wanted: &mut Grid)
-    requires blocks { Cover (single_of_item single.now) blocks.now }
-    requires periods { period_count (single_of_item single.now) ≡ wanted.old.periods }
+fn want_servers(_single: &SingleItem, blocks: &[Block], item: u32, wanted: &mut Grid)
+    requires blocks { Cover (single_of_item _single.now) blocks.now }
+    requires periods { period_count (single_of_item _single.now) ≡ wanted.old.periods }
     requires low { 1 ≤ item }
     requires high { item ≤ wanted.old.items }
     ensures items { wanted.new.items ≡ wanted.old.items }
     ensures periods { wanted.new.periods ≡ wanted.old.periods }
 {
-    // Its clauses speak of the item, whose blocks these are.
-    let _of = single;
     for block in blocks {
         wanted.set(item, block.server, 1);
     }

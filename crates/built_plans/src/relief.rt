@@ -224,7 +224,7 @@ fn relieve_once(instance: &Instance, wanted: &Grid, built: &mut Construction, pe
     let Some(found) = cheapest_move(instance, wanted, built, period, over) else {
         return false;
     };
-    built.limit[(found.item - 1) as usize] = found.kept;
+    built.limit[(found.item - 1) as usize] = Some(found.kept);
     built.earlier.set(found.item, period - 1, 1);
     set_lots(instance, built, period);
     true

@@ -12,7 +12,7 @@ use Rattle.lin_rows.specs.Rows.{LinRow}
 use Rattle.cert_lines.specs.declared.parts.Claim.{Claim}
 use Rattle.cert_lines.specs.declared.parts.Claim.TheVariants.{Optimal, Infeasible, Bound as BoundOf}
 use Rattle.cert_lines.specs.Shapes.{CutShape, LeafShape, LsCut}
-use Rattle.certificate.specs.declared.places.TheConstants.{CLAIM_LINE, FIRST_CUT_LINE}
+use Rattle.certificate.specs.declared.line_numbers.TheConstants.{CLAIM_LINE, FIRST_CUT_LINE}
 use Rattle.certificate.specs.Shapes.{End, Shape, Split, TreeShape}
 use Rattle.certificate.specs.Values.{all_cut_values, body_values, tree_values}
 use Rattle.split_trees.specs.Ranges.{Ranges, WithTotals, whole_ranges}

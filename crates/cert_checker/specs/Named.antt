@@ -15,6 +15,8 @@ use Rattle.round_cuts.specs.Rounding.{amount_of}
 use Rattle.cert_lines.specs.declared.parts.Part.{Part}
 use Rattle.acceptance.specs.Named.{Named, row_named}
 use Rattle.acceptance.specs.Parts.{rows_of, times_of}
+use Rattle.cert_checker.specs.declared.columns.Kind.{Kind}
+use Rattle.cert_checker.specs.declared.columns.Kind.TheVariants as kinds
 use Rattle.cert_checker.specs.declared.named.NamedRow.{NamedRow}
 use Rattle.cert_checker.specs.declared.named.NamedSums.{NamedSums}
 
@@ -76,12 +78,19 @@ pub record IsLarge (m : Problem) (den : ℤ) (s : Summed) (c : Column) : Type 0 
   pub column : IsColumn m c
   pub more : (den *ℤ pos (column_cost m c)) <ℤ (total_of s c).sum
 
--- the columns of a kind, and of an item among them
-abbrev pub IsOfKind : ℕ → Column → Type 0
-IsOfKind kind c = kind_of c ≡ kind
+-- the place of a kind in the order of columns
+abbrev pub place_of : Kind → ℕ
+place_of kinds.X = 0
+place_of kinds.Y = 1
+place_of kinds.S = 2
+place_of kinds.R = 3
 
-abbrev pub IsOfItem : ℕ → ℕ → Column → Type 0
-IsOfItem kind item c = (kind_of c ≡ kind) × (item_of c ≡ item)
+-- the columns of a kind, and of an item among them
+abbrev pub IsOfKind : Kind → Column → Type 0
+IsOfKind kind c = kind_of c ≡ place_of kind
+
+abbrev pub IsOfItem : Kind → ℕ → Column → Type 0
+IsOfItem kind item c = (kind_of c ≡ place_of kind) × (item_of c ≡ item)
 
 abbrev pub IsAny : Column → Type 0
 IsAny c = ⊤

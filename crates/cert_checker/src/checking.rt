@@ -20,7 +20,7 @@ use bill::totals_exist;
 use certificate::{Certificate, Cut, FIRST_CUT_LINE, cut_lines_count};
 use echelon::Explosion;
 use lin_rows::Row;
-use lot_model::Instance;
+use lot_model::{Instance, an_instance_breaks_no_rule};
 use plan_rules::{Plan, judgement_is_one};
 use split_trees::plans_are_within;
 use std::alloc::Global;
@@ -137,7 +137,6 @@ pub fn check(
     cut_rows_go_on();
     cut_rows_are_one();
     says_are_one();
-    // It reads that the instance is one.
-    let _periods = instance.periods();
+    an_instance_breaks_no_rule(instance);
     examine(alloc, instance, certificate, plan)
 }

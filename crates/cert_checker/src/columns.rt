@@ -1,12 +1,21 @@
 // The first column whose sum is too large.
-ghost use Rattle.std.specs.Prelude.{◌≡◌, ◌↔◌, ◌<◌, ◌*ℤ◌, ◌≤ℤ◌, pos, true, false, IfSome, IsNone, IsTrue};
+ghost use Rattle.std.specs.Prelude.{◌≡◌, ◌↔◌, ◌*ℤ◌, ◌≤ℤ◌, pos, true, false, IfSome, IsNone, IsTrue};
 ghost use Rattle.lin_rows.specs.declared.column.Column.{Column};
 ghost use Rattle.lin_rows.specs.Columns.{IsColumn};
-ghost use Rattle.lin_rows.specs.Sums.{item_of, kind_of, period_of};
+ghost use Rattle.lin_rows.specs.Sums.{item_of, period_of};
 ghost use Rattle.cert_checker.specs.Named.{IsAny, IsFirstLarge, IsLarge, IsOfItem, IsOfKind, IsWithinCost};
 
 use lin_rows::{Column, Sums, column_cost, is_cell};
 use lot_model::Instance;
+
+// The kinds of columns, in their order.
+#[derive(Clone, Copy, Debug)]
+enum Kind {
+    X,
+    Y,
+    S,
+    R,
+}
 
 // Whether the instance has a column.
 fn has_column(instance: &Instance, column: Column) -> bool
@@ -47,25 +56,29 @@ fn is_within_cost(instance: &Instance, sums: &Sums, den: i128, column: Column) -
     is_at_most(sums.column(column), den, column_cost(instance, column))
 }
 
-// The column of a kind, which are numbered from 0 in their order.
-fn column_of(kind: u8, item: u32, period: u32) -> Column
-    requires { kind < 4 }
-    ensures kind { kind_of result ≡ kind }
+// The column of a kind.
+fn column_of(kind: Kind, item: u32, period: u32) -> Column
+    ensures kind { IsOfKind kind result }
     ensures item { item_of result ≡ item }
     ensures period { period_of result ≡ period }
 {
     match kind {
-        0 => Column::X { item, period },
-        1 => Column::Y { item, period },
-        2 => Column::S { item, period },
-        _ => Column::R { item, period },
+        Kind::X => Column::X { item, period },
+        Kind::Y => Column::Y { item, period },
+        Kind::S => Column::S { item, period },
+        Kind::R => Column::R { item, period },
     }
 }
 
 // The first one of an item's columns of a kind.
-fn first_of_item(instance: &Instance, sums: &Sums, den: i128, kind: u8, item: u32) -> Option<Column>
+fn first_of_item(
+    instance: &Instance,
+    sums: &Sums,
+    den: i128,
+    kind: Kind,
+    item: u32,
+) -> Option<Column>
     requires den { pos 0 ≤ℤ den }
-    requires kind { kind < 4 }
     ensures some { IfSome result (IsFirstLarge instance.now den sums.now (IsOfItem kind item)) }
     ensures none { IsNone result → (c : Column) → IsOfItem kind item c → IsWithinCost instance.now den sums.now c }
 {
@@ -79,9 +92,8 @@ fn first_of_item(instance: &Instance, sums: &Sums, den: i128, kind: u8, item: u3
 }
 
 // The first one of the columns of a kind.
-fn first_of_kind(instance: &Instance, sums: &Sums, den: i128, kind: u8) -> Option<Column>
+fn first_of_kind(instance: &Instance, sums: &Sums, den: i128, kind: Kind) -> Option<Column>
     requires den { pos 0 ≤ℤ den }
-    requires kind { kind < 4 }
     ensures some { IfSome result (IsFirstLarge instance.now den sums.now (IsOfKind kind)) }
     ensures none { IsNone result → (c : Column) → IsOfKind kind c → IsWithinCost instance.now den sums.now c }
 {
@@ -101,11 +113,14 @@ pub(crate) fn first_large(instance: &Instance, sums: &Sums, den: i128) -> Option
     ensures some { IfSome result (IsFirstLarge instance.now den sums.now IsAny) }
     ensures none { IsNone result → (c : Column) → IsWithinCost instance.now den sums.now c }
 {
-    for kind in 0..4 {
-        match first_of_kind(instance, sums, den, kind) {
-            Some(column) => return Some(column),
-            None => {}
-        }
+    if let Some(column) = first_of_kind(instance, sums, den, Kind::X) {
+        return Some(column);
     }
-    None
+    if let Some(column) = first_of_kind(instance, sums, den, Kind::Y) {
+        return Some(column);
+    }
+    if let Some(column) = first_of_kind(instance, sums, den, Kind::S) {
+        return Some(column);
+    }
+    first_of_kind(instance, sums, den, Kind::R)
 }

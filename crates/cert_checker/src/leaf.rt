@@ -12,7 +12,7 @@ use crate::{CheckFault, NamedSums};
 use acceptance::{LeafSays, leaves_bound};
 use certificate::Leaf;
 use lin_rows::{Bound, Row};
-use lot_model::Instance;
+use lot_model::{Instance, an_instance_breaks_no_rule};
 use split_trees::plans_are_within;
 use std::alloc::Global;
 
@@ -96,7 +96,7 @@ pub fn leaf_bound_in(
 {
     leaves_bound();
     plans_are_within();
-    let _periods = instance.periods();
+    an_instance_breaks_no_rule(instance);
     leaf_says(alloc, instance, named, cuts, path, leaf, line)
 }
 

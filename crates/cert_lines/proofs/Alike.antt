@@ -17,7 +17,7 @@ use Rattle.cert_lines.proofs.Splits.{same_number, same_words, tail}
 use Rattle.cert_lines.proofs.Stands.{visible_words}
 use Rattle.cert_lines.specs.Forms.{IsCutOf}
 use Rattle.cert_lines.specs.Words.{IsListFrom}
-use Rattle.cert_lines.proofs.Runs.{same_from, same_lists}
+use Rattle.cert_lines.proofs.Listed.{same_from, same_lists}
 use Rattle.cert_lines.proofs.Meant.{cut_form}
 use Rattle.cert_lines.proofs.Spelled.{spelled, visible, words_of, words_of_cut}
 use Rattle.cert_lines.specs.declared.line.CertLine.{CertLine}

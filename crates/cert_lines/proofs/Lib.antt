@@ -2,7 +2,7 @@ pub mod Joins
 pub mod Digits
 pub mod Numerals
 pub mod Splits
-pub mod Runs
+pub mod Listed
 pub mod Stands
 pub mod Spelled
 pub mod Meant

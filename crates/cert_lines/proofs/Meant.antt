@@ -5,7 +5,7 @@ use Rattle.std.proofs.lemmas.Fmt.{decimal_is_IsNumeral_wide}
 use Rattle.std.proofs.lemmas.List.{get_or_past, length-append, length-map}
 use Rattle.cert_lines.specs.Text.{Lines}
 use Rattle.cert_lines.specs.Line.{IsSmallCut, IsSmallLine, later_line}
-use Rattle.cert_lines.specs.Words.{HasNoNumber, IsBlock, IsFour, IsListFrom, IsSplit, StandFrom, word_at, words_text}
+use Rattle.cert_lines.specs.Words.{HasNoNumber, HasBlockWords, IsFour, IsListFrom, IsSplit, StandFrom, word_at, words_text}
 use Rattle.cert_lines.specs.Forms.{IsCutOf, IsLineOf}
 use Rattle.cert_lines.proofs.Numerals.{digit_read}
 use Rattle.cert_lines.proofs.Splits.{tail, not_empty, same_words}
@@ -60,7 +60,7 @@ price_words_of ws item xs bs cs ds f = same_lines ws (price_words item xs bs cs 
   ),
 )
 
-block_words_of : (ws : Lines) (item : ℕ) (xs bs cs ds es : List ℕ) → IsBlock ws item xs bs cs ds es → ws ≡ block_words item xs bs cs ds es
+block_words_of : (ws : Lines) (item : ℕ) (xs bs cs ds es : List ℕ) → HasBlockWords ws item xs bs cs ds es → ws ≡ block_words item xs bs cs ds es
 block_words_of ws item xs bs cs ds es block =
     let f = block.four in
     let next : block.next ≡ 6 + length xs + length bs + length cs + length ds = f.end in
@@ -107,7 +107,7 @@ price_form item xs bs cs ds small a b c d =
     subst (λ t. StandFrom ws 0 (codes "price" ∷ (decimal item ∷ (list_words (codes "w") xs ++ (list_words (codes "g") bs ++ (list_words (codes "h") cs ++ t)))))) (sym (append-nil (list_words (codes "b") ds))) (stand_whole ws).1 in
     four_form ws (codes "price") (codes "w") item (length ws) xs bs cs ds [] small a b c d end stands (no_more ws (length ws) (2 ^ 64) (omega arith) (omega arith))
 
-block_form : (item : ℕ) (xs bs cs ds es : List ℕ) → item < 2 ^ 32 → All (λ x. x < 2 ^ 64) xs → All (λ x. x < 2 ^ 64) bs → All (λ x. x < 2 ^ 64) cs → All (λ x. x < 2 ^ 64) ds → All (λ x. x < 2 ^ 127) es → IsBlock (block_words item xs bs cs ds es) item xs bs cs ds es
+block_form : (item : ℕ) (xs bs cs ds es : List ℕ) → item < 2 ^ 32 → All (λ x. x < 2 ^ 64) xs → All (λ x. x < 2 ^ 64) bs → All (λ x. x < 2 ^ 64) cs → All (λ x. x < 2 ^ 64) ds → All (λ x. x < 2 ^ 127) es → HasBlockWords (block_words item xs bs cs ds es) item xs bs cs ds es
 block_form item xs bs cs ds es small a b c d e =
     let ws = block_words item xs bs cs ds es in
     let next = 6 + length xs + length bs + length cs + length ds in

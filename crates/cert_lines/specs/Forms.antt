@@ -3,7 +3,7 @@ use Rattle.std.specs.Prelude.{◌≡◌, ◌≤◌, pos, ◌≤ℤ◌, unsigned_
 use Rattle.cert_lines.specs.Text.{Lines}
 use Rattle.cert_lines.specs.Limits.{Is32, Is64, IsSmallPart}
 use Rattle.cert_lines.specs.Line.{IsSmallColumn, IsSmallName}
-use Rattle.cert_lines.specs.Words.{HasWords, IsBlock, IsFour, branch_words, farkas_words, linear_words, ls_words, part_words, round_words}
+use Rattle.cert_lines.specs.Words.{HasWords, HasBlockWords, IsFour, branch_words, farkas_words, linear_words, ls_words, part_words, round_words}
 use Rattle.cert_lines.specs.Shapes.{BlockCut, BranchLine, CutLine, CutShape, EndLine, FarkasLine, LineShape, LinearLine, LsCut, PartLine, PointLine, PriceCut, RoundCut, RoundLine}
 use Rattle.cert_lines.specs.declared.limits.TheConstants.{MAX_PARTS, MAX_ROUND_PARTS}
 use Rattle.round_cuts.specs.declared.rounding.TheConstants.{MAX_DIVISOR}
@@ -13,7 +13,7 @@ use Rattle.cert_lines.specs.Limits.{Is127}
 abbrev pub IsCutOf : Lines → CutShape → Type 0
 IsCutOf ws (LsCut item last chosen) = HasWords ws (ls_words item last chosen) × Is32 item × (1 ≤ last) × Is32 last × (length chosen ≡ last)
 IsCutOf ws (PriceCut item a) = IsFour ws (codes "price") (codes "w") item a.price a.unit a.hold a.back (length ws)
-IsCutOf ws (BlockCut item a) = IsBlock ws item a.setup a.unit a.hold a.back a.steps
+IsCutOf ws (BlockCut item a) = HasBlockWords ws item a.setup a.unit a.hold a.back a.steps
 IsCutOf ws (RoundCut divisor parts) = ⊥
 
 -- these are the words of the line

@@ -1,6 +1,6 @@
 -- The limits on the numbers of lines.
 use Rattle.std.specs.Prelude.{◌<◌, ◌≤◌, ◌^◌, ℕ, unsigned_abs, ⊤}
-use Rattle.cert_lines.specs.declared.limits.TheConstants.{FIRST_VERSION, MAX_VERSION}
+use Rattle.cert_lines.specs.declared.limits.TheConstants.{FIRST_CERT_VERSION, MAX_CERT_VERSION}
 use Rattle.cert_lines.specs.declared.parts.Claim.{Claim}
 use Rattle.cert_lines.specs.declared.parts.Claim.TheVariants as claim
 use Rattle.cert_lines.specs.declared.parts.Part.{Part}
@@ -26,7 +26,7 @@ Is127 n = n < bound_127
 
 -- one of the versions
 abbrev pub IsVersion : ℕ → Type 0
-IsVersion version = (FIRST_VERSION ≤ version) × (version ≤ MAX_VERSION)
+IsVersion version = (FIRST_CERT_VERSION ≤ version) × (version ≤ MAX_CERT_VERSION)
 
 -- an amount of money
 abbrev pub IsSmallClaim : Claim → Type 0

@@ -8,7 +8,7 @@ use Rattle.lin_rows.specs.declared.base.RowName.TheVariants.{Balance, Link, Capa
 use Rattle.cert_lines.specs.Text.{block_line, branch_line, farkas_line, linear_line, ls_line, part_line, price_line, round_line}
 use Rattle.cert_lines.specs.Limits.{Is32, Is64, IsSmallPart}
 use Rattle.cert_lines.specs.Shapes.{BlockCut, BlockLists, BranchLine, CutLine, CutShape, EndLine, FarkasLine, LineShape, LinearLine, LsCut, PartLine, PointLine, PriceCut, PriceLists, RoundCut, RoundLine}
-use Rattle.cert_lines.specs.declared.limits.TheConstants.{FIRST_VERSION, MAX_LINE, MAX_PARTS, MAX_ROUND_PARTS}
+use Rattle.cert_lines.specs.declared.limits.TheConstants.{FIRST_CERT_VERSION, MAX_LINE, MAX_PARTS, MAX_ROUND_PARTS}
 use Rattle.round_cuts.specs.declared.rounding.TheConstants.{MAX_DIVISOR}
 use Rattle.cert_lines.specs.Limits.{Is127}
 
@@ -91,7 +91,7 @@ IsFirstName _ = ⊤
 
 -- the version has the form
 abbrev pub IsKnown : ℕ → LineShape → Type 0
-IsKnown version (PartLine part) = version ≡ FIRST_VERSION → IsFirstName part.row
+IsKnown version (PartLine part) = version ≡ FIRST_CERT_VERSION → IsFirstName part.row
 IsKnown version _ = ⊤
 
 -- the line of a text of this version has this value

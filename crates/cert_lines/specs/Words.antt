@@ -128,7 +128,7 @@ pub record IsFour (ws : Lines) (word letter : List ℕ) (item : ℕ) (xs bs cs d
   pub end : next ≡ 6 + length xs + length bs + length cs + length ds
 
 -- the words of a `block` line
-pub record IsBlock (ws : Lines) (item : ℕ) (xs bs cs ds es : List ℕ) : Type 0 where
+pub record HasBlockWords (ws : Lines) (item : ℕ) (xs bs cs ds es : List ℕ) : Type 0 where
   pub next : ℕ
   pub four : IsFour ws (codes "block") (codes "f") item xs bs cs ds next
   pub steps : (word_at ws next ≡ codes "p") × IsListFrom ws bound_127 (next + 1) es

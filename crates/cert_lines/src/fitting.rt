@@ -1,7 +1,7 @@
 // Whether values are those of lines.
 ghost use Rattle.std.specs.Prelude.{◌≡◌, ◌↔◌, IsTrue, unsigned_abs, length};
 ghost use Rattle.std.specs.List.{All};
-ghost use Rattle.cert_lines.specs.declared.limits.TheConstants.{FIRST_VERSION};
+ghost use Rattle.cert_lines.specs.declared.limits.TheConstants.{FIRST_CERT_VERSION};
 ghost use Rattle.cert_lines.specs.Shapes.{BlockCut, BranchLine, CutLine, FarkasLine, LinearLine, LsCut, PartLine, PriceCut, RoundLine, block_lists, cut_first, cut_shape, leaf_first, leaf_shape, price_lists};
 ghost use Rattle.cert_lines.specs.Limits.{Is127, IsSmallClaim};
 ghost use Rattle.cert_lines.specs.Line.{HasForm, HasLine, IsFirstName};
@@ -10,7 +10,7 @@ use crate::lengths::{
     block_length, branch_length, farkas_length, linear_length, ls_length, part_length,
     price_length, round_length,
 };
-use crate::limits::{FIRST_VERSION, MAX_PARTS, MAX_ROUND_PARTS, MOST_127};
+use crate::limits::{FIRST_CERT_VERSION, MAX_PARTS, MAX_ROUND_PARTS, MOST_127};
 use crate::{Claim, Cut, Leaf, Part};
 use lin_rows::{Column, Potentials, Prices, RowName};
 use round_cuts::MAX_DIVISOR;
@@ -55,9 +55,9 @@ fn is_first_name(row: RowName) -> bool
 
 // Whether a version has the name of a row.
 pub(crate) fn is_known_name(row: RowName, version: u32) -> bool
-    ensures { IsTrue result ↔ (version ≡ FIRST_VERSION → IsFirstName row) }
+    ensures { IsTrue result ↔ (version ≡ FIRST_CERT_VERSION → IsFirstName row) }
 {
-    version != FIRST_VERSION || is_first_name(row)
+    version != FIRST_CERT_VERSION || is_first_name(row)
 }
 
 /// Whether a part has a line in texts of this version: whether it is within the limits.

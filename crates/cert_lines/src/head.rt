@@ -8,7 +8,7 @@ ghost use Rattle.cert_lines.specs.Limits.{IsSmallClaim, IsVersion};
 ghost use Rattle.cert_lines.specs.Head.{IsHead, head_line};
 
 use crate::Claim;
-use crate::limits::{FIRST_VERSION, MAX_CUTS, MAX_VERSION, MOST_127};
+use crate::limits::{FIRST_CERT_VERSION, MAX_CERT_VERSION, MAX_CUTS, MOST_127};
 use whole_numbers::read_whole;
 
 /// One of the first three lines.
@@ -41,9 +41,9 @@ fn read_version(line: &[u8]) -> Option<u32>
     ensures some { IfSome result (λ version. (line.now ≡ head_line (Mark version)) × IsVersion version) }
     ensures none { IsNone result → (version : ℕ) → IsVersion version → line.now ≡ head_line (Mark version) → ⊥ }
 {
-    match number_after(line, b"lotcert ", MAX_VERSION as u128) {
+    match number_after(line, b"lotcert ", MAX_CERT_VERSION as u128) {
         Some(version) => {
-            if version < FIRST_VERSION as u128 {
+            if version < FIRST_CERT_VERSION as u128 {
                 return None;
             }
             Some(version as u32)

@@ -32,7 +32,8 @@ pub use laws::{
     heads_have_no_feed, heads_mean_one_thing, lines_have_no_feed, lines_mean_one_thing,
 };
 pub use limits::{
-    FIRST_VERSION, MAX_BRANCHES, MAX_CUTS, MAX_LINE, MAX_PARTS, MAX_ROUND_PARTS, MAX_VERSION,
+    FIRST_CERT_VERSION, MAX_BRANCHES, MAX_CERT_VERSION, MAX_CUTS, MAX_LINE, MAX_PARTS,
+    MAX_ROUND_PARTS,
 };
 pub use line::{CertLine, LineFault, read_line};
 pub use parts::{Claim, Cut, Leaf, Part};

@@ -1,9 +1,9 @@
 //! The limits of a certificate's text, each with one name. That of divisors is `MAX_DIVISOR` of `round_cuts`.
 
 /// The first version of texts, in which no part names a least lot or a late one.
-pub const FIRST_VERSION: u32 = 1;
+pub const FIRST_CERT_VERSION: u32 = 1;
 /// The latest version of texts.
-pub const MAX_VERSION: u32 = 2;
+pub const MAX_CERT_VERSION: u32 = 2;
 /// Most bytes of a line, its line feed not counted.
 pub const MAX_LINE: usize = 16_384;
 /// Most cuts of a certificate.

@@ -1,7 +1,7 @@
 // The parts of a line that are lists.
 ghost use Rattle.std.specs.Prelude.{◌≡◌, ◌+◌, ◌≤◌, ◌<◌, ◌^◌, ℕ, IfOk, IfSome, IsNone, Bool, List, codes, length, map};
 ghost use Rattle.cert_lines.specs.Text.{bits_text};
-ghost use Rattle.cert_lines.specs.Words.{HasWords, IsBlock, IsFour, IsListFrom, ls_words, word_at};
+ghost use Rattle.cert_lines.specs.Words.{HasWords, HasBlockWords, IsFour, IsListFrom, ls_words, word_at};
 ghost use Rattle.cert_lines.specs.Limits.{Is32};
 ghost use Rattle.cert_lines.specs.Limits.{bound_127, bound_64};
 
@@ -183,9 +183,9 @@ pub(crate) fn read_block(
     words: &[&[u8]],
 ) -> Result<Option<(u32, Potentials)>, AllocError>
     ensures some { IfOk result (λ read. IfSome read (λ p.
-        IsBlock (map (λ w. w.now) words.now) p.0 p.1.setup.items p.1.unit.items p.1.hold.items p.1.back.items p.1.steps.items)) }
+        HasBlockWords (map (λ w. w.now) words.now) p.0 p.1.setup.items p.1.unit.items p.1.hold.items p.1.back.items p.1.steps.items)) }
     ensures none { IfOk result (λ read. IsNone read → (item : ℕ) (xs bs cs ds es : List ℕ)
-        → IsBlock (map (λ w. w.now) words.now) item xs bs cs ds es → ⊥) }
+        → HasBlockWords (map (λ w. w.now) words.now) item xs bs cs ds es → ⊥) }
 {
     let Some(four) = read_four(alloc, words, b"block", b"f")? else {
         return Ok(None);

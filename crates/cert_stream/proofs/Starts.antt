@@ -16,7 +16,7 @@ use Rattle.cert_lines.proofs.Alike.{one_value}
 use Rattle.cert_lines.proofs.Feeds.{line_plain}
 use Rattle.cert_lines.proofs.Heads.{head_plain, one_head}
 use Rattle.certificate.specs.Faults.{StartsWithHead}
-use Rattle.certificate.specs.Needs.{StartsWith}
+use Rattle.certificate.specs.Dues.{StartsWith}
 use Rattle.certificate.specs.Text.{head_text}
 use Rattle.certificate.specs.Values.{value_text}
 use Rattle.certificate.proofs.Feeds.{no_form, no_start, same_line}

@@ -6,10 +6,10 @@ use Rattle.cert_lines.specs.Shapes.{line_shape}
 use Rattle.certificate.specs.Shapes.{Shape}
 use Rattle.certificate.specs.Text.{head_values, heads_text}
 use Rattle.certificate.specs.Values.{AreLines, value_text, values_text}
-use Rattle.certificate.specs.Needs.{Due, TakesAll}
-use Rattle.certificate.specs.Faults.{AreHeads, body_needs}
+use Rattle.certificate.specs.Dues.{Due, TakesAll}
+use Rattle.certificate.specs.Faults.{AreHeads, body_dues}
 use Rattle.certificate.proofs.Joins.{values_append}
-use Rattle.certificate.proofs.Needed.{runs_join}
+use Rattle.certificate.proofs.Needed.{taken_join}
 use Rattle.certificate.proofs.Shorts.{lines_join}
 use Rattle.cert_stream.specs.declared.heads.Heads.{Heads}
 use Rattle.cert_stream.specs.declared.lines.LineReader.{LineReader}
@@ -21,32 +21,32 @@ use Rattle.cert_stream.specs.Values.{IsGiven, IsValue}
 use Rattle.cert_stream.proofs.Bodies.{body_of}
 
 -- one line
-pub one_taken : (version : ℕ) (v : Value) (line : CertLine) (a b : LineReader) (needs left : List Due) (text rest : List ℕ) → v ≡ value.Line line → IsValue version v text rest → IsGiven version v a b → TakesAll needs (line_shape line ∷ []) left → AreTaken version needs text a.number left rest b.number
-one_taken version v line a b needs left text rest is value given runs =
+pub one_taken : (version : ℕ) (v : Value) (line : CertLine) (a b : LineReader) (dues left : List Due) (text rest : List ℕ) → v ≡ value.Line line → IsValue version v text rest → IsGiven version v a b → TakesAll dues (line_shape line ∷ []) left → AreTaken version dues text a.number left rest b.number
+one_taken version v line a b dues left text rest is value given taken =
     let here = subst (λ x. IsValue version x text rest) is value in
     let (form, further) = subst (λ x. IsGiven version x a b) is given in
     record {
       read = line_shape line ∷ [];
       lines = (form, tt);
       is = here ∙ ap (λ t. t ++ rest) (sym (append-nil (value_text (line_shape line))));
-      runs = runs;
+      taken = taken;
       number = further.number;
     }
 
 -- and more of them
-pub taken_on : {version : ℕ} {needs mid left : List Due} {text rest more : List ℕ} {n k m : ℕ} → AreTaken version needs text n mid rest k → AreTaken version mid rest k left more m → AreTaken version needs text n left more m
-taken_on {version = version} {needs = needs} {mid = mid} {left = left} {more = more} first later = record {
+pub taken_on : {version : ℕ} {dues mid left : List Due} {text rest more : List ℕ} {n k m : ℕ} → AreTaken version dues text n mid rest k → AreTaken version mid rest k left more m → AreTaken version dues text n left more m
+taken_on {version = version} {dues = dues} {mid = mid} {left = left} {more = more} first later = record {
   read = first.read ++ later.read;
   lines = lines_join version first.read later.read first.lines later.lines;
   is = first.is ∙ ap (λ t. values_text first.read ++ t) later.is ∙ sym (append_assoc (values_text first.read) (values_text later.read) more) ∙ ap (λ t. t ++ more) (sym (values_append first.read later.read));
-  runs = runs_join needs mid left first.read later.read first.runs later.runs;
+  taken = taken_join dues mid left first.read later.read first.taken later.taken;
   number = omega (arith, first.number, later.number, length-append first.read later.read);
 }
 
 -- the certificate of the lines
-pub claimed : (h : Heads) (text rest : List ℕ) → AreHeads 1 (head_values h.version h.claim h.count) → text ≡ heads_of h ++ rest → AreAll h.version (body_needs h.count) rest → IsTextOfClaim text h.claim
+pub claimed : (h : Heads) (text rest : List ℕ) → AreHeads 1 (head_values h.version h.claim h.count) → text ≡ heads_of h ++ rest → AreAll h.version (body_dues h.count) rest → IsTextOfClaim text h.claim
 claimed h text rest heads is all =
-    let body = body_of h.version h.count all.read all.lines all.runs in
+    let body = body_of h.version h.count all.read all.lines all.taken in
     let s : Shape = record { version = h.version; claim = h.claim; cuts = body.cuts; tree = body.tree } in
     record {
       certificate = s;

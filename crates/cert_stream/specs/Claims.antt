@@ -6,7 +6,7 @@ use Rattle.certificate.specs.declared.fault.CertTextFault.TheVariants.{Memory}
 use Rattle.certificate.specs.Shapes.{Shape}
 use Rattle.certificate.specs.Limits.{IsTextOf}
 use Rattle.certificate.specs.Values.{AreLines, Values, values_text}
-use Rattle.certificate.specs.Needs.{IsStop, Due, TakesAll}
+use Rattle.certificate.specs.Dues.{IsStop, Due, TakesAll}
 use Rattle.certificate.specs.Faults.{IsCertTextFault}
 use Rattle.cert_stream.specs.declared.fault.ClaimFault.{ClaimFault}
 use Rattle.cert_stream.specs.declared.fault.ClaimFault.TheVariants as stream
@@ -41,28 +41,28 @@ WhenWhole _ P = ⊤
 
 -- ---- on the way
 -- lines of a text are as needed, and then this is needed and this is left
-pub record AreTaken (version : ℕ) (needs : List Due) (text : List ℕ) (n : ℕ) (left : List Due) (rest : List ℕ) (m : ℕ) : Type 0 where
+pub record AreTaken (version : ℕ) (dues : List Due) (text : List ℕ) (n : ℕ) (left : List Due) (rest : List ℕ) (m : ℕ) : Type 0 where
   pub read : Values
   pub lines : AreLines version read
   pub is : text ≡ values_text read ++ rest
-  pub runs : TakesAll needs read left
+  pub taken : TakesAll dues read left
   pub number : m ≡ n + length read
 
 -- what a line of a text, which has this number, was in place of what is needed, and what is needed then
 abbrev pub IsStep : ℕ → List Due → List ℕ → ℕ → Step → List Due → List ℕ → ℕ → Type 0
-IsStep version needs text n step.Taken left rest m = AreTaken version needs text n left rest m
-IsStep version needs text n step.Ended left rest m = (text ≡ []) × (needs ≡ [])
-IsStep version needs text n (step.Stopped f) left rest m = IsStop version needs text n f
+IsStep version dues text n step.Taken left rest m = AreTaken version dues text n left rest m
+IsStep version dues text n step.Ended left rest m = (text ≡ []) × (dues ≡ [])
+IsStep version dues text n (step.Faulty f) left rest m = IsStop version dues text n f
 
 -- a line that is needed is counted, and out of memory is no fault of a text
 abbrev pub IsStepGiven : Step → LineReader → LineReader → Type 0
 IsStepGiven step.Taken a b = IsLineFurther a b
 IsStepGiven step.Ended a b = ⊤
-IsStepGiven (step.Stopped f) a b = f ≢ Memory
+IsStepGiven (step.Faulty f) a b = f ≢ Memory
 
 -- the text is lines that are as needed, and then nothing is needed
-pub record AreAll (version : ℕ) (needs : List Due) (text : List ℕ) : Type 0 where
+pub record AreAll (version : ℕ) (dues : List Due) (text : List ℕ) : Type 0 where
   pub read : Values
   pub lines : AreLines version read
   pub is : text ≡ values_text read
-  pub runs : TakesAll needs read []
+  pub taken : TakesAll dues read []

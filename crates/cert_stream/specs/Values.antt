@@ -5,7 +5,7 @@ use Rattle.cert_lines.specs.Head.{IsHead, head_line, head_place}
 use Rattle.cert_lines.specs.Line.{HasLine}
 use Rattle.cert_lines.specs.Shapes.{LineShape, line_shape}
 use Rattle.certificate.specs.Faults.{StartsWithHead}
-use Rattle.certificate.specs.Needs.{StartsWith}
+use Rattle.certificate.specs.Dues.{StartsWith}
 use Rattle.certificate.specs.Text.{head_text}
 use Rattle.certificate.specs.Values.{value_text}
 use Rattle.cert_stream.specs.Reader.{IsLineFurther}

@@ -4,7 +4,7 @@ ghost use Rattle.lot_io.specs.Outside.{Fails, Finds, GrewBy, Misses, OnlyReads, 
 ghost use Rattle.cert_lines.specs.Limits.{IsVersion};
 ghost use Rattle.certificate.specs.declared.fault.CertTextFault.{CertTextFault};
 ghost use Rattle.certificate.specs.declared.fault.CertTextFault.TheVariants as fault;
-ghost use Rattle.certificate.specs.Needs.{IsFaultFrom};
+ghost use Rattle.certificate.specs.Dues.{IsFaultFrom};
 ghost use Rattle.certificate.specs.Stacks.{dues_in};
 ghost use Rattle.certificate.specs.Faults.{IsCertTextFault};
 ghost use Rattle.cert_stream.specs.Claims.{AreAll, IsFileFault, IsFileOfClaim, IsStep, IsStepGiven, IsTextOfClaim, WhenWhole};
@@ -28,7 +28,7 @@ pub enum Step {
     /// The end of the file, where nothing is needed.
     Ended,
     /// Something else.
-    Stopped(CertTextFault),
+    Faulty(CertTextFault),
 }
 
 // Takes the next line for what is needed.
@@ -55,16 +55,16 @@ fn take_line<S: Shelf>(
     match next_value(alloc, reader, shelf, name, version)? {
         Value::Line(line) => match dues.take(&line) {
             Ok(()) => Ok(Step::Taken),
-            Err(Misfit::Unwanted) => Ok(Step::Stopped(CertTextFault::Shape(number))),
-            Err(Misfit::Deep) => Ok(Step::Stopped(CertTextFault::Deep(number))),
+            Err(Misfit::Unwanted) => Ok(Step::Faulty(CertTextFault::Shape(number))),
+            Err(Misfit::Deep) => Ok(Step::Faulty(CertTextFault::Deep(number))),
             Err(Misfit::Memory) => Err(ReadFault::Memory),
         },
-        Value::Wrong => Ok(Step::Stopped(CertTextFault::Line(number))),
+        Value::Wrong => Ok(Step::Faulty(CertTextFault::Line(number))),
         Value::End => {
             if dues.are_met() {
                 return Ok(Step::Ended);
             }
-            Ok(Step::Stopped(CertTextFault::Shape(number)))
+            Ok(Step::Faulty(CertTextFault::Shape(number)))
         }
     }
 }
@@ -94,7 +94,7 @@ fn read_body<S: Shelf>(
         match take_line(alloc, reader, shelf, name, version, dues)? {
             Step::Taken => {}
             Step::Ended => return Ok(Ok(())),
-            Step::Stopped(fault) => return Ok(Err(fault)),
+            Step::Faulty(fault) => return Ok(Err(fault)),
         }
     }
 }

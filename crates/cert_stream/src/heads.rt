@@ -3,7 +3,7 @@ ghost use Rattle.std.specs.Prelude.{◌≡◌, ◌≢◌, ◌++◌, ℕ, List, S
 ghost use Rattle.lot_io.specs.Outside.{OnlyReads};
 ghost use Rattle.cert_lines.specs.declared.head.HeadLine.TheVariants as value;
 ghost use Rattle.certificate.specs.declared.fault.CertTextFault.TheVariants as fault;
-ghost use Rattle.certificate.specs.declared.places.TheConstants.{FIRST_CUT_LINE};
+ghost use Rattle.certificate.specs.declared.line_numbers.TheConstants.{FIRST_CUT_LINE};
 ghost use Rattle.certificate.specs.Text.{head_values};
 ghost use Rattle.certificate.specs.Faults.{AreHeads, IsCertTextFault};
 ghost use Rattle.cert_stream.specs.declared.heads.Heads.{Heads};

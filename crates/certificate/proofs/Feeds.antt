@@ -5,7 +5,7 @@ use Rattle.std.proofs.lemmas.List.{take_all, take_more}
 use Rattle.cert_lines.specs.Shapes.{LineShape}
 use Rattle.cert_lines.specs.Text.{HasNoFeed, line_text}
 use Rattle.cert_lines.specs.Line.{IsLine, later_line}
-use Rattle.certificate.specs.Needs.{StartsWith}
+use Rattle.certificate.specs.Dues.{StartsWith}
 use Rattle.cert_lines.proofs.Splits.{tail}
 use Rattle.cert_lines.proofs.Feeds.{feed_append, line_plain}
 

@@ -20,15 +20,15 @@ use Rattle.certificate.specs.Nodes.{IsHigh, node_values}
 use Rattle.certificate.specs.Counts.{longest_path}
 use Rattle.cert_lines.specs.Line.{HasLine}
 use Rattle.certificate.specs.Values.{AreLines, Values, all_cut_values, cut_values, leaf_values, part_values, tree_values, value_text, values_text}
-use Rattle.certificate.specs.Needs.{IsDeep, IsFaultFrom, IsStop, Due, TakesAll, Takes, a_cut, a_part, a_tree, after, the_end}
+use Rattle.certificate.specs.Dues.{IsDeep, IsFaultFrom, IsStop, Due, TakesAll, Takes, a_cut, a_part, a_tree, after, the_end}
 use Rattle.certificate.specs.Rest.{AreRead}
 use Rattle.certificate.proofs.Joins.{values_append}
 use Rattle.certificate.proofs.Shorts.{lines_join}
 
-pub runs_join : (needs mid left : List Due) (xs ys : Values) → TakesAll needs xs mid → TakesAll mid ys left → TakesAll needs (xs ++ ys) left
-runs_join needs mid left [] ys a b = subst (λ ns. TakesAll ns ys left) (sym a) b
-runs_join [] mid left (x ∷ xs) ys a b = absurd a
-runs_join (need ∷ later) mid left (x ∷ xs) ys a b = (a.0, a.1, runs_join (after need x ++ later) mid left xs ys a.2 b)
+pub taken_join : (dues mid left : List Due) (xs ys : Values) → TakesAll dues xs mid → TakesAll mid ys left → TakesAll dues (xs ++ ys) left
+taken_join dues mid left [] ys a b = subst (λ ns. TakesAll ns ys left) (sym a) b
+taken_join [] mid left (x ∷ xs) ys a b = absurd a
+taken_join (due ∷ later) mid left (x ∷ xs) ys a b = (a.0, a.1, taken_join (after due x ++ later) mid left xs ys a.2 b)
 
 -- ---- what each part of a certificate meets
 -- the first of so many parts
@@ -37,14 +37,14 @@ parts_so_far [] count m later e = ap (λ k. replicate k a_part ++ later) (omega 
 parts_so_far (p ∷ ps) zero m later e = absurd (omega (arith, e))
 parts_so_far (p ∷ ps) (suc count) m later e = (tt, λ no_depth. no_depth, parts_so_far ps count m later (omega (arith, e)))
 
-pub parts_run : (parts : List Part) (count : ℕ) (later : List Due) → length parts ≡ count → TakesAll (replicate count a_part ++ later) (part_values parts) later
-parts_run parts count later e = parts_so_far parts count 0 later (omega (arith, e))
+pub parts_taken : (parts : List Part) (count : ℕ) (later : List Due) → length parts ≡ count → TakesAll (replicate count a_part ++ later) (part_values parts) later
+parts_taken parts count later e = parts_so_far parts count 0 later (omega (arith, e))
 
-pub cut_run : (c : CutShape) (later : List Due) → TakesAll (a_cut ∷ later) (cut_values c) later
-cut_run (LsCut item last chosen) later = (tt, λ no_depth. no_depth, refl)
-cut_run (PriceCut item prices) later = (tt, λ no_depth. no_depth, refl)
-cut_run (BlockCut item potentials) later = (tt, λ no_depth. no_depth, refl)
-cut_run (RoundCut divisor parts) later = (tt, λ no_depth. no_depth, parts_run parts (length parts) later refl)
+pub cut_taken : (c : CutShape) (later : List Due) → TakesAll (a_cut ∷ later) (cut_values c) later
+cut_taken (LsCut item last chosen) later = (tt, λ no_depth. no_depth, refl)
+cut_taken (PriceCut item prices) later = (tt, λ no_depth. no_depth, refl)
+cut_taken (BlockCut item potentials) later = (tt, λ no_depth. no_depth, refl)
+cut_taken (RoundCut divisor parts) later = (tt, λ no_depth. no_depth, parts_taken parts (length parts) later refl)
 
 -- the first of so many cuts
 pub cuts_so_far : (cuts : List CutShape) (count m : ℕ) (later : List Due) → count ≡ length cuts + m → TakesAll (replicate count a_cut ++ later) (all_cut_values cuts) (replicate m a_cut ++ later)
@@ -52,26 +52,26 @@ cuts_so_far [] count m later e = ap (λ k. replicate k a_cut ++ later) (omega (a
 cuts_so_far (c ∷ cs) zero m later e = absurd (omega (arith, e))
 cuts_so_far (c ∷ cs) (suc count) m later e =
     let rest = replicate count a_cut ++ later in
-    runs_join (a_cut ∷ rest) rest (replicate m a_cut ++ later) (cut_values c) (all_cut_values cs) (cut_run c rest) (cuts_so_far cs count m later (omega (arith, e)))
+    taken_join (a_cut ∷ rest) rest (replicate m a_cut ++ later) (cut_values c) (all_cut_values cs) (cut_taken c rest) (cuts_so_far cs count m later (omega (arith, e)))
 
-pub cuts_run : (cuts : List CutShape) (count : ℕ) (later : List Due) → length cuts ≡ count → TakesAll (replicate count a_cut ++ later) (all_cut_values cuts) later
-cuts_run cuts count later e = cuts_so_far cuts count 0 later (omega (arith, e))
+pub cuts_taken : (cuts : List CutShape) (count : ℕ) (later : List Due) → length cuts ≡ count → TakesAll (replicate count a_cut ++ later) (all_cut_values cuts) later
+cuts_taken cuts count later e = cuts_so_far cuts count 0 later (omega (arith, e))
 
-pub leaf_run : (l : LeafShape) (above : ℕ) (later : List Due) → TakesAll (a_tree above ∷ later) (leaf_values l) later
-leaf_run (LinearLeaf den parts) above later = (tt, λ no_depth. no_depth, parts_run parts (length parts) later refl)
-leaf_run (FarkasLeaf parts) above later = (tt, λ no_depth. no_depth, parts_run parts (length parts) later refl)
-leaf_run PointLeaf above later = (tt, λ no_depth. no_depth, refl)
+pub leaf_taken : (l : LeafShape) (above : ℕ) (later : List Due) → TakesAll (a_tree above ∷ later) (leaf_values l) later
+leaf_taken (LinearLeaf den parts) above later = (tt, λ no_depth. no_depth, parts_taken parts (length parts) later refl)
+leaf_taken (FarkasLeaf parts) above later = (tt, λ no_depth. no_depth, parts_taken parts (length parts) later refl)
+leaf_taken PointLeaf above later = (tt, λ no_depth. no_depth, refl)
 
-pub tree_run : (t : TreeShape) (above : ℕ) (later : List Due) → above + longest_path t ≤ MAX_BRANCHES → TakesAll (a_tree above ∷ later) (tree_values t) later
-tree_run (Split column at low high) above later fits =
+pub tree_taken : (t : TreeShape) (above : ℕ) (later : List Due) → above + longest_path t ≤ MAX_BRANCHES → TakesAll (a_tree above ∷ later) (tree_values t) later
+tree_taken (Split column at low high) above later fits =
     let next = a_tree (above + 1) in (
       tt,
       λ deep. omega (arith, deep, fits),
-      runs_join (next ∷ next ∷ later) (next ∷ later) later (tree_values low) (tree_values high)
-          (tree_run low (above + 1) (next ∷ later) (omega (arith, fits)))
-          (tree_run high (above + 1) later (omega (arith, fits))),
+      taken_join (next ∷ next ∷ later) (next ∷ later) later (tree_values low) (tree_values high)
+          (tree_taken low (above + 1) (next ∷ later) (omega (arith, fits)))
+          (tree_taken high (above + 1) later (omega (arith, fits))),
     )
-tree_run (End l) above later fits = leaf_run l above later
+tree_taken (End l) above later fits = leaf_taken l above later
 
 -- ---- one reading after the other
 pub read_none : {version : ℕ} (a b : Rest) → a.text.now ≡ b.text.now → b.line ≡ a.line → AreRead version a b []
@@ -85,38 +85,38 @@ read_join {version = version} a b c xs ys low high = record {
 }
 
 -- ---- faults
-pub fault_here : {version : ℕ} (needs : List Due) (text : List ℕ) (n : ℕ) (f : CertTextFault) → IsStop version needs text n f → IsFaultFrom version needs text n f
-fault_here {version = version} needs text n f stop = record {
+pub fault_here : {version : ℕ} (dues : List Due) (text : List ℕ) (n : ℕ) (f : CertTextFault) → IsStop version dues text n f → IsFaultFrom version dues text n f
+fault_here {version = version} dues text n f stop = record {
   read = [];
   rest = text;
-  left = needs;
+  left = dues;
   text = refl;
   lines = tt;
-  runs = refl;
-  stop = subst (λ k. IsStop version needs text k f) (omega arith) stop;
+  taken = refl;
+  stop = subst (λ k. IsStop version dues text k f) (omega arith) stop;
 }
 
-pub fault_memory : {version : ℕ} (needs : List Due) (text : List ℕ) (n : ℕ) → IsFaultFrom version needs text n Memory
-fault_memory {version = version} needs text n = fault_here {version = version} needs text n Memory tt
+pub fault_memory : {version : ℕ} (dues : List Due) (text : List ℕ) (n : ℕ) → IsFaultFrom version dues text n Memory
+fault_memory {version = version} dues text n = fault_here {version = version} dues text n Memory tt
 
 -- a fault of what is left
-pub fault_later : {version : ℕ} (a b : Rest) (needs mid : List Due) (xs : Values) (f : CertTextFault) → AreRead version a b xs → TakesAll needs xs mid → IsFaultFrom version mid b.text.now b.line f → IsFaultFrom version needs a.text.now a.line f
-fault_later {version = version} a b needs mid xs f read runs g = record {
+pub fault_later : {version : ℕ} (a b : Rest) (dues mid : List Due) (xs : Values) (f : CertTextFault) → AreRead version a b xs → TakesAll dues xs mid → IsFaultFrom version mid b.text.now b.line f → IsFaultFrom version dues a.text.now a.line f
+fault_later {version = version} a b dues mid xs f read taken g = record {
   read = xs ++ g.read;
   rest = g.rest;
   left = g.left;
   text = read.text ∙ ap (λ t. values_text xs ++ t) g.text ∙ sym (append_assoc (values_text xs) (values_text g.read) g.rest) ∙ ap (λ t. t ++ g.rest) (sym (values_append xs g.read));
   lines = lines_join version xs g.read read.lines g.lines;
-  runs = runs_join needs mid g.left xs g.read runs g.runs;
+  taken = taken_join dues mid g.left xs g.read taken g.taken;
   stop = subst (λ k. IsStop version g.left g.rest k f) (omega (arith, read.number, length-append xs g.read)) g.stop;
 }
 
 -- the next line is another one
-pub fault_shape : {version : ℕ} (text rest : List ℕ) (n : ℕ) (need : Due) (later : List Due) (l : LineShape) → text ≡ value_text l ++ rest → HasLine version l → (Takes need l → ⊥) → IsFaultFrom version (need ∷ later) text n (Shape n)
-fault_shape {version = version} text rest n need later l is line other = fault_here {version = version} (need ∷ later) text n (Shape n) (refl, inr (l, record { rest = rest; text = is; line = line }, other))
+pub fault_shape : {version : ℕ} (text rest : List ℕ) (n : ℕ) (due : Due) (later : List Due) (l : LineShape) → text ≡ value_text l ++ rest → HasLine version l → (Takes due l → ⊥) → IsFaultFrom version (due ∷ later) text n (Shape n)
+fault_shape {version = version} text rest n due later l is line other = fault_here {version = version} (due ∷ later) text n (Shape n) (refl, inr (l, record { rest = rest; text = is; line = line }, other))
 
-pub some_need : (need : Due) (later : List Due) → need ∷ later ≢ []
-some_need need later e = cc e
+pub some_due : (due : Due) (later : List Due) → due ∷ later ≢ []
+some_due due later e = cc e
 
 -- ---- one part or cut after the other
 pub read_part_more : {version : ℕ} (a b d : Rest) (parts more : List Part) (p : Part) → AreRead version a b (part_values parts) → AreRead version b d (PartLine p ∷ []) → more ≡ parts ++ p ∷ [] → AreRead version a d (part_values more)
@@ -164,9 +164,9 @@ counted_read {version = version} a b d line_of count parts first rest e =
     subst (λ k. AreRead version a d (line_of k ∷ part_values parts)) (sym e) (line_then a b d (line_of count) (part_values parts) first rest)
 
 -- a fault after a line that is as needed
-pub line_fault : {version : ℕ} (a b : Rest) (need : Due) (l : LineShape) (more : List Due) (f : CertTextFault) → AreRead version a b (l ∷ []) → Takes need l → (IsDeep need l → ⊥) → after need l ≡ more → ((later : List Due) → IsFaultFrom version (more ++ later) b.text.now b.line f) → (later : List Due) → IsFaultFrom version (need ∷ later) a.text.now a.line f
-line_fault {version = version} a b need l more f read takes shallow same fault later =
-    fault_later a b (need ∷ later) (more ++ later) (l ∷ []) f read (takes, shallow, ap (λ ms. ms ++ later) same) (fault later)
+pub line_fault : {version : ℕ} (a b : Rest) (due : Due) (l : LineShape) (more : List Due) (f : CertTextFault) → AreRead version a b (l ∷ []) → Takes due l → (IsDeep due l → ⊥) → after due l ≡ more → ((later : List Due) → IsFaultFrom version (more ++ later) b.text.now b.line f) → (later : List Due) → IsFaultFrom version (due ∷ later) a.text.now a.line f
+line_fault {version = version} a b due l more f read takes shallow same fault later =
+    fault_later a b (due ∷ later) (more ++ later) (l ∷ []) f read (takes, shallow, ap (λ ms. ms ++ later) same) (fault later)
 
 pub not_cut : (l : CertLine) → ((c : Cut) → l ≢ line.Cut c) → ((divisor parts : ℕ) → l ≢ line.Round divisor parts) → Takes a_cut (line_shape l) → ⊥
 not_cut (line.Cut c) other round takes = other c refl
@@ -219,7 +219,7 @@ low_fault {version = version} a b above column at f read less fault =
 pub high_fault : {version : ℕ} (a b d : Rest) (above : ℕ) (column : Column) (at : ℕ) (low : TreeShape) (f : CertTextFault) → AreRead version a b (BranchLine column at ∷ []) → above < MAX_BRANCHES → AreRead version b d (tree_values low) → above + 1 + longest_path low ≤ MAX_BRANCHES → ((later : List Due) → IsFaultFrom version (a_tree (above + 1) ∷ later) d.text.now d.line f) → (later : List Due) → IsFaultFrom version (a_tree above ∷ later) a.text.now a.line f
 high_fault {version = version} a b d above column at low f read less low_read fits fault =
     let next = a_tree (above + 1) in
-    line_fault a b (a_tree above) (BranchLine column at) (next ∷ next ∷ []) f read tt (λ deep. omega (arith, deep, less)) refl (λ later. fault_later b d (next ∷ next ∷ later) (next ∷ later) (tree_values low) f low_read (tree_run low (above + 1) (next ∷ later) fits) (fault later))
+    line_fault a b (a_tree above) (BranchLine column at) (next ∷ next ∷ []) f read tt (λ deep. omega (arith, deep, less)) refl (λ later. fault_later b d (next ∷ next ∷ later) (next ∷ later) (tree_values low) f low_read (tree_taken low (above + 1) (next ∷ later) fits) (fault later))
 
 pub tree_read : {version : ℕ} (a b d e : Rest) (column : Column) (at : ℕ) (low high : TreeShape) → AreRead version a b (BranchLine column at ∷ []) → AreRead version b d (tree_values low) → AreRead version d e (tree_values high) → AreRead version a e (BranchLine column at ∷ (tree_values low ++ tree_values high))
 tree_read {version = version} a b d e column at low high first low_read high_read = line_then a b e (BranchLine column at) (tree_values low ++ tree_values high) first (read_join b d e (tree_values low) (tree_values high) low_read high_read)

@@ -1,7 +1,7 @@
 -- What is needed next, and what is left after it.
 use Rattle.std.proofs.Common.{◌≡◌, ◌≤◌, ◌<◌, ◌∙◌, ℕ, zero, suc, refl, sym, ap, arith, length, true, false, List, [], ◌∷◌, ◌++◌, Bool}
 use Rattle.std.specs.Prelude.{IsTrue, not, replicate}
-use Rattle.certificate.specs.Needs.{Due, a_cut, a_part, a_tree}
+use Rattle.certificate.specs.Dues.{Due, a_cut, a_part, a_tree}
 use Rattle.certificate.specs.Stacks.{last_dues, trees_before}
 
 -- by its numbers
@@ -36,9 +36,9 @@ some_cut (suc p) c t e parts some none = omega (arith, parts)
 some_cut zero zero t e parts some none = omega (arith, some)
 some_cut zero (suc c) t e parts some none = cc none
 
-before_some : (trees : List ℕ) (need : Due) (rest : List Due) → trees_before trees (need ∷ rest) ≡ [] → ⊥
-before_some [] need rest none = cc none
-before_some (above ∷ trees) need rest none = before_some trees (a_tree above) (need ∷ rest) none
+before_some : (trees : List ℕ) (due : Due) (rest : List Due) → trees_before trees (due ∷ rest) ≡ [] → ⊥
+before_some [] due rest none = cc none
+before_some (above ∷ trees) due rest none = before_some trees (a_tree above) (due ∷ rest) none
 
 pub some_tree : (p c : ℕ) (t : List ℕ) (e : Bool) → p ≡ 0 → c ≡ 0 → 0 < length t → dues_of p c t e ≡ [] → ⊥
 some_tree p c [] e parts cuts some none = omega (arith, some)

@@ -9,7 +9,7 @@ use Rattle.cert_lines.specs.declared.head.HeadLine.{HeadLine}
 use Rattle.cert_lines.specs.declared.head.HeadLine.TheVariants as head
 use Rattle.certificate.specs.declared.fault.CertTextFault.{CertTextFault}
 use Rattle.certificate.specs.declared.fault.CertTextFault.TheVariants as fault
-use Rattle.certificate.specs.declared.places.TheConstants.{FIRST_CUT_LINE}
+use Rattle.certificate.specs.declared.line_numbers.TheConstants.{FIRST_CUT_LINE}
 use Rattle.cert_lines.specs.Shapes.{BlockCut, BranchLine, CutShape, EndLine, FarkasLeaf, LeafShape, LineShape, LinearLeaf, LsCut, PointLeaf, PriceCut, RoundCut}
 use Rattle.cert_lines.specs.Text.{claim_line, count_line}
 use Rattle.cert_lines.specs.Line.{HasLine, IsLine, later_line}
@@ -18,14 +18,14 @@ use Rattle.certificate.specs.Shapes.{End, Shape, Split, TreeShape}
 use Rattle.certificate.specs.Text.{head_text, head_values, heads_text}
 use Rattle.certificate.specs.Limits.{IsTextOf}
 use Rattle.certificate.specs.Values.{AreLines, Values, all_cut_values, body_values, cut_values, leaf_values, part_values, tree_values, value_text, values_text}
-use Rattle.certificate.specs.Needs.{IsDeep, IsMisshapen, IsStop, IsTooDeep, Due, TakesAll, StartsWith, Takes, a_tree, after, the_end}
-use Rattle.certificate.specs.Faults.{AreHeads, IsBodyFault, IsCertTextFault, IsHeadFault, StartsWithHead, body_needs}
+use Rattle.certificate.specs.Dues.{IsDeep, IsMisshapen, IsStop, IsTooDeep, Due, TakesAll, StartsWith, Takes, a_tree, after, the_end}
+use Rattle.certificate.specs.Faults.{AreHeads, IsBodyFault, IsCertTextFault, IsHeadFault, StartsWithHead, body_dues}
 use Rattle.certificate.specs.Laws.{MeansOneThing}
 use Rattle.cert_lines.proofs.Alike.{one_value}
 use Rattle.cert_lines.proofs.Feeds.{line_plain}
 use Rattle.cert_lines.proofs.Heads.{head_plain, same_claim, same_count, same_version}
 use Rattle.certificate.proofs.Feeds.{no_line, same_line}
-use Rattle.certificate.proofs.Needed.{cuts_run, runs_join, tree_run}
+use Rattle.certificate.proofs.Needed.{cuts_taken, taken_join, tree_taken}
 
 -- ---- lines of one text
 -- two first lines of one text
@@ -49,7 +49,7 @@ values_same version (x ∷ xs) (y ∷ ys) a b e =
     ap (λ z. z ∷ xs) first ∙ ap (λ zs. y ∷ zs) (values_same version xs ys a.1 b.1 rest)
 
 -- a branch that is too deep is a branch
-deep_takes : (need : Due) (l : LineShape) → IsDeep need l → Takes need l
+deep_takes : (due : Due) (l : LineShape) → IsDeep due l → Takes due l
 deep_takes (a_tree above) (BranchLine column at) d = tt
 deep_takes _ _ d = search rules
 
@@ -59,23 +59,23 @@ IsEnd version left rest n None = (left ≡ []) × (rest ≡ [])
 IsEnd version left rest n (Some f) = IsStop version left rest n f × (f ≢ fault.Memory)
 
 -- a line that is as needed is no end
-no_end : {version : ℕ} (need : Due) (later : List Due) (text : List ℕ) (n : ℕ) (l : LineShape) (e : Option CertTextFault) → StartsWith version text l → Takes need l → (IsDeep need l → ⊥) → IsEnd version (need ∷ later) text n e → ⊥
-no_end {version = version} need later text n l None s takes shallow end = cc end.0
-no_end {version = version} need later text n l (Some (fault.Header m)) s takes shallow end = end.0
-no_end {version = version} need later text n l (Some (fault.Line m)) s takes shallow end = end.0.2 l s
-no_end {version = version} need later text n l (Some (fault.Shape m)) s takes shallow end =
-    ⊎_elim (λ early. no_first text l early.0 s) (λ other. other.2 (subst (Takes need) (start_same text l other.0 s other.1) takes)) end.0.1
-no_end {version = version} need later text n l (Some (fault.Deep m)) s takes shallow end = shallow (subst (IsDeep need) (start_same text end.0.1.0 l end.0.1.1 s) end.0.1.2)
-no_end {version = version} need later text n l (Some fault.Memory) s takes shallow end = end.1 refl
+no_end : {version : ℕ} (due : Due) (later : List Due) (text : List ℕ) (n : ℕ) (l : LineShape) (e : Option CertTextFault) → StartsWith version text l → Takes due l → (IsDeep due l → ⊥) → IsEnd version (due ∷ later) text n e → ⊥
+no_end {version = version} due later text n l None s takes shallow end = cc end.0
+no_end {version = version} due later text n l (Some (fault.Header m)) s takes shallow end = end.0
+no_end {version = version} due later text n l (Some (fault.Line m)) s takes shallow end = end.0.2 l s
+no_end {version = version} due later text n l (Some (fault.Shape m)) s takes shallow end =
+    ⊎_elim (λ early. no_first text l early.0 s) (λ other. other.2 (subst (Takes due) (start_same text l other.0 s other.1) takes)) end.0.1
+no_end {version = version} due later text n l (Some (fault.Deep m)) s takes shallow end = shallow (subst (IsDeep due) (start_same text end.0.1.0 l end.0.1.1 s) end.0.1.2)
+no_end {version = version} due later text n l (Some fault.Memory) s takes shallow end = end.1 refl
 
 -- a line that is too deep isn't misshapen
-not_both : {version : ℕ} (needs : List Due) (text : List ℕ) (l : LineShape) → StartsWith version text l → IsTooDeep needs l → IsMisshapen version needs text → ⊥
+not_both : {version : ℕ} (dues : List Due) (text : List ℕ) (l : LineShape) → StartsWith version text l → IsTooDeep dues l → IsMisshapen version dues text → ⊥
 not_both {version = version} [] text l s deep shape = deep
-not_both {version = version} (need ∷ later) text l s deep shape =
-    ⊎_elim (λ early. no_first text l early.0 s) (λ other. other.2 (subst (Takes need) (start_same text l other.0 s other.1) (deep_takes need l deep))) shape
+not_both {version = version} (due ∷ later) text l s deep shape =
+    ⊎_elim (λ early. no_first text l early.0 s) (λ other. other.2 (subst (Takes due) (start_same text l other.0 s other.1) (deep_takes due l deep))) shape
 
-no_shape : {version : ℕ} (needs : List Due) (text : List ℕ) → text ≢ [] → ((l : LineShape) → StartsWith version text l → ⊥) → IsMisshapen version needs text → ⊥
-no_shape {version = version} needs text some none shape = ⊎_elim (λ early. some early.0) (λ other. none other.0 other.1) shape
+no_shape : {version : ℕ} (dues : List Due) (text : List ℕ) → text ≢ [] → ((l : LineShape) → StartsWith version text l → ⊥) → IsMisshapen version dues text → ⊥
+no_shape {version = version} dues text some none shape = ⊎_elim (λ early. some early.0) (λ other. none other.0 other.1) shape
 
 -- nothing left is no fault
 no_stop : (version : ℕ) (f : CertTextFault) (n : ℕ) → IsStop version [] [] n f → f ≢ fault.Memory → ⊥
@@ -85,43 +85,43 @@ no_stop version (fault.Shape m) n stop other = ⊎_elim (λ early. early.1 refl)
 no_stop version (fault.Deep m) n stop other = stop.1.2
 no_stop version fault.Memory n stop other = other refl
 
-one_stop : (version : ℕ) (needs : List Due) (text : List ℕ) (n : ℕ) (f g : CertTextFault) → IsStop version needs text n f → IsStop version needs text n g → f ≢ fault.Memory → g ≢ fault.Memory → f ≡ g
-one_stop version needs text n (fault.Header m) g a b x y = absurd a
-one_stop version needs text n f (fault.Header k) a b x y = absurd b
-one_stop version needs text n fault.Memory g a b x y = absurd (x refl)
-one_stop version needs text n f fault.Memory a b x y = absurd (y refl)
-one_stop version needs text n (fault.Line m) (fault.Line k) a b x y = ap fault.Line (a.0 ∙ sym b.0)
-one_stop version needs text n (fault.Shape m) (fault.Shape k) a b x y = ap fault.Shape (a.0 ∙ sym b.0)
-one_stop version needs text n (fault.Deep m) (fault.Deep k) a b x y = ap fault.Deep (a.0 ∙ sym b.0)
-one_stop version needs text n (fault.Line m) (fault.Shape k) a b x y = absurd (no_shape {version = version} needs text a.1 a.2 b.1)
-one_stop version needs text n (fault.Shape m) (fault.Line k) a b x y = absurd (no_shape {version = version} needs text b.1 b.2 a.1)
-one_stop version needs text n (fault.Line m) (fault.Deep k) a b x y = absurd (a.2 b.1.0 b.1.1)
-one_stop version needs text n (fault.Deep m) (fault.Line k) a b x y = absurd (b.2 a.1.0 a.1.1)
-one_stop version needs text n (fault.Shape m) (fault.Deep k) a b x y = absurd (not_both {version = version} needs text b.1.0 b.1.1 b.1.2 a.1)
-one_stop version needs text n (fault.Deep m) (fault.Shape k) a b x y = absurd (not_both {version = version} needs text a.1.0 a.1.1 a.1.2 b.1)
+one_stop : (version : ℕ) (dues : List Due) (text : List ℕ) (n : ℕ) (f g : CertTextFault) → IsStop version dues text n f → IsStop version dues text n g → f ≢ fault.Memory → g ≢ fault.Memory → f ≡ g
+one_stop version dues text n (fault.Header m) g a b x y = absurd a
+one_stop version dues text n f (fault.Header k) a b x y = absurd b
+one_stop version dues text n fault.Memory g a b x y = absurd (x refl)
+one_stop version dues text n f fault.Memory a b x y = absurd (y refl)
+one_stop version dues text n (fault.Line m) (fault.Line k) a b x y = ap fault.Line (a.0 ∙ sym b.0)
+one_stop version dues text n (fault.Shape m) (fault.Shape k) a b x y = ap fault.Shape (a.0 ∙ sym b.0)
+one_stop version dues text n (fault.Deep m) (fault.Deep k) a b x y = ap fault.Deep (a.0 ∙ sym b.0)
+one_stop version dues text n (fault.Line m) (fault.Shape k) a b x y = absurd (no_shape {version = version} dues text a.1 a.2 b.1)
+one_stop version dues text n (fault.Shape m) (fault.Line k) a b x y = absurd (no_shape {version = version} dues text b.1 b.2 a.1)
+one_stop version dues text n (fault.Line m) (fault.Deep k) a b x y = absurd (a.2 b.1.0 b.1.1)
+one_stop version dues text n (fault.Deep m) (fault.Line k) a b x y = absurd (b.2 a.1.0 a.1.1)
+one_stop version dues text n (fault.Shape m) (fault.Deep k) a b x y = absurd (not_both {version = version} dues text b.1.0 b.1.1 b.1.2 a.1)
+one_stop version dues text n (fault.Deep m) (fault.Shape k) a b x y = absurd (not_both {version = version} dues text a.1.0 a.1.1 a.1.2 b.1)
 
-same_end : (version : ℕ) (needs : List Due) (text : List ℕ) (n : ℕ) (e f : Option CertTextFault) → IsEnd version needs text n e → IsEnd version needs text n f → e ≡ f
-same_end version needs text n None None a b = refl
-same_end version needs text n None (Some g) a b = absurd (no_stop version g n (subst (λ ns. IsStop version ns [] n g) a.0 (subst (λ t. IsStop version needs t n g) a.1 b.0)) b.1)
-same_end version needs text n (Some f) None a b = absurd (no_stop version f n (subst (λ ns. IsStop version ns [] n f) b.0 (subst (λ t. IsStop version needs t n f) b.1 a.0)) a.1)
-same_end version needs text n (Some f) (Some g) a b = ap Some (one_stop version needs text n f g a.0 b.0 a.1 b.1)
+same_end : (version : ℕ) (dues : List Due) (text : List ℕ) (n : ℕ) (e f : Option CertTextFault) → IsEnd version dues text n e → IsEnd version dues text n f → e ≡ f
+same_end version dues text n None None a b = refl
+same_end version dues text n None (Some g) a b = absurd (no_stop version g n (subst (λ ns. IsStop version ns [] n g) a.0 (subst (λ t. IsStop version dues t n g) a.1 b.0)) b.1)
+same_end version dues text n (Some f) None a b = absurd (no_stop version f n (subst (λ ns. IsStop version ns [] n f) b.0 (subst (λ t. IsStop version dues t n f) b.1 a.0)) a.1)
+same_end version dues text n (Some f) (Some g) a b = ap Some (one_stop version dues text n f g a.0 b.0 a.1 b.1)
 
-one_end : (version : ℕ) (needs : List Due) (n : ℕ) (xs ys : Values) (left mid : List Due) (rest more : List ℕ) (e f : Option CertTextFault) → AreLines version xs → AreLines version ys → values_text xs ++ rest ≡ values_text ys ++ more → TakesAll needs xs left → TakesAll needs ys mid → IsEnd version left rest (n + length xs) e → IsEnd version mid more (n + length ys) f → e ≡ f
-one_end version needs n [] [] left mid rest more e f a b text x y p q =
+one_end : (version : ℕ) (dues : List Due) (n : ℕ) (xs ys : Values) (left mid : List Due) (rest more : List ℕ) (e f : Option CertTextFault) → AreLines version xs → AreLines version ys → values_text xs ++ rest ≡ values_text ys ++ more → TakesAll dues xs left → TakesAll dues ys mid → IsEnd version left rest (n + length xs) e → IsEnd version mid more (n + length ys) f → e ≡ f
+one_end version dues n [] [] left mid rest more e f a b text x y p q =
     same_end version left rest (n + length {A = LineShape} []) e f p (subst (λ ns. IsEnd version ns rest (n + length {A = LineShape} []) f) (sym y ∙ x) (subst (λ t. IsEnd version mid t (n + length {A = LineShape} []) f) (sym text) q))
 one_end version [] n [] (v ∷ ys) left mid rest more e f a b text x y p q = absurd y
-one_end version (need ∷ later) n [] (v ∷ ys) left mid rest more e f a b text x y p q =
+one_end version (due ∷ later) n [] (v ∷ ys) left mid rest more e f a b text x y p q =
     let starts : StartsWith version rest v = record { rest = values_text ys ++ more; text = text ∙ append_assoc (value_text v) (values_text ys) more; line = b.0 } in
-    absurd (no_end {version = version} need later rest (n + length {A = LineShape} []) v e starts y.0 y.1 (subst (λ ns. IsEnd version ns rest (n + length {A = LineShape} []) e) (sym x) p))
+    absurd (no_end {version = version} due later rest (n + length {A = LineShape} []) v e starts y.0 y.1 (subst (λ ns. IsEnd version ns rest (n + length {A = LineShape} []) e) (sym x) p))
 one_end version [] n (u ∷ xs) [] left mid rest more e f a b text x y p q = absurd x
-one_end version (need ∷ later) n (u ∷ xs) [] left mid rest more e f a b text x y p q =
+one_end version (due ∷ later) n (u ∷ xs) [] left mid rest more e f a b text x y p q =
     let starts : StartsWith version more u = record { rest = values_text xs ++ rest; text = sym text ∙ append_assoc (value_text u) (values_text xs) rest; line = a.0 } in
-    absurd (no_end {version = version} need later more (n + length {A = LineShape} []) u f starts x.0 x.1 (subst (λ ns. IsEnd version ns more (n + length {A = LineShape} []) f) (sym y) q))
+    absurd (no_end {version = version} due later more (n + length {A = LineShape} []) u f starts x.0 x.1 (subst (λ ns. IsEnd version ns more (n + length {A = LineShape} []) f) (sym y) q))
 one_end version [] n (u ∷ xs) (v ∷ ys) left mid rest more e f a b text x y p q = absurd x
-one_end version (need ∷ later) n (u ∷ xs) (v ∷ ys) left mid rest more e f a b text x y p q =
+one_end version (due ∷ later) n (u ∷ xs) (v ∷ ys) left mid rest more e f a b text x y p q =
     let (first, after_first) = first_same u v (values_text xs ++ rest) (values_text ys ++ more) a.0 b.0 (sym (append_assoc (value_text u) (values_text xs) rest) ∙ text ∙ append_assoc (value_text v) (values_text ys) more) in
-    one_end version (after need u ++ later) (n + 1) xs ys left mid rest more e f a.1 b.1 after_first x.2
-    (subst (λ ns. TakesAll (ns ++ later) ys mid) (sym (ap (after need) first)) y.2)
+    one_end version (after due u ++ later) (n + 1) xs ys left mid rest more e f a.1 b.1 after_first x.2
+    (subst (λ ns. TakesAll (ns ++ later) ys mid) (sym (ap (after due) first)) y.2)
     (subst (λ k. IsEnd version left rest k e) (omega arith) p)
     (subst (λ k. IsEnd version mid more k f) (omega arith) q)
 
@@ -159,10 +159,10 @@ certificate_heads bytes c t = (
   ),
 )
 
-certificate_runs : (bytes : List ℕ) (c : Shape) → IsTextOf bytes c → TakesAll (body_needs (length c.cuts)) (body_values c) []
-certificate_runs bytes c t =
-    runs_join (body_needs (length c.cuts)) (a_tree 0 ∷ the_end ∷ []) [] (all_cut_values c.cuts) (tree_values c.tree ++ EndLine ∷ []) (cuts_run c.cuts (length c.cuts) (a_tree 0 ∷ the_end ∷ []) refl)
-    (runs_join (a_tree 0 ∷ the_end ∷ []) (the_end ∷ []) [] (tree_values c.tree) (EndLine ∷ []) (tree_run c.tree 0 (the_end ∷ []) (omega (arith, t.writable.paths))) (tt, λ no_depth. no_depth, refl))
+certificate_taken : (bytes : List ℕ) (c : Shape) → IsTextOf bytes c → TakesAll (body_dues (length c.cuts)) (body_values c) []
+certificate_taken bytes c t =
+    taken_join (body_dues (length c.cuts)) (a_tree 0 ∷ the_end ∷ []) [] (all_cut_values c.cuts) (tree_values c.tree ++ EndLine ∷ []) (cuts_taken c.cuts (length c.cuts) (a_tree 0 ∷ the_end ∷ []) refl)
+    (taken_join (a_tree 0 ∷ the_end ∷ []) (the_end ∷ []) [] (tree_values c.tree) (EndLine ∷ []) (tree_taken c.tree 0 (the_end ∷ []) (omega (arith, t.writable.paths))) (tt, λ no_depth. no_depth, refl))
 
 -- ---- one fault
 heads_apart : (bytes : List ℕ) (n u : ℕ) (c : Claim) (m : ℕ) (rest : List ℕ) → IsHeadFault bytes n → bytes ≡ heads_text (head_values u c m) ++ rest → AreHeads 1 (head_values u c m) → ⊥
@@ -178,21 +178,21 @@ one_head_fault bytes n m a b =
     inside n m a b less = heads_inside 1 a.read b.read a.rest b.rest a.lines b.lines (sym a.text ∙ b.text) (omega (arith, a.number, b.number, less)) (λ h s. a.none h (subst (λ k. StartsWithHead k a.rest h) (omega (arith, a.number)) s))
 
 -- two ends after the same three lines
-one_body : (bytes rest more : List ℕ) (v w : ℕ) (c d : Claim) (n m : ℕ) (xs ys : Values) (left mid : List Due) (r s : List ℕ) (e f : Option CertTextFault) → bytes ≡ heads_text (head_values v c n) ++ rest → bytes ≡ heads_text (head_values w d m) ++ more → AreHeads 1 (head_values v c n) → AreHeads 1 (head_values w d m) → AreLines v xs → AreLines w ys → rest ≡ values_text xs ++ r → more ≡ values_text ys ++ s → TakesAll (body_needs n) xs left → TakesAll (body_needs m) ys mid → IsEnd v left r (FIRST_CUT_LINE + length xs) e → IsEnd w mid s (FIRST_CUT_LINE + length ys) f → e ≡ f
+one_body : (bytes rest more : List ℕ) (v w : ℕ) (c d : Claim) (n m : ℕ) (xs ys : Values) (left mid : List Due) (r s : List ℕ) (e f : Option CertTextFault) → bytes ≡ heads_text (head_values v c n) ++ rest → bytes ≡ heads_text (head_values w d m) ++ more → AreHeads 1 (head_values v c n) → AreHeads 1 (head_values w d m) → AreLines v xs → AreLines w ys → rest ≡ values_text xs ++ r → more ≡ values_text ys ++ s → TakesAll (body_dues n) xs left → TakesAll (body_dues m) ys mid → IsEnd v left r (FIRST_CUT_LINE + length xs) e → IsEnd w mid s (FIRST_CUT_LINE + length ys) f → e ≡ f
 one_body bytes rest more v w c d n m xs ys left mid r s e f text other heads others a b first second x y p q =
     let (version, same, count, after_heads) = same_heads v w c d n m rest more heads others (sym text ∙ other) in
-    one_end v (body_needs n) FIRST_CUT_LINE xs ys left mid r s e f a (subst (λ k. AreLines k ys) (sym version) b) (sym first ∙ after_heads ∙ second) x (subst (λ k. TakesAll (body_needs k) ys mid) (sym count) y) p (subst (λ k. IsEnd k mid s (FIRST_CUT_LINE + length ys) f) (sym version) q)
+    one_end v (body_dues n) FIRST_CUT_LINE xs ys left mid r s e f a (subst (λ k. AreLines k ys) (sym version) b) (sym first ∙ after_heads ∙ second) x (subst (λ k. TakesAll (body_dues k) ys mid) (sym count) y) p (subst (λ k. IsEnd k mid s (FIRST_CUT_LINE + length ys) f) (sym version) q)
 
 one_body_fault : (bytes : List ℕ) (f g : CertTextFault) → f ≢ fault.Memory → g ≢ fault.Memory → IsBodyFault bytes f → IsBodyFault bytes g → f ≡ g
 one_body_fault bytes f g x y a b =
-    let same : Some f ≡ Some g = one_body bytes a.rest b.rest a.version b.version a.claim b.claim a.count b.count a.fault.read b.fault.read a.fault.left b.fault.left a.fault.rest b.fault.rest (Some f) (Some g) a.text b.text a.lines b.lines a.fault.lines b.fault.lines a.fault.text b.fault.text a.fault.runs b.fault.runs (a.fault.stop, x) (b.fault.stop, y) in
+    let same : Some f ≡ Some g = one_body bytes a.rest b.rest a.version b.version a.claim b.claim a.count b.count a.fault.read b.fault.read a.fault.left b.fault.left a.fault.rest b.fault.rest (Some f) (Some g) a.text b.text a.lines b.lines a.fault.lines b.fault.lines a.fault.text b.fault.text a.fault.taken b.fault.taken (a.fault.stop, x) (b.fault.stop, y) in
     search (rules, same)
 
 -- a fault after the first three lines leaves no certificate
 no_certificate : (bytes : List ℕ) (c : Shape) (f : CertTextFault) → IsTextOf bytes c → IsBodyFault bytes f → f ≢ fault.Memory → ⊥
 no_certificate bytes c f t b other =
     let all : values_text (body_values c) ≡ values_text (body_values c) ++ [] = sym (append-nil (values_text (body_values c))) in
-    let same : None ≡ Some f = one_body bytes (values_text (body_values c)) b.rest c.version b.version c.claim b.claim (length c.cuts) b.count (body_values c) b.fault.read [] b.fault.left [] b.fault.rest None (Some f) t.text b.text (certificate_heads bytes c t) b.lines t.writable.lines b.fault.lines all b.fault.text (certificate_runs bytes c t) b.fault.runs (refl, refl) (b.fault.stop, other) in
+    let same : None ≡ Some f = one_body bytes (values_text (body_values c)) b.rest c.version b.version c.claim b.claim (length c.cuts) b.count (body_values c) b.fault.read [] b.fault.left [] b.fault.rest None (Some f) t.text b.text (certificate_heads bytes c t) b.lines t.writable.lines b.fault.lines all b.fault.text (certificate_taken bytes c t) b.fault.taken (refl, refl) (b.fault.stop, other) in
     cc same
 
 -- ---- one certificate: its parts, from the front of the lines on

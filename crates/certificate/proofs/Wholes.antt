@@ -5,19 +5,19 @@ use Rattle.cert_lines.specs.declared.limits.TheConstants.{MAX_BRANCHES, MAX_CUTS
 use Rattle.cert_lines.specs.Shapes.{CutShape, EndLine}
 use Rattle.certificate.specs.declared.fault.CertTextFault.{CertTextFault}
 use Rattle.certificate.specs.declared.fault.CertTextFault.TheVariants as fault
-use Rattle.certificate.specs.declared.places.TheConstants.{FIRST_CUT_LINE}
+use Rattle.certificate.specs.declared.line_numbers.TheConstants.{FIRST_CUT_LINE}
 use Rattle.certificate.specs.declared.rest.Rest.{Rest}
 use Rattle.certificate.specs.Shapes.{Shape, TreeShape}
 use Rattle.certificate.specs.Counts.{longest_path}
 use Rattle.certificate.specs.Text.{certificate_text, head_values, heads_text}
 use Rattle.certificate.specs.Limits.{IsTextOf, IsWritable}
 use Rattle.certificate.specs.Values.{AreLines, all_cut_values, body_values, tree_values, values_text}
-use Rattle.certificate.specs.Needs.{IsFaultFrom, a_tree, the_end}
-use Rattle.certificate.specs.Faults.{AreHeads, IsBodyFault, IsCertTextFault, body_needs}
+use Rattle.certificate.specs.Dues.{IsFaultFrom, a_tree, the_end}
+use Rattle.certificate.specs.Faults.{AreHeads, IsBodyFault, IsCertTextFault, body_dues}
 use Rattle.certificate.specs.Rest.{AreRead}
 use Rattle.certificate.proofs.Joins.{body_text}
 use Rattle.certificate.proofs.Shorts.{lines_join}
-use Rattle.certificate.proofs.Needed.{cuts_run, fault_later, tree_run}
+use Rattle.certificate.proofs.Needed.{cuts_taken, fault_later, tree_taken}
 
 -- its text
 whole_text : (bytes rest mid last : List ℕ) (s : Shape) (count : ℕ) → bytes ≡ heads_text (head_values s.version s.claim count) ++ rest → length s.cuts ≡ count → rest ≡ values_text (all_cut_values s.cuts) ++ mid → mid ≡ values_text (tree_values s.tree) ++ last → last ≡ values_text (EndLine ∷ []) → bytes ≡ certificate_text s
@@ -49,7 +49,7 @@ body_fault text (fault.Shape n) b = b
 body_fault text (fault.Deep n) b = b
 body_fault text fault.Memory b = tt
 
-pub cuts_fault : (bytes : List ℕ) (a : Rest) (version : ℕ) (claim : Claim) (count : ℕ) (f : CertTextFault) → bytes ≡ heads_text (head_values version claim count) ++ a.text.now → AreHeads 1 (head_values version claim count) → a.line ≡ FIRST_CUT_LINE → IsFaultFrom version (body_needs count) a.text.now a.line f → IsCertTextFault bytes f
+pub cuts_fault : (bytes : List ℕ) (a : Rest) (version : ℕ) (claim : Claim) (count : ℕ) (f : CertTextFault) → bytes ≡ heads_text (head_values version claim count) ++ a.text.now → AreHeads 1 (head_values version claim count) → a.line ≡ FIRST_CUT_LINE → IsFaultFrom version (body_dues count) a.text.now a.line f → IsCertTextFault bytes f
 cuts_fault bytes a version claim count f text heads four fault = body_fault bytes f (record {
   version = version;
   claim = claim;
@@ -57,11 +57,11 @@ cuts_fault bytes a version claim count f text heads four fault = body_fault byte
   rest = a.text.now;
   text = text;
   lines = heads;
-  fault = subst (λ n. IsFaultFrom version (body_needs count) a.text.now n f) four fault;
+  fault = subst (λ n. IsFaultFrom version (body_dues count) a.text.now n f) four fault;
 })
 
-pub tree_fault : {version : ℕ} (a b : Rest) (cuts : List CutShape) (count : ℕ) (f : CertTextFault) → AreRead version a b (all_cut_values cuts) → length cuts ≡ count → IsFaultFrom version (a_tree 0 ∷ the_end ∷ []) b.text.now b.line f → IsFaultFrom version (body_needs count) a.text.now a.line f
-tree_fault {version = version} a b cuts count f read same fault = fault_later a b (body_needs count) (a_tree 0 ∷ the_end ∷ []) (all_cut_values cuts) f read (cuts_run cuts count (a_tree 0 ∷ the_end ∷ []) same) fault
+pub tree_fault : {version : ℕ} (a b : Rest) (cuts : List CutShape) (count : ℕ) (f : CertTextFault) → AreRead version a b (all_cut_values cuts) → length cuts ≡ count → IsFaultFrom version (a_tree 0 ∷ the_end ∷ []) b.text.now b.line f → IsFaultFrom version (body_dues count) a.text.now a.line f
+tree_fault {version = version} a b cuts count f read same fault = fault_later a b (body_dues count) (a_tree 0 ∷ the_end ∷ []) (all_cut_values cuts) f read (cuts_taken cuts count (a_tree 0 ∷ the_end ∷ []) same) fault
 
 pub end_fault : {version : ℕ} (a b : Rest) (tree : TreeShape) (f : CertTextFault) → AreRead version a b (tree_values tree) → longest_path tree ≤ MAX_BRANCHES → IsFaultFrom version (the_end ∷ []) b.text.now b.line f → IsFaultFrom version (a_tree 0 ∷ the_end ∷ []) a.text.now a.line f
-end_fault {version = version} a b tree f read paths fault = fault_later a b (a_tree 0 ∷ the_end ∷ []) (the_end ∷ []) (tree_values tree) f read (tree_run tree 0 (the_end ∷ []) (omega (arith, paths))) fault
+end_fault {version = version} a b tree f read paths fault = fault_later a b (a_tree 0 ∷ the_end ∷ []) (the_end ∷ []) (tree_values tree) f read (tree_taken tree 0 (the_end ∷ []) (omega (arith, paths))) fault

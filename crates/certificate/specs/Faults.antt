@@ -4,10 +4,10 @@ use Rattle.cert_lines.specs.declared.parts.Claim.{Claim}
 use Rattle.cert_lines.specs.declared.head.HeadLine.{HeadLine}
 use Rattle.certificate.specs.declared.fault.CertTextFault.{CertTextFault}
 use Rattle.certificate.specs.declared.fault.CertTextFault.TheVariants as fault
-use Rattle.certificate.specs.declared.places.TheConstants.{FIRST_CUT_LINE}
+use Rattle.certificate.specs.declared.line_numbers.TheConstants.{FIRST_CUT_LINE}
 use Rattle.cert_lines.specs.Head.{IsHead, head_line}
 use Rattle.certificate.specs.Text.{head_text, head_values, heads_text}
-use Rattle.certificate.specs.Needs.{IsFaultFrom, Due, a_cut, a_tree, the_end}
+use Rattle.certificate.specs.Dues.{IsFaultFrom, Due, a_cut, a_tree, the_end}
 
 -- these are the values of lines from this number on
 abbrev pub AreHeads : ℕ → List HeadLine → Type 0
@@ -31,8 +31,8 @@ pub record IsHeadFault (bytes : List ℕ) (n : ℕ) : Type 0 where
   pub none : (h : HeadLine) → StartsWithHead n rest h → ⊥
 
 -- what is needed after them
-abbrev pub body_needs : ℕ → List Due
-body_needs count = replicate count a_cut ++ (a_tree 0 ∷ the_end ∷ [])
+abbrev pub body_dues : ℕ → List Due
+body_dues count = replicate count a_cut ++ (a_tree 0 ∷ the_end ∷ [])
 
 -- a later line is wrong
 pub record IsBodyFault (bytes : List ℕ) (f : CertTextFault) : Type 0 where
@@ -42,7 +42,7 @@ pub record IsBodyFault (bytes : List ℕ) (f : CertTextFault) : Type 0 where
   pub rest : List ℕ
   pub text : bytes ≡ heads_text (head_values version claim count) ++ rest
   pub lines : AreHeads 1 (head_values version claim count)
-  pub fault : IsFaultFrom version (body_needs count) rest FIRST_CUT_LINE f
+  pub fault : IsFaultFrom version (body_dues count) rest FIRST_CUT_LINE f
 
 -- the first line at which something is wrong, where memory isn't the cause
 abbrev pub IsCertTextFault : List ℕ → CertTextFault → Type 0

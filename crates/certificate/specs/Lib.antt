@@ -3,7 +3,7 @@ pub mod Counts
 pub mod Values
 pub mod Text
 pub mod Limits
-pub mod Needs
+pub mod Dues
 pub mod Stacks
 pub mod Faults
 pub mod Rest

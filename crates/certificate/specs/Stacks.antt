@@ -1,7 +1,7 @@
 -- What a text needs next, as a program keeps it.
 use Rattle.std.specs.Prelude.{ℕ, Bool, true, false, List, [], ◌∷◌, ◌++◌, replicate}
 use Rattle.certificate.specs.declared.dues.Dues.{Dues}
-use Rattle.certificate.specs.Needs.{Due, a_cut, a_part, a_tree, the_end}
+use Rattle.certificate.specs.Dues.{Due, a_cut, a_part, a_tree, the_end}
 
 -- trees with so many branches above each, the last one first, and then the rest
 abbrev pub trees_before : List ℕ → List Due → List Due

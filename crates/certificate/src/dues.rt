@@ -2,8 +2,8 @@
 ghost use Rattle.std.specs.Prelude.{◌≡◌, ◌≤◌, ◌↔◌, [], ◌∷◌, IfOk, IsErrOf, IsTrue, OnOk};
 ghost use Rattle.cert_lines.specs.Shapes.{line_shape};
 ghost use Rattle.certificate.specs.declared.dues.Misfit.TheVariants.{Deep, Unwanted};
-ghost use Rattle.certificate.specs.Needs.{IsTooDeep, IsUnwanted, TakesAll, a_tree};
-ghost use Rattle.certificate.specs.Faults.{body_needs};
+ghost use Rattle.certificate.specs.Dues.{IsTooDeep, IsUnwanted, TakesAll, a_tree};
+ghost use Rattle.certificate.specs.Faults.{body_dues};
 ghost use Rattle.certificate.specs.Stacks.{dues_in};
 
 use crate::CertLine;
@@ -61,7 +61,7 @@ impl<T: Drop> From<AllocFailed<T>> for Misfit {
 impl Dues {
     /// What is needed after the first three lines of a text with so many cuts: the cuts, a tree and the end.
     pub fn new(alloc: Global, cuts: u32) -> Result<Dues, AllocError>
-        ensures { IfOk result (λ dues. dues_in dues ≡ body_needs cuts) }
+        ensures { IfOk result (λ dues. dues_in dues ≡ body_dues cuts) }
     {
         let mut trees = Vec::new(alloc);
         trees.push(0)?;

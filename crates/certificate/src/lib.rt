@@ -16,24 +16,24 @@ mod dues;
 mod fault;
 mod laws;
 mod limits;
+mod line_numbers;
 mod opening;
-mod places;
 mod reading;
 mod rest;
 mod tree;
 mod writing;
 
 pub use cert_lines::{
-    CertLine, Claim, Cut, FIRST_VERSION, HeadLine, Leaf, LineFault, MAX_BRANCHES, MAX_CUTS,
-    MAX_DIVISOR, MAX_LINE, MAX_PARTS, MAX_ROUND_PARTS, MAX_VERSION, Part, copy_cut, copy_leaf,
-    lines_mean_one_thing, read_head, read_line,
+    CertLine, Claim, Cut, FIRST_CERT_VERSION, HeadLine, Leaf, LineFault, MAX_BRANCHES,
+    MAX_CERT_VERSION, MAX_CUTS, MAX_DIVISOR, MAX_LINE, MAX_PARTS, MAX_ROUND_PARTS, Part, copy_cut,
+    copy_leaf, lines_mean_one_thing, read_head, read_line,
 };
 pub use counts::{cut_lines_count, leaf_lines_count, longest, nodes};
 pub use dues::{Dues, Misfit};
 pub use fault::CertTextFault;
 pub use laws::{shapes_are_counted, shapes_are_same, texts_mean_one_thing};
 pub use limits::is_writable;
-pub use places::{CLAIM_LINE, FIRST_CUT_LINE};
+pub use line_numbers::{CLAIM_LINE, FIRST_CUT_LINE};
 pub use reading::read_certificate;
 pub use tree::{Certificate, Tree};
 pub use writing::write_certificate;

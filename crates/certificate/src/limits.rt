@@ -13,8 +13,8 @@ ghost use Rattle.certificate.specs.Limits.{IsWritable};
 use crate::counts::longest;
 use crate::{Certificate, Cut, Leaf, Part, Tree};
 use cert_lines::{
-    FIRST_VERSION, MAX_BRANCHES, MAX_CUTS, MAX_VERSION, is_branch_line, is_cut_line, is_leaf_line,
-    is_part_line, is_small_claim,
+    FIRST_CERT_VERSION, MAX_BRANCHES, MAX_CERT_VERSION, MAX_CUTS, is_branch_line, is_cut_line,
+    is_leaf_line, is_part_line, is_small_claim,
 };
 
 // Whether the line of each part is within the limits.
@@ -99,14 +99,14 @@ fn has_short_paths(tree: &Tree) -> bool
 fn is_version(version: u32) -> bool
     ensures { IsTrue result ↔ IsVersion version }
 {
-    version >= FIRST_VERSION && version <= MAX_VERSION
+    version >= FIRST_CERT_VERSION && version <= MAX_CERT_VERSION
 }
 
 /// Whether a certificate is within the limits of its text: amounts, multipliers and steps below 2^127,
 /// denominators of at least 1, divisors from 1 to `MAX_DIVISOR`, and as many setups chosen as there are periods;
 /// at most `MAX_CUTS` cuts, `MAX_ROUND_PARTS` parts in a cut by rounding and `MAX_PARTS` in a leaf,
-/// `MAX_BRANCHES` branches on a path, and `MAX_LINE` bytes in a line; a version from `FIRST_VERSION` to
-/// `MAX_VERSION`, and in the first no part that names a least lot or a late one. It takes no memory.
+/// `MAX_BRANCHES` branches on a path, and `MAX_LINE` bytes in a line; a version from `FIRST_CERT_VERSION` to
+/// `MAX_CERT_VERSION`, and in the first no part that names a least lot or a late one. It takes no memory.
 pub fn is_writable(certificate: &Certificate) -> bool
     ensures { IsTrue result ↔ IsWritable (shape_of certificate.now) }
 {

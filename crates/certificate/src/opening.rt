@@ -3,7 +3,7 @@ ghost use Rattle.std.specs.Prelude.{◌≡◌, ◌≤◌, ◌<◌, ◌+◌, ◌+
 ghost use Rattle.cert_lines.specs.declared.head.HeadLine.{HeadLine};
 ghost use Rattle.cert_lines.specs.declared.head.HeadLine.TheVariants as value;
 ghost use Rattle.cert_lines.specs.Limits.{IsVersion};
-ghost use Rattle.certificate.specs.declared.places.TheConstants.{FIRST_CUT_LINE};
+ghost use Rattle.certificate.specs.declared.line_numbers.TheConstants.{FIRST_CUT_LINE};
 ghost use Rattle.certificate.specs.Text.{head_text, head_values, heads_text};
 ghost use Rattle.certificate.specs.Faults.{AreHeads, IsCertTextFault, StartsWithHead};
 ghost use Rattle.cert_lines.specs.Head.{IsHead, head_line};

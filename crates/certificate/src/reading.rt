@@ -7,7 +7,7 @@ ghost use Rattle.certificate.specs.Shapes.{shape_of, tree_shape};
 ghost use Rattle.certificate.specs.Limits.{IsTextOf};
 ghost use Rattle.certificate.specs.Counts.{longest_path};
 ghost use Rattle.certificate.specs.Values.{all_cut_values, cut_values, part_values, tree_values};
-ghost use Rattle.certificate.specs.Needs.{IsFaultFrom, Due, Takes, a_cut, a_part, a_tree, the_end};
+ghost use Rattle.certificate.specs.Dues.{IsFaultFrom, Due, Takes, a_cut, a_part, a_tree, the_end};
 ghost use Rattle.certificate.specs.Faults.{IsCertTextFault};
 ghost use Rattle.certificate.specs.Rest.{AreRead};
 ghost use Rattle.certificate.specs.Nodes.{IsHigh, node_values};

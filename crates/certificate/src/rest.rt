@@ -5,7 +5,7 @@ ghost use Rattle.cert_lines.specs.Shapes.{line_shape};
 ghost use Rattle.cert_lines.specs.Limits.{IsVersion};
 ghost use Rattle.cert_lines.specs.Line.{HasLine};
 ghost use Rattle.certificate.specs.Values.{value_text};
-ghost use Rattle.certificate.specs.Needs.{IsStop, Due};
+ghost use Rattle.certificate.specs.Dues.{IsStop, Due};
 ghost use Rattle.cert_lines.specs.Text.{HasNoFeed};
 
 use crate::{CertLine, CertTextFault, LineFault, read_line};
@@ -40,8 +40,8 @@ pub fn next_line(alloc: Global, rest: &mut Rest, version: u32) -> Result<CertLin
     ensures text { IfOk result (λ l. rest.old.text.now ≡ value_text (line_shape l) ++ rest.new.text.now) }
     ensures number { OnOk result (rest.new.line ≡ rest.old.line + 1) }
     ensures room { OnOk result (rest.new.line + length rest.new.text.now ≤ rest.old.line + length rest.old.text.now) }
-    ensures refused { IfErr result (λ f. (needs : List Due) → (rest.old.text.now ≡ [] → needs ≢ [])
-        → IsStop version needs rest.old.text.now rest.old.line f) }
+    ensures refused { IfErr result (λ f. (dues : List Due) → (rest.old.text.now ≡ [] → dues ≢ [])
+        → IsStop version dues rest.old.text.now rest.old.line f) }
 {
     let number = rest.line;
     if rest.text.is_empty() {

@@ -11,7 +11,7 @@ use Rattle.command_line.specs.Laws.{CommandsAreAllowed}
 use Rattle.lot_sizing.specs.declared.limits.TheConstants.{MAX_ITEMS}
 use Rattle.instance_reader.specs.declared.versions.TheConstants.{FIRST_VERSION_PERIODS}
 use Rattle.command_line.specs.declared.requests.TheConstants.{LARGEST_BUDGET, USUAL_BUDGET}
-use Rattle.command_line.specs.Words.{AreApart, Request, IsAllowed, are_file_names, are_two_names, asked_by_matches, asked_if, request_in, bounding, bounding_from, budget_from, checking, checking_from, command_of, demonstrating, demonstrating_from, generated, generating, generating_from, helping, is_budget, is_file_name, is_help, is_number, is_seed, judging, judging_from, largest_seed, planned, planning, planning_from, reporting, reporting_from, unless_refused, upgrading, upgrading_from, version}
+use Rattle.command_line.specs.Words.{AreApart, Request, IsAllowed, are_file_names, are_two_names, request_by_matches, request_if, request_in, bounding, bounding_from, budget_from, checking, checking_from, command_of, demonstrating, demonstrating_from, generated, generating, generating_from, helping, is_budget, is_file_name, is_help, is_number, is_seed, judging, judging_from, largest_seed, planned, planning, planning_from, reporting, reporting_from, unless_refused, upgrading, upgrading_from, version}
 
 -- the parts of a test that came out true
 pub first_true : (a b : Bool) → (a && b) ≡ true → a ≡ true
@@ -61,15 +61,15 @@ seed_fits text is = (number_in_range 0 largest_seed text is).1
 -- ---- what is asked for is allowed
 
 abbrev Fine : Option Request → Type 0
-Fine o = (asked : Request) → o ≡ Some asked → IsAllowed asked
+Fine o = (request : Request) → o ≡ Some request → IsAllowed request
 
 fine_none : Fine None
-fine_none asked is = absurd (cc is)
+fine_none request is = absurd (cc is)
 
 fine_some : (x : Request) → IsAllowed x → Fine (Some x)
-fine_some x allowed asked is = let same : x ≡ asked = cc is in subst IsAllowed same allowed
+fine_some x allowed request is = let same : x ≡ request = cc is in subst IsAllowed same allowed
 
-fine_if : (t : Bool) (x : Request) → (t ≡ true → IsAllowed x) → Fine (asked_if t x)
+fine_if : (t : Bool) (x : Request) → (t ≡ true → IsAllowed x) → Fine (request_if t x)
 fine_if true x allowed = fine_some x (allowed refl)
 fine_if false x allowed = fine_none
 
@@ -150,7 +150,7 @@ fine_in name rows =
     (fine_either (bytes_eq name (codes "upgrade")) _ _ (fine_upgrading (first_of (codes "M") rows) (first_of (codes "M2") rows))
     (fine_either (bytes_eq name (codes "bound")) _ _ (fine_bounding (first_of (codes "M") rows)) fine_none)))))))
 
-fine_matches : (s : Option (List ℕ × List Row)) → Fine (asked_by_matches s)
+fine_matches : (s : Option (List ℕ × List Row)) → Fine (request_by_matches s)
 fine_matches None = fine_some version tt
 fine_matches (Some s) = fine_in s.0 s.1
 
@@ -160,4 +160,4 @@ fine_unless (k ∷ ks) o fine = fine_if (is_help k) helping (λ is. tt)
 
 pub commands_are_allowed : CommandsAreAllowed
 unfolding command_of
-commands_are_allowed words = fine_unless (fault_of planner_app words) (asked_by_matches (subcommand_of planner_app words)) (fine_matches (subcommand_of planner_app words))
+commands_are_allowed words = fine_unless (fault_of planner_app words) (request_by_matches (subcommand_of planner_app words)) (fine_matches (subcommand_of planner_app words))

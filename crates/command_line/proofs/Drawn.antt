@@ -9,7 +9,7 @@ use Rattle.clap.proofs.OnLiterals.{clap_on_literals}
 use Rattle.command_line.specs.Grammar.{planner_app}
 use Rattle.lot_sizing.specs.declared.limits.TheConstants.{MAX_ITEMS}
 use Rattle.instance_reader.specs.declared.versions.TheConstants.{FIRST_VERSION_PERIODS}
-use Rattle.command_line.specs.Words.{asked_if, request_in, command_of, is_file_name, is_number, is_seed, generating}
+use Rattle.command_line.specs.Words.{request_if, request_in, command_of, is_file_name, is_number, is_seed, generating}
 use Rattle.command_line.proofs.Leaves.{asks, held, leaf, takes}
 use Rattle.command_line.proofs.Placed.{ArePlaced, EndsWell}
 
@@ -33,11 +33,11 @@ gen_subcommand : (a b d e : Text) → subcommand_of planner_app (codes "gen" ∷
 unfolding clap_on_literals
 gen_subcommand a b d e = refl
 
-gen_asks : (a b d e : Text) → request_in (codes "gen") (finished (leaf (codes "gen")).rules (held (codes "gen") (a ∷ b ∷ d ∷ e ∷ []))) ≡ asked_if (is_seed a && (is_number 1 MAX_ITEMS b && (is_number 1 FIRST_VERSION_PERIODS d && is_file_name e))) (generating (digits_value 10 a) (digits_value 10 b) (digits_value 10 d) e)
+gen_asks : (a b d e : Text) → request_in (codes "gen") (finished (leaf (codes "gen")).rules (held (codes "gen") (a ∷ b ∷ d ∷ e ∷ []))) ≡ request_if (is_seed a && (is_number 1 MAX_ITEMS b && (is_number 1 FIRST_VERSION_PERIODS d && is_file_name e))) (generating (digits_value 10 a) (digits_value 10 b) (digits_value 10 d) e)
 unfolding clap_on_literals
 gen_asks a b d e = refl
 
-pub gen_words : (a b d e : Text) → is_file_name a ≡ true → is_file_name b ≡ true → is_file_name d ≡ true → is_file_name e ≡ true → command_of (codes "gen" ∷ a ∷ b ∷ d ∷ e ∷ []) ≡ asked_if (is_seed a && (is_number 1 MAX_ITEMS b && (is_number 1 FIRST_VERSION_PERIODS d && is_file_name e))) (generating (digits_value 10 a) (digits_value 10 b) (digits_value 10 d) e)
+pub gen_words : (a b d e : Text) → is_file_name a ≡ true → is_file_name b ≡ true → is_file_name d ≡ true → is_file_name e ≡ true → command_of (codes "gen" ∷ a ∷ b ∷ d ∷ e ∷ []) ≡ request_if (is_seed a && (is_number 1 MAX_ITEMS b && (is_number 1 FIRST_VERSION_PERIODS d && is_file_name e))) (generating (digits_value 10 a) (digits_value 10 b) (digits_value 10 d) e)
 gen_words a b d e p q r t =
     let taken = takes (codes "gen") (a ∷ b ∷ d ∷ e ∷ []) refl (gen_placed a b d e p q r t) (gen_ends a b d e) in
     asks (codes "gen") (a ∷ b ∷ d ∷ e ∷ []) _ (gen_fault a b d e taken.level) (gen_subcommand a b d e) taken.rows ∙ gen_asks a b d e

@@ -12,7 +12,7 @@ use Rattle.clap.proofs.OnLiterals.{clap_on_literals}
 use Rattle.command_line.specs.Grammar.{planner_app}
 use Rattle.std.specs.declared.alloc.AllocError.{AllocError}
 use Rattle.command_line.specs.Meant.{IsRefusedText, read_as}
-use Rattle.command_line.specs.Words.{Request, AreTaken, asked_by_matches, asked_if, command_of, helping, is_help, unless_refused}
+use Rattle.command_line.specs.Words.{Request, AreTaken, request_by_matches, request_if, command_of, helping, is_help, unless_refused}
 use Rattle.command_line.specs.declared.commands.Reading.{Reading}
 use Rattle.command_line.specs.declared.commands.Reading.TheVariants as reading
 use Rattle.command_line.proofs.Alike.{Alike, alike_among, alike_faults}
@@ -36,13 +36,13 @@ entered : (a : App) (words : List Text) (m : ArgMatches) → a ≡ planner_app �
 entered a words m same matches = (matches (ap is_simple same ∙ is_planner_simple)).1 ∙ ap (λ b. subcommand_of b words) same
 
 pub given_by : (words : List Text) (s : Option (Text × List Row)) → fault_of planner_app words ≡ [] → s ≡ subcommand_of planner_app words
-    → asked_by_matches s ≡ command_of words
+    → request_by_matches s ≡ command_of words
 unfolding command_of
 given_by words s free same = rw (free, ← same) refl
 
 -- what the matches ask for is the command
 pub given : (a : App) (words : List Text) (m : ArgMatches) → a ≡ planner_app → (is_simple_and_free a ≡ true → fault_of a words ≡ []) → HasMatchesOf a words m
-    → asked_by_matches (subcommand_rows_of m) ≡ command_of words
+    → request_by_matches (subcommand_rows_of m) ≡ command_of words
 given a words m same kinds matches = given_by words (subcommand_rows_of m) (taken a words same kinds) (entered a words m same matches)
 
 -- ---- words that a step of the parse stops at
@@ -52,16 +52,16 @@ failed : (a : App) (words : List Text) (e : Error) → a ≡ planner_app → (is
 failed a words e same kinds = subst (λ b. HasKind (fault_of b words) e) same (kinds (ap is_simple_and_free same ∙ is_planner_free))
 
 stopped_by : (ks : Kinds) (e : Error) (answer : Option Request) → Alike ks → HasKind ks e → kind_of e ≢ OutOfMemory
-    → asked_if (is_help (kind_of e)) helping ≡ unless_refused ks answer
+    → request_if (is_help (kind_of e)) helping ≡ unless_refused ks answer
 stopped_by [] e answer alike kind other = elim kind [ inl memory ↦ absurd (other memory) | inr none ↦ absurd none ]
 stopped_by (k ∷ ks) e answer alike kind other = elim kind [
   | inl memory ↦ absurd (other memory)
-  | inr among ↦ ap (λ help. asked_if help helping) (sym (alike_among (kind_of e) k ks alike among))
+  | inr among ↦ ap (λ help. request_if help helping) (sym (alike_among (kind_of e) k ks alike among))
 ]
 
 -- the kind of the error tells what is asked for
 pub stopped : (a : App) (words : List Text) (e : Error) → a ≡ planner_app → (is_simple_and_free a ≡ true → HasKind (fault_of a words) e) → kind_of e ≢ OutOfMemory
-    → asked_if (is_help (kind_of e)) helping ≡ command_of words
+    → request_if (is_help (kind_of e)) helping ≡ command_of words
 unfolding command_of
 stopped a words e same kinds other = stopped_by (fault_of planner_app words) e _ (alike_faults words) (failed a words e same kinds) other
 
@@ -85,19 +85,19 @@ any_text a words e r same kinds other = of_untaken words r (no_kind (fault_of pl
 pub entered_rows : {Z : Type 0} (o : Option (Box SubCommand Z)) (n : Text) (r : List Row)
     → Some n ≡ option_map (λ b. (out-SubCommand (box_value b)).name.now) o
     → Some r ≡ option_map (λ p. p.1) (subcommand_rows o)
-    → asked_by_matches (subcommand_rows o) ≡ asked_by_matches (Some (n, r))
+    → request_by_matches (subcommand_rows o) ≡ request_by_matches (Some (n, r))
 entered_rows None n r a b = absurd (none-some n (sym a))
-entered_rows (Some x) n r a b = ap₂ (λ p q. asked_by_matches (Some (p, q))) (sym (same_Some _ _ a)) (sym (same_Some _ _ b))
+entered_rows (Some x) n r a b = ap₂ (λ p q. request_by_matches (Some (p, q))) (sym (same_Some _ _ a)) (sym (same_Some _ _ b))
 
 pub no_rows : {Z : Type 0} (o : Option (Box SubCommand Z)) → None ≡ option_map (λ b. (out-SubCommand (box_value b)).name.now) o
-    → asked_by_matches (subcommand_rows o) ≡ asked_by_matches None
+    → request_by_matches (subcommand_rows o) ≡ request_by_matches None
 no_rows None h = refl
 no_rows (Some x) h = absurd (none-some _ h)
 
 -- ---- answers to words that a step of the parse stopped at
 
 pub answered : (a : App) (words : List Text) (e : Error) (r : Result Reading AllocError) → a ≡ planner_app → (is_simple_and_free a ≡ true → HasKind (fault_of a words) e)
-    → IfOk r (λ x. read_as x ≡ asked_if (is_help (kind_of e)) helping) → IfOk r (λ _. kind_of e ≢ OutOfMemory) → IfOk r (λ x. read_as x ≡ command_of words)
+    → IfOk r (λ x. read_as x ≡ request_if (is_help (kind_of e)) helping) → IfOk r (λ _. kind_of e ≢ OutOfMemory) → IfOk r (λ x. read_as x ≡ command_of words)
 answered a words e (Ok x) same kinds help other = help ∙ stopped a words e same kinds other
 answered a words e (Err x) same kinds help other = tt
 

@@ -7,7 +7,7 @@ use Rattle.clap.specs.Simple.{names_of}
 use Rattle.clap.specs.Faults.{level_fault}
 use Rattle.clap.proofs.OnLiterals.{clap_on_literals}
 use Rattle.command_line.specs.Grammar.{planner_app}
-use Rattle.command_line.specs.Words.{asked_if, request_in, command_of, is_file_name, bounding, demonstrating, is_seed}
+use Rattle.command_line.specs.Words.{request_if, request_in, command_of, is_file_name, bounding, demonstrating, is_seed}
 use Rattle.command_line.proofs.Leaves.{asks, held, leaf, takes}
 use Rattle.command_line.proofs.Placed.{ArePlaced, EndsWell}
 
@@ -31,11 +31,11 @@ bound_subcommand : (a : Text) → subcommand_of planner_app (codes "bound" ∷ a
 unfolding clap_on_literals
 bound_subcommand a = refl
 
-bound_asks : (a : Text) → request_in (codes "bound") (finished (leaf (codes "bound")).rules (held (codes "bound") (a ∷ []))) ≡ asked_if (is_file_name a) (bounding a)
+bound_asks : (a : Text) → request_in (codes "bound") (finished (leaf (codes "bound")).rules (held (codes "bound") (a ∷ []))) ≡ request_if (is_file_name a) (bounding a)
 unfolding clap_on_literals
 bound_asks a = refl
 
-pub bound_words : (a : Text) → is_file_name a ≡ true → command_of (codes "bound" ∷ a ∷ []) ≡ asked_if (is_file_name a) (bounding a)
+pub bound_words : (a : Text) → is_file_name a ≡ true → command_of (codes "bound" ∷ a ∷ []) ≡ request_if (is_file_name a) (bounding a)
 bound_words a p =
     let taken = takes (codes "bound") (a ∷ []) refl (bound_placed a p) (bound_ends a) in
     asks (codes "bound") (a ∷ []) _ (bound_fault a taken.level) (bound_subcommand a) taken.rows ∙ bound_asks a
@@ -60,11 +60,11 @@ demo_subcommand : (a : Text) → subcommand_of planner_app (codes "demo" ∷ a �
 unfolding clap_on_literals
 demo_subcommand a = refl
 
-demo_asks : (a : Text) → request_in (codes "demo") (finished (leaf (codes "demo")).rules (held (codes "demo") (a ∷ []))) ≡ asked_if (is_seed a) (demonstrating (digits_value 10 a))
+demo_asks : (a : Text) → request_in (codes "demo") (finished (leaf (codes "demo")).rules (held (codes "demo") (a ∷ []))) ≡ request_if (is_seed a) (demonstrating (digits_value 10 a))
 unfolding clap_on_literals
 demo_asks a = refl
 
-pub demo_words : (a : Text) → is_file_name a ≡ true → command_of (codes "demo" ∷ a ∷ []) ≡ asked_if (is_seed a) (demonstrating (digits_value 10 a))
+pub demo_words : (a : Text) → is_file_name a ≡ true → command_of (codes "demo" ∷ a ∷ []) ≡ request_if (is_seed a) (demonstrating (digits_value 10 a))
 demo_words a p =
     let taken = takes (codes "demo") (a ∷ []) refl (demo_placed a p) (demo_ends a) in
     asks (codes "demo") (a ∷ []) _ (demo_fault a taken.level) (demo_subcommand a) taken.rows ∙ demo_asks a

@@ -8,7 +8,7 @@ use Rattle.command_line.specs.Laws.{PlainWordsKeepTheirMeaning}
 use Rattle.lot_sizing.specs.declared.limits.TheConstants.{MAX_ITEMS}
 use Rattle.instance_reader.specs.declared.versions.TheConstants.{FIRST_VERSION_PERIODS}
 use Rattle.command_line.specs.declared.requests.TheConstants.{LARGEST_BUDGET, USUAL_BUDGET}
-use Rattle.command_line.specs.Words.{Request, are_file_names, are_two_names, asked_if, bounding, checking, command_of, demonstrating, generating, is_budget, is_file_name, is_number, is_seed, judging, planned, planning, reporting, upgrading, version}
+use Rattle.command_line.specs.Words.{Request, are_file_names, are_two_names, request_if, bounding, checking, command_of, demonstrating, generating, is_budget, is_file_name, is_number, is_seed, judging, planned, planning, reporting, upgrading, version}
 use Rattle.command_line.proofs.Allowed.{first_true, rest_true}
 use Rattle.command_line.proofs.Budgets.{nodes_words}
 use Rattle.command_line.proofs.Numbers.{number_begins, seed_begins}
@@ -22,21 +22,21 @@ unfolding clap_on_literals command_of
 no_words = refl
 
 -- a command that is asked for under a test is what the words ask for, where the test is met and where it isn't
-by_test : (t : Bool) (x asked : Request) (rest answer : Option Request) → (t ≡ true → answer ≡ Some x) → (rest ≡ Some asked → answer ≡ Some asked)
-    → (if t then Some x else rest) ≡ Some asked → answer ≡ Some asked
-by_test true x asked rest answer h k is = h refl ∙ is
-by_test false x asked rest answer h k is = k is
+by_test : (t : Bool) (x request : Request) (rest answer : Option Request) → (t ≡ true → answer ≡ Some x) → (rest ≡ Some request → answer ≡ Some request)
+    → (if t then Some x else rest) ≡ Some request → answer ≡ Some request
+by_test true x request rest answer h k is = h refl ∙ is
+by_test false x request rest answer h k is = k is
 
-never : (asked : Request) (answer : Option Request) → None ≡ Some asked → answer ≡ Some asked
-never asked answer is = absurd (cc is)
+never : (request : Request) (answer : Option Request) → None ≡ Some request → answer ≡ Some request
+never request answer is = absurd (cc is)
 
 -- the first word is this one, and the test of the names is met
-named : (word name : List ℕ) (rest : List (List ℕ)) (t : Bool) (x : Request) → (t ≡ true → command_of (name ∷ rest) ≡ asked_if t x) → (bytes_eq word name && t) ≡ true
+named : (word name : List ℕ) (rest : List (List ℕ)) (t : Bool) (x : Request) → (t ≡ true → command_of (name ∷ rest) ≡ request_if t x) → (bytes_eq word name && t) ≡ true
     → command_of (word ∷ rest) ≡ Some x
 named word name rest t x h is =
     let same : word ≡ name = (bytes_eq-Decides word name).0 (first_true (bytes_eq word name) t is) in
     let met : t ≡ true = rest_true (bytes_eq word name) t is in
-    ap (λ w. command_of (w ∷ rest)) same ∙ h met ∙ ap (λ b. asked_if b x) met
+    ap (λ w. command_of (w ∷ rest)) same ∙ h met ∙ ap (λ b. request_if b x) met
 
 first_name : (m p : List ℕ) → are_two_names m p ≡ true → is_file_name m ≡ true
 first_name m p is = first_true (is_file_name m) (is_file_name p && not (bytes_eq m p)) is
@@ -74,7 +74,7 @@ with_nodes w m p c o n is =
     ap (λ x. command_of (x ∷ m ∷ p ∷ c ∷ o ∷ n ∷ [])) word ∙ ap (λ x. command_of (codes "plan" ∷ m ∷ p ∷ c ∷ x ∷ n ∷ [])) flag
     ∙ nodes_words m p c n names.first names.second names.third (number_begins 1 LARGEST_BUDGET n (omega arith) number)
     ∙ ap (λ t. planned m p c (if t then Some (digits_value 10 n) else None)) number
-    ∙ ap (λ t. asked_if t (planning m p c (digits_value 10 n))) named
+    ∙ ap (λ t. request_if t (planning m p c (digits_value 10 n))) named
 
 -- a model that is drawn
 drawn : (w n items periods m : List ℕ) → (bytes_eq w (codes "gen") && (is_seed n && (is_number 1 MAX_ITEMS items && (is_number 1 FIRST_VERSION_PERIODS periods && is_file_name m)))) ≡ true
@@ -88,32 +88,32 @@ drawn w n items periods m = named w (codes "gen") (n ∷ items ∷ periods ∷ m
     (rest_true (is_number 1 FIRST_VERSION_PERIODS periods) (is_file_name m) last))
 
 pub plain_words : PlainWordsKeepTheirMeaning
-plain_words [] asked is = no_words ∙ is
-plain_words (w ∷ []) asked is = absurd (cc is)
-plain_words (w ∷ m ∷ []) asked is =
+plain_words [] request is = no_words ∙ is
+plain_words (w ∷ []) request is = absurd (cc is)
+plain_words (w ∷ m ∷ []) request is =
     let answer = command_of (w ∷ m ∷ []) in
-    by_test (bytes_eq w (codes "bound") && is_file_name m) (bounding m) asked _ answer (named w (codes "bound") (m ∷ []) (is_file_name m) (bounding m) (bound_words m))
-    (by_test (bytes_eq w (codes "demo") && is_seed m) (demonstrating (digits_value 10 m)) asked None answer
-    (named w (codes "demo") (m ∷ []) (is_seed m) (demonstrating (digits_value 10 m)) (λ met. demo_words m (seed_begins m met))) (never asked answer)) is
-plain_words (w ∷ m ∷ p ∷ []) asked is =
+    by_test (bytes_eq w (codes "bound") && is_file_name m) (bounding m) request _ answer (named w (codes "bound") (m ∷ []) (is_file_name m) (bounding m) (bound_words m))
+    (by_test (bytes_eq w (codes "demo") && is_seed m) (demonstrating (digits_value 10 m)) request None answer
+    (named w (codes "demo") (m ∷ []) (is_seed m) (demonstrating (digits_value 10 m)) (λ met. demo_words m (seed_begins m met))) (never request answer)) is
+plain_words (w ∷ m ∷ p ∷ []) request is =
     let answer = command_of (w ∷ m ∷ p ∷ []) in
-    by_test (bytes_eq w (codes "judge") && are_two_names m p) (judging m p) asked _ answer
+    by_test (bytes_eq w (codes "judge") && are_two_names m p) (judging m p) request _ answer
     (named w (codes "judge") (m ∷ p ∷ []) (are_two_names m p) (judging m p) (λ met. judge_words m p (first_name m p met) (second_name m p met)))
-    (by_test (bytes_eq w (codes "upgrade") && are_two_names m p) (upgrading m p) asked _ answer
+    (by_test (bytes_eq w (codes "upgrade") && are_two_names m p) (upgrading m p) request _ answer
     (named w (codes "upgrade") (m ∷ p ∷ []) (are_two_names m p) (upgrading m p) (λ met. upgrade_words m p (first_name m p met) (second_name m p met)))
-    (by_test (bytes_eq w (codes "report") && are_two_names m p) (reporting m p) asked None answer
-    (named w (codes "report") (m ∷ p ∷ []) (are_two_names m p) (reporting m p) (λ met. report_words m p (first_name m p met) (second_name m p met))) (never asked answer))) is
-plain_words (w ∷ m ∷ p ∷ c ∷ []) asked is =
+    (by_test (bytes_eq w (codes "report") && are_two_names m p) (reporting m p) request None answer
+    (named w (codes "report") (m ∷ p ∷ []) (are_two_names m p) (reporting m p) (λ met. report_words m p (first_name m p met) (second_name m p met))) (never request answer))) is
+plain_words (w ∷ m ∷ p ∷ c ∷ []) request is =
     let answer = command_of (w ∷ m ∷ p ∷ c ∷ []) in
-    by_test (bytes_eq w (codes "plan") && are_file_names m p c) (planning m p c USUAL_BUDGET) asked _ answer
+    by_test (bytes_eq w (codes "plan") && are_file_names m p c) (planning m p c USUAL_BUDGET) request _ answer
     (named w (codes "plan") (m ∷ p ∷ c ∷ []) (are_file_names m p c) (planning m p c USUAL_BUDGET) (λ met. let names = are_names m p c met in plan_words m p c names.first names.second names.third))
-    (by_test (bytes_eq w (codes "check") && are_file_names m p c) (checking m p c) asked None answer
-    (named w (codes "check") (m ∷ p ∷ c ∷ []) (are_file_names m p c) (checking m p c) (λ met. let names = are_names m p c met in check_words m p c names.first names.second names.third)) (never asked answer)) is
-plain_words (w ∷ n ∷ items ∷ periods ∷ m ∷ []) asked is =
+    (by_test (bytes_eq w (codes "check") && are_file_names m p c) (checking m p c) request None answer
+    (named w (codes "check") (m ∷ p ∷ c ∷ []) (are_file_names m p c) (checking m p c) (λ met. let names = are_names m p c met in check_words m p c names.first names.second names.third)) (never request answer)) is
+plain_words (w ∷ n ∷ items ∷ periods ∷ m ∷ []) request is =
     by_test (bytes_eq w (codes "gen") && (is_seed n && (is_number 1 MAX_ITEMS items && (is_number 1 FIRST_VERSION_PERIODS periods && is_file_name m))))
-    (generating (digits_value 10 n) (digits_value 10 items) (digits_value 10 periods) m) asked None (command_of (w ∷ n ∷ items ∷ periods ∷ m ∷ []))
-    (drawn w n items periods m) (never asked (command_of (w ∷ n ∷ items ∷ periods ∷ m ∷ []))) is
-plain_words (w ∷ m ∷ p ∷ c ∷ o ∷ n ∷ []) asked is =
-    by_test (bytes_eq w (codes "plan") && (are_file_names m p c && (bytes_eq o (codes "--nodes") && is_budget n))) (planning m p c (digits_value 10 n)) asked None
-    (command_of (w ∷ m ∷ p ∷ c ∷ o ∷ n ∷ [])) (with_nodes w m p c o n) (never asked (command_of (w ∷ m ∷ p ∷ c ∷ o ∷ n ∷ []))) is
-plain_words (w ∷ m ∷ p ∷ c ∷ o ∷ n ∷ f ∷ fs) asked is = absurd (cc is)
+    (generating (digits_value 10 n) (digits_value 10 items) (digits_value 10 periods) m) request None (command_of (w ∷ n ∷ items ∷ periods ∷ m ∷ []))
+    (drawn w n items periods m) (never request (command_of (w ∷ n ∷ items ∷ periods ∷ m ∷ []))) is
+plain_words (w ∷ m ∷ p ∷ c ∷ o ∷ n ∷ []) request is =
+    by_test (bytes_eq w (codes "plan") && (are_file_names m p c && (bytes_eq o (codes "--nodes") && is_budget n))) (planning m p c (digits_value 10 n)) request None
+    (command_of (w ∷ m ∷ p ∷ c ∷ o ∷ n ∷ [])) (with_nodes w m p c o n) (never request (command_of (w ∷ m ∷ p ∷ c ∷ o ∷ n ∷ []))) is
+plain_words (w ∷ m ∷ p ∷ c ∷ o ∷ n ∷ f ∷ fs) request is = absurd (cc is)

@@ -6,7 +6,7 @@ use Rattle.clap.specs.Simple.{names_of}
 use Rattle.clap.specs.Faults.{level_fault}
 use Rattle.clap.proofs.OnLiterals.{clap_on_literals}
 use Rattle.command_line.specs.Grammar.{planner_app}
-use Rattle.command_line.specs.Words.{asked_if, request_in, command_of, is_file_name, are_two_names, judging, reporting, upgrading}
+use Rattle.command_line.specs.Words.{request_if, request_in, command_of, is_file_name, are_two_names, judging, reporting, upgrading}
 use Rattle.command_line.proofs.Leaves.{asks, held, leaf, takes}
 use Rattle.command_line.proofs.Placed.{ArePlaced, EndsWell}
 
@@ -30,11 +30,11 @@ judge_subcommand : (a b : Text) → subcommand_of planner_app (codes "judge" ∷
 unfolding clap_on_literals
 judge_subcommand a b = refl
 
-judge_asks : (a b : Text) → request_in (codes "judge") (finished (leaf (codes "judge")).rules (held (codes "judge") (a ∷ b ∷ []))) ≡ asked_if (are_two_names a b) (judging a b)
+judge_asks : (a b : Text) → request_in (codes "judge") (finished (leaf (codes "judge")).rules (held (codes "judge") (a ∷ b ∷ []))) ≡ request_if (are_two_names a b) (judging a b)
 unfolding clap_on_literals
 judge_asks a b = refl
 
-pub judge_words : (a b : Text) → is_file_name a ≡ true → is_file_name b ≡ true → command_of (codes "judge" ∷ a ∷ b ∷ []) ≡ asked_if (are_two_names a b) (judging a b)
+pub judge_words : (a b : Text) → is_file_name a ≡ true → is_file_name b ≡ true → command_of (codes "judge" ∷ a ∷ b ∷ []) ≡ request_if (are_two_names a b) (judging a b)
 judge_words a b p q =
     let taken = takes (codes "judge") (a ∷ b ∷ []) refl (judge_placed a b p q) (judge_ends a b) in
     asks (codes "judge") (a ∷ b ∷ []) _ (judge_fault a b taken.level) (judge_subcommand a b) taken.rows ∙ judge_asks a b
@@ -59,11 +59,11 @@ report_subcommand : (a b : Text) → subcommand_of planner_app (codes "report" �
 unfolding clap_on_literals
 report_subcommand a b = refl
 
-report_asks : (a b : Text) → request_in (codes "report") (finished (leaf (codes "report")).rules (held (codes "report") (a ∷ b ∷ []))) ≡ asked_if (are_two_names a b) (reporting a b)
+report_asks : (a b : Text) → request_in (codes "report") (finished (leaf (codes "report")).rules (held (codes "report") (a ∷ b ∷ []))) ≡ request_if (are_two_names a b) (reporting a b)
 unfolding clap_on_literals
 report_asks a b = refl
 
-pub report_words : (a b : Text) → is_file_name a ≡ true → is_file_name b ≡ true → command_of (codes "report" ∷ a ∷ b ∷ []) ≡ asked_if (are_two_names a b) (reporting a b)
+pub report_words : (a b : Text) → is_file_name a ≡ true → is_file_name b ≡ true → command_of (codes "report" ∷ a ∷ b ∷ []) ≡ request_if (are_two_names a b) (reporting a b)
 report_words a b p q =
     let taken = takes (codes "report") (a ∷ b ∷ []) refl (report_placed a b p q) (report_ends a b) in
     asks (codes "report") (a ∷ b ∷ []) _ (report_fault a b taken.level) (report_subcommand a b) taken.rows ∙ report_asks a b
@@ -88,11 +88,11 @@ upgrade_subcommand : (a b : Text) → subcommand_of planner_app (codes "upgrade"
 unfolding clap_on_literals
 upgrade_subcommand a b = refl
 
-upgrade_asks : (a b : Text) → request_in (codes "upgrade") (finished (leaf (codes "upgrade")).rules (held (codes "upgrade") (a ∷ b ∷ []))) ≡ asked_if (are_two_names a b) (upgrading a b)
+upgrade_asks : (a b : Text) → request_in (codes "upgrade") (finished (leaf (codes "upgrade")).rules (held (codes "upgrade") (a ∷ b ∷ []))) ≡ request_if (are_two_names a b) (upgrading a b)
 unfolding clap_on_literals
 upgrade_asks a b = refl
 
-pub upgrade_words : (a b : Text) → is_file_name a ≡ true → is_file_name b ≡ true → command_of (codes "upgrade" ∷ a ∷ b ∷ []) ≡ asked_if (are_two_names a b) (upgrading a b)
+pub upgrade_words : (a b : Text) → is_file_name a ≡ true → is_file_name b ≡ true → command_of (codes "upgrade" ∷ a ∷ b ∷ []) ≡ request_if (are_two_names a b) (upgrading a b)
 upgrade_words a b p q =
     let taken = takes (codes "upgrade") (a ∷ b ∷ []) refl (upgrade_placed a b p q) (upgrade_ends a b) in
     asks (codes "upgrade") (a ∷ b ∷ []) _ (upgrade_fault a b taken.level) (upgrade_subcommand a b) taken.rows ∙ upgrade_asks a b

@@ -7,20 +7,20 @@ use Rattle.command_line.specs.declared.commands.Reading.{Reading}
 use Rattle.command_line.specs.declared.commands.Reading.TheVariants as reading
 
 -- what a command asks for
-abbrev pub asked_by : Command → Request
-asked_by command.Name = version
-asked_by (command.Plan names budget) = planning names.model.now names.plan.now names.certificate.now budget
-asked_by (command.Judge names) = judging names.model.now names.plan.now
-asked_by (command.Check names) = checking names.model.now names.plan.now names.certificate.now
-asked_by (command.Upgrade names) = upgrading names.model.now names.upgraded.now
-asked_by (command.Bound model) = bounding model.now
-asked_by (command.Report names) = reporting names.model.now names.plan.now
-asked_by (command.Generate seed items periods model) = generating seed items periods model.now
-asked_by (command.Demo seed) = demonstrating seed
+abbrev pub request_by : Command → Request
+request_by command.Name = version
+request_by (command.Plan names budget) = planning names.model.now names.plan.now names.certificate.now budget
+request_by (command.Judge names) = judging names.model.now names.plan.now
+request_by (command.Check names) = checking names.model.now names.plan.now names.certificate.now
+request_by (command.Upgrade names) = upgrading names.model.now names.upgraded.now
+request_by (command.Bound model) = bounding model.now
+request_by (command.Report names) = reporting names.model.now names.plan.now
+request_by (command.Generate seed items periods model) = generating seed items periods model.now
+request_by (command.Demo seed) = demonstrating seed
 
 -- what the words were read as
 abbrev pub read_as : Reading → Option Request
-read_as (reading.Command c) = Some (asked_by c)
+read_as (reading.Command c) = Some (request_by c)
 read_as (reading.Help text) = Some helping
 read_as (reading.Refused text) = None
 

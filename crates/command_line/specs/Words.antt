@@ -64,9 +64,9 @@ is_seed = is_number 0 largest_seed
 
 -- ---- what the texts of a command ask for, where each text that it needs is there
 
-abbrev pub asked_if : Bool → Request → Option Request
-asked_if true asked = Some asked
-asked_if false asked = None
+abbrev pub request_if : Bool → Request → Option Request
+request_if true request = Some request
+request_if false request = None
 
 -- the nodes that a text gives, and where there is none the usual ones
 abbrev pub budget_from : Option (List ℕ) → Option ℕ
@@ -75,10 +75,10 @@ budget_from (Some n) = if is_budget n then Some (digits_value 10 n) else None
 
 abbrev pub planned : List ℕ → List ℕ → List ℕ → Option ℕ → Option Request
 planned m p c None = None
-planned m p c (Some budget) = asked_if (are_file_names m p c) (planning m p c budget)
+planned m p c (Some budget) = request_if (are_file_names m p c) (planning m p c budget)
 
 abbrev pub generated : List ℕ → List ℕ → List ℕ → List ℕ → Option Request
-generated n items periods m = asked_if (is_seed n && (is_number 1 MAX_ITEMS items && (is_number 1 FIRST_VERSION_PERIODS periods && is_file_name m)))
+generated n items periods m = request_if (is_seed n && (is_number 1 MAX_ITEMS items && (is_number 1 FIRST_VERSION_PERIODS periods && is_file_name m)))
     (generating (digits_value 10 n) (digits_value 10 items) (digits_value 10 periods) m)
 
 abbrev pub planning_from : Option (List ℕ) → Option (List ℕ) → Option (List ℕ) → Option (List ℕ) → Option Request
@@ -86,15 +86,15 @@ planning_from (Some m) (Some p) (Some c) nodes = planned m p c (budget_from node
 planning_from _ _ _ _ = None
 
 abbrev pub judging_from : Option (List ℕ) → Option (List ℕ) → Option Request
-judging_from (Some m) (Some p) = asked_if (are_two_names m p) (judging m p)
+judging_from (Some m) (Some p) = request_if (are_two_names m p) (judging m p)
 judging_from _ _ = None
 
 abbrev pub checking_from : Option (List ℕ) → Option (List ℕ) → Option (List ℕ) → Option Request
-checking_from (Some m) (Some p) (Some c) = asked_if (are_file_names m p c) (checking m p c)
+checking_from (Some m) (Some p) (Some c) = request_if (are_file_names m p c) (checking m p c)
 checking_from _ _ _ = None
 
 abbrev pub reporting_from : Option (List ℕ) → Option (List ℕ) → Option Request
-reporting_from (Some m) (Some p) = asked_if (are_two_names m p) (reporting m p)
+reporting_from (Some m) (Some p) = request_if (are_two_names m p) (reporting m p)
 reporting_from _ _ = None
 
 abbrev pub generating_from : Option (List ℕ) → Option (List ℕ) → Option (List ℕ) → Option (List ℕ) → Option Request
@@ -102,15 +102,15 @@ generating_from (Some n) (Some items) (Some periods) (Some m) = generated n item
 generating_from _ _ _ _ = None
 
 abbrev pub demonstrating_from : Option (List ℕ) → Option Request
-demonstrating_from (Some n) = asked_if (is_seed n) (demonstrating (digits_value 10 n))
+demonstrating_from (Some n) = request_if (is_seed n) (demonstrating (digits_value 10 n))
 demonstrating_from _ = None
 
 abbrev pub upgrading_from : Option (List ℕ) → Option (List ℕ) → Option Request
-upgrading_from (Some m) (Some n) = asked_if (are_two_names m n) (upgrading m n)
+upgrading_from (Some m) (Some n) = request_if (are_two_names m n) (upgrading m n)
 upgrading_from _ _ = None
 
 abbrev pub bounding_from : Option (List ℕ) → Option Request
-bounding_from (Some m) = asked_if (is_file_name m) (bounding m)
+bounding_from (Some m) = request_if (is_file_name m) (bounding m)
 bounding_from _ = None
 
 -- ---- what the matches ask for
@@ -129,9 +129,9 @@ request_in name rows =
     else None
 
 -- words with no subcommand are the program's name
-abbrev pub asked_by_matches : Option (List ℕ × List Row) → Option Request
-asked_by_matches None = Some version
-asked_by_matches (Some s) = request_in s.0 s.1
+abbrev pub request_by_matches : Option (List ℕ × List Row) → Option Request
+request_by_matches None = Some version
+request_by_matches (Some s) = request_in s.0 s.1
 
 abbrev pub is_help : ErrorKind → Bool
 is_help DisplayHelp = true
@@ -141,11 +141,11 @@ is_help _ = false
 -- a call for help is one; other words that a step of the parse refuses ask for nothing
 abbrev pub unless_refused : Kinds → Option Request → Option Request
 unless_refused [] answer = answer
-unless_refused (k ∷ ks) answer = asked_if (is_help k) helping
+unless_refused (k ∷ ks) answer = request_if (is_help k) helping
 
 -- the command that the matches of the words give
 unfoldable pub command_of : List (List ℕ) → Option Request
-command_of words = unless_refused (fault_of planner_app words) (asked_by_matches (subcommand_of planner_app words))
+command_of words = unless_refused (fault_of planner_app words) (request_by_matches (subcommand_of planner_app words))
 
 -- no step of the parse refuses the words
 unfoldable pub AreTaken : List (List ℕ) → Type 0

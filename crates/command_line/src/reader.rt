@@ -2,8 +2,8 @@
 ghost use Rattle.std.specs.Prelude.{◌≡◌, ◌≢◌, IfOk, codes, map, option_map, string_bytes};
 ghost use Rattle.clap.specs.Words.{first_of, found_of, kind_of, rows_of, subcommand_rows_of};
 ghost use Rattle.clap.specs.declared.error.kind.ErrorKind.TheVariants.{OutOfMemory};
-ghost use Rattle.command_line.specs.Meant.{IsRefusedText, asked_by, read_as};
-ghost use Rattle.command_line.specs.Words.{asked_by_matches, asked_if, request_in, command_of, helping, is_help};
+ghost use Rattle.command_line.specs.Meant.{IsRefusedText, request_by, read_as};
+ghost use Rattle.command_line.specs.Words.{request_by_matches, request_if, request_in, command_of, helping, is_help};
 
 use crate::commands::{Command, Reading};
 use crate::grammar::planner;
@@ -38,7 +38,7 @@ pub fn read_words<'a>(alloc: Global, words: &'a [String]) -> Result<Reading<'a>,
 
 // The command that matches give, if its names and numbers are in order.
 fn command_in<'a>(matches: &ArgMatches<'a>) -> Option<Command<'a>>
-    ensures { option_map asked_by result ≡ asked_by_matches (subcommand_rows_of matches.now) }
+    ensures { option_map request_by result ≡ request_by_matches (subcommand_rows_of matches.now) }
 {
     match matches.subcommand() {
         Some((name, given)) => request_in(name, given),
@@ -48,7 +48,7 @@ fn command_in<'a>(matches: &ArgMatches<'a>) -> Option<Command<'a>>
 
 // The answer to words that a step of the parse stopped at.
 fn answer_to<'a>(alloc: Global, error: &Error) -> Result<Reading<'a>, AllocError>
-    ensures help { IfOk result (λ r. read_as r ≡ asked_if (is_help (kind_of error.now)) helping) }
+    ensures help { IfOk result (λ r. read_as r ≡ request_if (is_help (kind_of error.now)) helping) }
     ensures memory { IfOk result (λ _. kind_of error.now ≢ OutOfMemory) }
 {
     let text = error.to_string(alloc)?;
@@ -68,7 +68,7 @@ fn text_of<'a>(given: &ArgMatches<'a>, id: &str) -> Option<&'a str>
 
 // What a subcommand asks for.
 fn request_in<'a>(name: &str, given: &ArgMatches<'a>) -> Option<Command<'a>>
-    ensures { option_map asked_by result ≡ request_in name.now (rows_of (found_of given.now)) }
+    ensures { option_map request_by result ≡ request_in name.now (rows_of (found_of given.now)) }
 {
     match name {
         "plan" => requests::plan(

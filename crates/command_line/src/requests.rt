@@ -1,6 +1,6 @@
 // The commands that the texts of arguments give, where the names and numbers are in order.
 ghost use Rattle.std.specs.Prelude.{◌≡◌, option_map};
-ghost use Rattle.command_line.specs.Meant.{asked_by};
+ghost use Rattle.command_line.specs.Meant.{request_by};
 ghost use Rattle.command_line.specs.Words.{bounding_from, budget_from, checking_from, demonstrating_from, generated, generating_from, judging_from, planning_from, reporting_from, upgrading_from};
 
 use crate::commands::{Command, Names, TwoNames, UpgradeNames};
@@ -30,7 +30,7 @@ pub(crate) fn plan<'a>(
     certificate: Option<&'a str>,
     nodes: Option<&'a str>,
 ) -> Option<Command<'a>>
-    ensures { option_map asked_by result ≡ planning_from (option_map (λ s. s.now) model.entry) (option_map (λ s. s.now) plan.entry) (option_map (λ s. s.now) certificate.entry) (option_map (λ s. s.now) nodes.entry) }
+    ensures { option_map request_by result ≡ planning_from (option_map (λ s. s.now) model.entry) (option_map (λ s. s.now) plan.entry) (option_map (λ s. s.now) certificate.entry) (option_map (λ s. s.now) nodes.entry) }
 {
     let (Some(model), Some(plan), Some(certificate)) = (model, plan, certificate) else {
         return None;
@@ -49,7 +49,7 @@ pub(crate) fn plan<'a>(
 }
 
 pub(crate) fn judge<'a>(model: Option<&'a str>, plan: Option<&'a str>) -> Option<Command<'a>>
-    ensures { option_map asked_by result ≡ judging_from (option_map (λ s. s.now) model.entry) (option_map (λ s. s.now) plan.entry) }
+    ensures { option_map request_by result ≡ judging_from (option_map (λ s. s.now) model.entry) (option_map (λ s. s.now) plan.entry) }
 {
     match (model, plan) {
         (Some(model), Some(plan)) if are_two_names(model, plan) => Some(Command::Judge(TwoNames {
@@ -65,7 +65,7 @@ pub(crate) fn check<'a>(
     plan: Option<&'a str>,
     certificate: Option<&'a str>,
 ) -> Option<Command<'a>>
-    ensures { option_map asked_by result ≡ checking_from (option_map (λ s. s.now) model.entry) (option_map (λ s. s.now) plan.entry) (option_map (λ s. s.now) certificate.entry) }
+    ensures { option_map request_by result ≡ checking_from (option_map (λ s. s.now) model.entry) (option_map (λ s. s.now) plan.entry) (option_map (λ s. s.now) certificate.entry) }
 {
     match (model, plan, certificate) {
         (Some(model), Some(plan), Some(certificate)) if are_file_names(model, plan, certificate) =>
@@ -81,7 +81,7 @@ pub(crate) fn check<'a>(
 }
 
 pub(crate) fn report<'a>(model: Option<&'a str>, plan: Option<&'a str>) -> Option<Command<'a>>
-    ensures { option_map asked_by result ≡ reporting_from (option_map (λ s. s.now) model.entry) (option_map (λ s. s.now) plan.entry) }
+    ensures { option_map request_by result ≡ reporting_from (option_map (λ s. s.now) model.entry) (option_map (λ s. s.now) plan.entry) }
 {
     match (model, plan) {
         (Some(model), Some(plan)) if are_two_names(model, plan) => Some(Command::Report(TwoNames {
@@ -94,7 +94,7 @@ pub(crate) fn report<'a>(model: Option<&'a str>, plan: Option<&'a str>) -> Optio
 
 // A model to be drawn, by the texts of its numbers.
 fn generated<'a>(seed: &str, items: &str, periods: &str, model: &'a str) -> Option<Command<'a>>
-    ensures { option_map asked_by result ≡ generated seed.now items.now periods.now model.entry.now }
+    ensures { option_map request_by result ≡ generated seed.now items.now periods.now model.entry.now }
 {
     if !is_file_name(model) {
         return None;
@@ -116,7 +116,7 @@ pub(crate) fn generate<'a>(
     periods: Option<&'a str>,
     model: Option<&'a str>,
 ) -> Option<Command<'a>>
-    ensures { option_map asked_by result ≡ generating_from (option_map (λ s. s.now) seed.entry) (option_map (λ s. s.now) items.entry) (option_map (λ s. s.now) periods.entry) (option_map (λ s. s.now) model.entry) }
+    ensures { option_map request_by result ≡ generating_from (option_map (λ s. s.now) seed.entry) (option_map (λ s. s.now) items.entry) (option_map (λ s. s.now) periods.entry) (option_map (λ s. s.now) model.entry) }
 {
     match (seed, items, periods, model) {
         (Some(seed), Some(items), Some(periods), Some(model)) => {
@@ -127,7 +127,7 @@ pub(crate) fn generate<'a>(
 }
 
 pub(crate) fn demo<'a>(seed: Option<&'a str>) -> Option<Command<'a>>
-    ensures { option_map asked_by result ≡ demonstrating_from (option_map (λ s. s.now) seed.entry) }
+    ensures { option_map request_by result ≡ demonstrating_from (option_map (λ s. s.now) seed.entry) }
 {
     match read_number(seed?, 0, u64::MAX) {
         Some(seed) => Some(Command::Demo(seed)),
@@ -136,7 +136,7 @@ pub(crate) fn demo<'a>(seed: Option<&'a str>) -> Option<Command<'a>>
 }
 
 pub(crate) fn upgrade<'a>(model: Option<&'a str>, upgraded: Option<&'a str>) -> Option<Command<'a>>
-    ensures { option_map asked_by result ≡ upgrading_from (option_map (λ s. s.now) model.entry) (option_map (λ s. s.now) upgraded.entry) }
+    ensures { option_map request_by result ≡ upgrading_from (option_map (λ s. s.now) model.entry) (option_map (λ s. s.now) upgraded.entry) }
 {
     match (model, upgraded) {
         (Some(model), Some(upgraded)) if are_two_names(model, upgraded) => {
@@ -147,7 +147,7 @@ pub(crate) fn upgrade<'a>(model: Option<&'a str>, upgraded: Option<&'a str>) -> 
 }
 
 pub(crate) fn bound<'a>(model: Option<&'a str>) -> Option<Command<'a>>
-    ensures { option_map asked_by result ≡ bounding_from (option_map (λ s. s.now) model.entry) }
+    ensures { option_map request_by result ≡ bounding_from (option_map (λ s. s.now) model.entry) }
 {
     match model {
         Some(model) if is_file_name(model) => Some(Command::Bound(model)),

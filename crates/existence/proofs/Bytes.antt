@@ -7,7 +7,7 @@ use Rattle.lot_draft.specs.declared.fault.ModelFault.{ModelFault}
 use Rattle.lot_model.specs.Meaning.{Means}
 use Rattle.lot_model.specs.Laws.{MeansSomething}
 use Rattle.instance_reader.specs.Document.{document_of}
-use Rattle.instance_reader.specs.Model.{DocumentMeans, not_toml, told}
+use Rattle.instance_reader.specs.Model.{DocumentMeans, not_toml, fault_in}
 use Rattle.instance_reader.specs.Tables.{model_read}
 use Rattle.existence.specs.Readings.{BytesMeanSomething}
 
@@ -21,7 +21,7 @@ ok_or_err (Err e) = inr (e, refl)
 
 of_model : (newest : ℕ) (t : Members) (model : RawModel) → model_read newest t ≡ Ok model → (r : Result Problem ModelFault) → Means model r → (s : Result Problem ModelFault) × DocumentMeans newest t s
 of_model newest t model is (Ok p) means = (Ok p, record { model = model; is_read = is; means = means })
-of_model newest t model is (Err fault) breaks = (Err (told t fault), inr (record { model = model; is_read = is; fault = fault; breaks = breaks; told = refl }))
+of_model newest t model is (Err fault) breaks = (Err (fault_in t fault), inr (record { model = model; is_read = is; fault = fault; breaks = breaks; named = refl }))
 
 of_document : MeansSomething → (newest : ℕ) (t : Members) → (s : Result Problem ModelFault) × DocumentMeans newest t s
 of_document something newest t = ⊎_elim

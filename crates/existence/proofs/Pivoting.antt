@@ -10,7 +10,7 @@ use Rattle.rational.proofs.Rationals.{le_refl, le_total, le_trans}
 use Rattle.frac128.specs.Limits.{AlignFits, Fits, IsSmall, SumFits, divided_ℚ, own_part}
 use Rattle.tableau.specs.Program.{zero_ℚ}
 use Rattle.tableau.specs.Dictionary.{Dictionary, basic_at, cell, factor_at, height, nonbasic_at, width}
-use Rattle.tableau.specs.Run.{IsCandidate, IsEntering, IsFittingStep, IsLast, IsLeaving, IsNegative, OtherFits, RatioFits, RowFits, UpdateFits, ratio_at}
+use Rattle.tableau.specs.Run.{IsCandidate, IsEntering, IsFittingStep, IsPrimalFeasible, IsLeaving, IsNegative, OtherFits, RatioFits, RowFits, UpdateFits, ratio_at}
 use Rattle.tableau.specs.Steps.{HasNoneTo, IsRefusedRatio}
 use Rattle.tableau.specs.Stepwise.{HasEnded}
 use Rattle.tableau.specs.Outcomes.{IsRefused, row_number}
@@ -155,7 +155,7 @@ module _ (d : Dictionary) where
   nonnegative : (x : ℚ) → (IsNegative x → ⊥) → zero_ℚ ≤ℚ x
   nonnegative x never = ⊎_elim (λ le. le) (λ not. absurd (never not)) (le_or_not_ℚ zero_ℚ x)
 
-  last_or_leaving : IsLast d ⊎ ((k : ℕ) × IsLeaving d k)
+  last_or_leaving : IsPrimalFeasible d ⊎ ((k : ℕ) × IsLeaving d k)
   last_or_leaving = ⊎_elim
       (λ none. inl (λ i low high. nonnegative (cell d i 0) (λ negative. none i high (low, negative))))
       (λ found. inr (found.0, record { low = found.2.0; high = found.1; negative = found.2.1; least = λ i low high negative. found.3 i high (low, negative) }))

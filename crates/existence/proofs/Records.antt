@@ -1,12 +1,14 @@
 -- Records mean a plan, or a fault that isn't out of memory.
-use Rattle.std.proofs.Common.{◌≡◌, ◌≢◌, ◌≤◌, ◌<◌, ◌+◌, ◌*◌, ◌^◌, ◌⊎◌, ⊎_elim, inl, inr, ℕ, refl, arith, List, [], ◌∷◌, length, slice_index_or, IsTrue}
+use Rattle.std.proofs.Common.{◌≡◌, ◌≢◌, ◌≤◌, ◌<◌, ◌+◌, ◌*◌, ◌^◌, ◌⊎◌, ⊎_elim, inl, inr, ℕ, refl, subst, sym, arith, List, [], ◌∷◌, length, slice_index_or, IsTrue}
 use Rattle.std.specs.Char.{digit_value}
 use Rattle.std.specs.Str.Parse.{AllDigits, digits_value}
 use Rattle.std.proofs.lemmas.Bool.{cases_eq}
 use Rattle.lot_sizing.specs.Problem.{Problem, item_count}
 use Rattle.lot_sizing.specs.Plan.{Plan}
-use Rattle.plan_file.specs.Records.{HasHeader, HasNumbers, IsGood, IsNumber, IsPlanOf, Record, field, is_header, is_row, number_of, record_at}
+use Rattle.plan_file.specs.Records.{HasHeader, HasNumbers, IsGood, IsNumber, IsPlanOf, Record, field, field_number, is_header, is_row, number_of, record_at}
 use Rattle.plan_file.specs.Faults.{IsCellFault, IsFirstBad, IsPlanFault, IsRecordFault}
+use Rattle.plan_file.specs.declared.fault.NumberField.{NumberField}
+use Rattle.plan_file.specs.declared.fault.NumberField.TheVariants.{Make, Setup, Stock, Backlog}
 use Rattle.plan_file.specs.declared.fault.PlanFault.{PlanFault}
 use Rattle.plan_file.specs.declared.fault.PlanFault.TheVariants.{Header, Memory, Number, Row, RowCount}
 use Rattle.existence.specs.Readings.{RecordsMeanSomething}
@@ -29,17 +31,44 @@ number_or_not text =
     (λ no. inr (λ is. no is.whole.digits))
     (both_or_not (lt_or_not 0 (length text)) (digits_or_not text))
 
-numbers_or_bad : (r : Record) → HasNumbers r ⊎ ((c : ℕ) × IsFirstBad r c)
+field_low : (at : NumberField) → 3 ≤ field_number at
+field_low Make = omega arith
+field_low Setup = omega arith
+field_low Stock = omega arith
+field_low Backlog = omega arith
+
+field_high : (at : NumberField) → field_number at ≤ 6
+field_high Make = omega arith
+field_high Setup = omega arith
+field_high Stock = omega arith
+field_high Backlog = omega arith
+
+-- each of the last four fields has a name
+field_of : (c : ℕ) → 3 ≤ c → c ≤ 6 → (at : NumberField) × (field_number at ≡ c)
+field_of c low high =
+    ⊎_elim
+    (λ e. (Make, sym e))
+    (λ a. ⊎_elim
+    (λ e. (Setup, sym e))
+    (λ b. ⊎_elim
+    (λ e. (Stock, sym e))
+    (λ d. let e : c ≡ 6 = omega (arith, a, b, d, low, high) in (Backlog, sym e))
+    (cases_eq c 5))
+    (cases_eq c 4))
+    (cases_eq c 3)
+
+numbers_or_bad : (r : Record) → HasNumbers r ⊎ ((at : NumberField) × IsFirstBad r at)
 numbers_or_bad r =
     ⊎_elim
     (λ each. inl (λ c low high. each c (omega (arith, low)) high low))
-    (λ found. inr (
-      found.0,
+    (λ found.
+    let past : 3 ≤ found.0 = ⊎_elim (λ low. low) (λ no. absurd (found.3 (λ low. absurd (no low)))) (le_or_not 3 found.0) in
+    let named : (at : NumberField) × (field_number at ≡ found.0) = field_of found.0 past found.2 in
+    inr (
+      named.0,
       record {
-        low = ⊎_elim (λ low. low) (λ no. absurd (found.3 (λ low. absurd (no low)))) (le_or_not 3 found.0);
-        high = found.2;
-        bad = λ is. found.3 (λ _. is);
-        before = λ d low less. found.4 d (omega (arith, low)) less low;
+        bad = λ is. found.3 (λ _. subst (λ c. IsNumber (field r c)) named.1 is);
+        before = λ c low less. found.4 c (omega (arith, low)) (omega (arith, less, named.1)) low;
       },
     ))
     (all_or_first (λ c. 3 ≤ c → IsNumber (field r c)) (λ c. if_or_not (le_or_not 3 c) (number_or_not (field r c))) 6)
@@ -62,7 +91,7 @@ module _ (m : Problem) (rs : List Record) where
       (λ there. ⊎_elim
       (λ row. ⊎_elim
       (λ numbers. inl (record { there = there; row = row; numbers = numbers }))
-      (λ bad. inr (Number (number_of m i t) bad.0, (λ e. cc e), (refl, there, row, bad.1), λ good. bad.1.bad (good.numbers bad.0 bad.1.low bad.1.high)))
+      (λ bad. inr (Number (number_of m i t) bad.0, (λ e. cc e), (refl, there, row, bad.1), λ good. bad.1.bad (good.numbers (field_number bad.0) (field_low bad.0) (field_high bad.0))))
       (numbers_or_bad (record_at rs (number_of m i t))))
       (λ no. inr (Row (number_of m i t), (λ e. cc e), (refl, there, no), λ good. no good.row))
       (true_or_not (is_row m i t (record_at rs (number_of m i t)))))

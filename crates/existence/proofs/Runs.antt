@@ -8,7 +8,7 @@ use Rattle.frac128.specs.Limits.{divided_ℚ}
 use Rattle.tableau.specs.Program.{Program, column_count, cost_at, entry_at, right_at, row_count, zero_ℚ}
 use Rattle.tableau.specs.Dictionary.{Dictionary, IsPivoted, IsStart, basic_at, cell, cost_of, factor_at, height, nonbasic_at, slack_of, width}
 use Rattle.tableau.specs.Held.{values_of}
-use Rattle.tableau.specs.Run.{IsFittingStep, IsLast, IsLeastIndex, IsLeaving, Runs}
+use Rattle.tableau.specs.Run.{IsFittingStep, IsPrimalFeasible, IsLeastIndex, IsLeaving, Runs}
 use Rattle.tableau.specs.Steps.{HasNoneTo}
 use Rattle.tableau.specs.Meaning.{coefficient_at, opposite_at, value_at}
 use Rattle.tableau.specs.Stepwise.{HasEnded}
@@ -189,7 +189,7 @@ by_rule : (p : Program) (n : ℕ) (d : Dictionary) → Runs IsFittingStep p n d 
 by_rule p zero d runs = runs
 by_rule p (suc n) d runs = (runs.0, by_rule p n runs.0 runs.1, record { row = runs.2.row; column = runs.2.column; chosen = runs.2.chosen.step; pivoted = runs.2.pivoted })
 
-best_there : (p : Program) (n : ℕ) (d : Dictionary) → Runs IsFittingStep p n d → IsLast d → HasProvedBest p
+best_there : (p : Program) (n : ℕ) (d : Dictionary) → Runs IsFittingStep p n d → IsPrimalFeasible d → HasProvedBest p
 best_there p n d runs last =
     let xs = values_of (column_count p) (λ c. value_at d (c + 1)) in
     let ys = values_of (row_count p) (λ k. coefficient_at d 0 (slack_of p k)) in (

@@ -27,13 +27,11 @@ pub struct Improving {
 }
 
 // Keeps the cheaper one of two plans.
-fn keep_cheaper(instance: &Instance, state: &mut Improving, found: Option<Planned>)
-    requires state { IsImproving instance.now state.old }
-    requires found { IfSome found (IsMade instance.now) }
-    ensures { IsImproved instance.now state.old state.new }
+fn keep_cheaper(_instance: &Instance, state: &mut Improving, found: Option<Planned>)
+    requires state { IsImproving _instance.now state.old }
+    requires found { IfSome found (IsMade _instance.now) }
+    ensures { IsImproved _instance.now state.old state.new }
 {
-    // Its clauses speak of the instance, which nothing else reads.
-    let _of = instance;
     if let Some(planned) = found {
         if planned.cost < state.best.cost {
             state.best = planned;

@@ -27,12 +27,27 @@ const MODEL_KICKS: u32 = 100;
 // That is done where so many plans may be built for each item and period.
 const KICK_SWEEPS: u32 = 32;
 
-// So many patterns of setups are those of items by themselves: without a part of the components' costs, and with each number
-// of parts.
-const QUARTERS: u64 = PARTS + 1;
+// A pattern of setups by which a plan is built.
+#[derive(Clone, Copy)]
+enum Pattern {
+    // Those that items want by themselves, where so many quarters of what their components cost in stock are taken off of what
+    // they cost there.
+    Apart(u64),
+    // Those of each item in one of so many periods, the items in turn.
+    Every(u64),
+}
 
-// So many patterns are there in all.
-const PATTERNS: u64 = 8;
+// All patterns but that of setups everywhere, which comes first, in the order in which plans are built by them.
+const PATTERNS: [Pattern; 8] = [
+    Pattern::Apart(0),
+    Pattern::Apart(1),
+    Pattern::Apart(2),
+    Pattern::Apart(3),
+    Pattern::Apart(PARTS),
+    Pattern::Every(2),
+    Pattern::Every(3),
+    Pattern::Every(4),
+];
 
 // Puts a plan to a list, if there is one.
 fn keep(list: &mut Vec<Planned>, found: Option<Planned>) -> Result<(), AllocError>
@@ -60,15 +75,13 @@ fn keep_built(
     Ok(())
 }
 
-// The setups of a pattern: those that items want by themselves, with so many quarters of what their components cost in stock
-// taken off of what they cost there; and then those of each second period, each third and each fourth.
-fn pattern_of(alloc: Global, instance: &Instance, pattern: u64) -> Result<Grid, AllocError>
+// The setups of a pattern.
+fn setups_of(alloc: Global, instance: &Instance, pattern: Pattern) -> Result<Grid, AllocError>
     ensures { IfOk result (Fits instance.now) }
 {
-    if pattern < QUARTERS {
-        wanted_apart(alloc, instance, pattern)
-    } else {
-        wanted_spread(alloc, instance, pattern - QUARTERS + 2)
+    match pattern {
+        Pattern::Apart(quarters) => wanted_apart(alloc, instance, quarters),
+        Pattern::Every(periods) => wanted_spread(alloc, instance, periods),
     }
 }
 
@@ -76,13 +89,13 @@ fn pattern_of(alloc: Global, instance: &Instance, pattern: u64) -> Result<Grid, 
 fn keep_pattern(
     alloc: Global,
     instance: &Instance,
-    pattern: u64,
+    pattern: Pattern,
     list: &mut Vec<Planned>,
 ) -> Result<(), AllocError>
     requires each { All (IsMade instance.now) list.old.items }
     ensures { OnOk result (IsGrown instance.now list.old.items list.new.items) }
 {
-    let wanted = pattern_of(alloc, instance, pattern)?;
+    let wanted = setups_of(alloc, instance, pattern)?;
     keep_built(alloc, instance, &wanted, list)
 }
 
@@ -209,7 +222,7 @@ pub fn candidates(alloc: Global, instance: &Instance) -> Result<Vec<Planned>, Al
     }
     let mut list = own_list(alloc, instance)?;
     keep_everywhere(alloc, instance, &mut list)?;
-    for pattern in 0..PATTERNS {
+    for pattern in PATTERNS {
         keep_pattern(alloc, instance, pattern, &mut list)?;
     }
     keep_improved(alloc, instance, &mut list)?;

@@ -19,15 +19,13 @@ pub struct Trial {
 }
 
 // Changes the setups of one item.
-fn change_item(instance: &Instance, wanted: &mut Grid, item: u32, trial: Trial, setup: u64)
-    requires wanted { Fits instance.now wanted.old }
-    requires trial { IsTrial instance.now trial }
+fn change_item(_instance: &Instance, wanted: &mut Grid, item: u32, trial: Trial, setup: u64)
+    requires wanted { Fits _instance.now wanted.old }
+    requires trial { IsTrial _instance.now trial }
     requires low { 1 ≤ item }
-    requires high { item ≤ item_count instance.now }
-    ensures { Fits instance.now wanted.new }
+    requires high { item ≤ item_count _instance.now }
+    ensures { Fits _instance.now wanted.new }
 {
-    // Its clauses speak of the instance, which nothing else reads.
-    let _of = instance;
     if trial.from == trial.to {
         wanted.set(item, trial.from, setup);
     } else if wanted.get(item, trial.from) == 1 {

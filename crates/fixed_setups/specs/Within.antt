@@ -4,7 +4,7 @@ use Rattle.lot_sizing.specs.Problem.{Problem, item_count}
 use Rattle.plan_rules.specs.Cells.{Cells, table_of}
 use Rattle.plan_rules.specs.declared.plan.Planned.{Planned}
 use Rattle.built_plans.specs.Made.{IsMade}
-use Rattle.fixed_setups.specs.declared.limits.TheConstants.{MAX_PLACES}
+use Rattle.fixed_setups.specs.declared.limits.TheConstants.{MAX_GRID_CELLS}
 
 -- there is no setup where the greatest number of setups is 0
 abbrev pub IsSetUpWithin : Problem → Cells → Cells → Type 0
@@ -16,7 +16,7 @@ SetsUpWithin m high planned = IsSetUpWithin m high planned.plan.setup
 
 -- few enough items and periods for programs
 abbrev pub IsFew : Problem → Type 0
-IsFew m = item_count m * m.periods ≤ MAX_PLACES
+IsFew m = item_count m * m.periods ≤ MAX_GRID_CELLS
 
 -- a plan that was made, and costs less than this
 pub record IsCheaper (m : Problem) (amount : ℕ) (planned : Planned) : Type 0 where

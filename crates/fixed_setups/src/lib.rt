@@ -22,7 +22,7 @@ mod program;
 mod reducing;
 mod walking;
 
-pub use limits::{MAX_PLACES, MAX_PROGRAM_CELLS};
+pub use limits::{MAX_GRID_CELLS, MAX_PROGRAM_CELLS};
 pub use planning::planned;
 pub use plunging::plunged;
 pub use root_rows::MAX_PIVOTS;

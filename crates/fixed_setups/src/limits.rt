@@ -1,7 +1,7 @@
 //! The limits of the programs, each with one name.
 
 /// Most items times periods of a model whose programs are solved.
-pub const MAX_PLACES: u32 = 400;
+pub const MAX_GRID_CELLS: u32 = 400;
 /// Most cells of a program that is solved.
 pub const MAX_PROGRAM_CELLS: u64 = 500_000;
 /// Most times that a program with given setups is solved, each time but the first with a further bound of a quantity that

@@ -27,7 +27,7 @@ pub(crate) fn value_at(instance: &Instance, solved: &Solved, column: Column) -> 
 
 // Puts a lot of an item in a period where there may be a setup, with the setup if there is some of it.
 fn put_lot(
-    instance: &Instance,
+    _instance: &Instance,
     high: &Grid,
     item: u32,
     period: u32,
@@ -35,20 +35,18 @@ fn put_lot(
     make: &mut Grid,
     setup: &mut Grid,
 )
-    requires high_fits { Fits instance.now high.now }
-    requires make { Fits instance.now make.old }
-    requires setup { Fits instance.now setup.old }
+    requires high_fits { Fits _instance.now high.now }
+    requires make { Fits _instance.now make.old }
+    requires setup { Fits _instance.now setup.old }
     requires item_low { 1 ≤ item }
-    requires item_high { item ≤ item_count instance.now }
+    requires item_high { item ≤ item_count _instance.now }
     requires low { 1 ≤ period }
-    requires high { period ≤ instance.now.periods }
-    requires within { IsSetUpWithin instance.now high.now setup.old }
-    ensures make { Fits instance.now make.new }
-    ensures setup { Fits instance.now setup.new }
-    ensures within { IsSetUpWithin instance.now high.now setup.new }
+    requires high { period ≤ _instance.now.periods }
+    requires within { IsSetUpWithin _instance.now high.now setup.old }
+    ensures make { Fits _instance.now make.new }
+    ensures setup { Fits _instance.now setup.new }
+    ensures within { IsSetUpWithin _instance.now high.now setup.new }
 {
-    // Its clauses speak of the instance, which nothing else reads.
-    let _of = instance;
     if lot > 0 && high.get(item, period) > 0 {
         make.set(item, period, lot);
         setup.set(item, period, 1);

@@ -6,7 +6,7 @@ ghost use Rattle.plan_rules.specs.Rows.{IfFound};
 ghost use Rattle.built_plans.specs.Made.{IsMade};
 ghost use Rattle.fixed_setups.specs.Within.{IsFew, SetsUpWithin};
 
-use crate::limits::{MAX_PLACES, MAX_TIMES};
+use crate::limits::{MAX_GRID_CELLS, MAX_TIMES};
 use crate::lots::{plan_of, value_at};
 use crate::program::{Base, Solved};
 use lin_rows::{Bound, Column};
@@ -21,11 +21,11 @@ struct Tried {
     more: bool,
 }
 
-/// Whether the model has at most `MAX_PLACES` items times periods.
+/// Whether the model has at most `MAX_GRID_CELLS` items times periods.
 pub(crate) fn is_few(instance: &Instance) -> bool
     ensures { IsTrue result ↔ IsFew instance.now }
 {
-    instance.items() * instance.periods() <= MAX_PLACES
+    instance.items() * instance.periods() <= MAX_GRID_CELLS
 }
 
 // The bound of the first quantity of a period that isn't whole: at least that, rounded up. None too where that doesn't fit.
@@ -135,7 +135,7 @@ pub(crate) fn planned_on(
 /// The quantities are those of a least point, rounded up along their sums where they aren't whole; nothing is set up where
 /// nothing is made, nor where `high` is 0. Where that isn't feasible, the first quantity that isn't whole is bounded from
 /// below by the next whole number, or from above where there is no such point, and so on a few times. None where there is no
-/// point, where nothing that comes out is feasible, and past the limits: `MAX_PLACES` items times periods,
+/// point, where nothing that comes out is feasible, and past the limits: `MAX_GRID_CELLS` items times periods,
 /// `MAX_PROGRAM_CELLS` cells and `MAX_PIVOTS` pivots.
 ///
 /// The error is that memory ran out. It takes memory for the program and its tableau.

@@ -92,13 +92,10 @@ fn turn(dive: &mut Dive, choice: Choice) -> Result<bool, AllocError>
 }
 
 // Goes back to the last setup whose other side wasn't tried, and gives that.
-fn go_back(instance: &Instance, dive: &mut Dive) -> Result<After, AllocError>
-    requires { HasShape instance.now dive.old }
-    ensures shape { HasShape instance.now dive.new }
-    ensures after { IfOk result (IsAfter instance.now) }
+fn go_back(dive: &mut Dive) -> Result<After, AllocError>
+    ensures shape { (m : Problem) → HasShape m dive.old → HasShape m dive.new }
+    ensures after { (m : Problem) → IfOk result (IsAfter m) }
 {
-    // Its clauses speak of the instance, which nothing else reads.
-    let _of = instance;
     for _step in 0..dive.way.len() {
         if let Some(choice) = dive.way.pop() {
             if turn(dive, choice)? {
@@ -234,7 +231,7 @@ fn go_on(instance: &Instance, dive: &mut Dive, solved: &Solved) -> Result<After,
             dive.way.push(choice)?;
             Ok(After::Open)
         }
-        None => go_back(instance, dive),
+        None => go_back(dive),
     }
 }
 
@@ -250,7 +247,7 @@ fn visit(
     ensures after { IfOk result (IsAfter instance.now) }
 {
     let Some(solved) = base.solve(alloc, instance, &dive.low, &dive.high, &[])? else {
-        return go_back(instance, dive);
+        return go_back(dive);
     };
     match plan_near(alloc, instance, base, dive, &solved)? {
         Some(planned) => Ok(After::Found(planned)),
@@ -263,7 +260,7 @@ fn visit(
 /// nearest to a whole number in its least point is given next, that number first. Where the quantities of the point, rounded
 /// up along their sums, come to no plan, the program is solved once more with all setups of which the point has some.
 ///
-/// None where no plan is found within so many nodes, and where the model has more than `MAX_PLACES` items times periods.
+/// None where no plan is found within so many nodes, and where the model has more than `MAX_GRID_CELLS` items times periods.
 ///
 /// The error is that memory ran out. Each node takes the time of one or two programs.
 pub fn plunged(

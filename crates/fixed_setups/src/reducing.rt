@@ -16,8 +16,8 @@ pub(crate) struct NamedRow {
     pub(crate) row: Row,
 }
 
-// The largest lot for which a resource has the time.
-fn largest_on(instance: &Instance, item: u32, resource: u32, period: u32) -> u64
+// The largest lot for which a resource has the time; None where a unit takes none of it.
+fn largest_on(instance: &Instance, item: u32, resource: u32, period: u32) -> Option<u64>
     requires item_low { 1 ≤ item }
     requires item_high { item ≤ item_count instance.now }
     requires resource_low { 1 ≤ resource }
@@ -27,22 +27,21 @@ fn largest_on(instance: &Instance, item: u32, resource: u32, period: u32) -> u64
 {
     let capacity = instance.capacity(resource, period);
     let room = capacity.saturating_sub(instance.setup_time(item, resource));
-    match room.checked_div(instance.unit_time(item, resource)) {
-        Some(units) => units,
-        None => u64::MAX,
-    }
+    room.checked_div(instance.unit_time(item, resource))
 }
 
-// The largest lot for which all resources have the time.
-fn largest_lot(instance: &Instance, item: u32, period: u32) -> u64
+// The largest lot for which all resources have the time; None where a unit takes none of any.
+fn largest_lot(instance: &Instance, item: u32, period: u32) -> Option<u64>
     requires item_low { 1 ≤ item }
     requires item_high { item ≤ item_count instance.now }
     requires low { 1 ≤ period }
     requires high { period ≤ instance.now.periods }
 {
-    let mut most = u64::MAX;
+    let mut most: Option<u64> = None;
     for resource in 1..instance.resources() + 1 {
-        most = most.min(largest_on(instance, item, resource, period));
+        if let Some(units) = largest_on(instance, item, resource, period) {
+            most = Some(most.unwrap_or(units).min(units));
+        }
     }
     most
 }
@@ -58,7 +57,8 @@ fn most_of(instance: &Instance, name: RowName) -> Option<i128> {
             if period == 0 || period > instance.periods() {
                 return None;
             }
-            Some(i128::from(largest_lot(instance, item, period)))
+            let largest = largest_lot(instance, item, period)?;
+            Some(i128::from(largest))
         }
         _ => None,
     }

@@ -106,13 +106,11 @@ fn changed(
 }
 
 // Keeps a plan that was found, if it costs less than the best one so far, and than this.
-fn keep_below(instance: &Instance, limit: u128, best: &mut Option<Planned>, found: Option<Planned>)
-    requires found { IfSome found (IsMade instance.now) }
-    requires best { IfSome best.old (IsCheaper instance.now limit) }
-    ensures { IfSome best.new (IsCheaper instance.now limit) }
+fn keep_below(_instance: &Instance, limit: u128, best: &mut Option<Planned>, found: Option<Planned>)
+    requires found { IfSome found (IsMade _instance.now) }
+    requires best { IfSome best.old (IsCheaper _instance.now limit) }
+    ensures { IfSome best.new (IsCheaper _instance.now limit) }
 {
-    // Its clauses speak of the instance, which nothing else reads.
-    let _of = instance;
     if let Some(planned) = found {
         let least = match best {
             Some(other) => other.cost,
@@ -176,7 +174,7 @@ fn walked_on(
 /// The cheapest plan that is found from this one, if one is cheaper: first by the program where its setups are given, and then
 /// when some of them are changed at random, so many times, each time from the best plan so far, and planned by the program
 /// where they are given. The changes are the same each time that `seed` is the same. None too where the model has more than
-/// `MAX_PLACES` items times periods.
+/// `MAX_GRID_CELLS` items times periods.
 ///
 /// The error is that memory ran out. Each change takes the time of a few programs.
 pub fn walked(

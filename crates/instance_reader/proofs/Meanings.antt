@@ -9,7 +9,7 @@ use Rattle.lot_model.specs.Meaning.{Means}
 use Rattle.lot_model.proofs.Meanings.{means_one}
 use Rattle.instance_reader.specs.Document.{document_of}
 use Rattle.instance_reader.specs.Tables.{model_read}
-use Rattle.instance_reader.specs.Model.{MeanUpTo, DocumentMeans, IsTold, told}
+use Rattle.instance_reader.specs.Model.{MeanUpTo, DocumentMeans, IsDraftFault, fault_in}
 
 abbrev ok_or : {A B : Type 0} → Result A B → A → A
 ok_or (Ok x) d = x
@@ -36,27 +36,27 @@ not_both r x y one other = absurd (cc (sym one ∙ other))
 means_same : (newest : ℕ) (t : Members) (m k : RawModel) (r s : Result Problem ModelFault) → model_read newest t ≡ Ok m → model_read newest t ≡ Ok k → Means m r → Means k s → r ≡ s
 means_same newest t m k r s one other means also = means_one m r s means (subst (λ n. Means n s) (sym (same_ok (model_read newest t) m k one other)) also)
 
-told_same : (newest : ℕ) (t : Members) (f g : ModelFault) → IsTold newest t f → IsTold newest t g → f ≡ g
-told_same newest t f g one other =
+draft_same : (newest : ℕ) (t : Members) (f g : ModelFault) → IsDraftFault newest t f → IsDraftFault newest t g → f ≡ g
+draft_same newest t f g one other =
     let same = means_same newest t one.model other.model (Err one.fault) (Err other.fault) one.is_read other.is_read one.breaks other.breaks in
-    one.told ∙ ap (told t) (ap (λ z. err_or z one.fault) same) ∙ sym other.told
+    one.named ∙ ap (fault_in t) (ap (λ z. err_or z one.fault) same) ∙ sym other.named
 
 document_one : (newest : ℕ) (t : Members) (r s : Result Problem ModelFault) → DocumentMeans newest t r → DocumentMeans newest t s → r ≡ s
 document_one newest t (Ok p) (Ok q) one other = means_same newest t one.model other.model (Ok p) (Ok q) one.is_read other.is_read one.means other.means
 document_one newest t (Ok p) (Err g) one other =
     ⊎_elim
     (λ wrong. not_both (model_read newest t) one.model g one.is_read wrong)
-    (λ told. absurd (cc (means_same newest t one.model told.model (Ok p) (Err told.fault) one.is_read told.is_read one.means told.breaks)))
+    (λ draft. absurd (cc (means_same newest t one.model draft.model (Ok p) (Err draft.fault) one.is_read draft.is_read one.means draft.breaks)))
     other
 document_one newest t (Err f) (Ok q) one other =
     ⊎_elim
     (λ wrong. not_both (model_read newest t) other.model f other.is_read wrong)
-    (λ told. absurd (cc (means_same newest t other.model told.model (Ok q) (Err told.fault) other.is_read told.is_read other.means told.breaks)))
+    (λ draft. absurd (cc (means_same newest t other.model draft.model (Ok q) (Err draft.fault) other.is_read draft.is_read other.means draft.breaks)))
     one
 document_one newest t (Err f) (Err g) one other =
     ap Err (⊎_elim
-    (λ wrong. ⊎_elim (λ also. same_err (model_read newest t) f g wrong also) (λ told. not_both (model_read newest t) told.model f told.is_read wrong) other)
-    (λ told. ⊎_elim (λ wrong. not_both (model_read newest t) told.model g told.is_read wrong) (λ also. told_same newest t f g told also) other)
+    (λ wrong. ⊎_elim (λ also. same_err (model_read newest t) f g wrong also) (λ draft. not_both (model_read newest t) draft.model f draft.is_read wrong) other)
+    (λ draft. ⊎_elim (λ wrong. not_both (model_read newest t) draft.model g draft.is_read wrong) (λ also. draft_same newest t f g draft also) other)
     one)
 
 none_some : {A : Type 0} (o : Option Members) (t : Members) → o ≡ None → o ≡ Some t → A

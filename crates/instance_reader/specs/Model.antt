@@ -34,17 +34,17 @@ abbrev pub is_single : Members → Place → Option Key → Bool
 is_single t p None = false
 is_single t p (Some k) = is_some (option_and_then as_integer (option_and_then (value_at k) (table_of p t)))
 
--- a fault as it is told of a document: that of a number which stands for a whole list has no period
-abbrev pub told : Members → ModelFault → ModelFault
-told t f = if is_single t f.place f.key then record { code = f.code; place = f.place; key = f.key; period = None } else f
+-- a fault as its document has it: that of a number which stands for a whole list has no period
+abbrev pub fault_in : Members → ModelFault → ModelFault
+fault_in t f = if is_single t f.place f.key then record { code = f.code; place = f.place; key = f.key; period = None } else f
 
 -- a rule that the model of a document breaks
-pub record IsTold (newest : ℕ) (t : Members) (f : ModelFault) : Type 0 where
+pub record IsDraftFault (newest : ℕ) (t : Members) (f : ModelFault) : Type 0 where
   pub model : RawModel
   pub is_read : model_read newest t ≡ Ok model
   pub fault : ModelFault
   pub breaks : Means model (Err fault)
-  pub told : f ≡ told t fault
+  pub named : f ≡ fault_in t fault
 
 -- the model of a document breaks no rule
 pub record IsProblem (newest : ℕ) (t : Members) (p : Problem) : Type 0 where
@@ -55,7 +55,7 @@ pub record IsProblem (newest : ℕ) (t : Members) (p : Problem) : Type 0 where
 -- what a document means: its model's problem; or the first key that is unknown or absent or of another kind, or the first rule that its model breaks
 abbrev pub DocumentMeans : ℕ → Members → Result Problem ModelFault → Type 0
 DocumentMeans newest t (Ok p) = IsProblem newest t p
-DocumentMeans newest t (Err f) = (model_read newest t ≡ Err f) ⊎ IsTold newest t f
+DocumentMeans newest t (Err f) = (model_read newest t ≡ Err f) ⊎ IsDraftFault newest t f
 
 -- what bytes mean where versions are read up to the newest
 abbrev pub MeanUpTo : ℕ → List ℕ → Result Problem ModelFault → Type 0

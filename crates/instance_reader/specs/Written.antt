@@ -57,19 +57,24 @@ use_table p usage =
 abbrev pub resource_table : Resource → Members
 resource_table r = with_key key.Capacity (number_list r.capacity) (with_key key.Name (string r.name) no_members)
 
--- the keys that each item has
-abbrev pub plain_table : Item → Members
-plain_table a =
+-- the members with the keys that each item has with a single number
+abbrev pub with_numbers : Item → Members → Members
+with_numbers a ms =
     with_key key.MinLot (number a.min_lot)
     (with_key key.Lead (number a.lead)
     (with_key key.EndMax (number a.end_max)
     (with_key key.EndMin (number a.end_min)
-    (with_key key.Opening (number a.opening)
+    (with_key key.Opening (number a.opening) ms))))
+
+-- the keys that each item has
+abbrev pub plain_table : Item → Members
+plain_table a =
+    with_numbers a
     (with_key key.HoldCost (number_list a.hold_cost)
     (with_key key.SetupCost (number_list a.setup_cost)
     (with_key key.UnitCost (number_list a.unit_cost)
     (with_key key.Demand (number_list a.demand)
-    (with_key key.Name (string a.name) no_members)))))))))
+    (with_key key.Name (string a.name) no_members)))))
 
 abbrev pub item_table : Problem → Item → Members
 item_table p a =

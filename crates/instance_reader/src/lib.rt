@@ -11,11 +11,11 @@ ghost use Rattle.std.specs.Prelude.{◌≡◌, Ok, IfOk, IfErr};
 ghost use Rattle.instance_reader.specs.Model.{BytesMean, FirstVersionMeans, IsFirstVersionRefusal, IsRefusal, IsRefusalUpTo, MeanUpTo};
 
 mod document;
+mod document_fault;
 mod fault;
 mod laws;
 mod reading;
 mod tables;
-mod told;
 mod versions;
 mod writing;
 
@@ -54,7 +54,7 @@ fn read_up_to(alloc: Global, bytes: &[u8], newest: u32) -> Result<Instance, Read
     match Instance::from_draft(alloc, draft) {
         Ok(instance) => Ok(instance),
         Err(DraftRefusal::Refused { fault, draft: _ }) => {
-            Err(ReadModelFault::Refused(told::told(&table, fault)))
+            Err(ReadModelFault::Refused(document_fault::fault_in(&table, fault)))
         }
         Err(DraftRefusal::Memory(_)) => Err(ReadModelFault::Memory),
     }

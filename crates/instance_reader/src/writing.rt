@@ -5,7 +5,7 @@ ghost use Rattle.toml.specs.Data.{array, string, table};
 ghost use Rattle.toml.specs.View.{table_view, view};
 ghost use Rattle.lot_sizing.specs.Problem.{AllAtMost, item_at, item_count, resource_at, resource_count};
 ghost use Rattle.lot_sizing.specs.declared.limits.TheConstants.{MAX_AMOUNT, MAX_QUANTITY};
-ghost use Rattle.instance_reader.specs.Written.{IsModelText, item_table, model_table, need_table, number, number_list, plain_table, resource_table, some_tables, tables_of, use_table, with_key, with_some};
+ghost use Rattle.instance_reader.specs.Written.{IsModelText, item_table, model_table, need_table, number, number_list, plain_table, resource_table, some_tables, tables_of, use_table, with_key, with_numbers, with_some};
 
 use crate::versions::NEWEST_VERSION;
 use lot_model::{Instance, Key, Need, Usage};
@@ -170,6 +170,26 @@ fn max_lot(instance: &Instance, item: u32) -> Option<Value>
     }
 }
 
+// Puts the keys that each item has with a single number into a table.
+fn put_numbers(
+    alloc: Global,
+    instance: &Instance,
+    item: u32,
+    table: &mut Table,
+) -> Result<(), AllocError>
+    requires low { 1 ≤ item }
+    requires high { item ≤ item_count instance.now }
+    ensures table { OnOk result (table_view table.new ≡ with_numbers (item_at instance.now item) (table_view table.old)) }
+{
+    let lead = u64::from(instance.lead(item));
+    put(alloc, table, Key::Opening, number(instance.opening(item)))?;
+    put(alloc, table, Key::EndMin, number(instance.end_min(item)))?;
+    put(alloc, table, Key::EndMax, number(instance.end_max(item)))?;
+    put(alloc, table, Key::Lead, number(lead))?;
+    put(alloc, table, Key::MinLot, number(instance.min_lot(item)))?;
+    Ok(())
+}
+
 // The keys that each item has.
 fn plain(alloc: Global, instance: &Instance, item: u32) -> Result<Table, AllocError>
     requires low { 1 ≤ item }
@@ -187,36 +207,7 @@ fn plain(alloc: Global, instance: &Instance, item: u32) -> Result<Table, AllocEr
     put(alloc, &mut table, Key::UnitCost, unit_cost)?;
     put(alloc, &mut table, Key::SetupCost, setup_cost)?;
     put(alloc, &mut table, Key::HoldCost, hold_cost)?;
-    put(
-        alloc,
-        &mut table,
-        Key::Opening,
-        number(instance.opening(item)),
-    )?;
-    put(
-        alloc,
-        &mut table,
-        Key::EndMin,
-        number(instance.end_min(item)),
-    )?;
-    put(
-        alloc,
-        &mut table,
-        Key::EndMax,
-        number(instance.end_max(item)),
-    )?;
-    put(
-        alloc,
-        &mut table,
-        Key::Lead,
-        number(u64::from(instance.lead(item))),
-    )?;
-    put(
-        alloc,
-        &mut table,
-        Key::MinLot,
-        number(instance.min_lot(item)),
-    )?;
+    put_numbers(alloc, instance, item, &mut table)?;
     Ok(table)
 }
 

@@ -19,10 +19,10 @@ pub(crate) struct Task {
     pub(crate) late: bool,
     /// Units that are needed up to each period.
     pub(crate) needed: Vec<u64>,
-    /// Units that may have been made by then, as far as the lots of the components go.
-    pub(crate) allowed: Vec<u64>,
-    /// The largest lot for which there is time.
-    pub(crate) largest: Vec<u64>,
+    /// Units that may have been made by then, as far as the lots of the components go; None where it has no components.
+    pub(crate) allowed: Vec<Option<u64>>,
+    /// The largest lot for which there is time; None where there is time for any.
+    pub(crate) largest: Vec<Option<u64>>,
     /// What a setup costs, and a unit that is made.
     pub(crate) setup: Vec<i128>,
     pub(crate) unit: Vec<i128>,
@@ -40,6 +40,31 @@ pub(crate) fn amount_at(list: &[u64], period: u32) -> u64 {
     match list.get(period as usize) {
         Some(amount) => *amount,
         None => 0,
+    }
+}
+
+/// The bound of a period, if it has one, and 0 where there is no such period.
+pub(crate) fn most_at(list: &[Option<u64>], period: u32) -> Option<u64> {
+    match list.get(period as usize) {
+        Some(most) => *most,
+        None => Some(0),
+    }
+}
+
+/// Whether an amount is within a bound, if there is one.
+pub(crate) fn is_at_most(amount: u64, most: Option<u64>) -> bool {
+    match most {
+        Some(most) => amount <= most,
+        None => true,
+    }
+}
+
+// The lesser one of two bounds; the other one where one of them is none.
+fn lesser(one: Option<u64>, other: Option<u64>) -> Option<u64> {
+    match (one, other) {
+        (Some(first), Some(second)) => Some(first.min(second)),
+        (None, _) => other,
+        _ => one,
     }
 }
 
@@ -73,48 +98,54 @@ fn needed_of(
 }
 
 // The most that may have been made of an item by a period in which so much has been: what is left of its components may go
-// into it.
-fn allowed_by(instance: &Instance, planned: &Planned, item: u32, period: u32, made: u64) -> u64
+// into it. None where it has no components.
+fn allowed_by(
+    instance: &Instance,
+    planned: &Planned,
+    item: u32,
+    period: u32,
+    made: u64,
+) -> Option<u64>
     requires made { IsMade instance.now planned.now }
     requires item_low { 1 ≤ item }
     requires item_high { item ≤ item_count instance.now }
     requires low { 1 ≤ period }
     requires high { period ≤ instance.now.periods }
 {
-    let mut most = u64::MAX;
+    let mut most = None;
     for need in instance.needs(item) {
         let stock = planned.plan.stock.get(need.item, period);
         let more = stock.checked_div(need.quantity).unwrap_or(0);
-        most = most.min(made.saturating_add(more));
+        most = lesser(most, Some(made.saturating_add(more)));
     }
     most
 }
 
 // No period may have more made by then than a later one.
-fn keep_least(list: &mut [u64]) {
+fn keep_least(list: &mut [Option<u64>]) {
     let many = list.len();
-    let mut least = u64::MAX;
+    let mut least = None;
     for back in 0..many {
-        if let Some(amount) = list.get_mut(many - 1 - back) {
-            least = least.min(*amount);
-            *amount = least;
+        if let Some(most) = list.get_mut(many - 1 - back) {
+            least = lesser(least, *most);
+            *most = least;
         }
     }
 }
 
-// Units that may have been made by each period.
+// Units that may have been made by each period; None where it has no components.
 fn allowed_of(
     alloc: Global,
     instance: &Instance,
     planned: &Planned,
     item: u32,
-) -> Result<Vec<u64>, AllocError>
+) -> Result<Vec<Option<u64>>, AllocError>
     requires made { IsMade instance.now planned.now }
     requires low { 1 ≤ item }
     requires high { item ≤ item_count instance.now }
 {
     let mut made = 0u64;
-    let mut list = vec![in alloc; 0u64; 1]?;
+    let mut list = vec![in alloc; Some(0u64); 1]?;
     for period in 1..instance.periods() + 1 {
         made = made.saturating_add(planned.plan.make.get(item, period));
         list.push(allowed_by(instance, planned, item, period, made))?;
@@ -123,8 +154,14 @@ fn allowed_of(
     Ok(list)
 }
 
-// The largest lot of an item for which a resource has the time that the others leave.
-fn largest_on(instance: &Instance, planned: &Planned, item: u32, resource: u32, period: u32) -> u64
+// The largest lot of an item for which a resource has the time that the others leave; None where it has the time for any.
+fn largest_on(
+    instance: &Instance,
+    planned: &Planned,
+    item: u32,
+    resource: u32,
+    period: u32,
+) -> Option<u64>
     requires made { IsMade instance.now planned.now }
     requires item_low { 1 ≤ item }
     requires item_high { item ≤ item_count instance.now }
@@ -136,32 +173,30 @@ fn largest_on(instance: &Instance, planned: &Planned, item: u32, resource: u32, 
     let unit = instance.unit_time(item, resource) as u128;
     let setup = instance.setup_time(item, resource) as u128;
     if unit == 0 && setup == 0 {
-        return u64::MAX;
+        return None;
     }
     let own = unit * planned.plan.make.get(item, period) as u128
         + setup * planned.plan.setup.get(item, period) as u128;
     let others = time_used(instance, &planned.plan, resource, period).saturating_sub(own);
     let room = (instance.capacity(resource, period) as u128).saturating_sub(others);
     if setup > room {
-        return 0;
+        return Some(0);
     }
-    match (room - setup).checked_div(unit) {
-        Some(units) => u64::try_from(units).unwrap_or(u64::MAX),
-        None => u64::MAX,
-    }
+    let units = (room - setup).checked_div(unit)?;
+    u64::try_from(units).ok()
 }
 
-// The largest lot for which all resources have the time.
-fn largest_in(instance: &Instance, planned: &Planned, item: u32, period: u32) -> u64
+// The largest lot for which all resources have the time; None where they have the time for any.
+fn largest_in(instance: &Instance, planned: &Planned, item: u32, period: u32) -> Option<u64>
     requires made { IsMade instance.now planned.now }
     requires item_low { 1 ≤ item }
     requires item_high { item ≤ item_count instance.now }
     requires low { 1 ≤ period }
     requires high { period ≤ instance.now.periods }
 {
-    let mut most = u64::MAX;
+    let mut most = None;
     for resource in 1..instance.resources() + 1 {
-        most = most.min(largest_on(instance, planned, item, resource, period));
+        most = lesser(most, largest_on(instance, planned, item, resource, period));
     }
     most
 }
@@ -172,12 +207,12 @@ fn largest_of(
     instance: &Instance,
     planned: &Planned,
     item: u32,
-) -> Result<Vec<u64>, AllocError>
+) -> Result<Vec<Option<u64>>, AllocError>
     requires made { IsMade instance.now planned.now }
     requires low { 1 ≤ item }
     requires high { item ≤ item_count instance.now }
 {
-    let mut list = vec![in alloc; 0u64; 1]?;
+    let mut list = vec![in alloc; Some(0u64); 1]?;
     for period in 1..instance.periods() + 1 {
         list.push(largest_in(instance, planned, item, period))?;
     }

@@ -1,5 +1,5 @@
 // An item's lots by a recursion over whole blocks of periods, while the lots of all other items stay as they are.
-use crate::task::{Task, amount_at, cost_at};
+use crate::task::{Task, amount_at, cost_at, is_at_most, most_at};
 use std::alloc::{AllocError, Global};
 
 // A cheapest way to meet what is needed up to a period: as up to an earlier one, and by a lot of one period for the rest.
@@ -73,15 +73,16 @@ impl Task {
 
     // The cheapest way up to a period whose last lot is one of another period: there is time for it, and components.
     fn way_by(&self, ways: &[Option<Way>], last: u32, server: u32) -> Option<Way> {
-        if amount_at(&self.needed, last) > amount_at(&self.allowed, server) {
+        let needed = amount_at(&self.needed, last);
+        if !is_at_most(needed, most_at(&self.allowed, server)) {
             return None;
         }
-        let most = amount_at(&self.largest, server);
+        let most = most_at(&self.largest, server);
         let mut best = None;
         for back in 0..last {
             let before = last - 1 - back;
             let is_late = before + 1 < server;
-            if (is_late && !self.late) || self.units(before, last) > most {
+            if (is_late && !self.late) || !is_at_most(self.units(before, last), most) {
                 return best;
             }
             best = cheaper(best, self.way_with(ways, server, before, last));
@@ -93,8 +94,8 @@ impl Task {
     fn is_too_early(&self, server: u32, last: u32) -> bool {
         let before = last.saturating_sub(1);
         let units = self.units(before, last);
-        let may = units <= amount_at(&self.largest, last)
-            && amount_at(&self.needed, last) <= amount_at(&self.allowed, last);
+        let may = is_at_most(units, most_at(&self.largest, last))
+            && is_at_most(amount_at(&self.needed, last), most_at(&self.allowed, last));
         may && self.early_cost(server, before, last) > self.lot_cost(last, before, last)
     }
 

@@ -4,8 +4,8 @@ ghost use Rattle.std.specs.Prelude.{IfOk, IfSome, OnOk};
 ghost use Rattle.plan_rules.specs.Cells.{Fits};
 ghost use Rattle.plan_rules.specs.Rows.{IfFound};
 ghost use Rattle.first_plans.specs.Made.{IsMade};
-ghost use Rattle.known_plans.specs.Kept.{IsBestSoFar, IsFirstBest, IsFirstWithin, IsMadeWithin, IsNoWorseBest};
-ghost use Rattle.search_ranges.specs.Within.{HaveShape, given_ranges};
+ghost use Rattle.known_plans.specs.Kept.{IsBestSoFar, IsFirstBest, IsFirstWithin, IsNoWorseBest};
+ghost use Rattle.search_ranges.specs.Within.{HaveShape};
 
 use crate::effort::Effort;
 use crate::keeping::{best_to_begin, keep_within};
@@ -65,15 +65,13 @@ fn first_plan(
 fn walked_from(
     alloc: Global,
     instance: &Instance,
-    ranges: &Ranges,
     best: &Option<Planned>,
     seed: u64,
     work: u64,
 ) -> Result<Option<Planned>, AllocError>
-    requires { IfSome best.now (IsMadeWithin instance.now (given_ranges ranges.now)) }
+    requires { IfSome best.now (IsMade instance.now) }
     ensures { IfFound result (IsMade instance.now) }
 {
-    let _of = ranges;
     let tries = programs_for(instance, work, MOST_CHANGES);
     match best {
         Some(made) => walked(alloc, instance, made, seed, tries),
@@ -93,7 +91,7 @@ fn walk(
     requires { IsBestSoFar instance.now ranges.now best.old }
     ensures { OnOk result (IsNoWorseBest instance.now ranges.now best.new best.old) }
 {
-    let found = walked_from(alloc, instance, ranges, best, seed, work)?;
+    let found = walked_from(alloc, instance, best, seed, work)?;
     keep_within(instance, ranges, best, found);
     Ok(())
 }

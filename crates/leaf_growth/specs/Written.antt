@@ -3,7 +3,7 @@ use Rattle.std.specs.Prelude.{◌≡◌, ◌≤◌, ◌<◌, ◌^◌, ℕ, List,
 use Rattle.lot_sizing.specs.Problem.{EachItem, IsPlain, IsWithinLimits, Problem}
 use Rattle.lot_sizing.specs.declared.limits.TheConstants.{MAX_TOTAL}
 use Rattle.lin_rows.specs.declared.bound.Bound.{Bound}
-use Rattle.cert_lines.specs.declared.limits.TheConstants.{FIRST_VERSION, MAX_BRANCHES, MAX_CUTS}
+use Rattle.cert_lines.specs.declared.limits.TheConstants.{FIRST_CERT_VERSION, MAX_BRANCHES, MAX_CUTS}
 use Rattle.cert_lines.specs.Limits.{IsSmallClaim, IsVersion}
 use Rattle.cert_lines.specs.Shapes.{LeafShape}
 use Rattle.certificate.specs.Counts.{longest_path, node_count}
@@ -18,7 +18,7 @@ use Rattle.leaf_growth.specs.declared.limits.TheConstants.{MAX_NODES}
 -- a version of texts that has the names of the problem's rows: the first one has none of least lots and of lots that come too late
 pub record HasVersion (m : Problem) (version : ℕ) : Type 0 where
   pub exists : IsVersion version
-  pub plain : version ≡ FIRST_VERSION → IsPlain m
+  pub plain : version ≡ FIRST_CERT_VERSION → IsPlain m
 
 -- the lines of a leaf are those of texts of this version
 abbrev pub LeafHasLines : ℕ → LeafShape → Type 0

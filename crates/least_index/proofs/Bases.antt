@@ -7,7 +7,7 @@ use Rattle.rational.proofs.Rationals.{rational_ring}
 use Rattle.algebra.proofs.Sums.{sum-only, sum-zero}
 use Rattle.tableau.specs.Program.{Program, sum_ℚ, zero_ℚ}
 use Rattle.tableau.specs.Dictionary.{Dictionary, Solves, basic_at, cell, height, nonbasic_at, width}
-use Rattle.tableau.specs.Meaning.{HasNames, IsDictionaryOf}
+use Rattle.tableau.specs.Meaning.{IsBasis, IsDictionaryOf}
 use Rattle.least_index.specs.Basis.{HasSameBasis, is_basic}
 use Rattle.least_index.specs.Laws.{BasesHaveOneDictionary}
 use Rattle.least_index.proofs.Numbers.{if_other, if_same, times_one, times_zero}
@@ -18,7 +18,7 @@ use Rattle.least_index.proofs.Places.{among_apart, among_none, column_not_basic}
 abbrev pub edge : Dictionary → ℕ → ℕ → ℚ
 edge d t v = if v == nonbasic_at d t then whole (pos 1) else sum_ℚ (height d) (λ i. if basic_at d i == v then cell d i t else zero_ℚ)
 
-module _ (p : Program) (d : Dictionary) (names : HasNames p d) (t : ℕ) (t_high : t < width d) where
+module _ (p : Program) (d : Dictionary) (names : IsBasis p d) (t : ℕ) (t_high : t < width d) where
   pub edge_basic : (i : ℕ) → i < height d → edge d t (basic_at d i) ≡ cell d i t
   edge_basic i high =
       if_other (basic_at d i) (nonbasic_at d t) (whole (pos 1)) _ (names.apart i t high t_high)
@@ -34,16 +34,16 @@ module _ (p : Program) (d : Dictionary) (names : HasNames p d) (t : ℕ) (t_high
       ∙ sum-zero rational_ring (height d) (λ h. if basic_at d h == v then cell d h t else zero_ℚ) (λ h high. if_other (basic_at d h) v (cell d h t) zero_ℚ (among_apart (height d) (basic_at d) v h absent high))
 
 -- in a dictionary whose nonbasic variables are not basic in the first, a row's value at these values is a cell
-row_at_edge : (p : Program) (d e : Dictionary) → HasNames p d → HasNames p e → ((w : ℕ) → w < width e → is_basic d (nonbasic_at e w) ≡ false) → (t u i : ℕ) → t < width d → u < width e → nonbasic_at e u ≡ nonbasic_at d t → sum_ℚ (width e) (λ w. cell e i w *ℚ edge d t (nonbasic_at e w)) ≡ cell e i u
+row_at_edge : (p : Program) (d e : Dictionary) → IsBasis p d → IsBasis p e → ((w : ℕ) → w < width e → is_basic d (nonbasic_at e w) ≡ false) → (t u i : ℕ) → t < width d → u < width e → nonbasic_at e u ≡ nonbasic_at d t → sum_ℚ (width e) (λ w. cell e i w *ℚ edge d t (nonbasic_at e w)) ≡ cell e i u
 row_at_edge p d e old new absent t u i t_high u_high same =
     sum-only rational_ring (width e) u (λ w. cell e i w *ℚ edge d t (nonbasic_at e w)) u_high
     (λ w w_high apart. times_zero (cell e i w) (edge d t (nonbasic_at e w)) (edge_other p d old t t_high (nonbasic_at e w) (λ is. apart (new.columns_apart w u w_high u_high (is ∙ sym same))) (absent w w_high)))
     ∙ times_one (cell e i u) (edge d t (nonbasic_at e u)) (edge_own p d old t t_high (nonbasic_at e u) same)
 
-pub edge_solves : (p : Program) (d : Dictionary) → HasNames p d → (t : ℕ) → t < width d → Solves d (edge d t)
+pub edge_solves : (p : Program) (d : Dictionary) → IsBasis p d → (t : ℕ) → t < width d → Solves d (edge d t)
 edge_solves p d names t t_high i high = edge_basic p d names t t_high i high ∙ sym (row_at_edge p d d names names (λ w w_high. column_not_basic p d names w w_high) t t i t_high t_high refl)
 
-not_basic : (p : Program) (d e : Dictionary) → HasNames p d → HasNames p e → HasSameBasis p d e → (w : ℕ) → w < width e → is_basic d (nonbasic_at e w) ≡ false
+not_basic : (p : Program) (d e : Dictionary) → IsBasis p d → IsBasis p e → HasSameBasis p d e → (w : ℕ) → w < width e → is_basic d (nonbasic_at e w) ≡ false
 not_basic p d e old new same w high = ⊎_elim
     (λ first. among_none (height d) (basic_at d) (nonbasic_at e w) (λ i i_high is. omega (arith, old.basics_low i i_high, is, ap (nonbasic_at e) first, new.constants)))
     (λ some.

@@ -6,7 +6,7 @@ use Rattle.rational.proofs.Rationals.{rational_ring}
 use Rattle.algebra.proofs.Sums.{sum-only, sum-zero}
 use Rattle.tableau.specs.Program.{Program, zero_ℚ}
 use Rattle.tableau.specs.Dictionary.{Dictionary, basic_at, cell, height, nonbasic_at, width}
-use Rattle.tableau.specs.Meaning.{HasNames, coefficient_at}
+use Rattle.tableau.specs.Meaning.{IsBasis, coefficient_at}
 use Rattle.least_index.specs.Basis.{is_among, is_basic}
 use Rattle.least_index.proofs.Numbers.{if_other, if_same}
 
@@ -33,7 +33,7 @@ pub among_apart : (n : ℕ) (f : ℕ → ℕ) (v i : ℕ) → is_among n f v ≡
 among_apart n f v i absent less is = both_ways (is_among n f v) absent (among_here n f v i less is)
 
 -- ---- a dictionary's variables
-module _ (p : Program) (d : Dictionary) (names : HasNames p d) where
+module _ (p : Program) (d : Dictionary) (names : IsBasis p d) where
   pub column_not_basic : (t : ℕ) → t < width d → is_basic d (nonbasic_at d t) ≡ false
   column_not_basic t high = among_none (height d) (basic_at d) (nonbasic_at d t) (λ i i_high. names.apart i t i_high high)
 

@@ -15,7 +15,7 @@ use Rattle.lin_rows.specs.Columns.{IsColumn, column_cost, value_in}
 use Rattle.lin_rows.specs.Combining.{AllHold, AreOfProblem, AreSigned, AreWithinCosts, column_sum, right_sum, sum_of}
 use Rattle.lin_rows.specs.Costs.{point_cost}
 use Rattle.lin_rows.specs.Rows.{LinPoint, LinRow, sum_at, whole_point}
-use Rattle.lin_rows.specs.Sums.{coefficient, is_within, same_column}
+use Rattle.lin_rows.specs.Sums.{coefficient, has_column_for, same_column}
 use Rattle.lin_rows.proofs.Below.{one_by_parts}
 use Rattle.lin_rows.proofs.Cells.{in_is, is_in}
 use Rattle.lin_rows.proofs.Combined.{sums_hold_at}
@@ -40,9 +40,9 @@ absent_sum m (r ∷ rows) (z ∷ times) c each lacks =
 
 -- whether the problem has a column
 has_or_not : (m : Problem) (c : Column) → IsColumn m c ⊎ (IsColumn m c → ⊥)
-has_or_not m (X i t) = ⊎_elim (λ yes. inl (is_in (item_count m) m.periods (X i t) yes)) (λ no. inr (λ is. cc (sym no ∙ in_is (item_count m) m.periods (X i t) is))) (cases_Bool (is_within (item_count m) m.periods (X i t)))
-has_or_not m (Y i t) = ⊎_elim (λ yes. inl (is_in (item_count m) m.periods (Y i t) yes)) (λ no. inr (λ is. cc (sym no ∙ in_is (item_count m) m.periods (Y i t) is))) (cases_Bool (is_within (item_count m) m.periods (Y i t)))
-has_or_not m (S i t) = ⊎_elim (λ yes. inl (is_in (item_count m) m.periods (S i t) yes)) (λ no. inr (λ is. cc (sym no ∙ in_is (item_count m) m.periods (S i t) is))) (cases_Bool (is_within (item_count m) m.periods (S i t)))
+has_or_not m (X i t) = ⊎_elim (λ yes. inl (is_in (item_count m) m.periods (X i t) yes)) (λ no. inr (λ is. cc (sym no ∙ in_is (item_count m) m.periods (X i t) is))) (cases_Bool (has_column_for (item_count m) m.periods (X i t)))
+has_or_not m (Y i t) = ⊎_elim (λ yes. inl (is_in (item_count m) m.periods (Y i t) yes)) (λ no. inr (λ is. cc (sym no ∙ in_is (item_count m) m.periods (Y i t) is))) (cases_Bool (has_column_for (item_count m) m.periods (Y i t)))
+has_or_not m (S i t) = ⊎_elim (λ yes. inl (is_in (item_count m) m.periods (S i t) yes)) (λ no. inr (λ is. cc (sym no ∙ in_is (item_count m) m.periods (S i t) is))) (cases_Bool (has_column_for (item_count m) m.periods (S i t)))
 has_or_not m (R i t) =
     ⊎_elim
     (λ yes. ⊎_elim
@@ -53,7 +53,7 @@ has_or_not m (R i t) =
     (λ last. inr (λ is. omega (arith, last, is.1)))
     (cases_lt t m.periods))
     (λ no. inr (λ is. cc (sym no ∙ in_is (item_count m) m.periods (R i t) is.0)))
-    (cases_Bool (is_within (item_count m) m.periods (R i t)))
+    (cases_Bool (has_column_for (item_count m) m.periods (R i t)))
 
 pub sums_bound_at : (m : Problem) (rows : List LinRow) (times : List ℤ) (den : ℕ) → AreSigned rows times → AreOfProblem m rows → AreWithinCosts m rows times den → (q : LinPoint) → AllHold q rows → (right_sum rows times *ℤ pos q.den) ≤ℤ (pos den *ℤ pos (point_cost m q.values))
 sums_bound_at m rows times den signed of within q hold =

@@ -8,7 +8,7 @@ use Rattle.lin_rows.specs.declared.column.Column.{Column}
 use Rattle.lin_rows.specs.declared.column.Column.TheVariants.{X, Y, S, R}
 use Rattle.lin_rows.specs.declared.total.Total.{Total}
 use Rattle.lin_rows.specs.declared.row.Term.{Term}
-use Rattle.lin_rows.specs.Sums.{AddsTerm, IsColumnWithin, Summed, cell_of, is_within, item_of, kind_of, no_total, period_of, same_column, total_in, total_of, with_more}
+use Rattle.lin_rows.specs.Sums.{AddsTerm, IsColumnWithin, Summed, cell_of, has_column_for, item_of, kind_of, no_total, period_of, same_column, total_in, total_of, with_more}
 
 pub kind_small : (c : Column) → kind_of c ≤ 3
 kind_small (X i t) = omega arith
@@ -58,7 +58,7 @@ parts_same k l i j t s is = (grind (arith, is), grind (arith, is), grind (arith,
 pub same_parts : (c d : Column) → same_column c d ≡ true → (kind_of c ≡ kind_of d) × (item_of c ≡ item_of d) × (period_of c ≡ period_of d)
 same_parts c d is = parts_same (kind_of c) (kind_of d) (item_of c) (item_of d) (period_of c) (period_of d) is
 
-pub same_within : (items periods : ℕ) (c d : Column) → same_column c d ≡ true → is_within items periods c ≡ is_within items periods d
+pub same_within : (items periods : ℕ) (c d : Column) → same_column c d ≡ true → has_column_for items periods c ≡ has_column_for items periods d
 same_within items periods c d is = let (k, i, t) = same_parts c d is in rw (i, t) refl
 
 pub same_cell : (items periods : ℕ) (c d : Column) → same_column c d ≡ true → cell_of items periods c ≡ cell_of items periods d
@@ -67,13 +67,13 @@ same_cell items periods c d is = let (k, i, t) = same_parts c d is in rw (k, i, 
 within_parts : (items periods i t : ℕ) → ((nat_le 1 i && nat_le i items) && (nat_le 1 t && nat_le t periods)) ≡ true → (1 ≤ i) × (i ≤ items) × (1 ≤ t) × (t ≤ periods)
 within_parts items periods i t is = (grind (arith, is), grind (arith, is), grind (arith, is), grind (arith, is))
 
-pub is_in : (items periods : ℕ) (c : Column) → is_within items periods c ≡ true → IsColumnWithin items periods c
+pub is_in : (items periods : ℕ) (c : Column) → has_column_for items periods c ≡ true → IsColumnWithin items periods c
 is_in items periods c is = within_parts items periods (item_of c) (period_of c) is
 
 within_whole : (items periods i t : ℕ) → 1 ≤ i → i ≤ items → 1 ≤ t → t ≤ periods → ((nat_le 1 i && nat_le i items) && (nat_le 1 t && nat_le t periods)) ≡ true
 within_whole items periods i t a b c d = grind (arith, a, b, c, d)
 
-pub in_is : (items periods : ℕ) (c : Column) → IsColumnWithin items periods c → is_within items periods c ≡ true
+pub in_is : (items periods : ℕ) (c : Column) → IsColumnWithin items periods c → has_column_for items periods c ≡ true
 in_is items periods c h = within_whole items periods (item_of c) (period_of c) h.0 h.1 h.2 h.3
 
 pub true_or_false : (b : Bool) → (b ≡ true) ⊎ (b ≡ false)
@@ -94,7 +94,7 @@ total_set items periods cells a c v size h =
     (λ apart. rw apart (⊎_elim
     (λ inside. total_at items periods (slice_set cells (cell_of items periods a) v) c (is_in items periods c inside) ∙ get_or-set_other cells (cell_of items periods a) (cell_of items periods c) v no_total (λ same. cc (sym apart ∙ one_column items periods a c h (is_in items periods c inside) (sym same))) ∙ sym (total_at items periods cells c (is_in items periods c inside)))
     (λ outside. rw outside refl)
-    (true_or_false (is_within items periods c))))
+    (true_or_false (has_column_for items periods c))))
     (true_or_false (same_column a c))
 
 -- a place among the totals

@@ -11,7 +11,7 @@ use Rattle.lin_rows.specs.declared.row.Term.{Term}
 use Rattle.lin_rows.specs.declared.total.Total.{Total}
 use Rattle.lin_rows.specs.Columns.{order_of, order_at}
 use Rattle.lin_rows.specs.Rows.{AreTerms, LinRow}
-use Rattle.lin_rows.specs.Sums.{AddsTerm, AddsTerms, EachHasRoom, HasRoomToAdd, LacksRoom, PassesWith, Summed, coefficient, item_of, kind_of, period_of, same_column, total_of, with_more}
+use Rattle.lin_rows.specs.Sums.{AddsTerm, AddsTerms, EachHasRoom, FitsAdded, LacksRoom, PassesWith, Summed, coefficient, item_of, kind_of, period_of, same_column, total_of, with_more}
 use Rattle.lin_rows.proofs.Terms.{all_one}
 use Rattle.lin_rows.proofs.Cells.{same_parts, same_self, total_same, true_or_false}
 
@@ -44,12 +44,12 @@ others_are : (a : Term) (ts : List Term) (c : Column) → same_column a.column c
 others_are a ts c apart = ap (λ b. (if b then a.times else pos 0) +ℤ coefficient ts c) apart ∙ zero_add (coefficient ts c)
 
 -- each column has room for its coefficient, where each term has
-pub all_room : (s : Summed) (ts : List Term) (low : ℕ) (times : ℤ) → AreTerms low ts → EachHasRoom s ts times → ((c : Column) → (total_of s c).amount < 2 ^ 127) → (c : Column) → HasRoomToAdd (total_of s c) (times *ℤ coefficient ts c)
+pub all_room : (s : Summed) (ts : List Term) (low : ℕ) (times : ℤ) → AreTerms low ts → EachHasRoom s ts times → ((c : Column) → (total_of s c).amount < 2 ^ 127) → (c : Column) → FitsAdded (total_of s c) (times *ℤ coefficient ts c)
 all_room s [] low times h room small c = rw (mul_zero times) (omega (arith, small c))
 all_room s (a ∷ ts) low times h room small c =
     ⊎_elim
-    (λ same. subst (λ z. HasRoomToAdd (total_of s c) (times *ℤ z)) (sym (first_is a ts c h.2 same)) (subst (λ t. HasRoomToAdd t (times *ℤ a.times)) (sym (total_same s.items s.periods s.cells a.column c same)) (room zero a (omega arith))))
-    (λ apart. subst (λ z. HasRoomToAdd (total_of s c) (times *ℤ z)) (sym (others_are a ts c apart)) (all_room s ts (order_of a.column + 1) times h.2 (λ k d less. room (suc k) d (omega (arith, less))) small c))
+    (λ same. subst (λ z. FitsAdded (total_of s c) (times *ℤ z)) (sym (first_is a ts c h.2 same)) (subst (λ t. FitsAdded t (times *ℤ a.times)) (sym (total_same s.items s.periods s.cells a.column c same)) (room zero a (omega arith))))
+    (λ apart. subst (λ z. FitsAdded (total_of s c) (times *ℤ z)) (sym (others_are a ts c apart)) (all_room s ts (order_of a.column + 1) times h.2 (λ k d less. room (suc k) d (omega (arith, less))) small c))
     (true_or_false (same_column a.column c))
 
 -- terms stand at or after the place from which they rise
@@ -111,11 +111,11 @@ pub add_none : (s : Summed) (times : ℤ) → AddsTerms s s [] times
 add_none s times c = sym (with_none (total_of s c) times)
 
 -- and there is room for the next term as at first
-pub room_next : (old mid : Summed) (ts : List Term) (k : ℕ) (a : Term) (times : ℤ) → AreTerms 0 ts → k < length ts → a ≡ slice_index_or ts k a → AddsTerms old mid (take k ts) times → EachHasRoom old ts times → HasRoomToAdd (total_of mid a.column) (times *ℤ a.times)
+pub room_next : (old mid : Summed) (ts : List Term) (k : ℕ) (a : Term) (times : ℤ) → AreTerms 0 ts → k < length ts → a ≡ slice_index_or ts k a → AddsTerms old mid (take k ts) times → EachHasRoom old ts times → FitsAdded (total_of mid a.column) (times *ℤ a.times)
 room_next old mid ts k a times h less is so_far room =
     let none = none_before ts 0 k a a.column h less is (same_self a.column) in
     let total : total_of mid a.column ≡ total_of old a.column = so_far a.column ∙ ap (λ z. with_more (total_of old a.column) (times *ℤ z)) none ∙ with_none (total_of old a.column) times in
-    subst (λ t. HasRoomToAdd t (times *ℤ a.times)) (sym total) (subst (λ x. HasRoomToAdd (total_of old x.column) (times *ℤ x.times)) (sym is) (room k a less))
+    subst (λ t. FitsAdded t (times *ℤ a.times)) (sym total) (subst (λ x. FitsAdded (total_of old x.column) (times *ℤ x.times)) (sym is) (room k a less))
 
 abbrev pub no_term : Term
 no_term = record { column = X 0 0; times = pos 0 }
@@ -128,7 +128,7 @@ term_read ts k less = get_or_default ts k no_term (slice_index_or ts k no_term) 
 pub passes_by : (s : Summed) (row : LinRow) (ts : List Term) (times : ℤ) → ts ≡ row.terms → AreTerms 0 row.terms → LacksRoom s ts times → PassesWith s row times
 passes_by s row ts times same h (k, a, less, is, lacks) =
     let rising : AreTerms 0 ts = subst (AreTerms 0) (sym same) h in
-    inl (a.column, λ room. lacks (subst (λ z. HasRoomToAdd (total_of s a.column) (times *ℤ z)) (ap (λ xs. coefficient xs a.column) (sym same) ∙ own_coefficient ts 0 k a rising less is) room))
+    inl (a.column, λ room. lacks (subst (λ z. FitsAdded (total_of s a.column) (times *ℤ z)) (ap (λ xs. coefficient xs a.column) (sym same) ∙ own_coefficient ts 0 k a rising less is) room))
 
 -- one more term is like the first ones
 pub all_more : (P : Term → Type 0) (ts : List Term) (k : ℕ) → k < length ts → All P (take k ts) → P (slice_index_or ts k no_term) → All P (take (k + 1) ts)

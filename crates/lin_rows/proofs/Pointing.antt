@@ -11,7 +11,7 @@ use Rattle.lin_rows.specs.declared.column.Column.{Column}
 use Rattle.lin_rows.specs.declared.column.Column.TheVariants.{X, Y, S, R}
 use Rattle.lin_rows.specs.Columns.{IsColumn, cell_count, cell_number, number_of, owes, owing_count}
 use Rattle.lin_rows.specs.Points.{IsPointOf, Pointed, has_column, number_in, owing_to, read_at}
-use Rattle.lin_rows.specs.Sums.{IsColumnWithin, is_within}
+use Rattle.lin_rows.specs.Sums.{IsColumnWithin, has_column_for}
 use Rattle.lin_rows.proofs.Cells.{in_is, is_in}
 
 three_true : (a b c : Bool) → a ≡ true → b ≡ true → c ≡ true → (a && (b && c)) ≡ true
@@ -44,10 +44,10 @@ module _ (m : Problem) (p : Pointed) (shape : IsShapeOf m p) where
   owing_step : (i : ℕ) → 1 ≤ i → i ≤ item_count m → owing_to p i ≡ owing_to p (i - 1) + owes m i
   owing_step i low high = omega (arith, shape.owing i high, shape.owing (i - 1) (omega (arith, high)), sum_to_at i (owes m) low)
 
-  within : (c : Column) → IsColumnWithin (item_count m) m.periods c → is_within p.items p.periods c ≡ true
+  within : (c : Column) → IsColumnWithin (item_count m) m.periods c → has_column_for p.items p.periods c ≡ true
   within c h = in_is p.items p.periods c (h.0, omega (arith, h.1, shape.items), h.2, omega (arith, h.3, shape.periods))
 
-  is_cell : (c : Column) → is_within p.items p.periods c ≡ true → IsColumnWithin (item_count m) m.periods c
+  is_cell : (c : Column) → has_column_for p.items p.periods c ≡ true → IsColumnWithin (item_count m) m.periods c
   is_cell c is = let h = is_in p.items p.periods c is in (h.0, omega (arith, h.1, shape.items), h.2, omega (arith, h.3, shape.periods))
 
   has_of : (c : Column) → IsColumn m c → has_column p c ≡ true
@@ -55,7 +55,7 @@ module _ (m : Problem) (p : Pointed) (shape : IsShapeOf m p) where
   has_of (Y i t) h = within (Y i t) h
   has_of (S i t) h = within (S i t) h
   has_of (R i t) h =
-      three_true (is_within p.items p.periods (R i t)) (nat_lt t p.periods) (nat_lt (owing_to p (i - 1)) (owing_to p i)) (within (R i t) h.0)
+      three_true (has_column_for p.items p.periods (R i t)) (nat_lt t p.periods) (nat_lt (owing_to p (i - 1)) (owing_to p i)) (within (R i t) h.0)
       (lt_is t p.periods (omega (arith, h.1, shape.periods)))
       (lt_is (owing_to p (i - 1)) (owing_to p i) (omega (arith, owing_step i h.0.0 h.0.1, owes_one m i h.2)))
 
@@ -64,7 +64,7 @@ module _ (m : Problem) (p : Pointed) (shape : IsShapeOf m p) where
   of_has (Y i t) is = is_cell (Y i t) is
   of_has (S i t) is = is_cell (S i t) is
   of_has (R i t) is =
-      let (inside, before, more) = true_parts (is_within p.items p.periods (R i t)) (nat_lt t p.periods) (nat_lt (owing_to p (i - 1)) (owing_to p i)) is in
+      let (inside, before, more) = true_parts (has_column_for p.items p.periods (R i t)) (nat_lt t p.periods) (nat_lt (owing_to p (i - 1)) (owing_to p i)) is in
       let cell = is_cell (R i t) inside in
       (cell, omega (arith, is_lt t p.periods before, shape.periods), owes_some (item_at m i).backlog_cost (omega (arith, is_lt (owing_to p (i - 1)) (owing_to p i) more, owing_step i cell.0 cell.1)))
 

@@ -10,8 +10,8 @@ IsWithinNumber true number value = value ≤ number
 IsWithinNumber false number value = number ≤ value
 
 -- the column's value at the point is within the bound; both are multiplied by the denominator
-abbrev pub IsWithinBound : LinPoint → Bound → Type 0
-IsWithinBound q b = IsWithinNumber b.most (b.number * q.den) (q.values b.column)
+abbrev pub MeetsBound : LinPoint → Bound → Type 0
+MeetsBound q b = IsWithinNumber b.most (b.number * q.den) (q.values b.column)
 
 -- how many times the row of a bound takes the column, and its right side
 abbrev pub bound_times : Bool → ℤ

@@ -7,7 +7,7 @@ use Rattle.lin_rows.specs.declared.column.Column.{Column}
 use Rattle.lin_rows.specs.declared.column.Column.TheVariants.{X, Y, S, R}
 use Rattle.lin_rows.specs.declared.point.Point.TheInside.{Inside}
 use Rattle.lin_rows.specs.Columns.{IsColumn, number_of}
-use Rattle.lin_rows.specs.Sums.{is_within}
+use Rattle.lin_rows.specs.Sums.{has_column_for}
 
 -- the values by the columns' numbers, and what numbers the columns: how many items and periods there are, and how many of the first items have a backlog cost (an entry for none of them, for one, and so on)
 pub record Pointed : Type 0 where
@@ -22,10 +22,10 @@ owing_to p n = slice_index_or p.owing n 0
 
 -- an item has a backlog cost where it is counted
 abbrev pub has_column : Pointed → Column → Bool
-has_column p (X i t) = is_within p.items p.periods (X i t)
-has_column p (Y i t) = is_within p.items p.periods (Y i t)
-has_column p (S i t) = is_within p.items p.periods (S i t)
-has_column p (R i t) = is_within p.items p.periods (R i t) && (nat_lt t p.periods && nat_lt (owing_to p (i - 1)) (owing_to p i))
+has_column p (X i t) = has_column_for p.items p.periods (X i t)
+has_column p (Y i t) = has_column_for p.items p.periods (Y i t)
+has_column p (S i t) = has_column_for p.items p.periods (S i t)
+has_column p (R i t) = has_column_for p.items p.periods (R i t) && (nat_lt t p.periods && nat_lt (owing_to p (i - 1)) (owing_to p i))
 
 -- the number of a column, counted from 1
 abbrev pub number_in : Pointed → Column → ℕ

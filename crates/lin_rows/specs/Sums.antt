@@ -29,8 +29,8 @@ period_of (S i t) = t
 period_of (R i t) = t
 
 -- a column of so many items and periods
-abbrev pub is_within : ℕ → ℕ → Column → Bool
-is_within items periods c = (nat_le 1 (item_of c) && nat_le (item_of c) items) && (nat_le 1 (period_of c) && nat_le (period_of c) periods)
+abbrev pub has_column_for : ℕ → ℕ → Column → Bool
+has_column_for items periods c = (nat_le 1 (item_of c) && nat_le (item_of c) items) && (nat_le 1 (period_of c) && nat_le (period_of c) periods)
 
 abbrev pub IsColumnWithin : ℕ → ℕ → Column → Type 0
 IsColumnWithin items periods c = (1 ≤ item_of c) × (item_of c ≤ items) × (1 ≤ period_of c) × (period_of c ≤ periods)
@@ -62,15 +62,15 @@ abbrev pub cell_of : ℕ → ℕ → Column → ℕ
 cell_of items periods c = (kind_of c * items + (item_of c - 1)) * periods + (period_of c - 1)
 
 abbrev pub total_in : ℕ → ℕ → List Total → Column → Total
-total_in items periods cells c = if is_within items periods c then slice_index_or cells (cell_of items periods c) no_total else no_total
+total_in items periods cells c = if has_column_for items periods c then slice_index_or cells (cell_of items periods c) no_total else no_total
 
 -- what has been added up of a column
 abbrev pub total_of : Summed → Column → Total
 total_of s c = total_in s.items s.periods s.cells c
 
 -- the amount stays below 2^127
-abbrev pub HasRoomToAdd : Total → ℤ → Type 0
-HasRoomToAdd a z = a.amount + unsigned_abs z < 2 ^ 127
+abbrev pub FitsAdded : Total → ℤ → Type 0
+FitsAdded a z = a.amount + unsigned_abs z < 2 ^ 127
 
 abbrev pub sums_in : Inside → Summed
 sums_in a = record { items = a.items; periods = a.periods; cells = a.cells.items; right = a.right }
@@ -106,16 +106,16 @@ pub record AddsRow (old new : Summed) (row : LinRow) (times : ℤ) : Type 0 wher
 
 -- the absolute values of a column, or of the right sides, would add to 2^127 or more
 abbrev pub PassesWith : Summed → LinRow → ℤ → Type 0
-PassesWith s row times = ((c : Column) × (HasRoomToAdd (total_of s c) (times *ℤ coefficient row.terms c) → ⊥)) ⊎ (HasRoomToAdd s.right (times *ℤ row.right) → ⊥)
+PassesWith s row times = ((c : Column) × (FitsAdded (total_of s c) (times *ℤ coefficient row.terms c) → ⊥)) ⊎ (FitsAdded s.right (times *ℤ row.right) → ⊥)
 
 -- all of them stay below it
 pub record HasRoomFor (s : Summed) (row : LinRow) (times : ℤ) : Type 0 where
-  pub columns : (c : Column) → HasRoomToAdd (total_of s c) (times *ℤ coefficient row.terms c)
-  pub right : HasRoomToAdd s.right (times *ℤ row.right)
+  pub columns : (c : Column) → FitsAdded (total_of s c) (times *ℤ coefficient row.terms c)
+  pub right : FitsAdded s.right (times *ℤ row.right)
 
 -- each term by itself has room
 abbrev pub EachHasRoom : Summed → List Term → ℤ → Type 0
-EachHasRoom s terms times = All (λ a. HasRoomToAdd (total_of s a.column) (times *ℤ a.times)) terms
+EachHasRoom s terms times = All (λ a. FitsAdded (total_of s a.column) (times *ℤ a.times)) terms
 
 -- the columns of terms are those of the sums
 abbrev pub AreWithin : Summed → List Term → Type 0
@@ -123,4 +123,4 @@ AreWithin s terms = All (λ a. IsColumnWithin s.items s.periods a.column) terms
 
 -- a term by itself has no room
 abbrev pub LacksRoom : Summed → List Term → ℤ → Type 0
-LacksRoom s terms times = (k : ℕ) × (a : Term) × (k < length terms) × (a ≡ slice_index_or terms k a) × (HasRoomToAdd (total_of s a.column) (times *ℤ a.times) → ⊥)
+LacksRoom s terms times = (k : ℕ) × (a : Term) × (k < length terms) × (a ≡ slice_index_or terms k a) × (FitsAdded (total_of s a.column) (times *ℤ a.times) → ⊥)

@@ -21,7 +21,7 @@ pub(crate) fn has_columns(sums: &Sums, terms: &[Term]) -> bool
 }
 
 // Whether a multiple of each term can be added.
-fn has_room(sums: &Sums, terms: &[Term], times: i128) -> bool
+fn fits_added(sums: &Sums, terms: &[Term], times: i128) -> bool
     ensures all { result ≡ true → EachHasRoom sums.now terms.now times }
     ensures none { result ≡ false → LacksRoom sums.now terms.now times }
 {
@@ -56,7 +56,7 @@ pub(crate) fn add_times(sums: &mut Sums, row: &Row, times: i128) -> Result<(), S
     ensures kept { result ≡ Err Passed128 → sums.new ≡ sums.old }
 {
     let terms = row.terms();
-    if !has_room(sums, terms, times) || !sums.has_room_for_right(row.right(), times) {
+    if !fits_added(sums, terms, times) || !sums.has_room_for_right(row.right(), times) {
         return Err(SumFault::Passed128);
     }
     add_terms(sums, terms, times);

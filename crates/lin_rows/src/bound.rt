@@ -1,6 +1,6 @@
 // Bounds of columns.
 ghost use Rattle.std.specs.Prelude.{◌≡◌, ◌↔◌, IfOk};
-ghost use Rattle.lin_rows.specs.Bounds.{IsWithinBound, bound_right, bound_row, bound_times};
+ghost use Rattle.lin_rows.specs.Bounds.{MeetsBound, bound_right, bound_row, bound_times};
 ghost use Rattle.lin_rows.specs.Rows.{HoldsAt, LinPoint};
 
 use crate::{Column, Row, Term};
@@ -38,7 +38,7 @@ impl Bound {
     /// that memory ran out.
     pub fn row(self, alloc: Global) -> Result<Row, AllocError>
         ensures row { IfOk result (λ row. row ≡ bound_row self) }
-        ensures holds { IfOk result (λ row. (q : LinPoint) → (HoldsAt q row ↔ IsWithinBound q self)) }
+        ensures holds { IfOk result (λ row. (q : LinPoint) → (HoldsAt q row ↔ MeetsBound q self)) }
     {
         let times = times_of(self.most);
         let terms = vec![in alloc;

@@ -9,7 +9,7 @@ ghost use Rattle.lin_rows.specs.Points.{IsPointOf, has_column, number_in, owing_
 
 use crate::Column;
 use crate::numbers::owes;
-use crate::sums::is_within;
+use crate::sums::has_column_for;
 use frac128::Frac;
 use lot_model::Instance;
 use lot_sizing::limits::MAX_ITEMS;
@@ -82,7 +82,7 @@ impl Point {
         ensures value { result ≡ has_column self.now column }
         ensures small { self.now.items ≤ MAX_ITEMS }
     {
-        if !is_within(self.items, self.periods, column) {
+        if !has_column_for(self.items, self.periods, column) {
             return false;
         }
         match column {

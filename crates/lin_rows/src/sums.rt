@@ -4,7 +4,7 @@ ghost use Rattle.lot_sizing.specs.Problem.{item_count};
 ghost use Rattle.lin_rows.specs.Columns.{IsColumn};
 ghost use Rattle.lin_rows.specs.Rows.{AreTerms};
 ghost use Rattle.std.specs.Prelude.{◌-◌, ◌+◌, ◌*◌};
-ghost use Rattle.lin_rows.specs.Sums.{AddsRow, AddsTerm, AreWithin, HasRoomToAdd, HasRoomFor, IsTotal, IsColumnWithin, PassesWith, SameShape, cell_of, is_within, item_of, kind_of, no_total, period_of, total_of, with_more};
+ghost use Rattle.lin_rows.specs.Sums.{AddsRow, AddsTerm, AreWithin, FitsAdded, HasRoomFor, IsTotal, IsColumnWithin, PassesWith, SameShape, cell_of, has_column_for, item_of, kind_of, no_total, period_of, total_of, with_more};
 ghost use Rattle.lin_rows.specs.declared.column.Column.{Column};
 ghost use Rattle.lin_rows.specs.declared.sums.SumFault.TheVariants.{Passed128};
 
@@ -80,8 +80,8 @@ fn period(column: Column) -> u32
 }
 
 // Whether a column is one of so many items and periods.
-pub(crate) fn is_within(items: u32, periods: u32, column: Column) -> bool
-    ensures { result ≡ is_within items periods column }
+pub(crate) fn has_column_for(items: u32, periods: u32, column: Column) -> bool
+    ensures { result ≡ has_column_for items periods column }
 {
     let (item, period) = (item(column), period(column));
     item >= 1 && item <= items && (period >= 1 && period <= periods)
@@ -131,7 +131,7 @@ impl Sums {
         ensures value { result ≡ total_of self.now column }
         ensures total { IsTotal result }
     {
-        if is_within(self.items, self.periods, column) {
+        if has_column_for(self.items, self.periods, column) {
             self.cells[self.cell(column)]
         } else {
             Total::none()
@@ -142,7 +142,7 @@ impl Sums {
     pub(crate) fn has_column(&self, column: Column) -> bool
         ensures { IsTrue result ↔ IsColumnWithin self.now.items self.now.periods column }
     {
-        is_within(self.items, self.periods, column)
+        has_column_for(self.items, self.periods, column)
     }
 
     /// Whether all columns of a row are those of the sums, as `add_times` asks. It takes no memory.
@@ -154,23 +154,23 @@ impl Sums {
 
     // Whether a multiple of a term can be added.
     pub(crate) fn has_room_for_term(&self, term: Term, times: i128) -> bool
-        ensures { IsTrue result ↔ HasRoomToAdd (total_of self.now term.column) (times *ℤ term.times) }
+        ensures { IsTrue result ↔ FitsAdded (total_of self.now term.column) (times *ℤ term.times) }
     {
-        self.total(term.column).has_room(times, term.times)
+        self.total(term.column).fits_added(times, term.times)
     }
 
     // Whether a multiple of a right side can be added.
     pub(crate) fn has_room_for_right(&self, right: i128, times: i128) -> bool
-        ensures value { IsTrue result ↔ HasRoomToAdd self.now.right (times *ℤ right) }
+        ensures value { IsTrue result ↔ FitsAdded self.now.right (times *ℤ right) }
         ensures small { (c : Column) → (total_of self.now c).amount < 2 ^ 127 }
     {
-        self.right.has_room(times, right)
+        self.right.fits_added(times, right)
     }
 
     // Adds a multiple of a term.
     pub(crate) fn add_term(&mut self, term: Term, times: i128)
         requires within { IsColumnWithin self.old.items self.old.periods term.column }
-        requires room { HasRoomToAdd (total_of self.old term.column) (times *ℤ term.times) }
+        requires room { FitsAdded (total_of self.old term.column) (times *ℤ term.times) }
         ensures adds { AddsTerm self.old self.new term times }
         ensures shape { SameShape self.old self.new }
         ensures right { self.new.right ≡ self.old.right }
@@ -182,7 +182,7 @@ impl Sums {
 
     // Adds a multiple of a right side.
     pub(crate) fn add_right(&mut self, right: i128, times: i128)
-        requires room { HasRoomToAdd self.old.right (times *ℤ right) }
+        requires room { FitsAdded self.old.right (times *ℤ right) }
         ensures right { self.new.right ≡ with_more self.old.right (times *ℤ right) }
         ensures shape { SameShape self.old self.new }
         ensures columns { (c : Column) → total_of self.new c ≡ total_of self.old c }

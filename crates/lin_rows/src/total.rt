@@ -1,6 +1,6 @@
 // Exact sums, with room for what is added.
 ghost use Rattle.std.specs.Prelude.{◌≡◌, ◌<◌, ◌^◌, ◌↔◌, ◌*ℤ◌, IsTrue};
-ghost use Rattle.lin_rows.specs.Sums.{HasRoomToAdd, IsTotal, no_total, with_more};
+ghost use Rattle.lin_rows.specs.Sums.{FitsAdded, IsTotal, no_total, with_more};
 
 // The least amount that is too large.
 const LIMIT: u128 = 1 << 127;
@@ -28,9 +28,9 @@ impl Total {
     }
 
     /// Whether a multiple of a number can be added: the amount stays below 2^127.
-    pub fn has_room(self, times: i128, number: i128) -> bool
+    pub fn fits_added(self, times: i128, number: i128) -> bool
         requires { self.amount < 2 ^ 127 }
-        ensures { IsTrue result ↔ HasRoomToAdd self (times *ℤ number) }
+        ensures { IsTrue result ↔ FitsAdded self (times *ℤ number) }
     {
         let (times, number) = (times.unsigned_abs(), number.unsigned_abs());
         if times < HALF && number < HALF {
@@ -45,7 +45,7 @@ impl Total {
     /// The total with a multiple of a number added, for which there is room.
     pub fn with_more(self, times: i128, number: i128) -> Total
         requires total { IsTotal self }
-        requires room { HasRoomToAdd self (times *ℤ number) }
+        requires room { FitsAdded self (times *ℤ number) }
         ensures value { result ≡ with_more self (times *ℤ number) }
         ensures total { IsTotal result }
     {

@@ -3,4 +3,4 @@ pub mod Scans
 pub mod Apart
 pub mod Faults
 pub mod Limits
-pub mod PlaceOf
+pub mod Numbered

@@ -14,7 +14,7 @@ use Rattle.lot_sizing.specs.declared.limits.TheConstants.{MAX_AMOUNT, MAX_BILL_L
 use Rattle.lot_draft.specs.declared.fault.Place.{Place}
 use Rattle.lot_draft.specs.declared.fault.Key.{Key}
 use Rattle.lot_draft.specs.Raw.{RawItem, RawModel, RawNeed, RawResource, RawUse}
-use Rattle.lot_draft.specs.Meaning.{HaveNeeds, item_of, natural, naturals, need_of, place_from, place_of, problem_of, resource_of, use_of}
+use Rattle.lot_draft.specs.Meaning.{HaveNeeds, item_of, natural, naturals, need_of, number_named_from, number_named, problem_of, resource_of, use_of}
 use Rattle.lot_draft.specs.Refusals.{Fault, capacity_fault, count_fault, ends_fault, entry_fault, first_in, is_among, is_from, is_ordered, item_lines_fault, item_lists_fault, item_lots_fault, item_name_fault, item_names, item_numbers_fault, item_stocks_fault, later_fault, lines_fault, lots_fault, name_fault, need_fault, number_fault, numbers_fault, optional_number_fault, optional_series_fault, or_then, plain_fault, repeat_fault, resource_name_fault, resource_names, series_fault, use_fault, use_names}
 use Rattle.lot_draft.proofs.Apart.{known_few, known_in, known_next}
 use Rattle.lot_draft.proofs.Faults.{at_most, each_none, first_none, first_of, holds, rest_none, second_of, use_known, use_new}
@@ -90,28 +90,28 @@ ends : (most : Option ℤ) (p : Place) (k : Key) (least opening : ℤ) → optio
 ends None p k least opening h low apart = omega arith
 ends (Some x) p k least opening h low apart = below least x low.is (number 0 MAX_END_STOCK p k x h).is apart
 
--- a name that is there has a place
-place_in : (names : List (List ℕ)) (n : ℕ) (x : List ℕ) → is_among names x ≡ true → (n ≤ place_from n names x) × (place_from n names x < n + length names)
-place_in [] n x h = cc h
-place_in (name ∷ names) n x h =
+-- a name that is there has a number
+number_in_names : (names : List (List ℕ)) (n : ℕ) (x : List ℕ) → is_among names x ≡ true → (n ≤ number_named_from n names x) × (number_named_from n names x < n + length names)
+number_in_names [] n x h = cc h
+number_in_names (name ∷ names) n x h =
     ⊎_elim
-    (λ same. let e : place_from n (name ∷ names) x ≡ n = rw same refl in (omega (arith, e), omega (arith, e)))
+    (λ same. let e : number_named_from n (name ∷ names) x ≡ n = rw same refl in (omega (arith, e), omega (arith, e)))
     (λ other.
     let rest : is_among names x ≡ true = sym (ap (λ b. b || is_among names x) other) ∙ h in
-    let e : place_from n (name ∷ names) x ≡ place_from (suc n) names x = rw other refl in
-    let there = place_in names (suc n) x rest in
+    let e : number_named_from n (name ∷ names) x ≡ number_named_from (suc n) names x = rw other refl in
+    let there = number_in_names names (suc n) x rest in
     (omega (arith, e, there.0), omega (arith, e, there.1)))
     (cases_Bool (bytes_eq name x))
 
-pub placed : (names : List (List ℕ)) (x : List ℕ) → is_among names x ≡ true → (1 ≤ place_of names x) × (place_of names x ≤ length names)
-placed names x h = let there = place_in names 1 x h in (there.0, omega (arith, there.1))
+pub numbered : (names : List (List ℕ)) (x : List ℕ) → is_among names x ≡ true → (1 ≤ number_named names x) × (number_named names x ≤ length names)
+numbered names x h = let there = number_in_names names 1 x h in (there.0, omega (arith, there.1))
 
 needs : (names : List (List ℕ)) (i : ℕ) (lines : List RawNeed) → first_in (need_fault names i lines) 1 lines ≡ None → length lines ≤ MAX_BILL_LINES → AreNeeds (length names) (map (need_of names) lines)
 needs names i lines h few =
     let each : (k : ℕ) (d : RawNeed) → k < length lines → need_fault names i lines (1 + k) (slice_index_or lines k d) ≡ None = λ k d less. each_none (need_fault names i lines) 1 k d lines h less in
     record {
       count = omega (arith, few, length-map lines (need_of names));
-      items_exist = All-map (λ need. (1 ≤ need.item) × (need.item ≤ length names)) (need_of names) lines (λ k d less. placed names (slice_index_or lines k d).item (holds _ _ _ _ _ (first_none _ _ (each k d less))));
+      items_exist = All-map (λ need. (1 ≤ need.item) × (need.item ≤ length names)) (need_of names) lines (λ k d less. numbered names (slice_index_or lines k d).item (holds _ _ _ _ _ (first_none _ _ (each k d less))));
       quantities = All-map (λ need. (1 ≤ need.quantity) × (need.quantity ≤ MAX_QUANTITY)) (need_of names) lines (λ k d less. let w = number 1 MAX_QUANTITY _ _ (slice_index_or lines k d).quantity (rest_none _ _ (rest_none _ _ (each k d less))) in (w.low, w.high));
     }
 
@@ -134,7 +134,7 @@ uses names i lines h few =
     let each : (k : ℕ) (d : RawUse) → k < length lines → use_fault names i lines (1 + k) (slice_index_or lines k d) ≡ None = λ k d less. each_none (use_fault names i lines) 1 k d lines h less in
     record {
       count = omega (arith, few, length-map lines (use_of names), uses_known names i lines h (length lines) (omega arith), known_few (take (length lines) (use_names lines)) names);
-      resources_exist = All-map (λ usage. (1 ≤ usage.resource) × (usage.resource ≤ length names)) (use_of names) lines (λ k d less. placed names (slice_index_or lines k d).resource (holds _ _ _ _ _ (first_none _ _ (each k d less))));
+      resources_exist = All-map (λ usage. (1 ≤ usage.resource) × (usage.resource ≤ length names)) (use_of names) lines (λ k d less. numbered names (slice_index_or lines k d).resource (holds _ _ _ _ _ (first_none _ _ (each k d less))));
       times = All-map (λ usage. (usage.unit ≤ MAX_AMOUNT) × (usage.setup ≤ MAX_AMOUNT)) (use_of names) lines (λ k d less.
           let h2 = rest_none _ _ (rest_none _ _ (each k d less)) in
           ((number 0 MAX_AMOUNT _ _ (slice_index_or lines k d).unit (first_none _ _ h2)).high, (number 0 MAX_AMOUNT _ _ (slice_index_or lines k d).setup (rest_none _ _ h2)).high));

@@ -12,19 +12,19 @@ abbrev pub natural : ℤ → ℕ
 natural (pos n) = n
 natural (negsuc n) = 0
 
--- the place of a name among these, counted from n; 0 where it isn't there
-abbrev pub place_from : ℕ → List (List ℕ) → List ℕ → ℕ
-place_from n [] name = 0
-place_from n (one ∷ names) name = if bytes_eq one name then n else place_from (suc n) names name
+-- the number of a name among these, which are counted from n; 0 where it isn't there
+abbrev pub number_named_from : ℕ → List (List ℕ) → List ℕ → ℕ
+number_named_from n [] name = 0
+number_named_from n (one ∷ names) name = if bytes_eq one name then n else number_named_from (suc n) names name
 
-abbrev pub place_of : List (List ℕ) → List ℕ → ℕ
-place_of names name = place_from 1 names name
+abbrev pub number_named : List (List ℕ) → List ℕ → ℕ
+number_named names name = number_named_from 1 names name
 
 abbrev pub need_of : List (List ℕ) → RawNeed → Need
-need_of items a = record { item = place_of items a.item; quantity = natural a.quantity }
+need_of items a = record { item = number_named items a.item; quantity = natural a.quantity }
 
 abbrev pub use_of : List (List ℕ) → RawUse → Usage
-use_of resources a = record { resource = place_of resources a.resource; unit = natural a.unit; setup = natural a.setup }
+use_of resources a = record { resource = number_named resources a.resource; unit = natural a.unit; setup = natural a.setup }
 
 abbrev pub naturals : List ℤ → List ℕ
 naturals xs = map natural xs

@@ -38,8 +38,8 @@ fn has_few_lines(items: &[DraftItem]) -> bool
     ensures { result ≡ nat_le (sum_by (λ i. length i.needs) (map raw_item items.now)) MAX_BILL_LINES }
 {
     let mut count = 0usize;
-    for place in 0..items.len() {
-        let lines = items[place].needs.len();
+    for at in 0..items.len() {
+        let lines = items[at].needs.len();
         if lines > MAX_BILL_LINES as usize - count {
             return false;
         }

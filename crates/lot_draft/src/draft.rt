@@ -1,5 +1,6 @@
 // A model as a reader found it, with numbers of any sign and size and names of any kind.
 use crate::ModelFault;
+use thiserror::Error;
 
 /// A model as it was read. Lists have an entry for each period.
 #[derive(Debug, Drop)]
@@ -76,9 +77,10 @@ pub struct DraftUse {
 }
 
 /// Why a draft is no instance. The draft comes back as it was.
-#[derive(Debug, Drop)]
+#[derive(Debug, Drop, Error)]
 pub enum DraftRefusal {
     /// The draft breaks a rule.
+    #[error("{fault}")]
     Refused {
         /// The rule, and where it is broken.
         fault: ModelFault,
@@ -86,5 +88,6 @@ pub enum DraftRefusal {
         draft: Draft,
     },
     /// Memory ran out.
+    #[error("out of memory")]
     Memory(Draft),
 }

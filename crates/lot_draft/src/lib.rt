@@ -7,7 +7,7 @@
 //! names the first rule of counts, names, lists, numbers and lines that it breaks, by a `ModelFault` with
 //! its place; a draft that breaks none of them, and whose ends and lots aren't crossed, is a problem
 //! within the limits. `later_fault` names the first component with a backlog cost, then the first crossed
-//! ends, then the first crossed lots. `item_place` and `resource_place` give the numbers that names
+//! ends, then the first crossed lots. `item_named` and `resource_named` give the numbers that names
 //! stand for.
 #![tactic(auto)]
 
@@ -15,11 +15,11 @@ mod checks;
 mod draft;
 mod fault;
 mod later;
+mod named;
 mod names;
-mod places;
 
 pub use checks::plain_fault;
 pub use draft::{Draft, DraftItem, DraftNeed, DraftRefusal, DraftResource, DraftUse};
 pub use fault::{Key, ModelCode, ModelFault, Place};
 pub use later::later_fault;
-pub use places::{item_place, resource_place};
+pub use named::{item_named, resource_named};

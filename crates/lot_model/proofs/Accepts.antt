@@ -19,7 +19,7 @@ use Rattle.lot_draft.specs.declared.fault.Place.{Place}
 use Rattle.lot_draft.specs.declared.fault.Place.TheVariants as place
 use Rattle.lot_draft.specs.declared.fault.Key.{Key}
 use Rattle.lot_draft.specs.Raw.{RawItem, RawModel, RawNeed, RawResource, RawUse}
-use Rattle.lot_draft.specs.Meaning.{item_of, natural, naturals, need_of, place_from, place_of, problem_of, resource_of, use_of}
+use Rattle.lot_draft.specs.Meaning.{item_of, natural, naturals, need_of, number_named_from, number_named, problem_of, resource_of, use_of}
 use Rattle.lot_draft.specs.Refusals.{Fault, backlog_fault, capacity_fault, count_fault, ends_fault, entry_fault, first_in, is_among, is_component, is_from, is_ordered, item_lines_fault, item_lists_fault, item_lots_fault, item_name_fault, item_names, item_numbers_fault, item_repeat, item_stocks_fault, later_fault, lines_fault, lots_fault, name_fault, need_fault, need_names, number_fault, numbers_fault, optional_number_fault, optional_series_fault, or_then, plain_fault, repeat_at, repeat_fault, resource_name_fault, resource_names, resource_repeat, series_fault, unless, use_fault, use_names}
 use Rattle.lot_model.specs.Valid.{HaveNoBacklogs, HaveOwnNames, HaveOwnResourceNames, IsValid, NameOnce, UseOnce, no_need, no_usage}
 use Rattle.lot_model.specs.Drafted.{item_written, need_written, resource_written, use_written, wholes, written_out}
@@ -49,16 +49,16 @@ other_false x y apart = ⊎_elim (λ yes. absurd (apart ((bytes_eq-Decides x y).
 own_rest : (x : List ℕ) (names : List (List ℕ)) → AreOwn (x ∷ names) → AreOwn names
 own_rest x names own a b less high = own (suc a) (suc b) (omega (arith, less)) (omega (arith, high))
 
-place_from_is : (names : List (List ℕ)) (n k : ℕ) → AreOwn names → k < length names → place_from n names (slice_index_or names k []) ≡ n + k
-place_from_is [] n k own less = absurd (omega (arith, less))
-place_from_is (x ∷ names) n zero own less = let e : n + 0 ≡ n = omega arith in rw (same_true x) (sym e)
-place_from_is (x ∷ names) n (suc k) own less =
+number_from_is : (names : List (List ℕ)) (n k : ℕ) → AreOwn names → k < length names → number_named_from n names (slice_index_or names k []) ≡ n + k
+number_from_is [] n k own less = absurd (omega (arith, less))
+number_from_is (x ∷ names) n zero own less = let e : n + 0 ≡ n = omega arith in rw (same_true x) (sym e)
+number_from_is (x ∷ names) n (suc k) own less =
     let apart = other_false x (slice_index_or names k []) (own 0 (suc k) (omega arith) less) in
     let e : suc n + k ≡ n + suc k = omega arith in
-    rw apart (place_from_is names (suc n) k (own_rest x names own) (omega (arith, less)) ∙ e)
+    rw apart (number_from_is names (suc n) k (own_rest x names own) (omega (arith, less)) ∙ e)
 
-pub place_is : (names : List (List ℕ)) (i : ℕ) → AreOwn names → 1 ≤ i → i ≤ length names → place_of names (slice_index_or names (i - 1) []) ≡ i
-place_is names i own low high = let e : 1 + (i - 1) ≡ i = omega (arith, low) in place_from_is names 1 (i - 1) own (omega (arith, low, high)) ∙ e
+pub number_is : (names : List (List ℕ)) (i : ℕ) → AreOwn names → 1 ≤ i → i ≤ length names → number_named names (slice_index_or names (i - 1) []) ≡ i
+number_is names i own low high = let e : 1 + (i - 1) ≡ i = omega (arith, low) in number_from_is names 1 (i - 1) own (omega (arith, low, high)) ∙ e
 
 among_in : (names : List (List ℕ)) (k : ℕ) → k < length names → is_among names (slice_index_or names k []) ≡ true
 among_in [] k less = absurd (omega (arith, less))
@@ -175,11 +175,11 @@ own_resource_names p own a b less high =
     λ same. own (suc a) (suc b) (omega arith) (omega (arith, less)) (omega (arith, high, count)) (
     ap (λ k. (slice_index_or p.resources k no_resource).name) (here a) ∙ sym (resource_name_at p a) ∙ same ∙ resource_name_at p b ∙ ap (λ k. (slice_index_or p.resources k no_resource).name) (sym (here b)))
 
-item_placed : (p : Problem) → HaveOwnNames p → (i : ℕ) → 1 ≤ i → i ≤ item_count p → place_of (names_of p) (item_at p i).name ≡ i
-item_placed p own i low high = ap (place_of (names_of p)) (sym (name_at p (i - 1))) ∙ place_is (names_of p) i (own_names p own) low (omega (arith, high, name_count p))
+item_numbered : (p : Problem) → HaveOwnNames p → (i : ℕ) → 1 ≤ i → i ≤ item_count p → number_named (names_of p) (item_at p i).name ≡ i
+item_numbered p own i low high = ap (number_named (names_of p)) (sym (name_at p (i - 1))) ∙ number_is (names_of p) i (own_names p own) low (omega (arith, high, name_count p))
 
-resource_placed : (p : Problem) → HaveOwnResourceNames p → (k : ℕ) → 1 ≤ k → k ≤ resource_count p → place_of (resource_names_of p) (resource_at p k).name ≡ k
-resource_placed p own k low high = ap (place_of (resource_names_of p)) (sym (resource_name_at p (k - 1))) ∙ place_is (resource_names_of p) k (own_resource_names p own) low (omega (arith, high, resource_name_count p))
+resource_numbered : (p : Problem) → HaveOwnResourceNames p → (k : ℕ) → 1 ≤ k → k ≤ resource_count p → number_named (resource_names_of p) (resource_at p k).name ≡ k
+resource_numbered p own k low high = ap (number_named (resource_names_of p)) (sym (resource_name_at p (k - 1))) ∙ number_is (resource_names_of p) k (own_resource_names p own) low (omega (arith, high, resource_name_count p))
 
 item_known : (p : Problem) (i : ℕ) → 1 ≤ i → i ≤ item_count p → is_among (names_of p) (item_at p i).name ≡ true
 item_known p i low high = ap (is_among (names_of p)) (sym (name_at p (i - 1))) ∙ among_in (names_of p) (i - 1) (omega (arith, low, high, name_count p))
@@ -208,13 +208,13 @@ needs_same : (p : Problem) → HaveOwnNames p → (needs : List Need) → All (�
 needs_same p own needs there = unchanged (need_of (names_of p)) (need_written p) needs no_need (λ k less.
     let need = slice_index_or needs k no_need in
     let is = there k no_need less in
-    ap (λ i. record { item = i; quantity = need.quantity }) (item_placed p own need.item is.0 is.1))
+    ap (λ i. record { item = i; quantity = need.quantity }) (item_numbered p own need.item is.0 is.1))
 
 uses_same : (p : Problem) → HaveOwnResourceNames p → (uses : List Usage) → All (λ usage. (1 ≤ usage.resource) × (usage.resource ≤ resource_count p)) uses → map (use_of (resource_names_of p)) (map (use_written p) uses) ≡ uses
 uses_same p own uses there = unchanged (use_of (resource_names_of p)) (use_written p) uses no_usage (λ k less.
     let usage = slice_index_or uses k no_usage in
     let is = there k no_usage less in
-    ap (λ r. record { resource = r; unit = usage.unit; setup = usage.setup }) (resource_placed p own usage.resource is.0 is.1))
+    ap (λ r. record { resource = r; unit = usage.unit; setup = usage.setup }) (resource_numbered p own usage.resource is.0 is.1))
 
 -- an item with these lists
 abbrev item_with : Item → List ℕ → List ℕ → List ℕ → List ℕ → Option (List ℕ) → Option ℕ → List Need → List Usage → Item

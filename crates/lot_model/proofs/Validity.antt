@@ -15,7 +15,7 @@ use Rattle.lot_draft.specs.declared.fault.Place.{Place}
 use Rattle.lot_draft.specs.declared.fault.Place.TheVariants as place
 use Rattle.lot_draft.specs.Raw.{RawItem, RawModel, RawNeed, RawUse}
 use Rattle.lot_draft.specs.Refusals.{Fault, backlog_fault, count_fault, first_in, is_among, is_component, item_lines_fault, item_names, item_repeat, later_fault, name_fault, need_fault, need_names, or_then, plain_fault, repeat_at, repeat_fault, resource_names, resource_repeat, use_fault, use_names}
-use Rattle.lot_draft.specs.Meaning.{item_of, naturals, need_of, place_from, place_of, problem_of, resource_of, use_of}
+use Rattle.lot_draft.specs.Meaning.{item_of, naturals, need_of, number_named_from, number_named, problem_of, resource_of, use_of}
 use Rattle.lot_draft.proofs.Faults.{each_none, first_none, holds, rest_none}
 use Rattle.lot_draft.proofs.Limits.{blank_item, blank_resource, item_read, plain}
 use Rattle.lot_draft.proofs.Members.{met}
@@ -68,36 +68,36 @@ own_resource_names m h i j low less high =
     let none = each_none (resource_repeat m.resources) 1 (j - 1) blank_resource m.resources (first_none (first_in (resource_repeat m.resources) 1 m.resources) _ (no_repeats m h)) l_high in
     rw (resource_read m (i - 1) k_high, resource_read m (j - 1) l_high) (apart (resource_names m.resources) (i - 1) (j - 1) a.name b.name (omega (arith, less, low)) (omega (arith, l_high, names_count)) (read_name (λ r. r.name) m.resources (i - 1) blank_resource k_high) (new_name place.Resource (resource_names m.resources) (j - 1) b.name none))
 
--- the name at the place of a name
-place_low : (names : List (List ℕ)) (n : ℕ) (x : List ℕ) → is_among names x ≡ true → n ≤ place_from n names x
-place_low [] n x h = cc h
-place_low (name ∷ names) n x h =
+-- the name that has the number of a name
+number_low : (names : List (List ℕ)) (n : ℕ) (x : List ℕ) → is_among names x ≡ true → n ≤ number_named_from n names x
+number_low [] n x h = cc h
+number_low (name ∷ names) n x h =
     ⊎_elim
-    (λ same. let e : place_from n (name ∷ names) x ≡ n = rw same refl in omega (arith, e))
+    (λ same. let e : number_named_from n (name ∷ names) x ≡ n = rw same refl in omega (arith, e))
     (λ other.
     let rest : is_among names x ≡ true = sym (ap (λ b. b || is_among names x) other) ∙ h in
-    let e : place_from n (name ∷ names) x ≡ place_from (suc n) names x = rw other refl in
-    omega (arith, e, place_low names (suc n) x rest))
+    let e : number_named_from n (name ∷ names) x ≡ number_named_from (suc n) names x = rw other refl in
+    omega (arith, e, number_low names (suc n) x rest))
     (cases_Bool (bytes_eq name x))
 
-place_reads : (names : List (List ℕ)) (n : ℕ) (x : List ℕ) → is_among names x ≡ true → slice_index_or names (place_from n names x - n) [] ≡ x
-place_reads [] n x h = cc h
-place_reads (name ∷ names) n x h =
+number_reads : (names : List (List ℕ)) (n : ℕ) (x : List ℕ) → is_among names x ≡ true → slice_index_or names (number_named_from n names x - n) [] ≡ x
+number_reads [] n x h = cc h
+number_reads (name ∷ names) n x h =
     ⊎_elim
     (λ same.
-    let e : place_from n (name ∷ names) x ≡ n = rw same refl in
-    let z : place_from n (name ∷ names) x - n ≡ 0 = omega (arith, e) in
+    let e : number_named_from n (name ∷ names) x ≡ n = rw same refl in
+    let z : number_named_from n (name ∷ names) x - n ≡ 0 = omega (arith, e) in
     ap (λ k. slice_index_or (name ∷ names) k []) z ∙ (bytes_eq-Decides name x).0 same)
     (λ other.
     let rest : is_among names x ≡ true = sym (ap (λ b. b || is_among names x) other) ∙ h in
-    let e : place_from n (name ∷ names) x ≡ place_from (suc n) names x = rw other refl in
-    let z : place_from n (name ∷ names) x - n ≡ suc (place_from (suc n) names x - suc n) = omega (arith, e, place_low names (suc n) x rest) in
-    ap (λ k. slice_index_or (name ∷ names) k []) z ∙ place_reads names (suc n) x rest)
+    let e : number_named_from n (name ∷ names) x ≡ number_named_from (suc n) names x = rw other refl in
+    let z : number_named_from n (name ∷ names) x - n ≡ suc (number_named_from (suc n) names x - suc n) = omega (arith, e, number_low names (suc n) x rest) in
+    ap (λ k. slice_index_or (name ∷ names) k []) z ∙ number_reads names (suc n) x rest)
     (cases_Bool (bytes_eq name x))
 
--- known names of one place are the same
-place_same : (names : List (List ℕ)) (x y : List ℕ) → is_among names x ≡ true → is_among names y ≡ true → place_of names x ≡ place_of names y → x ≡ y
-place_same names x y one other same = sym (place_reads names 1 x one) ∙ ap (λ n. slice_index_or names (n - 1) []) same ∙ place_reads names 1 y other
+-- known names of one number are the same
+number_same : (names : List (List ℕ)) (x y : List ℕ) → is_among names x ≡ true → is_among names y ≡ true → number_named names x ≡ number_named names y → x ≡ y
+number_same names x y one other same = sym (number_reads names 1 x one) ∙ ap (λ n. slice_index_or names (n - 1) []) same ∙ number_reads names 1 y other
 
 blank_need : RawNeed
 blank_need = record { item = []; quantity = pos 0 }
@@ -105,10 +105,10 @@ blank_need = record { item = []; quantity = pos 0 }
 blank_use : RawUse
 blank_use = record { resource = []; unit = pos 0; setup = pos 0 }
 
-need_read : (names : List (List ℕ)) (lines : List RawNeed) (n : ℕ) → n < length lines → (slice_index_or (map (need_of names) lines) n no_need).item ≡ place_of names (slice_index_or lines n blank_need).item
+need_read : (names : List (List ℕ)) (lines : List RawNeed) (n : ℕ) → n < length lines → (slice_index_or (map (need_of names) lines) n no_need).item ≡ number_named names (slice_index_or lines n blank_need).item
 need_read names lines n less = ap (λ a. a.item) (get_or_default (map (need_of names) lines) n no_need (need_of names blank_need) (omega (arith, less, length-map lines (need_of names))) ∙ get_or-map (need_of names) lines n blank_need)
 
-use_read : (names : List (List ℕ)) (lines : List RawUse) (n : ℕ) → n < length lines → (slice_index_or (map (use_of names) lines) n no_usage).resource ≡ place_of names (slice_index_or lines n blank_use).resource
+use_read : (names : List (List ℕ)) (lines : List RawUse) (n : ℕ) → n < length lines → (slice_index_or (map (use_of names) lines) n no_usage).resource ≡ number_named names (slice_index_or lines n blank_use).resource
 use_read names lines n less = ap (λ a. a.resource) (get_or_default (map (use_of names) lines) n no_usage (use_of names blank_use) (omega (arith, less, length-map lines (use_of names))) ∙ get_or-map (use_of names) lines n blank_use)
 
 need_known : (names : List (List ℕ)) (i : ℕ) (lines : List RawNeed) → first_in (need_fault names i lines) 1 lines ≡ None → (n : ℕ) → n < length lines → is_among names (slice_index_or lines n blank_need).item ≡ true
@@ -124,7 +124,7 @@ needs_once names i lines h n o less high same =
     let none = each_none (need_fault names i lines) 1 o blank_need lines h o_high in
     let new = new_name (place.Need i) (need_names lines) o y (first_none _ _ (rest_none _ _ none)) in
     apart (need_names lines) n o x y less (omega (arith, o_high, length-map lines (λ a. a.item))) (read_name (λ a. a.item) lines n blank_need n_high) new
-    (place_same names x y (need_known names i lines h n n_high) (need_known names i lines h o o_high) (sym (need_read names lines n n_high) ∙ same ∙ need_read names lines o o_high))
+    (number_same names x y (need_known names i lines h n n_high) (need_known names i lines h o o_high) (sym (need_read names lines n n_high) ∙ same ∙ need_read names lines o o_high))
 
 use_known : (names : List (List ℕ)) (i : ℕ) (lines : List RawUse) → first_in (use_fault names i lines) 1 lines ≡ None → (n : ℕ) → n < length lines → is_among names (slice_index_or lines n blank_use).resource ≡ true
 use_known names i lines h n less = holds (is_among names (slice_index_or lines n blank_use).resource) _ _ _ _ (first_none _ _ (each_none (use_fault names i lines) 1 n blank_use lines h less))
@@ -139,7 +139,7 @@ uses_once names i lines h n o less high same =
     let none = each_none (use_fault names i lines) 1 o blank_use lines h o_high in
     let new = new_name (place.Usage i) (use_names lines) o y (first_none _ _ (rest_none _ _ none)) in
     apart (use_names lines) n o x y less (omega (arith, o_high, length-map lines (λ a. a.resource))) (read_name (λ a. a.resource) lines n blank_use n_high) new
-    (place_same names x y (use_known names i lines h n n_high) (use_known names i lines h o o_high) (sym (use_read names lines n n_high) ∙ same ∙ use_read names lines o o_high))
+    (number_same names x y (use_known names i lines h n n_high) (use_known names i lines h o o_high) (sym (use_read names lines n n_high) ∙ same ∙ use_read names lines o o_high))
 
 any_at : {A : Type 0} → (p : A → Bool) (xs : List A) (k : ℕ) (d : A) → k < length xs → p (slice_index_or xs k d) ≡ true → list_any p xs ≡ true
 any_at p xs k d h passes = list_any-from_Any p xs (k, slice_index_or xs k d, h, get_or_default xs k (slice_index_or xs k d) d h, passes)
@@ -168,8 +168,8 @@ no_backlogs m h later i j i_low i_high j_low j_high some =
     let n_high : n < length b.needs = omega (arith, found.1, length-map b.needs (need_of names)) in
     let x = (slice_index_or b.needs n blank_need).item in
     let known = need_known names (1 + (j - 1)) b.needs (first_none _ _ (lines_none m (j - 1) h l_high)) n n_high in
-    let place : place_of names x ≡ i = sym (need_read names b.needs n n_high) ∙ found.2 in
-    let named : x ≡ a.name = sym (place_reads names 1 x known) ∙ ap (λ n. slice_index_or names (n - 1) []) place ∙ read_name (λ a. a.name) m.items (i - 1) blank_item k_high in
+    let place : number_named names x ≡ i = sym (need_read names b.needs n n_high) ∙ found.2 in
+    let named : x ≡ a.name = sym (number_reads names 1 x known) ∙ ap (λ n. slice_index_or names (n - 1) []) place ∙ read_name (λ a. a.name) m.items (i - 1) blank_item k_high in
     let among : is_among (need_names b.needs) a.name ≡ true = any_at (λ one. bytes_eq one a.name) (need_names b.needs) n [] (omega (arith, n_high, length-map b.needs (λ a. a.item))) ((bytes_eq-Decides _ a.name).1 (read_name (λ a. a.item) b.needs n blank_need n_high ∙ named)) in
     let component : is_component m.items a.name ≡ true = any_at (λ one. is_among (need_names one.needs) a.name) m.items (j - 1) blank_item l_high among in
     let none = each_none (backlog_fault m.items) 1 (i - 1) blank_item m.items (first_none (first_in (backlog_fault m.items) 1 m.items) _ later) k_high in

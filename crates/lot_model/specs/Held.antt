@@ -16,7 +16,7 @@ abbrev pub problem_of_parts : Parts → Problem
 problem_of_parts a = record { periods = a.periods; resources = a.resources.items; items = a.items.items }
 
 -- an item with a demand for each period, none too large
-pub record IsAsked (periods : ℕ) (a : Item) : Type 0 where
+pub record HasSmallDemand (periods : ℕ) (a : Item) : Type 0 where
   pub demand : IsSeries periods MAX_AMOUNT a.demand
   pub end_max : a.end_max ≤ MAX_END_STOCK
 

@@ -8,7 +8,7 @@ ghost use Rattle.lot_model.specs.Held.{problem_of_parts};
 
 use crate::data::{ItemData, ResourceData};
 use crate::{Draft, DraftItem, DraftNeed, DraftResource, DraftUse, Need, Usage};
-use lot_draft::{item_place, resource_place};
+use lot_draft::{item_named, resource_named};
 use std::alloc::{AllocError, Global};
 
 /// What an instance is made of.
@@ -56,7 +56,7 @@ fn need_of(items: &[DraftItem], need: &DraftNeed) -> Need
     ensures { result ≡ need_of (item_names (map raw_item items.now)) (raw_need need.now) }
 {
     Need {
-        item: item_place(items, &need.item).unwrap_or(0),
+        item: item_named(items, &need.item).unwrap_or(0),
         quantity: natural(need.quantity),
     }
 }
@@ -67,7 +67,7 @@ fn use_of(resources: &[DraftResource], usage: &DraftUse) -> Usage
     ensures { result ≡ use_of (resource_names (map raw_resource resources.now)) (raw_use usage.now) }
 {
     Usage {
-        resource: resource_place(resources, &usage.resource).unwrap_or(0),
+        resource: resource_named(resources, &usage.resource).unwrap_or(0),
         unit: natural(usage.unit),
         setup: natural(usage.setup),
     }

@@ -7,7 +7,8 @@
 //! says by a `ModelFault` which rule it breaks first. An `Instance` is seen by contracts as the problem of
 //! the definitions. It keeps the limits, its names differ, its lines name things once, its components have
 //! no backlog cost, its items have ranks along the bill, and no largest total and no weight is past the
-//! bound. Written out as a model again, it means itself (`written_out_means_itself`).
+//! bound (`an_instance_breaks_no_rule`). Written out as a model again, it means itself
+//! (`written_out_means_itself`).
 #![tactic(auto)]
 
 mod building;
@@ -18,7 +19,10 @@ mod making;
 mod totals;
 
 pub use instance::{Instance, is_plain, is_uncoupled};
-pub use laws::{a_model_means_one_thing, a_model_means_something, written_out_means_itself};
+pub use laws::{
+    a_model_means_one_thing, a_model_means_something, an_instance_breaks_no_rule,
+    written_out_means_itself,
+};
 pub use lot_draft::{
     Draft, DraftItem, DraftNeed, DraftRefusal, DraftResource, DraftUse, Key, ModelCode, ModelFault,
     Place,

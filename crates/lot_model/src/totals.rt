@@ -5,7 +5,7 @@ ghost use Rattle.lot_sizing.specs.declared.limits.TheConstants.{MAX_ITEMS, MAX_P
 ghost use Rattle.lot_sizing.specs.Problem.{entry, item_count, IsWithinLimits};
 ghost use Rattle.bill.specs.Lines.{AreLines};
 ghost use Rattle.lot_model.specs.Meaning.{most_asked, there_of};
-ghost use Rattle.lot_model.specs.Held.{AreOf, IsAsked, problem_of_parts};
+ghost use Rattle.lot_model.specs.Held.{AreOf, HasSmallDemand, problem_of_parts};
 
 use crate::building::Parts;
 use crate::data::ItemData;
@@ -29,7 +29,7 @@ pub fn bill_lines<'a>(alloc: Global, items: &'a [ItemData]) -> Result<BillLines<
 // What is asked of an item from outside: its demands and its largest end stock.
 fn most_asked(item: &ItemData, periods: u32) -> u64
     requires periods { periods ≤ MAX_PERIODS }
-    requires item { IsAsked periods item.now }
+    requires item { HasSmallDemand periods item.now }
     ensures { result ≡ sum_to periods (entry item.now.demand) + item.now.end_max }
 {
     let mut sum = item.end_max;

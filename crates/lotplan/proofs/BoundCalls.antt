@@ -7,11 +7,12 @@ use Rattle.lot_draft.specs.declared.fault.ModelFault.{ModelFault}
 use Rattle.instance_reader.specs.Model.{BytesMean}
 use Rattle.instance_reader.specs.declared.versions.TheConstants.{NEWEST_VERSION}
 use Rattle.lotplan.specs.Reading.{file_limit}
-use Rattle.lotplan.specs.Bounding.{BoundCallsFor, BoundedCallsFor, HasBaseBound, HasNoBaseCost, MayPass, RunPasses}
+use Rattle.lotplan.specs.Bounding.{BoundCallsFor, BoundedCallsFor, HasBaseBound, HasNoBaseCost, MayPass, SimplexPasses}
+use Rattle.lotplan.specs.declared.status.TheConstants.{DONE, NO_PLAN, UNDECIDED, REFUSED, MISSING, TOO_LONG}
 use Rattle.lotplan.proofs.Certified.{IsMeant, meant}
 use Rattle.std.proofs.lemmas.Bool.{cases_lt}
 use Rattle.answers_exist.specs.Bounding.{HasBound, IsEmpty, Passes}
-use Rattle.lotplan.proofs.Calls.{AreLaws, Grounds, OneIsTwo, no_fault, one_problem, ranked}
+use Rattle.lotplan.proofs.Calls.{AreLaws, Grounds, OneIsUndecided, no_fault, one_problem, ranked}
 
 -- ---- for one
 module _ (laws : AreLaws) (m : Problem) (known : IsMeant m) where
@@ -26,7 +27,7 @@ module _ (laws : AreLaws) (m : Problem) (known : IsMeant m) where
       let total = known.totals in
       (laws.bounds m total.0 total.1).apart n some.bound none.none
 
-  bounded_call : (s t : ℕ) → BoundedCallsFor m s → BoundedCallsFor m t → (s ≡ t) ⊎ (RunPasses m × OneIsTwo s t)
+  bounded_call : (s t : ℕ) → BoundedCallsFor m s → BoundedCallsFor m t → (s ≡ t) ⊎ (SimplexPasses m × OneIsUndecided s t)
   bounded_call s t (inl (a, is)) (inl (b, too)) = inl (is ∙ sym too)
   bounded_call s t (inl (a, is)) (inr (inl (b, too))) = absurd (bound_or_none a.0 a.1 b)
   bounded_call s t (inl (a, is)) (inr (inr (inl (b, too)))) = absurd (few_or_many a.1.few b)
@@ -41,7 +42,7 @@ module _ (laws : AreLaws) (m : Problem) (known : IsMeant m) where
   bounded_call s t (inr (inr (inl (a, is)))) (inr (inr (inr (b, too)))) = inr (b, inr too)
   bounded_call s t (inr (inr (inr (a, is)))) other = inr (a, inl is)
 
-pub bound_call : AreLaws → (file : Option (List ℕ)) (s t : ℕ) → BoundCallsFor file s → BoundCallsFor file t → (s ≡ t) ⊎ (MayPass file × OneIsTwo s t)
+pub bound_call : AreLaws → (file : Option (List ℕ)) (s t : ℕ) → BoundCallsFor file s → BoundCallsFor file t → (s ≡ t) ⊎ (MayPass file × OneIsUndecided s t)
 bound_call laws None s t a b = inl (a ∙ sym b)
 bound_call laws (Some bytes) s t (inl a) (inl b) = inl (a.1 ∙ sym b.1)
 bound_call laws (Some bytes) s t (inl a) (inr b) = absurd (omega (arith, a.0, b.0))
@@ -59,11 +60,11 @@ bound_call laws (Some bytes) s t (inr (short, inl (m, reads, calls))) (inr (also
 -- ---- for some
 -- what the run of the base rows comes to
 outcome_some : (m : Problem) → HasManyCells m ⊎ (HasFewCells m × (HasBound m ⊎ (IsEmpty m ⊎ Passes m))) → (status : ℕ) × BoundedCallsFor m status
-outcome_some m (inl many) = (2, inr (inr (inl (many, refl))))
-outcome_some m (inr (few, inl (n, bound, floor))) = (0, inl ((n, record { bound = bound; floor = floor; few = few }), refl))
-outcome_some m (inr (few, inr (inl (none, impossible)))) = (1, inr (inl (record { none = none; impossible = impossible; few = few }, refl)))
+outcome_some m (inl many) = (UNDECIDED, inr (inr (inl (many, refl))))
+outcome_some m (inr (few, inl (n, bound, floor))) = (DONE, inl ((n, record { bound = bound; floor = floor; few = few }), refl))
+outcome_some m (inr (few, inr (inl (none, impossible)))) = (NO_PLAN, inr (inl (record { none = none; impossible = impossible; few = few }, refl)))
 outcome_some m (inr (few, inr (inr (program, base, unfit)))) =
-    (2, inr (inr (inr (record { program = program; base = base; pivot = unfit.0; row = unfit.1; column = unfit.2; passes = unfit.3; few = few }, refl))))
+    (UNDECIDED, inr (inr (inr (record { program = program; base = base; pivot = unfit.0; row = unfit.1; column = unfit.2; passes = unfit.3; few = few }, refl))))
 
 module _ (by : Grounds) where
   bounded_some : (bytes : List ℕ) → length bytes ≤ file_limit → (r : Result Problem ModelFault) → BytesMean bytes r → (status : ℕ) × BoundCallsFor (Some bytes) status
@@ -71,11 +72,11 @@ module _ (by : Grounds) where
       let rank = ranked bytes m means in
       let call = outcome_some m (by.bounds m rank.0 (meant by.totals by.weights bytes m means).limits rank.1) in
       (call.0, inr (short, inl (m, means, call.1)))
-  bounded_some bytes short (Err fault) means = (5, inr (short, inr (fault, means, refl)))
+  bounded_some bytes short (Err fault) means = (REFUSED, inr (short, inr (fault, means, refl)))
 
   pub bound_some : (model : Option (List ℕ)) → (status : ℕ) × BoundCallsFor model status
-  bound_some None = (6, refl)
+  bound_some None = (MISSING, refl)
   bound_some (Some bytes) = ⊎_elim
-      (λ long. (11, inl (long, refl)))
+      (λ long. (TOO_LONG, inl (long, refl)))
       (λ short. let means = by.bytes NEWEST_VERSION bytes in bounded_some bytes short means.0 means.1)
       (cases_lt file_limit (length bytes))

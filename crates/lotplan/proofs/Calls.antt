@@ -20,10 +20,11 @@ use Rattle.existence.specs.Plans.{PlansAreDecided, PlansAreJudged}
 use Rattle.existence.specs.Readings.{BytesMeanSomething, RecordsMeanSomething}
 use Rattle.answers_exist.specs.Bounding.{BoundsComeOut}
 use Rattle.answers_exist.specs.Checking.{CertificatesComeOut, PlansAreHeld, TextsComeOut}
+use Rattle.lotplan.specs.declared.status.TheConstants.{UNDECIDED}
 
 -- one of two statuses is that of what was left undecided
-abbrev pub OneIsTwo : ℕ → ℕ → Type 0
-OneIsTwo s t = (s ≡ 2) ⊎ (t ≡ 2)
+abbrev pub OneIsUndecided : ℕ → ℕ → Type 0
+OneIsUndecided s t = (s ≡ UNDECIDED) ⊎ (t ≡ UNDECIDED)
 
 -- the laws below on which it rests that no two statuses are called for
 pub record AreLaws : Type 0 where

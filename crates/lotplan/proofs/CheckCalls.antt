@@ -17,6 +17,7 @@ use Rattle.plan_file.specs.Records.{IsPlanOf, records_of}
 use Rattle.plan_file.proofs.Meanings.{means_one}
 use Rattle.lotplan.specs.Reading.{AreNoPlan, file_limit}
 use Rattle.lotplan.specs.Checking.{CheckCallsFor, ClaimCallsFor, GivenCallsFor, PlannedCallsFor, ProofCallsFor}
+use Rattle.lotplan.specs.declared.status.TheConstants.{DONE, FAULTY, REFUSED, MISSING, TOO_LONG}
 use Rattle.lotplan.proofs.Certified.{IsMeant, given_call, meant, planned_call}
 use Rattle.std.proofs.lemmas.Bool.{cases_lt}
 use Rattle.lot_sizing.specs.Totals.{IsRanking}
@@ -32,19 +33,19 @@ abbrev HasPlan : Problem → Shape → List ℕ → ℕ → Type 0
 HasPlan m c bytes u = (plan : Plan) × AllFit m plan × IsPlanOf m (records_of bytes) (plan_of plan) × GivenCallsFor m c (Some plan) u
 
 abbrev HasNoPlan : Problem → List ℕ → ℕ → Type 0
-HasNoPlan m bytes u = (fault : PlanFault) × AreNoPlan m bytes fault × (u ≡ 3)
+HasNoPlan m bytes u = (fault : PlanFault) × AreNoPlan m bytes fault × (u ≡ FAULTY)
 
 abbrev HasText : Problem → Option (List ℕ) → List ℕ → ℕ → Type 0
 HasText m plan bytes u = (c : Shape) × IsTextOf bytes c × ClaimCallsFor m c c.claim plan u
 
 abbrev HasNoText : List ℕ → ℕ → Type 0
-HasNoText bytes u = (fault : CertTextFault) × (fault ≢ text.Memory) × IsCertTextFault bytes fault × (u ≡ 3)
+HasNoText bytes u = (fault : CertTextFault) × (fault ≢ text.Memory) × IsCertTextFault bytes fault × (u ≡ FAULTY)
 
 abbrev HasModel : Option (List ℕ) → Option (List ℕ) → List ℕ → ℕ → Type 0
 HasModel plan certificate bytes u = (m : Problem) × BytesMean bytes (Ok m) × ProofCallsFor m plan certificate u
 
 abbrev HasNoModel : List ℕ → ℕ → Type 0
-HasNoModel bytes u = (fault : ModelFault) × BytesMean bytes (Err fault) × (u ≡ 5)
+HasNoModel bytes u = (fault : ModelFault) × BytesMean bytes (Err fault) × (u ≡ REFUSED)
 
 module _ (laws : AreLaws) (m : Problem) (known : IsMeant m) where
   planned_file : (c : Shape) (file : Option (List ℕ)) (s t : ℕ) → PlannedCallsFor m c file s → PlannedCallsFor m c file t → s ≡ t
@@ -109,8 +110,8 @@ check_call laws (Some bytes) plan certificate s t a b = ⊎_elim
 -- ---- for some
 -- a certificate that is accepted or refused
 decided_some : (m : Problem) (c : Shape) (given : Option Plan) → IsDecided m c given → (status : ℕ) × GivenCallsFor m c given status
-decided_some m c given (inl accepted) = (0, inl (accepted, refl))
-decided_some m c given (inr (line, w, fault)) = (3, inr (line, w, fault, refl))
+decided_some m c given (inl accepted) = (DONE, inl (accepted, refl))
+decided_some m c given (inr (line, w, fault)) = (FAULTY, inr (line, w, fault, refl))
 
 -- the limit on a file's bytes, and the first length past it
 within_file : (n : ℕ) → n ≤ too_many - 1 → n < too_many
@@ -122,15 +123,15 @@ module _ (by : Grounds) where
     given_some c given writable = decided_some m c given (by.certificates m rank limits ranks c given writable)
 
     planned_some : (c : Shape) → IsWritable c → (file : Option (List ℕ)) → (status : ℕ) × PlannedCallsFor m c file status
-    planned_some c writable None = (6, refl)
+    planned_some c writable None = (MISSING, refl)
     planned_some c writable (Some bytes) = ⊎_elim
-        (λ long. (11, inl (long, refl)))
+        (λ long. (TOO_LONG, inl (long, refl)))
         (λ short. ⊎_elim
         (λ read.
         let (plan, fits, is) = by.held m (records_of bytes) read.0 read.1 in
         let call = given_some c (Some plan) writable in
         (call.0, inr (short, inr (plan, fits, is, call.1))))
-        (λ fault. (3, inr (short, inl (fault.0, record { cause = fault.1; is = fault.2 }, refl))))
+        (λ fault. (FAULTY, inr (short, inl (fault.0, record { cause = fault.1; is = fault.2 }, refl))))
         (by.records m (records_of bytes)))
         (cases_lt file_limit (length bytes))
 
@@ -140,14 +141,14 @@ module _ (by : Grounds) where
     claim_some c writable (BoundOf amount) file = given_some c None writable
 
     proof_some : (plan file : Option (List ℕ)) → (status : ℕ) × ProofCallsFor m plan file status
-    proof_some plan None = (6, refl)
+    proof_some plan None = (MISSING, refl)
     proof_some plan (Some bytes) = ⊎_elim
-        (λ long. (11, inl (long, refl)))
+        (λ long. (TOO_LONG, inl (long, refl)))
         (λ few.
         let short = within_file (length bytes) few in
         ⊎_elim
         (λ text. let call = claim_some text.0 text.1.writable text.0.claim plan in (call.0, inr (short, inr (text.0, text.1, call.1))))
-        (λ fault. (3, inr (short, inl (fault.0, fault.1, fault.2, refl))))
+        (λ fault. (FAULTY, inr (short, inl (fault.0, fault.1, fault.2, refl))))
         (by.texts bytes))
         (cases_lt (too_many - 1) (length bytes))
 
@@ -156,11 +157,11 @@ module _ (by : Grounds) where
       let rank = ranked bytes m means in
       let call = proof_some m rank.0 (meant by.totals by.weights bytes m means).limits rank.1 plan certificate in
       (call.0, inr (short, inr (m, means, call.1)))
-  checked_some bytes plan certificate short (Err fault) means = (5, inr (short, inl (fault, means, refl)))
+  checked_some bytes plan certificate short (Err fault) means = (REFUSED, inr (short, inl (fault, means, refl)))
 
   pub check_some : (model plan certificate : Option (List ℕ)) → (status : ℕ) × CheckCallsFor model plan certificate status
-  check_some None plan certificate = (6, refl)
+  check_some None plan certificate = (MISSING, refl)
   check_some (Some bytes) plan certificate = ⊎_elim
-      (λ long. (11, inl (long, refl)))
+      (λ long. (TOO_LONG, inl (long, refl)))
       (λ short. let means = by.bytes NEWEST_VERSION bytes in checked_some bytes plan certificate short means.0 means.1)
       (cases_lt file_limit (length bytes))

@@ -23,9 +23,10 @@ use Rattle.command_line.specs.Words.{checking}
 use Rattle.lotplan.specs.Status.{code_of}
 use Rattle.lotplan.specs.Reading.{FileExplains, HoldsProblem, ModelExplains, OfFile, ReadAnswer, refused, missing, unread, too_long, read_line, read_status, AreNoPlan, HoldsPlan}
 use Rattle.lotplan.specs.Proving.{HoldsCertificate, IsGiven}
-use Rattle.lotplan.specs.Checking.{CheckAnswer, accepted, no_certificate, no_plan, rejected, stopped, check_line, check_status, Accepts, AllAre, AsksForPlan, CertificateExplains, CheckCallsFor, CheckExplains, CheckSays, ClaimCallsFor, FindsRefused, GivenCallsFor, GivenExplains, IsOptimal, IsRefusal, PlanStops, PlannedCallsFor, PlannedExplains, ProofCallsFor, ProofExplains, ProofIs, ProofStops}
+use Rattle.lotplan.specs.Checking.{CheckAnswer, accepted, no_certificate, no_plan, rejected, no_input, check_line, check_status, Accepts, AllAre, AsksForPlan, CertificateExplains, CheckCallsFor, CheckExplains, CheckSays, ClaimCallsFor, FindsRefused, GivenCallsFor, GivenExplains, IsOptimal, IsRefusal, PlanStops, PlannedCallsFor, PlannedExplains, ProofCallsFor, ProofExplains, ProofIs, ProofStops}
 use Rattle.lotplan.specs.Saying.{Gains, IsSaid}
 use Rattle.lotplan.specs.Run.{HadNoFault}
+use Rattle.lotplan.specs.declared.status.TheConstants.{DONE, NO_PLAN, UNDECIDED, FAULTY, NO_COMMAND, UNWRITTEN}
 use Rattle.lotplan.proofs.Outputs.{IsAnswerNumber, read_number}
 use Rattle.lotplan.proofs.Readings.{IsReading, SomeStop, reading, stops_after}
 
@@ -35,7 +36,7 @@ FaultExplains c old new P (accepted claim) = ⊥
 FaultExplains c old new P (no_certificate fault) = (fault ≢ text.Memory) × (IsTrue old.told → OfBytes (old.file c) (λ bytes. IsCertTextFault bytes fault))
 FaultExplains c old new P (no_plan fault) = ⊥
 FaultExplains c old new P (rejected line w) = P line w
-FaultExplains c old new P (stopped w) = CertificateExplains c old new w
+FaultExplains c old new P (no_input w) = CertificateExplains c old new w
 
 explains_fault : (c : List ℕ) (old new : Shelved) (P : ℕ → Why → Type 0) (fault : StreamFault) (answer : CheckAnswer) → IsStreamFault c old new P fault → IsRefusal c fault answer → FaultExplains c old new P answer
 explains_fault c old new P stream.Missing answer x is = subst (FaultExplains c old new P) (sym is) (refl, x.0, x.1)
@@ -58,7 +59,7 @@ given_refused problem given c old new fault answer x is = of answer (explains_fa
     of (no_certificate fault) y = y
     of (no_plan fault) y = absurd y
     of (rejected line w) y = y
-    of (stopped w) y = y
+    of (no_input w) y = y
 
 -- where its claim is read
 pub claim_refused : (problem : Problem) (p c : List ℕ) (old new : Shelved) (fault : StreamFault) (answer : CheckAnswer) → IsStreamFault c old new never_refused fault → IsRefusal c fault answer → ProofExplains problem p c old new answer
@@ -69,7 +70,7 @@ claim_refused problem p c old new fault answer x is = of answer (explains_fault 
     of (no_certificate fault) y = λ t. (y.0, y.1 t)
     of (no_plan fault) y = absurd y
     of (rejected line w) y = absurd y
-    of (stopped w) y = inl y
+    of (no_input w) y = inl y
 
 -- ---- what is read after other files
 told_before : {old mid : Shelved} → OnlyReads old mid → IsTrue old.told → IsTrue mid.told
@@ -89,14 +90,14 @@ given_after problem given c old mid new (no_certificate fault) reads x =
 given_after problem given c old mid new (no_plan fault) reads x = absurd x
 given_after problem given c old mid new (rejected line w) reads x =
     λ t. subst (λ (f : Files). OfCertificate (f c) (λ certificate. OfProblem problem (λ total weight. IsCheckFault problem total weight certificate given line w))) reads.files (x (told_before reads t))
-given_after problem given c old mid new (stopped w) reads x = certificate_after c old mid new w reads x
+given_after problem given c old mid new (no_input w) reads x = certificate_after c old mid new w reads x
 
 plan_after : (problem : Problem) (p : List ℕ) (old mid new : Shelved) (answer : CheckAnswer) → OnlyReads old mid → PlanStops problem p mid new answer → PlanStops problem p old new answer
 plan_after problem p old mid new (accepted claim) reads x = absurd x
 plan_after problem p old mid new (no_certificate fault) reads x = absurd x
 plan_after problem p old mid new (no_plan fault) reads x = λ t. subst (λ (f : Files). OfFile f p (λ bytes. AreNoPlan problem bytes fault)) reads.files (x (told_before reads t))
 plan_after problem p old mid new (rejected line w) reads x = absurd x
-plan_after problem p old mid new (stopped w) reads x = stops_after p old mid new w reads x
+plan_after problem p old mid new (no_input w) reads x = stops_after p old mid new w reads x
 
 planned_after : (problem : Problem) (p c : List ℕ) (old mid new : Shelved) (answer : CheckAnswer) → OnlyReads old mid → PlannedExplains problem p c mid new answer → PlannedExplains problem p c old new answer
 planned_after problem p c old mid new answer reads x = ⊎_elim
@@ -147,7 +148,7 @@ whole one problem p c old new given (rejected line w) goes x = λ t.
       holds = held one problem p c old given goes t g.3.0 (g.0, g.1, g.2, g.3.1);
       fault = g.3.2;
     }
-whole one problem p c old new given (stopped w) goes x = inl x
+whole one problem p c old new given (no_input w) goes x = inl x
 
 -- the claim that was read
 abbrev Claims : List ℕ → Shelved → Claim → Type 0
@@ -168,7 +169,7 @@ by_plan problem p c old new (accepted claim) asks x = absurd x
 by_plan problem p c old new (no_certificate fault) asks x = absurd x
 by_plan problem p c old new (no_plan fault) asks x = λ t. (asks t, x t)
 by_plan problem p c old new (rejected line w) asks x = absurd x
-by_plan problem p c old new (stopped w) asks x = inr (asks, x)
+by_plan problem p c old new (no_input w) asks x = inr (asks, x)
 
 pub by_optimal : TextsMeanOneThing → (problem : Problem) (p c : List ℕ) (old mid new : Shelved) (amount : ℕ) (answer : CheckAnswer) → Claims c old (Optimal amount) → OnlyReads old mid → PlannedExplains problem p c mid new answer → ProofExplains problem p c old new answer
 by_optimal one problem p c old mid new amount answer claims reads x = ⊎_elim
@@ -196,46 +197,46 @@ check_after m p c problem old mid new (accepted claim) holds reads x = λ t. (pr
 check_after m p c problem old mid new (no_certificate fault) holds reads x = λ t. (problem, holds t, subst (λ (f : Files). ProofIs f p c problem (no_certificate fault)) reads.files (x (told_before reads t)))
 check_after m p c problem old mid new (no_plan fault) holds reads x = λ t. (problem, holds t, subst (λ (f : Files). ProofIs f p c problem (no_plan fault)) reads.files (x (told_before reads t)))
 check_after m p c problem old mid new (rejected line w) holds reads x = λ t. (problem, holds t, subst (λ (f : Files). ProofIs f p c problem (rejected line w)) reads.files (x (told_before reads t)))
-check_after m p c problem old mid new (stopped w) holds reads x = inr (problem, holds, proof_after p c old mid new w reads x)
+check_after m p c problem old mid new (no_input w) holds reads x = inr (problem, holds, proof_after p c old mid new w reads x)
 
 pub says_checked : (m p c : List ℕ) (problem : Problem) (old mid new : Shelved) (answer : CheckAnswer) (r : Result Said AllocError) → (IsTrue old.told → HoldsProblem old.file m problem) → OnlyReads old mid → ProofExplains problem p c mid new answer → IfOk r (IsSaid (check_line answer) (check_status answer)) → IfOk r (CheckSays m p c old new)
 says_checked m p c problem old mid new answer (Ok said) holds reads x says = (answer, check_after m p c problem old mid new answer holds reads x, says)
 says_checked m p c problem old mid new answer (Err e) holds reads x says = tt
 
 pub says_stop : (m p c : List ℕ) (old new : Shelved) (w : ReadAnswer) (r : Result Said AllocError) → ModelExplains m old new w → IfOk r (IsSaid (read_line w) (read_status w)) → IfOk r (CheckSays m p c old new)
-says_stop m p c old new w (Ok said) x says = (stopped w, inl x, says)
+says_stop m p c old new w (Ok said) x says = (no_input w, inl x, says)
 says_stop m p c old new w (Err e) x says = tt
 
 -- ---- what each number says
-pub accepts_at : (m p c : List ℕ) (code : ℕ) (old new : Shelved) (out_old out_new : Printed) (answer : CheckAnswer) → CheckExplains m p c old new answer → code ≡ code_of (check_status answer) → Gains (check_line answer) out_old out_new → code ≡ 0 → IsTrue old.told → Accepts old.file m p c out_old out_new
+pub accepts_at : (m p c : List ℕ) (code : ℕ) (old new : Shelved) (out_old out_new : Printed) (answer : CheckAnswer) → CheckExplains m p c old new answer → code ≡ code_of (check_status answer) → Gains (check_line answer) out_old out_new → code ≡ DONE → IsTrue old.told → Accepts old.file m p c out_old out_new
 accepts_at m p c code old new out_old out_new (accepted claim) x is line none t = record { claim = claim; holds = x t; line = line }
 accepts_at m p c code old new out_old out_new (no_certificate fault) x is line none t = absurd (omega (arith, is, none))
 accepts_at m p c code old new out_old out_new (no_plan fault) x is line none t = absurd (omega (arith, is, none))
 accepts_at m p c code old new out_old out_new (rejected at w) x is line none t = absurd (omega (arith, is, none))
-accepts_at m p c code old new out_old out_new (stopped w) x is line none t = absurd (omega (arith, (reading w code is).low, none))
+accepts_at m p c code old new out_old out_new (no_input w) x is line none t = absurd (omega (arith, (reading w code is).low, none))
 
-pub refused_at : (m p c : List ℕ) (code : ℕ) (old new : Shelved) (out_old out_new : Printed) (answer : CheckAnswer) → CheckExplains m p c old new answer → code ≡ code_of (check_status answer) → Gains (check_line answer) out_old out_new → code ≡ 3 → IsTrue old.told → FindsRefused (Some (checking m p c)) old.file out_old out_new
+pub refused_at : (m p c : List ℕ) (code : ℕ) (old new : Shelved) (out_old out_new : Printed) (answer : CheckAnswer) → CheckExplains m p c old new answer → code ≡ code_of (check_status answer) → Gains (check_line answer) out_old out_new → code ≡ FAULTY → IsTrue old.told → FindsRefused (Some (checking m p c)) old.file out_old out_new
 refused_at m p c code old new out_old out_new (accepted claim) x is line three t = absurd (omega (arith, is, three))
 refused_at m p c code old new out_old out_new (no_certificate fault) x is line three t = record { model_file = m; plan_file = p; certificate_file = c; words = record { is = refl }; answer = no_certificate fault; fault = tt; holds = x t; line = line }
 refused_at m p c code old new out_old out_new (no_plan fault) x is line three t = record { model_file = m; plan_file = p; certificate_file = c; words = record { is = refl }; answer = no_plan fault; fault = tt; holds = x t; line = line }
 refused_at m p c code old new out_old out_new (rejected at w) x is line three t = record { model_file = m; plan_file = p; certificate_file = c; words = record { is = refl }; answer = rejected at w; fault = tt; holds = x t; line = line }
-refused_at m p c code old new out_old out_new (stopped w) x is line three t = absurd (omega (arith, (reading w code is).low, three))
+refused_at m p c code old new out_old out_new (no_input w) x is line three t = absurd (omega (arith, (reading w code is).low, three))
 
 -- `check` has no other number
 pub record IsChecking (code : ℕ) : Type 0 where
-  pub one : code ≡ 1 → ⊥
-  pub two : code ≡ 2 → ⊥
-  pub four : code ≡ 4 → ⊥
-  pub eight : code ≡ 8 → ⊥
+  pub no_plan : code ≡ NO_PLAN → ⊥
+  pub undecided : code ≡ UNDECIDED → ⊥
+  pub no_command : code ≡ NO_COMMAND → ⊥
+  pub unwritten : code ≡ UNWRITTEN → ⊥
 
 pub numbers : (answer : CheckAnswer) (code : ℕ) → code ≡ code_of (check_status answer) → IsChecking code
-numbers (accepted claim) code is = record { one = λ e. omega (arith, is, e); two = λ e. omega (arith, is, e); four = λ e. omega (arith, is, e); eight = λ e. omega (arith, is, e) }
-numbers (no_certificate fault) code is = record { one = λ e. omega (arith, is, e); two = λ e. omega (arith, is, e); four = λ e. omega (arith, is, e); eight = λ e. omega (arith, is, e) }
-numbers (no_plan fault) code is = record { one = λ e. omega (arith, is, e); two = λ e. omega (arith, is, e); four = λ e. omega (arith, is, e); eight = λ e. omega (arith, is, e) }
-numbers (rejected at w) code is = record { one = λ e. omega (arith, is, e); two = λ e. omega (arith, is, e); four = λ e. omega (arith, is, e); eight = λ e. omega (arith, is, e) }
-numbers (stopped w) code is =
+numbers (accepted claim) code is = record { no_plan = λ e. omega (arith, is, e); undecided = λ e. omega (arith, is, e); no_command = λ e. omega (arith, is, e); unwritten = λ e. omega (arith, is, e) }
+numbers (no_certificate fault) code is = record { no_plan = λ e. omega (arith, is, e); undecided = λ e. omega (arith, is, e); no_command = λ e. omega (arith, is, e); unwritten = λ e. omega (arith, is, e) }
+numbers (no_plan fault) code is = record { no_plan = λ e. omega (arith, is, e); undecided = λ e. omega (arith, is, e); no_command = λ e. omega (arith, is, e); unwritten = λ e. omega (arith, is, e) }
+numbers (rejected at w) code is = record { no_plan = λ e. omega (arith, is, e); undecided = λ e. omega (arith, is, e); no_command = λ e. omega (arith, is, e); unwritten = λ e. omega (arith, is, e) }
+numbers (no_input w) code is =
     let r = reading w code is in
-    record { one = λ e. omega (arith, r.low, e); two = λ e. omega (arith, r.low, e); four = λ e. omega (arith, r.low, e); eight = r.other }
+    record { no_plan = λ e. omega (arith, r.low, e); undecided = λ e. omega (arith, r.low, e); no_command = λ e. omega (arith, r.low, e); unwritten = r.other }
 
 -- ---- what the three files call for
 module _ (m p c : List ℕ) (code : ℕ) (old : Shelved) where
@@ -261,12 +262,12 @@ module _ (m p c : List ℕ) (code : ℕ) (old : Shelved) where
   given_calls problem certificate (BoundOf amount) given goes calls = subst (λ g. GivenCallsFor problem certificate g code) goes calls
 
   -- by a plan file that gave no plan
-  asked_calls : (problem : Problem) → AsksForPlan old.file c → ((certificate : Shape) → PlannedCallsFor problem certificate (old.file p) code) → ProofCallsFor problem (old.file p) (old.file c) code
-  asked_calls problem asks calls =
+  request_calls : (problem : Problem) → AsksForPlan old.file c → ((certificate : Shape) → PlannedCallsFor problem certificate (old.file p) code) → ProofCallsFor problem (old.file p) (old.file c) code
+  request_calls problem asks calls =
       let certificate = asks.3.0 in
       by_bytes problem asks.0 asks.1 (inr (asks.2, inr (certificate, asks.3.1, optimal_calls problem certificate certificate.claim asks.3.2 (calls certificate))))
 
-  pub accepted_called : (claim : Claim) → AllAre old.file m p c (accepted claim) → code ≡ 0 → CheckCallsFor (old.file m) (old.file p) (old.file c) code
+  pub accepted_called : (claim : Claim) → AllAre old.file m p c (accepted claim) → code ≡ DONE → CheckCallsFor (old.file m) (old.file p) (old.file c) code
   accepted_called claim f is =
       let h = f.2.holds in
       by_model f.0 f.1 (by_bytes f.0 h.text.0 h.text.1 (inr (h.text.2, inr (h.certificate, h.text.3, given_calls f.0 h.certificate h.certificate.claim h.given h.goes_with (inl (f.2.certified, is))))))
@@ -301,7 +302,7 @@ module _ (m p c : List ℕ) (code : ℕ) (old : Shelved) where
     proof_called : (problem : Problem) (w : ReadAnswer) → ProofStops p c old new w → code ≡ code_of (read_status w) → ProofCallsFor problem (old.file p) (old.file c) code
     proof_called problem w x is = ⊎_elim
         (λ certificate. certificate_called problem w certificate is)
-        (λ plan. asked_calls problem (plan.0 t) (λ certificate. plan_called problem certificate w plan.1 is))
+        (λ plan. request_calls problem (plan.0 t) (λ certificate. plan_called problem certificate w plan.1 is))
         x
 
     pub called_at : (answer : CheckAnswer) → CheckExplains m p c old new answer → code ≡ code_of (check_status answer) → CheckCallsFor (old.file m) (old.file p) (old.file c) code
@@ -313,12 +314,12 @@ module _ (m p c : List ℕ) (code : ℕ) (old : Shelved) where
     called_at (no_plan fault) x is =
         let f = x t in
         let h = f.2.1 in
-        by_model f.0 f.1 (asked_calls f.0 f.2.0 (λ certificate. by_plan_bytes f.0 certificate h.0 h.1 (inr (h.2, inl (fault, h.3, is)))))
+        by_model f.0 f.1 (request_calls f.0 f.2.0 (λ certificate. by_plan_bytes f.0 certificate h.0 h.1 (inr (h.2, inl (fault, h.3, is)))))
     called_at (rejected line w) x is =
         let f = x t in
         let h = f.2.holds in
         by_model f.0 f.1 (by_bytes f.0 h.text.0 h.text.1 (inr (h.text.2, inr (h.certificate, h.text.3, given_calls f.0 h.certificate h.certificate.claim h.given h.goes_with (inr (line, w, f.2.fault, is))))))
-    called_at (stopped w) x is = ⊎_elim
+    called_at (no_input w) x is = ⊎_elim
         (λ model. model_called w model is)
         (λ read. by_model read.0 (read.1 t) (proof_called read.0 w read.2 is))
         x
@@ -329,11 +330,11 @@ stop_at m p c code old new out_old out_new (accepted claim) x is line r = absurd
 stop_at m p c code old new out_old out_new (no_certificate fault) x is line r = absurd (omega (arith, is, r.low))
 stop_at m p c code old new out_old out_new (no_plan fault) x is line r = absurd (omega (arith, is, r.low))
 stop_at m p c code old new out_old out_new (rejected at w) x is line r = absurd (omega (arith, is, r.low))
-stop_at m p c code old new out_old out_new (stopped w) x is line r = (w, record { cause = x; line = line }, is)
+stop_at m p c code old new out_old out_new (no_input w) x is line r = (w, record { cause = x; line = line }, is)
 
 pub answer_number : (answer : CheckAnswer) → IsAnswerNumber (code_of (check_status answer))
-answer_number (accepted claim) = record { nine = λ e. omega (arith, e); ten = λ e. omega (arith, e) }
-answer_number (no_certificate fault) = record { nine = λ e. omega (arith, e); ten = λ e. omega (arith, e) }
-answer_number (no_plan fault) = record { nine = λ e. omega (arith, e); ten = λ e. omega (arith, e) }
-answer_number (rejected at w) = record { nine = λ e. omega (arith, e); ten = λ e. omega (arith, e) }
-answer_number (stopped w) = read_number w
+answer_number (accepted claim) = record { unprinted = λ e. omega (arith, e); no_memory = λ e. omega (arith, e) }
+answer_number (no_certificate fault) = record { unprinted = λ e. omega (arith, e); no_memory = λ e. omega (arith, e) }
+answer_number (no_plan fault) = record { unprinted = λ e. omega (arith, e); no_memory = λ e. omega (arith, e) }
+answer_number (rejected at w) = record { unprinted = λ e. omega (arith, e); no_memory = λ e. omega (arith, e) }
+answer_number (no_input w) = read_number w

@@ -11,9 +11,10 @@ use Rattle.lotplan.specs.Status.{code_of}
 use Rattle.plan_rules.specs.declared.plan.Plan.{Plan as Grids}
 use Rattle.plan_rules.specs.Held.{plan_of}
 use Rattle.lotplan.specs.Reading.{HoldsPlan, FileExplains, HoldsProblem, ModelExplains, OfFile, ReadAnswer, refused, missing, unread, too_long, read_line, read_status}
-use Rattle.lotplan.specs.Judging.{JudgeAnswer, feasible, no_plan, broken, stopped, judge_line, judge_status, BytesAre, FindsFault, FindsFeasible, JudgeCallsFor, JudgeExplains, JudgeSays, PlanCallsFor, IsJudged, IsJudgement, PlanFileExplains, PlanFileSays}
+use Rattle.lotplan.specs.Judging.{JudgeAnswer, feasible, no_plan, broken, no_input, judge_line, judge_status, BytesAre, FindsFault, FindsFeasible, JudgeCallsFor, JudgeExplains, JudgeSays, PlanCallsFor, IsJudged, IsJudgement, PlanFileExplains, PlanFileSays}
 use Rattle.lotplan.specs.Saying.{Gains, IsSaid}
 use Rattle.lotplan.specs.Run.{HadNoFault}
+use Rattle.lotplan.specs.declared.status.TheConstants.{DONE, NO_PLAN, UNDECIDED, FAULTY, NO_COMMAND, UNWRITTEN}
 use Rattle.lotplan.proofs.Outputs.{IsAnswerNumber, read_number}
 use Rattle.lotplan.proofs.Readings.{IsReading, SomeStop, reading, stops_after}
 
@@ -22,7 +23,7 @@ pub plan_in_file : (problem : Problem) (p : List ℕ) (old new : Shelved) (given
 plan_in_file problem p old new given (feasible amount) holds x = λ t. let h = holds t in (h.bytes, h.read, h.short, record { plan = plan_of given; is = h.is; feasible = x.0; costs = sym x.1 })
 plan_in_file problem p old new given (no_plan fault) holds x = absurd x
 plan_in_file problem p old new given (broken rule) holds x = λ t. let h = holds t in (h.bytes, h.read, h.short, record { plan = plan_of given; is = h.is; infeasible = x.0; breaks = x.1 })
-plan_in_file problem p old new given (stopped why) holds x = absurd x
+plan_in_file problem p old new given (no_input why) holds x = absurd x
 
 pub says_file : (problem : Problem) (p : List ℕ) (old new : Shelved) (answer : JudgeAnswer) (r : Result Said AllocError) → PlanFileExplains problem p old new answer → IfOk r (IsSaid (judge_line answer) (judge_status answer)) → IfOk r (PlanFileSays problem p old new)
 says_file problem p old new answer (Ok said) x says = (answer, x, says)
@@ -33,43 +34,43 @@ pub judge_after : (m p : List ℕ) (problem : Problem) (old mid new : Shelved) (
 judge_after m p problem old mid new (feasible amount) holds reads x = λ t. (problem, holds t, subst (λ (f : Files). OfFile f p (BytesAre problem (feasible amount))) reads.files (x (subst IsTrue (sym reads.told) t)))
 judge_after m p problem old mid new (no_plan fault) holds reads x = λ t. (problem, holds t, subst (λ (f : Files). OfFile f p (BytesAre problem (no_plan fault))) reads.files (x (subst IsTrue (sym reads.told) t)))
 judge_after m p problem old mid new (broken rule) holds reads x = λ t. (problem, holds t, subst (λ (f : Files). OfFile f p (BytesAre problem (broken rule))) reads.files (x (subst IsTrue (sym reads.told) t)))
-judge_after m p problem old mid new (stopped why) holds reads x = inr (problem, holds, stops_after p old mid new why reads x)
+judge_after m p problem old mid new (no_input why) holds reads x = inr (problem, holds, stops_after p old mid new why reads x)
 
 pub says_judged : (m p : List ℕ) (problem : Problem) (old mid new : Shelved) (r : Result Said AllocError) → (IsTrue old.told → HoldsProblem old.file m problem) → OnlyReads old mid → IfOk r (PlanFileSays problem p mid new) → IfOk r (JudgeSays m p old new)
 says_judged m p problem old mid new (Ok said) holds reads (answer, x, says) = (answer, judge_after m p problem old mid new answer holds reads x, says)
 says_judged m p problem old mid new (Err e) holds reads some = tt
 
 pub says_stop : (m p : List ℕ) (old new : Shelved) (why : ReadAnswer) (r : Result Said AllocError) → ModelExplains m old new why → IfOk r (IsSaid (read_line why) (read_status why)) → IfOk r (JudgeSays m p old new)
-says_stop m p old new why (Ok said) x says = (stopped why, inl x, says)
+says_stop m p old new why (Ok said) x says = (no_input why, inl x, says)
 says_stop m p old new why (Err e) x says = tt
 
 -- ---- what each number says
-pub feasible_at : (m p : List ℕ) (code : ℕ) (old new : Shelved) (out_old out_new : Printed) (answer : JudgeAnswer) → JudgeExplains m p old new answer → code ≡ code_of (judge_status answer) → Gains (judge_line answer) out_old out_new → code ≡ 0 → IsTrue old.told → FindsFeasible old.file m p out_old out_new
+pub feasible_at : (m p : List ℕ) (code : ℕ) (old new : Shelved) (out_old out_new : Printed) (answer : JudgeAnswer) → JudgeExplains m p old new answer → code ≡ code_of (judge_status answer) → Gains (judge_line answer) out_old out_new → code ≡ DONE → IsTrue old.told → FindsFeasible old.file m p out_old out_new
 feasible_at m p code old new out_old out_new (feasible amount) x is line none t = record { amount = amount; holds = x t; line = line }
 feasible_at m p code old new out_old out_new (no_plan fault) x is line none t = absurd (omega (arith, is, none))
 feasible_at m p code old new out_old out_new (broken rule) x is line none t = absurd (omega (arith, is, none))
-feasible_at m p code old new out_old out_new (stopped why) x is line none t = absurd (omega (arith, (reading why code is).low, none))
+feasible_at m p code old new out_old out_new (no_input why) x is line none t = absurd (omega (arith, (reading why code is).low, none))
 
-pub fault_at : (asked : Option Request) (m p : List ℕ) (code : ℕ) (old new : Shelved) (out_old out_new : Printed) (answer : JudgeAnswer) → IsJudged asked m p → JudgeExplains m p old new answer → code ≡ code_of (judge_status answer) → Gains (judge_line answer) out_old out_new → code ≡ 3 → IsTrue old.told → FindsFault asked old.file out_old out_new
-fault_at asked m p code old new out_old out_new (feasible amount) words x is line three t = absurd (omega (arith, is, three))
-fault_at asked m p code old new out_old out_new (no_plan fault) words x is line three t = record { model_file = m; plan_file = p; words = words; answer = no_plan fault; fault = tt; holds = x t; line = line }
-fault_at asked m p code old new out_old out_new (broken rule) words x is line three t = record { model_file = m; plan_file = p; words = words; answer = broken rule; fault = tt; holds = x t; line = line }
-fault_at asked m p code old new out_old out_new (stopped why) words x is line three t = absurd (omega (arith, (reading why code is).low, three))
+pub fault_at : (request : Option Request) (m p : List ℕ) (code : ℕ) (old new : Shelved) (out_old out_new : Printed) (answer : JudgeAnswer) → IsJudged request m p → JudgeExplains m p old new answer → code ≡ code_of (judge_status answer) → Gains (judge_line answer) out_old out_new → code ≡ FAULTY → IsTrue old.told → FindsFault request old.file out_old out_new
+fault_at request m p code old new out_old out_new (feasible amount) words x is line three t = absurd (omega (arith, is, three))
+fault_at request m p code old new out_old out_new (no_plan fault) words x is line three t = record { model_file = m; plan_file = p; words = words; answer = no_plan fault; fault = tt; holds = x t; line = line }
+fault_at request m p code old new out_old out_new (broken rule) words x is line three t = record { model_file = m; plan_file = p; words = words; answer = broken rule; fault = tt; holds = x t; line = line }
+fault_at request m p code old new out_old out_new (no_input why) words x is line three t = absurd (omega (arith, (reading why code is).low, three))
 
 -- `judge` has no other number
 pub record IsJudging (code : ℕ) : Type 0 where
-  pub one : code ≡ 1 → ⊥
-  pub two : code ≡ 2 → ⊥
-  pub four : code ≡ 4 → ⊥
-  pub eight : code ≡ 8 → ⊥
+  pub no_plan : code ≡ NO_PLAN → ⊥
+  pub undecided : code ≡ UNDECIDED → ⊥
+  pub no_command : code ≡ NO_COMMAND → ⊥
+  pub unwritten : code ≡ UNWRITTEN → ⊥
 
 pub numbers : (answer : JudgeAnswer) (code : ℕ) → code ≡ code_of (judge_status answer) → IsJudging code
-numbers (feasible amount) code is = record { one = λ e. omega (arith, is, e); two = λ e. omega (arith, is, e); four = λ e. omega (arith, is, e); eight = λ e. omega (arith, is, e) }
-numbers (no_plan fault) code is = record { one = λ e. omega (arith, is, e); two = λ e. omega (arith, is, e); four = λ e. omega (arith, is, e); eight = λ e. omega (arith, is, e) }
-numbers (broken rule) code is = record { one = λ e. omega (arith, is, e); two = λ e. omega (arith, is, e); four = λ e. omega (arith, is, e); eight = λ e. omega (arith, is, e) }
-numbers (stopped why) code is =
+numbers (feasible amount) code is = record { no_plan = λ e. omega (arith, is, e); undecided = λ e. omega (arith, is, e); no_command = λ e. omega (arith, is, e); unwritten = λ e. omega (arith, is, e) }
+numbers (no_plan fault) code is = record { no_plan = λ e. omega (arith, is, e); undecided = λ e. omega (arith, is, e); no_command = λ e. omega (arith, is, e); unwritten = λ e. omega (arith, is, e) }
+numbers (broken rule) code is = record { no_plan = λ e. omega (arith, is, e); undecided = λ e. omega (arith, is, e); no_command = λ e. omega (arith, is, e); unwritten = λ e. omega (arith, is, e) }
+numbers (no_input why) code is =
     let r = reading why code is in
-    record { one = λ e. omega (arith, r.low, e); two = λ e. omega (arith, r.low, e); four = λ e. omega (arith, r.low, e); eight = r.other }
+    record { no_plan = λ e. omega (arith, r.low, e); undecided = λ e. omega (arith, r.low, e); no_command = λ e. omega (arith, r.low, e); unwritten = r.other }
 
 -- ---- what the two files call for
 judge_call : (found plan : Option (List ℕ)) (bytes : List ℕ) (code : ℕ) → found ≡ Some bytes → JudgeCallsFor (Some bytes) plan code → JudgeCallsFor found plan code
@@ -98,7 +99,7 @@ pub called_at : (m p : List ℕ) (code : ℕ) (old new : Shelved) (out_old out_n
 called_at m p code old new out_old out_new fine t (feasible amount) x is = let f = x t in by_plan m p code old f.0 f.1 (plan_call f.0 (old.file p) f.2.0 code f.2.1 (inr (f.2.2, inl (amount, f.2.3, is))))
 called_at m p code old new out_old out_new fine t (no_plan fault) x is = let f = x t in by_plan m p code old f.0 f.1 (plan_call f.0 (old.file p) f.2.0 code f.2.1 (inr (f.2.2, inr (inr (fault, f.2.3, is)))))
 called_at m p code old new out_old out_new fine t (broken rule) x is = let f = x t in by_plan m p code old f.0 f.1 (plan_call f.0 (old.file p) f.2.0 code f.2.1 (inr (f.2.2, inr (inl (rule, f.2.3, is)))))
-called_at m p code old new out_old out_new fine t (stopped why) x is =
+called_at m p code old new out_old out_new fine t (no_input why) x is =
     ⊎_elim
     (λ model. model_called m p code old new out_old out_new fine t why model is)
     (λ plan. by_plan m p code old plan.0 (plan.1 t) (plan_called p code plan.0 old new out_old out_new fine t why plan.2 is))
@@ -109,10 +110,10 @@ pub stop_at : (m p : List ℕ) (code : ℕ) (old new : Shelved) (out_old out_new
 stop_at m p code old new out_old out_new (feasible amount) x is line r = absurd (omega (arith, is, r.low))
 stop_at m p code old new out_old out_new (no_plan fault) x is line r = absurd (omega (arith, is, r.low))
 stop_at m p code old new out_old out_new (broken rule) x is line r = absurd (omega (arith, is, r.low))
-stop_at m p code old new out_old out_new (stopped why) x is line r = (why, record { cause = x; line = line }, is)
+stop_at m p code old new out_old out_new (no_input why) x is line r = (why, record { cause = x; line = line }, is)
 
 pub answer_number : (answer : JudgeAnswer) → IsAnswerNumber (code_of (judge_status answer))
-answer_number (feasible amount) = record { nine = λ e. omega (arith, e); ten = λ e. omega (arith, e) }
-answer_number (no_plan fault) = record { nine = λ e. omega (arith, e); ten = λ e. omega (arith, e) }
-answer_number (broken rule) = record { nine = λ e. omega (arith, e); ten = λ e. omega (arith, e) }
-answer_number (stopped why) = read_number why
+answer_number (feasible amount) = record { unprinted = λ e. omega (arith, e); no_memory = λ e. omega (arith, e) }
+answer_number (no_plan fault) = record { unprinted = λ e. omega (arith, e); no_memory = λ e. omega (arith, e) }
+answer_number (broken rule) = record { unprinted = λ e. omega (arith, e); no_memory = λ e. omega (arith, e) }
+answer_number (no_input why) = read_number why

@@ -7,11 +7,12 @@ use Rattle.instance_reader.specs.Model.{BytesMean}
 use Rattle.instance_reader.specs.declared.versions.TheConstants.{NEWEST_VERSION}
 use Rattle.lotplan.specs.Planning.{FileCallsFor, MayBeLeft, MayLeave, ProblemCallsFor, BytesCallFor}
 use Rattle.lotplan.specs.Reading.{file_limit}
+use Rattle.lotplan.specs.declared.status.TheConstants.{DONE, NO_PLAN, REFUSED, MISSING, TOO_LONG}
 use Rattle.std.proofs.lemmas.Bool.{cases_lt}
-use Rattle.lotplan.proofs.Calls.{Grounds, OneIsTwo, no_fault, one_problem, ranked}
+use Rattle.lotplan.proofs.Calls.{Grounds, OneIsUndecided, no_fault, one_problem, ranked}
 
 -- ---- for one
-problem_one : (m : Problem) (budget s t : ℕ) → ProblemCallsFor m budget s → ProblemCallsFor m budget t → (s ≡ t) ⊎ (MayBeLeft m budget × OneIsTwo s t)
+problem_one : (m : Problem) (budget s t : ℕ) → ProblemCallsFor m budget s → ProblemCallsFor m budget t → (s ≡ t) ⊎ (MayBeLeft m budget × OneIsUndecided s t)
 problem_one m budget s t (inl a) (inl b) = inl (a.0 ∙ sym b.0)
 problem_one m budget s t (inl (is, p, feasible)) (inr (inl b)) = absurd (b.1 p feasible)
 problem_one m budget s t (inl a) (inr (inr b)) = inr (b.1, inr b.0)
@@ -20,7 +21,7 @@ problem_one m budget s t (inr (inl a)) (inr (inl b)) = inl (a.0 ∙ sym b.0)
 problem_one m budget s t (inr (inl a)) (inr (inr b)) = inr (b.1, inr b.0)
 problem_one m budget s t (inr (inr a)) other = inr (a.1, inl a.0)
 
-pub file_call : (file : Option (List ℕ)) (budget s t : ℕ) → FileCallsFor file budget s → FileCallsFor file budget t → (s ≡ t) ⊎ (MayLeave file budget × OneIsTwo s t)
+pub file_call : (file : Option (List ℕ)) (budget s t : ℕ) → FileCallsFor file budget s → FileCallsFor file budget t → (s ≡ t) ⊎ (MayLeave file budget × OneIsUndecided s t)
 file_call None budget s t a b = inl (a ∙ sym b)
 file_call (Some bytes) budget s t (inl a) (inl b) = inl (a.1 ∙ sym b.1)
 file_call (Some bytes) budget s t (inl a) (inr b) = absurd (omega (arith, a.0, b.0))
@@ -40,18 +41,18 @@ module _ (by : Grounds) where
   problem_some bytes m budget means =
       let rank = ranked bytes m means in
       ⊎_elim
-      (λ plan. (0, inl (refl, plan.0, plan.1)))
-      (λ none. (1, inr (inl (refl, none))))
+      (λ plan. (DONE, inl (refl, plan.0, plan.1)))
+      (λ none. (NO_PLAN, inr (inl (refl, none))))
       (by.decided m rank.0 rank.1)
 
   bytes_some : (bytes : List ℕ) (budget : ℕ) (r : Result Problem ModelFault) → BytesMean bytes r → (status : ℕ) × BytesCallFor bytes budget status
   bytes_some bytes budget (Ok m) means = let call = problem_some bytes m budget means in (call.0, inl (m, means, call.1))
-  bytes_some bytes budget (Err fault) means = (5, inr (fault, means, refl))
+  bytes_some bytes budget (Err fault) means = (REFUSED, inr (fault, means, refl))
 
   pub file_some : (file : Option (List ℕ)) (budget : ℕ) → (status : ℕ) × FileCallsFor file budget status
-  file_some None budget = (6, refl)
+  file_some None budget = (MISSING, refl)
   file_some (Some bytes) budget = ⊎_elim
-      (λ long. (11, inl (long, refl)))
+      (λ long. (TOO_LONG, inl (long, refl)))
       (λ short.
       let means = by.bytes NEWEST_VERSION bytes in
       let call = bytes_some bytes budget means.0 means.1 in

@@ -1,5 +1,5 @@
 -- What `plan` leaves, by its answer.
-use Rattle.std.proofs.Common.{◌≡◌, ◌≢◌, ◌≤◌, ◌∙◌, ◌⊎◌, ⊎_elim, ℕ, List, Some, IsTrue, inl, inr, refl, sym, ap, subst, arith}
+use Rattle.std.proofs.Common.{◌≡◌, ◌≢◌, ◌<◌, ◌∙◌, ◌⊎◌, ⊎_elim, ℕ, List, Some, IsTrue, inl, inr, refl, sym, ap, subst, arith}
 use Rattle.std.specs.Prelude.{Result, Ok, Err, IfOk}
 use Rattle.std.specs.declared.alloc.AllocError.{AllocError}
 use Rattle.lot_io.specs.Outside.{Files, GrewBy, OnlyReads, Printed, Shelved}
@@ -13,11 +13,12 @@ use Rattle.lotplan.specs.Status.{code_of}
 use Rattle.lotplan.specs.Reading.{HoldsProblem, ModelExplains, OfModel, ReadAnswer, refused, missing, unread, too_long, read_line, read_status}
 use Rattle.lotplan.specs.Finding.{IsFound}
 use Rattle.lotplan.specs.Writing.{StartsOnly}
-use Rattle.lotplan.specs.Planning.{PlanAnswer, optimal, infeasible, between, above, unwritten, stopped, plan_line, plan_status, FailsAt, FailsToWrite, FileCallsFor, FindsNoPlan, LeavesOpen, MayBeLeft, PlanExplains, ProblemCallsFor, PlanSays, PlansBest, StartsAtMostBoth, StartsBoth, WriteExplains, WriteSays}
+use Rattle.lotplan.specs.Planning.{PlanAnswer, optimal, infeasible, between, above, unwritten, no_input, plan_line, plan_status, FailsAt, FailsToWrite, FileCallsFor, FindsNoPlan, LeavesOpen, MayBeLeft, PlanExplains, ProblemCallsFor, PlanSays, PlansBest, StartsAtMostBoth, StartsBoth, WriteExplains, WriteSays}
 use Rattle.lotplan.specs.Checking.{AllAre, accepted}
 use Rattle.lotplan.specs.Saying.{Gains, IsSaid}
 use Rattle.command_line.specs.Words.{AreApart, planning}
 use Rattle.lotplan.specs.Run.{HadNoFault}
+use Rattle.lotplan.specs.declared.status.TheConstants.{DONE, NO_PLAN, UNDECIDED, FAULTY, NO_COMMAND, UNWRITTEN}
 use Rattle.lotplan.proofs.Outputs.{IsAnswerNumber, read_number}
 use Rattle.lotplan.proofs.Readings.{IsReading, SomeStop, reading}
 use Rattle.lotplan.proofs.Writings.{starts_after, told_before}
@@ -57,27 +58,27 @@ module _ (m p c : List ℕ) (budget : ℕ) (problem : Problem) (old mid new : Sh
     starts_after c old mid new reads x.1,
   )
   plan_after (unwritten file) x = (omega (arith, x.0, reads.write_faults), fails_after file x.1)
-  plan_after (stopped why) x = absurd x
+  plan_after (no_input why) x = absurd x
 
   pub says_plan : (r : Result Said AllocError) → IfOk r (WriteSays problem budget p c mid new) → IfOk r (PlanSays m p c budget old new)
   says_plan (Ok said) (answer, x, says) = (answer, plan_after answer x, says)
   says_plan (Err e) some = tt
 
 pub says_stop : (m p c : List ℕ) (budget : ℕ) (old new : Shelved) (why : ReadAnswer) (r : Result Said AllocError) → ModelExplains m old new why → OnlyReads old new → IfOk r (IsSaid (read_line why) (read_status why)) → IfOk r (PlanSays m p c budget old new)
-says_stop m p c budget old new why (Ok said) x reads says = (stopped why, (x, reads), says)
+says_stop m p c budget old new why (Ok said) x reads says = (no_input why, (x, reads), says)
 says_stop m p c budget old new why (Err e) x reads says = tt
 
 -- ---- what each number says
 module _ (m p c : List ℕ) (budget code : ℕ) (old new : Shelved) (out_old out_new : Printed) where
-  pub optimal_at : (answer : PlanAnswer) → PlanExplains m p c budget old new answer → code ≡ code_of (plan_status answer) → Gains (plan_line answer) out_old out_new → code ≡ 0 → (IsTrue old.told → PlansBest old.file new.file m p c budget out_old out_new) × GrewBy 2 old.starts new.starts
+  pub optimal_at : (answer : PlanAnswer) → PlanExplains m p c budget old new answer → code ≡ code_of (plan_status answer) → Gains (plan_line answer) out_old out_new → code ≡ DONE → (IsTrue old.told → PlansBest old.file new.file m p c budget out_old out_new) × GrewBy 2 old.starts new.starts
   optimal_at (optimal says nodes amount) x is lines zero = (λ t. record { says = says; nodes = nodes; amount = amount; holds = x.0 t; lines = lines }, x.1.starts)
   optimal_at (infeasible says nodes) x is lines zero = absurd (omega (arith, is, zero))
   optimal_at (between says nodes bound amount) x is lines zero = absurd (omega (arith, is, zero))
   optimal_at (above says nodes bound) x is lines zero = absurd (omega (arith, is, zero))
   optimal_at (unwritten file) x is lines zero = absurd (omega (arith, is, zero))
-  optimal_at (stopped why) x is lines zero = absurd (omega (arith, (reading why code is).low, zero))
+  optimal_at (no_input why) x is lines zero = absurd (omega (arith, (reading why code is).low, zero))
 
-  pub impossible_at : (answer : PlanAnswer) → PlanExplains m p c budget old new answer → code ≡ code_of (plan_status answer) → Gains (plan_line answer) out_old out_new → code ≡ 1 → (IsTrue old.told → FindsNoPlan (Some (planning m p c budget)) old.file new.file out_old out_new) × StartsOnly c old new
+  pub impossible_at : (answer : PlanAnswer) → PlanExplains m p c budget old new answer → code ≡ code_of (plan_status answer) → Gains (plan_line answer) out_old out_new → code ≡ NO_PLAN → (IsTrue old.told → FindsNoPlan (Some (planning m p c budget)) old.file new.file out_old out_new) × StartsOnly c old new
   impossible_at (optimal says nodes amount) x is lines one = absurd (omega (arith, is, one))
   impossible_at (infeasible says nodes) x is lines one = (
     λ t. record { model_file = m; plan_file = p; certificate_file = c; budget = budget; words = record { is = refl }; says = says; nodes = nodes; holds = x.0 t; lines = lines },
@@ -86,13 +87,13 @@ module _ (m p c : List ℕ) (budget code : ℕ) (old new : Shelved) (out_old out
   impossible_at (between says nodes bound amount) x is lines one = absurd (omega (arith, is, one))
   impossible_at (above says nodes bound) x is lines one = absurd (omega (arith, is, one))
   impossible_at (unwritten file) x is lines one = absurd (omega (arith, is, one))
-  impossible_at (stopped why) x is lines one = absurd (omega (arith, (reading why code is).low, one))
+  impossible_at (no_input why) x is lines one = absurd (omega (arith, (reading why code is).low, one))
 
   -- both files were started, or the certificate file alone
   abbrev pub StartsSome : Type 0
   StartsSome = StartsBoth p c old new ⊎ StartsOnly c old new
 
-  pub open_at : (answer : PlanAnswer) → PlanExplains m p c budget old new answer → code ≡ code_of (plan_status answer) → Gains (plan_line answer) out_old out_new → code ≡ 2 → (IsTrue old.told → LeavesOpen (Some (planning m p c budget)) old.file new.file out_old out_new) × StartsSome
+  pub open_at : (answer : PlanAnswer) → PlanExplains m p c budget old new answer → code ≡ code_of (plan_status answer) → Gains (plan_line answer) out_old out_new → code ≡ UNDECIDED → (IsTrue old.told → LeavesOpen (Some (planning m p c budget)) old.file new.file out_old out_new) × StartsSome
   open_at (optimal says nodes amount) x is lines two = absurd (omega (arith, is, two))
   open_at (infeasible says nodes) x is lines two = absurd (omega (arith, is, two))
   open_at (between says nodes bound amount) x is lines two = (
@@ -104,39 +105,39 @@ module _ (m p c : List ℕ) (budget code : ℕ) (old new : Shelved) (out_old out
     inr x.1,
   )
   open_at (unwritten file) x is lines two = absurd (omega (arith, is, two))
-  open_at (stopped why) x is lines two = absurd (omega (arith, (reading why code is).low, two))
+  open_at (no_input why) x is lines two = absurd (omega (arith, (reading why code is).low, two))
 
-  pub unwritten_at : (answer : PlanAnswer) → PlanExplains m p c budget old new answer → code ≡ code_of (plan_status answer) → Gains (plan_line answer) out_old out_new → code ≡ 8 → FailsToWrite (Some (planning m p c budget)) old new out_old out_new
+  pub unwritten_at : (answer : PlanAnswer) → PlanExplains m p c budget old new answer → code ≡ code_of (plan_status answer) → Gains (plan_line answer) out_old out_new → code ≡ UNWRITTEN → FailsToWrite (Some (planning m p c budget)) old new out_old out_new
   unwritten_at (optimal says nodes amount) x is line eight = absurd (omega (arith, is, eight))
   unwritten_at (infeasible says nodes) x is line eight = absurd (omega (arith, is, eight))
   unwritten_at (between says nodes bound amount) x is line eight = absurd (omega (arith, is, eight))
   unwritten_at (above says nodes bound) x is line eight = absurd (omega (arith, is, eight))
   unwritten_at (unwritten file) x is line eight = record { model_file = m; plan_file = p; certificate_file = c; budget = budget; words = record { is = refl }; file = file; failed = x.0; left = x.1; line = line }
-  unwritten_at (stopped why) x is line eight = absurd ((reading why code is).other eight)
+  unwritten_at (no_input why) x is line eight = absurd ((reading why code is).other eight)
 
 -- `plan` has no other number
 pub record IsPlanning (code : ℕ) : Type 0 where
-  pub three : code ≡ 3 → ⊥
-  pub four : code ≡ 4 → ⊥
+  pub faulty : code ≡ FAULTY → ⊥
+  pub no_command : code ≡ NO_COMMAND → ⊥
 
 pub numbers : (answer : PlanAnswer) (code : ℕ) → code ≡ code_of (plan_status answer) → IsPlanning code
-numbers (optimal says nodes amount) code is = record { three = λ e. omega (arith, is, e); four = λ e. omega (arith, is, e) }
-numbers (infeasible says nodes) code is = record { three = λ e. omega (arith, is, e); four = λ e. omega (arith, is, e) }
-numbers (between says nodes bound amount) code is = record { three = λ e. omega (arith, is, e); four = λ e. omega (arith, is, e) }
-numbers (above says nodes bound) code is = record { three = λ e. omega (arith, is, e); four = λ e. omega (arith, is, e) }
-numbers (unwritten file) code is = record { three = λ e. omega (arith, is, e); four = λ e. omega (arith, is, e) }
-numbers (stopped why) code is =
+numbers (optimal says nodes amount) code is = record { faulty = λ e. omega (arith, is, e); no_command = λ e. omega (arith, is, e) }
+numbers (infeasible says nodes) code is = record { faulty = λ e. omega (arith, is, e); no_command = λ e. omega (arith, is, e) }
+numbers (between says nodes bound amount) code is = record { faulty = λ e. omega (arith, is, e); no_command = λ e. omega (arith, is, e) }
+numbers (above says nodes bound) code is = record { faulty = λ e. omega (arith, is, e); no_command = λ e. omega (arith, is, e) }
+numbers (unwritten file) code is = record { faulty = λ e. omega (arith, is, e); no_command = λ e. omega (arith, is, e) }
+numbers (no_input why) code is =
     let r = reading why code is in
-    record { three = λ e. omega (arith, r.low, e); four = λ e. omega (arith, r.low, e) }
+    record { faulty = λ e. omega (arith, r.low, e); no_command = λ e. omega (arith, r.low, e) }
 
 -- ---- what is written
-pub quiet_at : (m p c : List ℕ) (budget code : ℕ) (old new : Shelved) (answer : PlanAnswer) → PlanExplains m p c budget old new answer → code ≡ code_of (plan_status answer) → code ≢ 0 → code ≢ 1 → code ≢ 2 → code ≢ 8 → OnlyReads old new
+pub quiet_at : (m p c : List ℕ) (budget code : ℕ) (old new : Shelved) (answer : PlanAnswer) → PlanExplains m p c budget old new answer → code ≡ code_of (plan_status answer) → code ≢ DONE → code ≢ NO_PLAN → code ≢ UNDECIDED → code ≢ UNWRITTEN → OnlyReads old new
 quiet_at m p c budget code old new (optimal says nodes amount) x is some one two other = absurd (some is)
 quiet_at m p c budget code old new (infeasible says nodes) x is some one two other = absurd (one is)
 quiet_at m p c budget code old new (between says nodes bound amount) x is some one two other = absurd (two is)
 quiet_at m p c budget code old new (above says nodes bound) x is some one two other = absurd (two is)
 quiet_at m p c budget code old new (unwritten file) x is some one two other = absurd (other is)
-quiet_at m p c budget code old new (stopped why) x is some one two other = x.1
+quiet_at m p c budget code old new (no_input why) x is some one two other = x.1
 
 pub reads_few : (p c : List ℕ) (old new : Shelved) → OnlyReads old new → StartsAtMostBoth p c old new
 reads_few p c old new reads = record { others = λ t other from_plan from_certificate. ap (λ (f : Files). f other) reads.files; starts = omega (arith, reads.starts) }
@@ -164,7 +165,7 @@ module _ (p c : List ℕ) (old new : Shelved) where
   others_at m budget (between says nodes bound amount) x = few_both x.1
   others_at m budget (above says nodes bound) x = few_certificate x.1
   others_at m budget (unwritten file) x = ⊎_elim (λ plan. few_plan plan.2) (λ certificate. ⊎_elim (λ best. few_both best.2) (λ none. few_certificate none.2) certificate) x.1
-  others_at m budget (stopped why) x = few_reads x.1
+  others_at m budget (no_input why) x = few_reads x.1
 
 -- ---- what the model file calls for
 -- a problem that was left open may be
@@ -202,7 +203,7 @@ module _ (m : List ℕ) (budget code : ℕ) (old : Shelved) where
         let (problem, h, w) = x.0 t in
         by_model problem h (inr (inr (is, open_calls problem budget bound w.shows.found w.shows.is w.shows.claims)))
     called_at (unwritten file) x is = absurd (fine.written x.0)
-    called_at (stopped why) x is = stop_called why x.0 is
+    called_at (no_input why) x is = stop_called why x.0 is
 
 -- ---- what was written is accepted
 holds_on : (before after : Files) (m : List ℕ) (problem : Problem) → after m ≡ before m → HoldsProblem before m problem → HoldsProblem after m problem
@@ -214,9 +215,9 @@ SomeAccepted after m p c = (claim : Claim) × AllAre after m p c (accepted claim
 
 -- the number of a search that ended
 abbrev pub EndsSearch : ℕ → Type 0
-EndsSearch code = (code ≡ 0) ⊎ ((code ≡ 1) ⊎ (code ≡ 2))
+EndsSearch code = (code ≡ DONE) ⊎ ((code ≡ NO_PLAN) ⊎ (code ≡ UNDECIDED))
 
-low_ends : (code : ℕ) → 3 ≤ code → EndsSearch code → ⊥
+low_ends : (code : ℕ) → UNDECIDED < code → EndsSearch code → ⊥
 low_ends code low done = ⊎_elim (λ e. omega (arith, low, e)) (λ rest. ⊎_elim (λ e. omega (arith, low, e)) (λ e. omega (arith, low, e)) rest) done
 
 module _ (m p c : List ℕ) (budget code : ℕ) (old new : Shelved) (apart : AreApart m p c) (t : IsTrue old.told) where
@@ -240,7 +241,7 @@ module _ (m p c : List ℕ) (budget code : ℕ) (old new : Shelved) (apart : Are
       let (problem, h, w) = x.0 t in
       (BoundOf bound, (problem, on_one problem x.1 h, w.proof.proof))
   accepted_at (unwritten file) x is done = absurd (low_ends code (omega (arith, is)) done)
-  accepted_at (stopped why) x is done =
+  accepted_at (no_input why) x is done =
       let r = reading why code is in
       absurd (low_ends code (omega (arith, r.low)) done)
 
@@ -251,12 +252,12 @@ stop_at m p c budget code old new out_old out_new (infeasible says nodes) x is l
 stop_at m p c budget code old new out_old out_new (between says nodes least amount) x is line r = absurd (omega (arith, is, r.low))
 stop_at m p c budget code old new out_old out_new (above says nodes least) x is line r = absurd (omega (arith, is, r.low))
 stop_at m p c budget code old new out_old out_new (unwritten file) x is line r = absurd (r.other is)
-stop_at m p c budget code old new out_old out_new (stopped why) x is line r = (why, record { cause = x.0; line = line }, is)
+stop_at m p c budget code old new out_old out_new (no_input why) x is line r = (why, record { cause = x.0; line = line }, is)
 
 pub answer_number : (answer : PlanAnswer) → IsAnswerNumber (code_of (plan_status answer))
-answer_number (optimal says nodes amount) = record { nine = λ e. omega (arith, e); ten = λ e. omega (arith, e) }
-answer_number (infeasible says nodes) = record { nine = λ e. omega (arith, e); ten = λ e. omega (arith, e) }
-answer_number (between says nodes least amount) = record { nine = λ e. omega (arith, e); ten = λ e. omega (arith, e) }
-answer_number (above says nodes least) = record { nine = λ e. omega (arith, e); ten = λ e. omega (arith, e) }
-answer_number (unwritten file) = record { nine = λ e. omega (arith, e); ten = λ e. omega (arith, e) }
-answer_number (stopped why) = read_number why
+answer_number (optimal says nodes amount) = record { unprinted = λ e. omega (arith, e); no_memory = λ e. omega (arith, e) }
+answer_number (infeasible says nodes) = record { unprinted = λ e. omega (arith, e); no_memory = λ e. omega (arith, e) }
+answer_number (between says nodes least amount) = record { unprinted = λ e. omega (arith, e); no_memory = λ e. omega (arith, e) }
+answer_number (above says nodes least) = record { unprinted = λ e. omega (arith, e); no_memory = λ e. omega (arith, e) }
+answer_number (unwritten file) = record { unprinted = λ e. omega (arith, e); no_memory = λ e. omega (arith, e) }
+answer_number (no_input why) = read_number why

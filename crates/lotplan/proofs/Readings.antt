@@ -7,6 +7,7 @@ use Rattle.lotplan.specs.Status.{code_of}
 use Rattle.lotplan.specs.Reading.{FileExplains, FirstExplains, IsTooLong, ModelExplains, ReadAnswer, refused, missing, unread, too_long, read_status, IsStopCause, read_meant}
 use Rattle.lotplan.specs.declared.model_file.Stop.{Stop}
 use Rattle.lotplan.specs.declared.model_file.Stop.TheVariants.{Answered, Memory}
+use Rattle.lotplan.specs.declared.status.TheConstants.{REFUSED, UNWRITTEN, TOO_LONG}
 
 -- what shows the same was only read
 pub same_reads : (old new : Shelved) → new ≡ old → OnlyReads old new
@@ -52,9 +53,9 @@ stops_after p old mid new (too_long file) reads x = (x.0, omega (arith, x.1, rea
 
 -- the numbers of these stops
 pub record IsReading (code : ℕ) : Type 0 where
-  pub low : 5 ≤ code
-  pub high : code ≤ 11
-  pub other : code ≢ 8
+  pub low : REFUSED ≤ code
+  pub high : code ≤ TOO_LONG
+  pub other : code ≢ UNWRITTEN
 
 pub reading : (why : ReadAnswer) (code : ℕ) → code ≡ code_of (read_status why) → IsReading code
 reading (refused fault) code is = record { low = omega (arith, is); high = omega (arith, is); other = λ e. omega (arith, is, e) }
@@ -64,4 +65,4 @@ reading (too_long file) code is = record { low = omega (arith, is); high = omega
 
 -- the files that are asked for gave nothing to go on with, and the number says which stop it was
 abbrev pub SomeStop : Option Request → ℕ → Shelved → Shelved → Printed → Printed → Type 0
-SomeStop asked code old new out_old out_new = (why : ReadAnswer) × Stops asked old new out_old out_new why × (code ≡ code_of (read_status why))
+SomeStop request code old new out_old out_new = (why : ReadAnswer) × Stops request old new out_old out_new why × (code ≡ code_of (read_status why))

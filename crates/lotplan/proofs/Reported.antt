@@ -11,10 +11,11 @@ use Rattle.lotplan.specs.Status.{code_of}
 use Rattle.plan_rules.specs.declared.plan.Plan.{Plan as Grids}
 use Rattle.plan_rules.specs.Held.{plan_of}
 use Rattle.lotplan.specs.Reading.{HoldsPlan, HoldsProblem, ModelExplains, ReadAnswer, read_line, read_status}
-use Rattle.lotplan.specs.Judging.{FindsFault, IsJudgement, PlanFileExplains, JudgeAnswer, JudgeCallsFor, feasible, no_plan, broken, stopped, judge_line, judge_status}
+use Rattle.lotplan.specs.Judging.{FindsFault, IsJudgement, PlanFileExplains, JudgeAnswer, JudgeCallsFor, feasible, no_plan, broken, no_input, judge_line, judge_status}
 use Rattle.lotplan.specs.Reporting.{FileIsSummed, IsReport, PlanIsReported, FindsNone, PlanFileIsReported, PlanFileReports, ReportAnswer, ReportExplains, ReportSays, SumsUp, judged, summed, report_line, report_status}
 use Rattle.lotplan.specs.Saying.{Gains, IsSaid}
 use Rattle.lotplan.specs.Run.{HadNoFault}
+use Rattle.lotplan.specs.declared.status.TheConstants.{DONE, FAULTY}
 use Rattle.lotplan.proofs.Outputs.{IsAnswerNumber}
 use Rattle.lotplan.proofs.Readings.{IsReading, SomeStop, reading}
 use Rattle.lotplan.proofs.Judged as judging
@@ -46,25 +47,25 @@ says_reported m p problem old mid new (Ok said) holds reads (answer, x, says) = 
 says_reported m p problem old mid new (Err e) holds reads some = tt
 
 pub says_stop : (m p : List ℕ) (old new : Shelved) (why : ReadAnswer) (r : Result Said AllocError) → ModelExplains m old new why → IfOk r (IsSaid (read_line why) (read_status why)) → IfOk r (ReportSays m p old new)
-says_stop m p old new why (Ok said) x says = (judged (stopped why), (tt, inl x), says)
+says_stop m p old new why (Ok said) x says = (judged (no_input why), (tt, inl x), says)
 says_stop m p old new why (Err e) x says = tt
 
 -- ---- what each number says
 module _ (m p : List ℕ) (code : ℕ) (old new : Shelved) (out_old out_new : Printed) where
-  pub summed_at : (answer : ReportAnswer) → ReportExplains m p old new answer → code ≡ code_of (report_status answer) → Gains (report_line answer) out_old out_new → code ≡ 0 → IsTrue old.told → SumsUp old.file m p out_old out_new
+  pub summed_at : (answer : ReportAnswer) → ReportExplains m p old new answer → code ≡ code_of (report_status answer) → Gains (report_line answer) out_old out_new → code ≡ DONE → IsTrue old.told → SumsUp old.file m p out_old out_new
   summed_at (summed text) x is line none t = record { text = text; holds = x t; line = line }
   summed_at (judged (feasible amount)) x is line none t = absurd x.0
   summed_at (judged (no_plan fault)) x is line none t = absurd (omega (arith, is, none))
   summed_at (judged (broken rule)) x is line none t = absurd (omega (arith, is, none))
-  summed_at (judged (stopped why)) x is line none t = absurd (omega (arith, (reading why code is).low, none))
+  summed_at (judged (no_input why)) x is line none t = absurd (omega (arith, (reading why code is).low, none))
 
-  pub fault_at : (answer : ReportAnswer) → ReportExplains m p old new answer → code ≡ code_of (report_status answer) → Gains (report_line answer) out_old out_new → code ≡ 3 → IsTrue old.told → FindsFault (Some (reporting m p)) old.file out_old out_new
+  pub fault_at : (answer : ReportAnswer) → ReportExplains m p old new answer → code ≡ code_of (report_status answer) → Gains (report_line answer) out_old out_new → code ≡ FAULTY → IsTrue old.told → FindsFault (Some (reporting m p)) old.file out_old out_new
   fault_at (summed text) x is line three t = absurd (omega (arith, is, three))
   fault_at (judged answer) x is line three t = judging.fault_at (Some (reporting m p)) m p code old new out_old out_new answer (record { is = inr refl }) x.1 is line three t
 
 -- `report` has no other number
 pub numbers : (answer : ReportAnswer) (code : ℕ) → code ≡ code_of (report_status answer) → judging.IsJudging code
-numbers (summed text) code is = record { one = λ e. omega (arith, is, e); two = λ e. omega (arith, is, e); four = λ e. omega (arith, is, e); eight = λ e. omega (arith, is, e) }
+numbers (summed text) code is = record { no_plan = λ e. omega (arith, is, e); undecided = λ e. omega (arith, is, e); no_command = λ e. omega (arith, is, e); unwritten = λ e. omega (arith, is, e) }
 numbers (judged answer) code is = judging.numbers answer code is
 
 -- ---- what the two files call for
@@ -82,8 +83,8 @@ stop_at m p code old new out_old out_new (summed text) x is line r = absurd (ome
 stop_at m p code old new out_old out_new (judged (feasible amount)) x is line r = absurd x.0
 stop_at m p code old new out_old out_new (judged (no_plan fault)) x is line r = absurd (omega (arith, is, r.low))
 stop_at m p code old new out_old out_new (judged (broken rule)) x is line r = absurd (omega (arith, is, r.low))
-stop_at m p code old new out_old out_new (judged (stopped why)) x is line r = (why, record { cause = x.1; line = line }, is)
+stop_at m p code old new out_old out_new (judged (no_input why)) x is line r = (why, record { cause = x.1; line = line }, is)
 
 pub answer_number : (answer : ReportAnswer) → IsAnswerNumber (code_of (report_status answer))
-answer_number (summed text) = record { nine = λ e. omega (arith, e); ten = λ e. omega (arith, e) }
+answer_number (summed text) = record { unprinted = λ e. omega (arith, e); no_memory = λ e. omega (arith, e) }
 answer_number (judged answer) = judging.answer_number answer

@@ -4,14 +4,14 @@ use Rattle.lot_io.specs.Outside.{Files}
 use Rattle.command_line.specs.Words.{Request, version, helping, planning, judging, checking, reporting, generating, demonstrating, upgrading, bounding}
 use Rattle.lotplan.specs.Laws.{MayBeUndecided}
 use Rattle.lotplan.specs.Run.{CallFor}
-use Rattle.lotplan.proofs.Calls.{AreLaws, OneIsTwo}
+use Rattle.lotplan.proofs.Calls.{AreLaws, OneIsUndecided}
 use Rattle.lotplan.proofs.PlanCalls.{file_call}
 use Rattle.lotplan.proofs.JudgeCalls.{judge_call}
 use Rattle.lotplan.proofs.CheckCalls.{check_call}
 use Rattle.lotplan.proofs.UpgradeCalls.{upgrade_call}
 use Rattle.lotplan.proofs.BoundCalls.{bound_call}
 
-pub call_one : AreLaws → (asked : Option Request) (file : Files) (s t : ℕ) → CallFor asked file s → CallFor asked file t → (s ≡ t) ⊎ (MayBeUndecided asked file × OneIsTwo s t)
+pub call_one : AreLaws → (request : Option Request) (file : Files) (s t : ℕ) → CallFor request file s → CallFor request file t → (s ≡ t) ⊎ (MayBeUndecided request file × OneIsUndecided s t)
 call_one laws None file s t a b = inl (a ∙ sym b)
 call_one laws (Some version) file s t a b = inl (a ∙ sym b)
 call_one laws (Some helping) file s t a b = inl (a ∙ sym b)

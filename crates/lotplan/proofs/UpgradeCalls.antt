@@ -8,6 +8,7 @@ use Rattle.instance_reader.specs.declared.versions.TheConstants.{FIRST_VERSION}
 use Rattle.instance_reader.proofs.Meanings.{bytes_one}
 use Rattle.lotplan.specs.Reading.{file_limit}
 use Rattle.lotplan.specs.Upgrading.{UpgradeCallsFor}
+use Rattle.lotplan.specs.declared.status.TheConstants.{DONE, REFUSED, MISSING, TOO_LONG}
 use Rattle.std.proofs.lemmas.Bool.{cases_lt}
 use Rattle.lotplan.proofs.Calls.{Grounds}
 
@@ -22,7 +23,7 @@ upgrade_call (Some bytes) s t a b = ⊎_elim
     no_both : (m : Problem) (f : ModelFault) → FirstVersionMeans bytes (Ok m) → FirstVersionMeans bytes (Err f) → ⊥
     no_both m f c d = let same = bytes_one FIRST_VERSION bytes (Ok m) (Err f) c d in cc same
 
-    means : ((m : Problem) × FirstVersionMeans bytes (Ok m) × (s ≡ 0)) ⊎ ((f : ModelFault) × FirstVersionMeans bytes (Err f) × (s ≡ 5)) → ((m : Problem) × FirstVersionMeans bytes (Ok m) × (t ≡ 0)) ⊎ ((f : ModelFault) × FirstVersionMeans bytes (Err f) × (t ≡ 5)) → s ≡ t
+    means : ((m : Problem) × FirstVersionMeans bytes (Ok m) × (s ≡ DONE)) ⊎ ((f : ModelFault) × FirstVersionMeans bytes (Err f) × (s ≡ REFUSED)) → ((m : Problem) × FirstVersionMeans bytes (Ok m) × (t ≡ DONE)) ⊎ ((f : ModelFault) × FirstVersionMeans bytes (Err f) × (t ≡ REFUSED)) → s ≡ t
     means c d = ⊎_elim
         (λ x. let (m, reads, is) = x in ⊎_elim
         (λ y. let (n, also, other) = y in is ∙ sym other)
@@ -37,12 +38,12 @@ upgrade_call (Some bytes) s t a b = ⊎_elim
 -- ---- for some
 module _ (by : Grounds) where
   upgraded_some : (bytes : List ℕ) → length bytes ≤ file_limit → (r : Result Problem ModelFault) → FirstVersionMeans bytes r → (status : ℕ) × UpgradeCallsFor (Some bytes) status
-  upgraded_some bytes short (Ok m) means = (0, inr (short, inl (m, means, refl)))
-  upgraded_some bytes short (Err fault) means = (5, inr (short, inr (fault, means, refl)))
+  upgraded_some bytes short (Ok m) means = (DONE, inr (short, inl (m, means, refl)))
+  upgraded_some bytes short (Err fault) means = (REFUSED, inr (short, inr (fault, means, refl)))
 
   pub upgrade_some : (model : Option (List ℕ)) → (status : ℕ) × UpgradeCallsFor model status
-  upgrade_some None = (6, refl)
+  upgrade_some None = (MISSING, refl)
   upgrade_some (Some bytes) = ⊎_elim
-      (λ long. (11, inl (long, refl)))
+      (λ long. (TOO_LONG, inl (long, refl)))
       (λ short. let means = by.bytes FIRST_VERSION bytes in upgraded_some bytes short means.0 means.1)
       (cases_lt file_limit (length bytes))

@@ -19,10 +19,11 @@ use Rattle.lotplan.specs.declared.said.Said.{Said}
 use Rattle.lotplan.specs.Status.{code_of}
 use Rattle.lotplan.specs.Reading.{FirstExplains, HoldsFirst, HoldsProblem, ReadAnswer, refused, missing, unread, too_long, read_line, read_status}
 use Rattle.lotplan.specs.Writing.{StartsAtMost, unwritten_line, written_line}
-use Rattle.lotplan.specs.Upgrading.{UpgradeAnswer, written, unwritten, stopped, upgrade_line, upgrade_status, FailsToUpgrade, RewriteExplains, RewriteSays, UpgradeCallsFor, UpgradeExplains, UpgradeSays, Upgrades}
+use Rattle.lotplan.specs.Upgrading.{UpgradeAnswer, written, unwritten, no_input, upgrade_line, upgrade_status, FailsToUpgrade, RewriteExplains, RewriteSays, UpgradeCallsFor, UpgradeExplains, UpgradeSays, Upgrades}
 use Rattle.lotplan.specs.Saying.{Gains, IsSaid}
 use Rattle.command_line.specs.Words.{upgrading}
 use Rattle.lotplan.specs.Run.{HadNoFault}
+use Rattle.lotplan.specs.declared.status.TheConstants.{DONE, NO_PLAN, UNDECIDED, FAULTY, NO_COMMAND, UNWRITTEN}
 use Rattle.lotplan.proofs.Outputs.{IsAnswerNumber, read_number}
 use Rattle.lotplan.proofs.Readings.{IsReading, SomeStop, reading}
 use Rattle.lotplan.proofs.Writings.{reads_at_most, starts_after, starts_at_most}
@@ -59,24 +60,24 @@ upgrade_after m n problem old mid new (written file) holds reads x = (
 )
 upgrade_after m n problem old mid new (unwritten file) holds reads x =
     (x.0, λ t. (problem, holds t), omega (arith, x.1, reads.write_faults), starts_after n old mid new reads x.2)
-upgrade_after m n problem old mid new (stopped why) holds reads x = absurd x
+upgrade_after m n problem old mid new (no_input why) holds reads x = absurd x
 
 pub says_upgraded : (m n : List ℕ) (problem : Problem) (old mid new : Shelved) (r : Result Said AllocError) → (IsTrue old.told → HoldsFirst old.file m problem) → OnlyReads old mid → IfOk r (RewriteSays problem n mid new) → IfOk r (UpgradeSays m n old new)
 says_upgraded m n problem old mid new (Ok said) holds reads (answer, x, says) = (answer, upgrade_after m n problem old mid new answer holds reads x, says)
 says_upgraded m n problem old mid new (Err e) holds reads some = tt
 
 pub says_stop : (m n : List ℕ) (old new : Shelved) (why : ReadAnswer) (r : Result Said AllocError) → FirstExplains m old new why → OnlyReads old new → IfOk r (IsSaid (read_line why) (read_status why)) → IfOk r (UpgradeSays m n old new)
-says_stop m n old new why (Ok said) x reads says = (stopped why, (x, reads), says)
+says_stop m n old new why (Ok said) x reads says = (no_input why, (x, reads), says)
 says_stop m n old new why (Err e) x reads says = tt
 
 -- ---- what each number says
-pub upgraded_at : (m n : List ℕ) (code : ℕ) (old new : Shelved) (out_old out_new : Printed) (answer : UpgradeAnswer) → UpgradeExplains m n old new answer → code ≡ code_of (upgrade_status answer) → Gains (upgrade_line answer) out_old out_new → code ≡ 0 → (IsTrue old.told → Upgrades old.file new.file m n out_old out_new) × GrewBy 1 old.starts new.starts
+pub upgraded_at : (m n : List ℕ) (code : ℕ) (old new : Shelved) (out_old out_new : Printed) (answer : UpgradeAnswer) → UpgradeExplains m n old new answer → code ≡ code_of (upgrade_status answer) → Gains (upgrade_line answer) out_old out_new → code ≡ DONE → (IsTrue old.told → Upgrades old.file new.file m n out_old out_new) × GrewBy 1 old.starts new.starts
 upgraded_at m n code old new out_old out_new (written file) x is line none =
     (λ t. record { holds = x.1 t; line = subst (λ f. Gains (written_line f) out_old out_new) x.0 line }, x.2.starts)
 upgraded_at m n code old new out_old out_new (unwritten file) x is line none = absurd (omega (arith, is, none))
-upgraded_at m n code old new out_old out_new (stopped why) x is line none = absurd (omega (arith, (reading why code is).low, none))
+upgraded_at m n code old new out_old out_new (no_input why) x is line none = absurd (omega (arith, (reading why code is).low, none))
 
-pub unwritten_at : (m n : List ℕ) (code : ℕ) (old new : Shelved) (out_old out_new : Printed) (answer : UpgradeAnswer) → UpgradeExplains m n old new answer → code ≡ code_of (upgrade_status answer) → Gains (upgrade_line answer) out_old out_new → code ≡ 8 → FailsToUpgrade (Some (upgrading m n)) old new out_old out_new
+pub unwritten_at : (m n : List ℕ) (code : ℕ) (old new : Shelved) (out_old out_new : Printed) (answer : UpgradeAnswer) → UpgradeExplains m n old new answer → code ≡ code_of (upgrade_status answer) → Gains (upgrade_line answer) out_old out_new → code ≡ UNWRITTEN → FailsToUpgrade (Some (upgrading m n)) old new out_old out_new
 unwritten_at m n code old new out_old out_new (written file) x is line eight = absurd (omega (arith, is, eight))
 unwritten_at m n code old new out_old out_new (unwritten file) x is line eight = record {
   model_file = m;
@@ -86,32 +87,32 @@ unwritten_at m n code old new out_old out_new (unwritten file) x is line eight =
   failed = x.2;
   line = subst (λ f. Gains (unwritten_line f) out_old out_new) x.0 line;
 }
-unwritten_at m n code old new out_old out_new (stopped why) x is line eight = absurd ((reading why code is).other eight)
+unwritten_at m n code old new out_old out_new (no_input why) x is line eight = absurd ((reading why code is).other eight)
 
 -- `upgrade` has no other number
 pub record IsUpgrading (code : ℕ) : Type 0 where
-  pub one : code ≡ 1 → ⊥
-  pub two : code ≡ 2 → ⊥
-  pub three : code ≡ 3 → ⊥
-  pub four : code ≡ 4 → ⊥
+  pub no_plan : code ≡ NO_PLAN → ⊥
+  pub undecided : code ≡ UNDECIDED → ⊥
+  pub faulty : code ≡ FAULTY → ⊥
+  pub no_command : code ≡ NO_COMMAND → ⊥
 
 pub numbers : (answer : UpgradeAnswer) (code : ℕ) → code ≡ code_of (upgrade_status answer) → IsUpgrading code
-numbers (written file) code is = record { one = λ e. omega (arith, is, e); two = λ e. omega (arith, is, e); three = λ e. omega (arith, is, e); four = λ e. omega (arith, is, e) }
-numbers (unwritten file) code is = record { one = λ e. omega (arith, is, e); two = λ e. omega (arith, is, e); three = λ e. omega (arith, is, e); four = λ e. omega (arith, is, e) }
-numbers (stopped why) code is =
+numbers (written file) code is = record { no_plan = λ e. omega (arith, is, e); undecided = λ e. omega (arith, is, e); faulty = λ e. omega (arith, is, e); no_command = λ e. omega (arith, is, e) }
+numbers (unwritten file) code is = record { no_plan = λ e. omega (arith, is, e); undecided = λ e. omega (arith, is, e); faulty = λ e. omega (arith, is, e); no_command = λ e. omega (arith, is, e) }
+numbers (no_input why) code is =
     let r = reading why code is in
-    record { one = λ e. omega (arith, r.low, e); two = λ e. omega (arith, r.low, e); three = λ e. omega (arith, r.low, e); four = λ e. omega (arith, r.low, e) }
+    record { no_plan = λ e. omega (arith, r.low, e); undecided = λ e. omega (arith, r.low, e); faulty = λ e. omega (arith, r.low, e); no_command = λ e. omega (arith, r.low, e) }
 
 -- ---- what is written
-pub quiet_at : (m n : List ℕ) (code : ℕ) (old new : Shelved) (answer : UpgradeAnswer) → UpgradeExplains m n old new answer → code ≡ code_of (upgrade_status answer) → code ≢ 0 → code ≢ 8 → OnlyReads old new
+pub quiet_at : (m n : List ℕ) (code : ℕ) (old new : Shelved) (answer : UpgradeAnswer) → UpgradeExplains m n old new answer → code ≡ code_of (upgrade_status answer) → code ≢ DONE → code ≢ UNWRITTEN → OnlyReads old new
 quiet_at m n code old new (written file) x is some other = absurd (some is)
 quiet_at m n code old new (unwritten file) x is some other = absurd (other is)
-quiet_at m n code old new (stopped why) x is some other = x.1
+quiet_at m n code old new (no_input why) x is some other = x.1
 
 pub others_at : (m n : List ℕ) (old new : Shelved) (answer : UpgradeAnswer) → UpgradeExplains m n old new answer → StartsAtMost n old new × (new.told ≡ old.told)
 others_at m n old new (written file) x = (starts_at_most n old new x.2, x.2.told)
 others_at m n old new (unwritten file) x = (starts_at_most n old new x.3, x.3.told)
-others_at m n old new (stopped why) x = (reads_at_most n old new x.1, x.1.told)
+others_at m n old new (no_input why) x = (reads_at_most n old new x.1, x.1.told)
 
 -- ---- what the model file calls for
 upgrade_call : (found : Option (List ℕ)) (bytes : List ℕ) (code : ℕ) → found ≡ Some bytes → UpgradeCallsFor (Some bytes) code → UpgradeCallsFor found code
@@ -133,15 +134,15 @@ called_at m n code old new out_old out_new fine t (written file) x is =
     let f = h.first in
     upgrade_call (old.file m) f.bytes code f.read (inr (f.short, inl (h.problem, f.means, is)))
 called_at m n code old new out_old out_new fine t (unwritten file) x is = absurd (fine.written x.2)
-called_at m n code old new out_old out_new fine t (stopped why) x is = stop_called m code old new out_old out_new fine t why x.0 is
+called_at m n code old new out_old out_new fine t (no_input why) x is = stop_called m code old new out_old out_new fine t why x.0 is
 
 -- ---- files that give nothing to go on with, and the number of an answer
 pub stop_at : (m n : List ℕ) (code : ℕ) (old new : Shelved) (out_old out_new : Printed) (answer : UpgradeAnswer) → UpgradeExplains m n old new answer → code ≡ code_of (upgrade_status answer) → Gains (upgrade_line answer) out_old out_new → IsReading code → SomeStop (Some (upgrading m n)) code old new out_old out_new
 stop_at m n code old new out_old out_new (written file) x is line r = absurd (omega (arith, is, r.low))
 stop_at m n code old new out_old out_new (unwritten file) x is line r = absurd (r.other is)
-stop_at m n code old new out_old out_new (stopped why) x is line r = (why, record { cause = x.0; line = line }, is)
+stop_at m n code old new out_old out_new (no_input why) x is line r = (why, record { cause = x.0; line = line }, is)
 
 pub answer_number : (answer : UpgradeAnswer) → IsAnswerNumber (code_of (upgrade_status answer))
-answer_number (written file) = record { nine = λ e. omega (arith, e); ten = λ e. omega (arith, e) }
-answer_number (unwritten file) = record { nine = λ e. omega (arith, e); ten = λ e. omega (arith, e) }
-answer_number (stopped why) = read_number why
+answer_number (written file) = record { unprinted = λ e. omega (arith, e); no_memory = λ e. omega (arith, e) }
+answer_number (unwritten file) = record { unprinted = λ e. omega (arith, e); no_memory = λ e. omega (arith, e) }
+answer_number (no_input why) = read_number why

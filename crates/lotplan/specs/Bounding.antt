@@ -15,6 +15,7 @@ use Rattle.lotplan.specs.Saying.{Gains, IsSaid}
 use Rattle.lotplan.specs.declared.commands.bound.BoundAnswer.{BoundAnswer as HeldAnswer}
 use Rattle.lotplan.specs.declared.commands.bound.BoundAnswer.TheVariants as held
 use Rattle.lotplan.specs.declared.said.Said.{Said}
+use Rattle.lotplan.specs.declared.status.TheConstants.{DONE, NO_PLAN, UNDECIDED, REFUSED, MISSING, TOO_LONG}
 use Rattle.lotplan.specs.declared.status.Status.{Status}
 use Rattle.lotplan.specs.declared.status.Status.TheVariants as status
 
@@ -29,7 +30,7 @@ pub data BoundAnswer : Type 0 where
   -- a number of the run doesn't fit 128 bits
   passed : BoundAnswer
   -- the model file gave no problem
-  stopped : ReadAnswer → BoundAnswer
+  no_input : ReadAnswer → BoundAnswer
 
 -- what the program's own answer stands for
 abbrev pub bound_meant : HeldAnswer → BoundAnswer
@@ -37,21 +38,21 @@ bound_meant (held.Bound n) = bound n
 bound_meant held.Empty = empty
 bound_meant held.Skipped = skipped
 bound_meant held.Passed = passed
-bound_meant (held.Stopped why) = stopped (read_meant why)
+bound_meant (held.NoInput why) = no_input (read_meant why)
 
 abbrev pub bound_status : BoundAnswer → Status
 bound_status (bound n) = status.Done
 bound_status empty = status.NoPlan
 bound_status skipped = status.Undecided
 bound_status passed = status.Undecided
-bound_status (stopped why) = read_status why
+bound_status (no_input why) = read_status why
 
 abbrev pub bound_line : BoundAnswer → List ℕ
 bound_line (bound n) = codes "bound " ++ (decimal n ++ codes "\n")
 bound_line empty = codes "empty\n"
 bound_line skipped = codes "skipped\n"
 bound_line passed = codes "passed\n"
-bound_line (stopped why) = read_line why
+bound_line (no_input why) = read_line why
 
 -- ---- causes
 -- of the points that meet all base rows the least cost, rounded up, is n, and no plan costs less
@@ -67,7 +68,7 @@ pub record HasNoBaseCost (problem : Problem) : Type 0 where
   pub few : HasFewCells problem
 
 -- the tableau of the base rows has few cells, and the exact run by the least-index rule comes to a number that doesn't fit 128 bits
-pub record RunPasses (problem : Problem) : Type 0 where
+pub record SimplexPasses (problem : Problem) : Type 0 where
   pub program : Program
   pub base : IsBaseProgram problem program
   pub pivot : ℕ
@@ -81,8 +82,8 @@ abbrev pub MayBeBoundAnswer : Problem → BoundAnswer → Type 0
 MayBeBoundAnswer problem (bound n) = HasBaseBound problem n
 MayBeBoundAnswer problem empty = HasNoBaseCost problem
 MayBeBoundAnswer problem skipped = HasManyCells problem
-MayBeBoundAnswer problem passed = RunPasses problem
-MayBeBoundAnswer problem (stopped why) = ⊥
+MayBeBoundAnswer problem passed = SimplexPasses problem
+MayBeBoundAnswer problem (no_input why) = ⊥
 
 -- the model file means a problem of which this is known
 abbrev pub ModelIsBounded : Files → List ℕ → BoundAnswer → Type 0
@@ -94,30 +95,30 @@ BoundExplains m old new (bound n) = IsTrue old.told → ModelIsBounded old.file 
 BoundExplains m old new empty = IsTrue old.told → ModelIsBounded old.file m empty
 BoundExplains m old new skipped = IsTrue old.told → ModelIsBounded old.file m skipped
 BoundExplains m old new passed = IsTrue old.told → ModelIsBounded old.file m passed
-BoundExplains m old new (stopped why) = ModelExplains m old new why
+BoundExplains m old new (no_input why) = ModelExplains m old new why
 
 -- what is said is an answer that has its cause
 abbrev pub BoundIsSaid : List ℕ → Shelved → Shelved → Said → Type 0
 BoundIsSaid m old new said = (answer : BoundAnswer) × BoundExplains m old new answer × IsSaid (bound_line answer) (bound_status answer) said
 
 -- ---- the status that the model file calls for, faults and out of memory aside
--- for a problem 0 where it has a base bound, 1 where no point meets the base rows, 2 where the tableau is too large, or a number of the run doesn't fit
+-- for a problem `DONE` where it has a base bound, `NO_PLAN` where no point meets the base rows, `UNDECIDED` where the tableau is too large, or a number of the run doesn't fit
 abbrev pub BoundedCallsFor : Problem → ℕ → Type 0
 BoundedCallsFor problem status =
-    (((n : ℕ) × HasBaseBound problem n) × (status ≡ 0))
-    ⊎ ((HasNoBaseCost problem × (status ≡ 1)) ⊎ ((HasManyCells problem × (status ≡ 2)) ⊎ (RunPasses problem × (status ≡ 2))))
+    (((n : ℕ) × HasBaseBound problem n) × (status ≡ DONE))
+    ⊎ ((HasNoBaseCost problem × (status ≡ NO_PLAN)) ⊎ ((HasManyCells problem × (status ≡ UNDECIDED)) ⊎ (SimplexPasses problem × (status ≡ UNDECIDED))))
 
 abbrev pub BoundCallsFor : Option (List ℕ) → ℕ → Type 0
-BoundCallsFor None status = status ≡ 6
+BoundCallsFor None status = status ≡ MISSING
 BoundCallsFor (Some bytes) status =
-    ((file_limit < length bytes) × (status ≡ 11))
+    ((file_limit < length bytes) × (status ≡ TOO_LONG))
     ⊎ ((length bytes ≤ file_limit)
-    × (((problem : Problem) × BytesMean bytes (Ok problem) × BoundedCallsFor problem status) ⊎ ((fault : ModelFault) × BytesMean bytes (Err fault) × (status ≡ 5))))
+    × (((problem : Problem) × BytesMean bytes (Ok problem) × BoundedCallsFor problem status) ⊎ ((fault : ModelFault) × BytesMean bytes (Err fault) × (status ≡ REFUSED))))
 
--- the file means a problem whose run comes to a number that doesn't fit, so that 2 is called for, beside what is known of the base bound
+-- the file means a problem whose run comes to a number that doesn't fit, so that `UNDECIDED` is called for, beside what is known of the base bound
 abbrev pub MayPass : Option (List ℕ) → Type 0
 MayPass None = ⊥
-MayPass (Some bytes) = (problem : Problem) × BytesMean bytes (Ok problem) × RunPasses problem
+MayPass (Some bytes) = (problem : Problem) × BytesMean bytes (Ok problem) × SimplexPasses problem
 
 -- ---- what each status says
 -- the model file means a problem with this base bound, and the line has it
@@ -127,9 +128,9 @@ pub record FindsBound (before : Files) (model_file : List ℕ) (out_old out_new 
   pub line : Gains (bound_line (bound least)) out_old out_new
 
 -- they ask to bound one without a point, and the line says so
-pub record FindsNoPoint (asked : Option Request) (before : Files) (out_old out_new : Printed) : Type 0 where
+pub record FindsNoPoint (request : Option Request) (before : Files) (out_old out_new : Printed) : Type 0 where
   pub model_file : List ℕ
-  pub words : asked ≡ Some (bounding model_file)
+  pub words : request ≡ Some (bounding model_file)
   pub holds : ModelIsBounded before model_file empty
   pub line : Gains (bound_line empty) out_old out_new
 
@@ -139,12 +140,12 @@ LeavesBoundOpen (bound n) = ⊥
 LeavesBoundOpen empty = ⊥
 LeavesBoundOpen skipped = ⊤
 LeavesBoundOpen passed = ⊤
-LeavesBoundOpen (stopped why) = ⊥
+LeavesBoundOpen (no_input why) = ⊥
 
 -- they ask to bound one whose tableau is too large, or whose run comes to a number that doesn't fit, and the line says which
-pub record FindsNoBound (asked : Option Request) (before : Files) (out_old out_new : Printed) : Type 0 where
+pub record FindsNoBound (request : Option Request) (before : Files) (out_old out_new : Printed) : Type 0 where
   pub model_file : List ℕ
-  pub words : asked ≡ Some (bounding model_file)
+  pub words : request ≡ Some (bounding model_file)
   pub answer : BoundAnswer
   pub undecided : LeavesBoundOpen answer
   pub holds : ModelIsBounded before model_file answer

@@ -32,6 +32,7 @@ use Rattle.lotplan.specs.Saying.{Gains, IsSaid}
 use Rattle.lotplan.specs.declared.commands.check.CheckAnswer.{CheckAnswer as HeldAnswer}
 use Rattle.lotplan.specs.declared.commands.check.CheckAnswer.TheVariants as held
 use Rattle.lotplan.specs.declared.said.Said.{Said}
+use Rattle.lotplan.specs.declared.status.TheConstants.{DONE, FAULTY, REFUSED, MISSING, TOO_LONG}
 use Rattle.lotplan.specs.declared.status.Status.{Status}
 use Rattle.lotplan.specs.declared.status.Status.TheVariants as status
 
@@ -46,7 +47,7 @@ pub data CheckAnswer : Type 0 where
   -- the certificate is refused on this line, for this cause
   rejected : ℕ → Why → CheckAnswer
   -- a file gave nothing to go on with
-  stopped : ReadAnswer → CheckAnswer
+  no_input : ReadAnswer → CheckAnswer
 
 -- what the program's own answer stands for
 abbrev pub check_meant : HeldAnswer → CheckAnswer
@@ -54,14 +55,14 @@ check_meant (held.Accepted claim) = accepted claim
 check_meant (held.NoCertificate fault) = no_certificate fault
 check_meant (held.NoPlan fault) = no_plan fault
 check_meant (held.Rejected r) = rejected r.line r.why
-check_meant (held.Stopped w) = stopped (read_meant w)
+check_meant (held.NoInput w) = no_input (read_meant w)
 
 abbrev pub check_status : CheckAnswer → Status
 check_status (accepted claim) = status.Done
 check_status (no_certificate fault) = status.Faulty
 check_status (no_plan fault) = status.Faulty
 check_status (rejected line w) = status.Faulty
-check_status (stopped w) = read_status w
+check_status (no_input w) = read_status w
 
 abbrev pub accepted_line : Claim → List ℕ
 accepted_line (Optimal amount) = codes "accepted optimal " ++ (decimal amount ++ codes "\n")
@@ -98,7 +99,7 @@ check_line (accepted claim) = accepted_line claim
 check_line (no_certificate fault) = no_certificate_line fault
 check_line (no_plan fault) = no_plan_line fault
 check_line (rejected line w) = rejected_line line w
-check_line (stopped w) = read_line w
+check_line (no_input w) = read_line w
 
 -- ---- causes
 -- an optimal cost is claimed
@@ -122,7 +123,7 @@ ProofIs before p c problem (accepted claim) = HoldsProof before p c problem clai
 ProofIs before p c problem (no_certificate fault) = (fault ≢ text.Memory) × OfBytes (before c) (λ bytes. IsCertTextFault bytes fault)
 ProofIs before p c problem (no_plan fault) = AsksForPlan before c × OfFile before p (λ bytes. AreNoPlan problem bytes fault)
 ProofIs before p c problem (rejected line w) = HoldsRefused before p c problem line w
-ProofIs before p c problem (stopped w) = ⊥
+ProofIs before p c problem (no_input w) = ⊥
 
 -- the model file means a problem, of which they are this
 abbrev pub AllAre : Files → List ℕ → List ℕ → List ℕ → CheckAnswer → Type 0
@@ -145,9 +146,9 @@ CheckStops m p c old new w = ModelExplains m old new w ⊎ ((problem : Problem) 
 
 -- what an answer to a fault of the certificate file is; out of memory has none
 abbrev pub IsRefusal : List ℕ → StreamFault → CheckAnswer → Type 0
-IsRefusal c stream.Missing answer = answer ≡ stopped (missing c)
-IsRefusal c stream.Failed answer = answer ≡ stopped (unread c)
-IsRefusal c stream.TooLong answer = answer ≡ stopped (too_long c)
+IsRefusal c stream.Missing answer = answer ≡ no_input (missing c)
+IsRefusal c stream.Failed answer = answer ≡ no_input (unread c)
+IsRefusal c stream.TooLong answer = answer ≡ no_input (too_long c)
 IsRefusal c (stream.Text fault) answer = answer ≡ no_certificate fault
 IsRefusal c (stream.Rejected r) answer = answer ≡ rejected r.line r.why
 IsRefusal c stream.Memory answer = ⊥
@@ -158,7 +159,7 @@ PlanStops problem p old new (accepted claim) = ⊥
 PlanStops problem p old new (no_certificate fault) = ⊥
 PlanStops problem p old new (no_plan fault) = IsTrue old.told → OfFile old.file p (λ bytes. AreNoPlan problem bytes fault)
 PlanStops problem p old new (rejected line w) = ⊥
-PlanStops problem p old new (stopped w) = FileExplains p old new w
+PlanStops problem p old new (no_input w) = FileExplains p old new w
 
 -- why checking the certificate file with this plan, or with none, ends in this answer
 abbrev pub GivenExplains : Problem → Option Plan → List ℕ → Shelved → Shelved → CheckAnswer → Type 0
@@ -170,7 +171,7 @@ GivenExplains problem given c old new (no_certificate fault) =
 GivenExplains problem given c old new (no_plan fault) = ⊥
 GivenExplains problem given c old new (rejected line w) =
     IsTrue old.told → OfCertificate (old.file c) (λ certificate. OfProblem problem (λ total weight. IsCheckFault problem total weight certificate given line w))
-GivenExplains problem given c old new (stopped w) = CertificateExplains c old new w
+GivenExplains problem given c old new (no_input w) = CertificateExplains c old new w
 
 -- and with the plan of the plan file
 abbrev pub PlannedExplains : Problem → List ℕ → List ℕ → Shelved → Shelved → CheckAnswer → Type 0
@@ -184,7 +185,7 @@ ProofExplains problem p c old new (accepted claim) = IsTrue old.told → ProofIs
 ProofExplains problem p c old new (no_certificate fault) = IsTrue old.told → ProofIs old.file p c problem (no_certificate fault)
 ProofExplains problem p c old new (no_plan fault) = IsTrue old.told → ProofIs old.file p c problem (no_plan fault)
 ProofExplains problem p c old new (rejected line w) = IsTrue old.told → ProofIs old.file p c problem (rejected line w)
-ProofExplains problem p c old new (stopped w) = ProofStops p c old new w
+ProofExplains problem p c old new (no_input w) = ProofStops p c old new w
 
 -- why checking these files ends in this answer
 abbrev pub CheckExplains : List ℕ → List ℕ → List ℕ → Shelved → Shelved → CheckAnswer → Type 0
@@ -192,26 +193,26 @@ CheckExplains m p c old new (accepted claim) = IsTrue old.told → AllAre old.fi
 CheckExplains m p c old new (no_certificate fault) = IsTrue old.told → AllAre old.file m p c (no_certificate fault)
 CheckExplains m p c old new (no_plan fault) = IsTrue old.told → AllAre old.file m p c (no_plan fault)
 CheckExplains m p c old new (rejected line w) = IsTrue old.told → AllAre old.file m p c (rejected line w)
-CheckExplains m p c old new (stopped w) = CheckStops m p c old new w
+CheckExplains m p c old new (no_input w) = CheckStops m p c old new w
 
 -- what is said is an answer that has its cause
 abbrev pub CheckSays : List ℕ → List ℕ → List ℕ → Shelved → Shelved → Said → Type 0
 CheckSays m p c old new said = (answer : CheckAnswer) × CheckExplains m p c old new answer × IsSaid (check_line answer) (check_status answer) said
 
 -- ---- the status that the three files call for, faults and out of memory aside
--- for a certificate with the plan that goes with it 0 where it is accepted, and 3 where it is refused
+-- for a certificate with the plan that goes with it `DONE` where it is accepted, and `FAULTY` where it is refused
 abbrev pub GivenCallsFor : Problem → Shape → Option Plan → ℕ → Type 0
 GivenCallsFor problem certificate given status =
-    (OfProblem problem (λ total weight. IsCertified problem total weight certificate given) × (status ≡ 0))
-    ⊎ ((line : ℕ) × (w : Why) × OfProblem problem (λ total weight. IsCheckFault problem total weight certificate given line w) × (status ≡ 3))
+    (OfProblem problem (λ total weight. IsCertified problem total weight certificate given) × (status ≡ DONE))
+    ⊎ ((line : ℕ) × (w : Why) × OfProblem problem (λ total weight. IsCheckFault problem total weight certificate given line w) × (status ≡ FAULTY))
 
--- for the plan file of one that claims an optimal cost 6 where it is absent, 11 where it is too long, and 3 where it holds no plan
+-- for the plan file of one that claims an optimal cost `MISSING` where it is absent, `TOO_LONG` where it is too long, and `FAULTY` where it holds no plan
 abbrev pub PlannedCallsFor : Problem → Shape → Option (List ℕ) → ℕ → Type 0
-PlannedCallsFor problem certificate None status = status ≡ 6
+PlannedCallsFor problem certificate None status = status ≡ MISSING
 PlannedCallsFor problem certificate (Some bytes) status =
-    ((file_limit < length bytes) × (status ≡ 11))
+    ((file_limit < length bytes) × (status ≡ TOO_LONG))
     ⊎ ((length bytes ≤ file_limit)
-    × (((fault : PlanFault) × AreNoPlan problem bytes fault × (status ≡ 3))
+    × (((fault : PlanFault) × AreNoPlan problem bytes fault × (status ≡ FAULTY))
     ⊎ ((plan : Plan) × AllFit problem plan × IsPlanOf problem (records_of bytes) (plan_of plan) × GivenCallsFor problem certificate (Some plan) status)))
 
 abbrev pub ClaimCallsFor : Problem → Shape → Claim → Option (List ℕ) → ℕ → Type 0
@@ -219,26 +220,26 @@ ClaimCallsFor problem certificate (Optimal amount) plan status = PlannedCallsFor
 ClaimCallsFor problem certificate Infeasible plan status = GivenCallsFor problem certificate None status
 ClaimCallsFor problem certificate (BoundOf amount) plan status = GivenCallsFor problem certificate None status
 
--- for the certificate file of a problem 6 where it is absent, 11 where it is too long, and 3 where it holds no certificate
+-- for the certificate file of a problem `MISSING` where it is absent, `TOO_LONG` where it is too long, and `FAULTY` where it holds no certificate
 abbrev pub ProofCallsFor : Problem → Option (List ℕ) → Option (List ℕ) → ℕ → Type 0
-ProofCallsFor problem plan None status = status ≡ 6
+ProofCallsFor problem plan None status = status ≡ MISSING
 ProofCallsFor problem plan (Some bytes) status =
-    ((too_many - 1 < length bytes) × (status ≡ 11))
+    ((too_many - 1 < length bytes) × (status ≡ TOO_LONG))
     ⊎ ((length bytes < too_many)
-    × (((fault : CertTextFault) × (fault ≢ text.Memory) × IsCertTextFault bytes fault × (status ≡ 3))
+    × (((fault : CertTextFault) × (fault ≢ text.Memory) × IsCertTextFault bytes fault × (status ≡ FAULTY))
     ⊎ ((certificate : Shape) × IsTextOf bytes certificate × ClaimCallsFor problem certificate certificate.claim plan status)))
 
 abbrev pub CheckCallsFor : Option (List ℕ) → Option (List ℕ) → Option (List ℕ) → ℕ → Type 0
-CheckCallsFor None plan certificate status = status ≡ 6
+CheckCallsFor None plan certificate status = status ≡ MISSING
 CheckCallsFor (Some bytes) plan certificate status =
-    ((file_limit < length bytes) × (status ≡ 11))
+    ((file_limit < length bytes) × (status ≡ TOO_LONG))
     ⊎ ((length bytes ≤ file_limit)
-    × (((fault : ModelFault) × BytesMean bytes (Err fault) × (status ≡ 5)) ⊎ ((problem : Problem) × BytesMean bytes (Ok problem) × ProofCallsFor problem plan certificate status)))
+    × (((fault : ModelFault) × BytesMean bytes (Err fault) × (status ≡ REFUSED)) ⊎ ((problem : Problem) × BytesMean bytes (Ok problem) × ProofCallsFor problem plan certificate status)))
 
 -- ---- what each status says
 -- the words ask to check a certificate file
-pub record IsChecked (asked : Option Request) (model_file plan_file certificate_file : List ℕ) : Type 0 where
-  pub is : asked ≡ Some (checking model_file plan_file certificate_file)
+pub record IsChecked (request : Option Request) (model_file plan_file certificate_file : List ℕ) : Type 0 where
+  pub is : request ≡ Some (checking model_file plan_file certificate_file)
 
 -- the certificate is accepted, its claim is true, and the line has it
 pub record Accepts (before : Files) (model_file plan_file certificate_file : List ℕ) (out_old out_new : Printed) : Type 0 where
@@ -252,14 +253,14 @@ IsRefused (accepted claim) = ⊥
 IsRefused (no_certificate fault) = ⊤
 IsRefused (no_plan fault) = ⊤
 IsRefused (rejected line w) = ⊤
-IsRefused (stopped w) = ⊥
+IsRefused (no_input w) = ⊥
 
 -- they ask to check a certificate file that holds no certificate or a refused one, or whose plan file holds no plan, and the line names the first fault
-pub record FindsRefused (asked : Option Request) (before : Files) (out_old out_new : Printed) : Type 0 where
+pub record FindsRefused (request : Option Request) (before : Files) (out_old out_new : Printed) : Type 0 where
   pub model_file : List ℕ
   pub plan_file : List ℕ
   pub certificate_file : List ℕ
-  pub words : IsChecked asked model_file plan_file certificate_file
+  pub words : IsChecked request model_file plan_file certificate_file
   pub answer : CheckAnswer
   pub fault : IsRefused answer
   pub holds : AllAre before model_file plan_file certificate_file answer

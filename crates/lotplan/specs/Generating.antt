@@ -66,11 +66,11 @@ pub record Generates (after : Files) (seed items periods : ℕ) (model_file : Li
   pub line : Gains (written_line model_file) out_old out_new
 
 -- they ask to generate a model, its file could not be written, and the line names it
-pub record FailsToGenerate (asked : Option Request) (old new : Shelved) (out_old out_new : Printed) : Type 0 where
+pub record FailsToGenerate (request : Option Request) (old new : Shelved) (out_old out_new : Printed) : Type 0 where
   pub seed : ℕ
   pub items : ℕ
   pub periods : ℕ
   pub model_file : List ℕ
-  pub words : asked ≡ Some (generating seed items periods model_file)
+  pub words : request ≡ Some (generating seed items periods model_file)
   pub failed : Rose old.write_faults new.write_faults
   pub line : Gains (unwritten_line model_file) out_old out_new

@@ -16,6 +16,7 @@ use Rattle.lotplan.specs.Saying.{Gains, IsSaid}
 use Rattle.lotplan.specs.declared.commands.judge.JudgeAnswer.{JudgeAnswer as HeldAnswer}
 use Rattle.lotplan.specs.declared.commands.judge.JudgeAnswer.TheVariants as held
 use Rattle.lotplan.specs.declared.said.Said.{Said}
+use Rattle.lotplan.specs.declared.status.TheConstants.{DONE, FAULTY, REFUSED, MISSING, TOO_LONG}
 use Rattle.lotplan.specs.declared.status.Status.{Status}
 use Rattle.lotplan.specs.declared.status.Status.TheVariants as status
 
@@ -28,26 +29,26 @@ pub data JudgeAnswer : Type 0 where
   -- the plan breaks this rule first
   broken : Broken → JudgeAnswer
   -- the model file gave no problem, or the plan file no bytes
-  stopped : ReadAnswer → JudgeAnswer
+  no_input : ReadAnswer → JudgeAnswer
 
 -- what the program's own answer stands for
 abbrev pub judge_meant : HeldAnswer → JudgeAnswer
 judge_meant (held.Feasible amount) = feasible amount
 judge_meant (held.NoPlan fault) = no_plan fault
 judge_meant (held.Broken rule) = broken rule
-judge_meant (held.Stopped why) = stopped (read_meant why)
+judge_meant (held.NoInput why) = no_input (read_meant why)
 
 abbrev pub judge_status : JudgeAnswer → Status
 judge_status (feasible amount) = status.Done
 judge_status (no_plan fault) = status.Faulty
 judge_status (broken rule) = status.Faulty
-judge_status (stopped why) = read_status why
+judge_status (no_input why) = read_status why
 
 abbrev pub judge_line : JudgeAnswer → List ℕ
 judge_line (feasible amount) = codes "feasible " ++ (decimal amount ++ codes "\n")
 judge_line (no_plan fault) = no_plan_line fault
 judge_line (broken rule) = broken_text rule ++ codes "\n"
-judge_line (stopped why) = read_line why
+judge_line (no_input why) = read_line why
 
 -- ---- causes
 -- bytes hold a feasible plan, which costs this
@@ -69,21 +70,21 @@ abbrev pub IsJudgement : Problem → Plan → JudgeAnswer → Type 0
 IsJudgement problem plan (feasible amount) = IsFeasible problem plan × (amount ≡ cost problem plan)
 IsJudgement problem plan (no_plan fault) = ⊥
 IsJudgement problem plan (broken rule) = (IsFeasible problem plan → ⊥) × IsBroken problem plan rule
-IsJudgement problem plan (stopped why) = ⊥
+IsJudgement problem plan (no_input why) = ⊥
 
 -- what the bytes of a plan file are, where it holds some
 abbrev pub BytesAre : Problem → JudgeAnswer → List ℕ → Type 0
 BytesAre problem (feasible amount) bytes = AreFeasible problem bytes amount
 BytesAre problem (no_plan fault) bytes = AreNoPlan problem bytes fault
 BytesAre problem (broken rule) bytes = AreBroken problem bytes rule
-BytesAre problem (stopped why) bytes = ⊥
+BytesAre problem (no_input why) bytes = ⊥
 
 -- why judging a plan file of a problem ends in this answer
 abbrev pub PlanFileExplains : Problem → List ℕ → Shelved → Shelved → JudgeAnswer → Type 0
 PlanFileExplains problem p old new (feasible amount) = IsTrue old.told → OfFile old.file p (BytesAre problem (feasible amount))
 PlanFileExplains problem p old new (no_plan fault) = IsTrue old.told → OfFile old.file p (BytesAre problem (no_plan fault))
 PlanFileExplains problem p old new (broken rule) = IsTrue old.told → OfFile old.file p (BytesAre problem (broken rule))
-PlanFileExplains problem p old new (stopped why) = FileExplains p old new why
+PlanFileExplains problem p old new (no_input why) = FileExplains p old new why
 
 -- the model file means a problem, whose plan file these bytes are
 abbrev pub FilesAre : Files → List ℕ → List ℕ → JudgeAnswer → Type 0
@@ -94,7 +95,7 @@ abbrev pub JudgeExplains : List ℕ → List ℕ → Shelved → Shelved → Jud
 JudgeExplains m p old new (feasible amount) = IsTrue old.told → FilesAre old.file m p (feasible amount)
 JudgeExplains m p old new (no_plan fault) = IsTrue old.told → FilesAre old.file m p (no_plan fault)
 JudgeExplains m p old new (broken rule) = IsTrue old.told → FilesAre old.file m p (broken rule)
-JudgeExplains m p old new (stopped why) = FilesStop m p old new why
+JudgeExplains m p old new (no_input why) = FilesStop m p old new why
 
 -- what is said is an answer that has its cause
 abbrev pub PlanFileSays : Problem → List ℕ → Shelved → Shelved → Said → Type 0
@@ -104,27 +105,27 @@ abbrev pub JudgeSays : List ℕ → List ℕ → Shelved → Shelved → Said �
 JudgeSays m p old new said = (answer : JudgeAnswer) × JudgeExplains m p old new answer × IsSaid (judge_line answer) (judge_status answer) said
 
 -- ---- the status that the two files call for, faults and out of memory aside
--- for a plan file of a problem 6 where it is absent, 11 where it is too long, 0 where it holds a feasible plan, and else 3
+-- for a plan file of a problem `MISSING` where it is absent, `TOO_LONG` where it is too long, `DONE` where it holds a feasible plan, and else `FAULTY`
 abbrev pub PlanCallsFor : Problem → Option (List ℕ) → ℕ → Type 0
-PlanCallsFor problem None status = status ≡ 6
+PlanCallsFor problem None status = status ≡ MISSING
 PlanCallsFor problem (Some bytes) status =
-    ((file_limit < length bytes) × (status ≡ 11))
+    ((file_limit < length bytes) × (status ≡ TOO_LONG))
     ⊎ ((length bytes ≤ file_limit)
-    × (((amount : ℕ) × AreFeasible problem bytes amount × (status ≡ 0))
-    ⊎ (((rule : Broken) × AreBroken problem bytes rule × (status ≡ 3))
-    ⊎ ((fault : PlanFault) × AreNoPlan problem bytes fault × (status ≡ 3)))))
+    × (((amount : ℕ) × AreFeasible problem bytes amount × (status ≡ DONE))
+    ⊎ (((rule : Broken) × AreBroken problem bytes rule × (status ≡ FAULTY))
+    ⊎ ((fault : PlanFault) × AreNoPlan problem bytes fault × (status ≡ FAULTY)))))
 
 abbrev pub JudgeCallsFor : Option (List ℕ) → Option (List ℕ) → ℕ → Type 0
-JudgeCallsFor None plan status = status ≡ 6
+JudgeCallsFor None plan status = status ≡ MISSING
 JudgeCallsFor (Some bytes) plan status =
-    ((file_limit < length bytes) × (status ≡ 11))
+    ((file_limit < length bytes) × (status ≡ TOO_LONG))
     ⊎ ((length bytes ≤ file_limit)
-    × (((fault : ModelFault) × BytesMean bytes (Err fault) × (status ≡ 5)) ⊎ ((problem : Problem) × BytesMean bytes (Ok problem) × PlanCallsFor problem plan status)))
+    × (((fault : ModelFault) × BytesMean bytes (Err fault) × (status ≡ REFUSED)) ⊎ ((problem : Problem) × BytesMean bytes (Ok problem) × PlanCallsFor problem plan status)))
 
 -- ---- what each status says
 -- the words ask to judge a plan file, or to report on it
-pub record IsJudged (asked : Option Request) (model_file plan_file : List ℕ) : Type 0 where
-  pub is : (asked ≡ Some (judging model_file plan_file)) ⊎ (asked ≡ Some (reporting model_file plan_file))
+pub record IsJudged (request : Option Request) (model_file plan_file : List ℕ) : Type 0 where
+  pub is : (request ≡ Some (judging model_file plan_file)) ⊎ (request ≡ Some (reporting model_file plan_file))
 
 -- they ask to judge a plan that is feasible, and the line has its cost
 pub record FindsFeasible (before : Files) (model_file plan_file : List ℕ) (out_old out_new : Printed) : Type 0 where
@@ -137,13 +138,13 @@ abbrev pub IsFault : JudgeAnswer → Type 0
 IsFault (feasible amount) = ⊥
 IsFault (no_plan fault) = ⊤
 IsFault (broken rule) = ⊤
-IsFault (stopped why) = ⊥
+IsFault (no_input why) = ⊥
 
 -- they ask to judge a plan file, or to report on it, that holds no plan, or one that breaks a rule, and the line names the first fault
-pub record FindsFault (asked : Option Request) (before : Files) (out_old out_new : Printed) : Type 0 where
+pub record FindsFault (request : Option Request) (before : Files) (out_old out_new : Printed) : Type 0 where
   pub model_file : List ℕ
   pub plan_file : List ℕ
-  pub words : IsJudged asked model_file plan_file
+  pub words : IsJudged request model_file plan_file
   pub answer : JudgeAnswer
   pub fault : IsFault answer
   pub holds : FilesAre before model_file plan_file answer

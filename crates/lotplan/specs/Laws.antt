@@ -1,10 +1,11 @@
--- What a command calls for is one status, but for a 2 where it may be left undecided, and there is one.
+-- What a command calls for is one status, but for `UNDECIDED` where it may be left open, and there is one.
 use Rattle.std.specs.Prelude.{◌≡◌, ◌⊎◌, ℕ, Option, Some, None}
 use Rattle.lot_io.specs.Outside.{Files}
 use Rattle.lotplan.specs.Bounding.{MayPass}
 use Rattle.command_line.specs.Words.{Request, version, helping, planning, judging, checking, reporting, generating, demonstrating, upgrading, bounding}
 use Rattle.lotplan.specs.Planning.{MayLeave}
 use Rattle.lotplan.specs.Run.{CallFor}
+use Rattle.lotplan.specs.declared.status.TheConstants.{UNDECIDED}
 
 -- the words ask to plan a model that the search may leave open, or to bound one whose run comes to a number that doesn't fit
 abbrev pub MayBeUndecided : Option Request → Files → Type 0
@@ -22,9 +23,9 @@ MayBeUndecided (Some (bounding m)) file = MayPass (file m)
 
 abbrev pub StatusesAreOne : Type 0
 StatusesAreOne =
-    (asked : Option Request) (file : Files) (status other : ℕ) → CallFor asked file status → CallFor asked file other
-    → (status ≡ other) ⊎ (MayBeUndecided asked file × ((status ≡ 2) ⊎ (other ≡ 2)))
+    (request : Option Request) (file : Files) (status other : ℕ) → CallFor request file status → CallFor request file other
+    → (status ≡ other) ⊎ (MayBeUndecided request file × ((status ≡ UNDECIDED) ⊎ (other ≡ UNDECIDED)))
 
 -- and all words and files call for some
 abbrev pub StatusesExist : Type 0
-StatusesExist = (asked : Option Request) (file : Files) → (status : ℕ) × CallFor asked file status
+StatusesExist = (request : Option Request) (file : Files) → (status : ℕ) × CallFor request file status

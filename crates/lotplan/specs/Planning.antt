@@ -30,6 +30,7 @@ use Rattle.lotplan.specs.Saying.{Gains, IsSaid}
 use Rattle.lotplan.specs.declared.commands.plan.PlanAnswer.{PlanAnswer as HeldAnswer}
 use Rattle.lotplan.specs.declared.commands.plan.PlanAnswer.TheVariants as held
 use Rattle.lotplan.specs.declared.said.Said.{Said}
+use Rattle.lotplan.specs.declared.status.TheConstants.{DONE, NO_PLAN, UNDECIDED, REFUSED, MISSING, TOO_LONG}
 use Rattle.lotplan.specs.declared.status.Status.{Status}
 use Rattle.lotplan.specs.declared.status.Status.TheVariants as status
 
@@ -46,7 +47,7 @@ pub data PlanAnswer : Type 0 where
   -- the plan file or the certificate file, of this name, could not be written
   unwritten : List ℕ → PlanAnswer
   -- the model file gave no problem
-  stopped : ReadAnswer → PlanAnswer
+  no_input : ReadAnswer → PlanAnswer
 
 -- what the program's own answer stands for
 abbrev pub plan_meant : HeldAnswer → PlanAnswer
@@ -55,7 +56,7 @@ plan_meant (held.Infeasible says nodes) = infeasible says nodes
 plan_meant (held.Between says nodes least amount) = between says nodes least amount
 plan_meant (held.Above says nodes least) = above says nodes least
 plan_meant (held.Unwritten file) = unwritten file.now
-plan_meant (held.Stopped why) = stopped (read_meant why)
+plan_meant (held.NoInput why) = no_input (read_meant why)
 
 abbrev pub plan_status : PlanAnswer → Status
 plan_status (optimal says nodes amount) = status.Done
@@ -63,7 +64,7 @@ plan_status (infeasible says nodes) = status.NoPlan
 plan_status (between says nodes bound amount) = status.Undecided
 plan_status (above says nodes bound) = status.Undecided
 plan_status (unwritten file) = status.Unwritten
-plan_status (stopped why) = read_status why
+plan_status (no_input why) = read_status why
 
 -- what was said at the root
 abbrev pub root_line : RootSays → List ℕ
@@ -97,7 +98,7 @@ plan_line (infeasible says nodes) = three_lines says nodes infeasible_line
 plan_line (between says nodes bound amount) = three_lines says nodes (between_line bound amount)
 plan_line (above says nodes bound) = three_lines says nodes (above_line bound)
 plan_line (unwritten file) = unwritten_line file
-plan_line (stopped why) = read_line why
+plan_line (no_input why) = read_line why
 
 -- what is answered to a claim with a plan or without one, once what was found is written
 abbrev pub IsAnswerTo : Problem → Claim → Option Grids → RootSays → ℕ → PlanAnswer → Type 0
@@ -235,7 +236,7 @@ WriteExplains problem budget p c old new (above says nodes bound) =
     (IsTrue old.told → WritesAbove old.file new.file problem p c budget says nodes bound) × StartsOnly c old new
 WriteExplains problem budget p c old new (unwritten file) =
     Rose old.write_faults new.write_faults × FailsAt (λ P. IsTrue old.told → P problem) p c old new file
-WriteExplains problem budget p c old new (stopped why) = ⊥
+WriteExplains problem budget p c old new (no_input why) = ⊥
 
 -- why planning these files ends in this answer, and what it leaves
 abbrev pub PlanExplains : List ℕ → List ℕ → List ℕ → ℕ → Shelved → Shelved → PlanAnswer → Type 0
@@ -249,7 +250,7 @@ PlanExplains m p c budget old new (above says nodes bound) =
     (IsTrue old.told → OfModel old.file m (λ problem. WritesAbove old.file new.file problem p c budget says nodes bound)) × StartsOnly c old new
 PlanExplains m p c budget old new (unwritten file) =
     Rose old.write_faults new.write_faults × FailsAt (λ P. IsTrue old.told → OfModel old.file m P) p c old new file
-PlanExplains m p c budget old new (stopped why) = ModelExplains m old new why × OnlyReads old new
+PlanExplains m p c budget old new (no_input why) = ModelExplains m old new why × OnlyReads old new
 
 -- what is said is an answer that has its cause
 abbrev pub WriteSays : Problem → ℕ → List ℕ → List ℕ → Shelved → Shelved → Said → Type 0
@@ -264,29 +265,29 @@ pub record MayBeLeft (problem : Problem) (budget : ℕ) : Type 0 where
   pub coupled : IsUncoupled problem → ⊥
   pub large : WithTotals problem (λ total. HasBudgetForAll problem budget total → ⊥)
 
--- for a problem 0 where a plan is feasible and 1 where none is; 2 only where it may be left open
+-- for a problem `DONE` where a plan is feasible and `NO_PLAN` where none is; `UNDECIDED` only where it may be left open
 abbrev pub ProblemCallsFor : Problem → ℕ → ℕ → Type 0
 ProblemCallsFor problem budget status =
-    ((status ≡ 0) × (p : Plan) × IsFeasible problem p) ⊎ (((status ≡ 1) × IsImpossible problem) ⊎ ((status ≡ 2) × MayBeLeft problem budget))
+    ((status ≡ DONE) × (p : Plan) × IsFeasible problem p) ⊎ (((status ≡ NO_PLAN) × IsImpossible problem) ⊎ ((status ≡ UNDECIDED) × MayBeLeft problem budget))
 
 abbrev pub BytesCallFor : List ℕ → ℕ → ℕ → Type 0
 BytesCallFor bytes budget status =
     ((problem : Problem) × BytesMean bytes (Ok problem) × ProblemCallsFor problem budget status)
-    ⊎ ((fault : ModelFault) × BytesMean bytes (Err fault) × (status ≡ 5))
+    ⊎ ((fault : ModelFault) × BytesMean bytes (Err fault) × (status ≡ REFUSED))
 
 abbrev pub FileCallsFor : Option (List ℕ) → ℕ → ℕ → Type 0
-FileCallsFor None budget status = status ≡ 6
-FileCallsFor (Some bytes) budget status = ((file_limit < length bytes) × (status ≡ 11)) ⊎ ((length bytes ≤ file_limit) × BytesCallFor bytes budget status)
+FileCallsFor None budget status = status ≡ MISSING
+FileCallsFor (Some bytes) budget status = ((file_limit < length bytes) × (status ≡ TOO_LONG)) ⊎ ((length bytes ≤ file_limit) × BytesCallFor bytes budget status)
 
--- the file means a problem that the search may leave open, so that 2 is called for, beside 0 or 1
+-- the file means a problem that the search may leave open, so that `UNDECIDED` is called for, beside `DONE` or `NO_PLAN`
 abbrev pub MayLeave : Option (List ℕ) → ℕ → Type 0
 MayLeave None budget = ⊥
 MayLeave (Some bytes) budget = (problem : Problem) × BytesMean bytes (Ok problem) × MayBeLeft problem budget
 
 -- ---- what each status says
 -- the words ask to plan a model file with a budget of nodes
-pub record AsksToPlan (asked : Option Request) (model_file plan_file certificate_file : List ℕ) (budget : ℕ) : Type 0 where
-  pub is : asked ≡ Some (planning model_file plan_file certificate_file budget)
+pub record AsksToPlan (request : Option Request) (model_file plan_file certificate_file : List ℕ) (budget : ℕ) : Type 0 where
+  pub is : request ≡ Some (planning model_file plan_file certificate_file budget)
 
 -- the plan file holds a best plan of the problem in the model file, the certificate file proves that it is, and the lines have its cost
 pub record PlansBest (before after : Files) (model_file plan_file certificate_file : List ℕ) (budget : ℕ) (out_old out_new : Printed) : Type 0 where
@@ -297,12 +298,12 @@ pub record PlansBest (before after : Files) (model_file plan_file certificate_fi
   pub lines : Gains (three_lines says nodes (optimal_line amount)) out_old out_new
 
 -- they ask to plan one of whose problem no plan is feasible, the certificate file proves it, and the lines say so
-pub record FindsNoPlan (asked : Option Request) (before after : Files) (out_old out_new : Printed) : Type 0 where
+pub record FindsNoPlan (request : Option Request) (before after : Files) (out_old out_new : Printed) : Type 0 where
   pub model_file : List ℕ
   pub plan_file : List ℕ
   pub certificate_file : List ℕ
   pub budget : ℕ
-  pub words : AsksToPlan asked model_file plan_file certificate_file budget
+  pub words : AsksToPlan request model_file plan_file certificate_file budget
   pub says : RootSays
   pub nodes : ℕ
   pub holds : OfModel before model_file (λ problem. WritesInfeasible before after problem plan_file certificate_file budget says nodes)
@@ -315,26 +316,26 @@ IsLeftOpen before after problem p c budget (infeasible says nodes) = ⊥
 IsLeftOpen before after problem p c budget (between says nodes bound amount) = WritesBetween after problem p c budget says nodes bound amount
 IsLeftOpen before after problem p c budget (above says nodes bound) = WritesAbove before after problem p c budget says nodes bound
 IsLeftOpen before after problem p c budget (unwritten file) = ⊥
-IsLeftOpen before after problem p c budget (stopped why) = ⊥
+IsLeftOpen before after problem p c budget (no_input why) = ⊥
 
 -- they ask to plan one whose best cost was left open, the certificate file proves the bound, and the lines say so
-pub record LeavesOpen (asked : Option Request) (before after : Files) (out_old out_new : Printed) : Type 0 where
+pub record LeavesOpen (request : Option Request) (before after : Files) (out_old out_new : Printed) : Type 0 where
   pub model_file : List ℕ
   pub plan_file : List ℕ
   pub certificate_file : List ℕ
   pub budget : ℕ
-  pub words : AsksToPlan asked model_file plan_file certificate_file budget
+  pub words : AsksToPlan request model_file plan_file certificate_file budget
   pub answer : PlanAnswer
   pub holds : OfModel before model_file (λ problem. IsLeftOpen before after problem plan_file certificate_file budget answer)
   pub lines : Gains (plan_line answer) out_old out_new
 
 -- they ask to plan a model, the plan file or the certificate file could not be written, and the line names it
-pub record FailsToWrite (asked : Option Request) (old new : Shelved) (out_old out_new : Printed) : Type 0 where
+pub record FailsToWrite (request : Option Request) (old new : Shelved) (out_old out_new : Printed) : Type 0 where
   pub model_file : List ℕ
   pub plan_file : List ℕ
   pub certificate_file : List ℕ
   pub budget : ℕ
-  pub words : AsksToPlan asked model_file plan_file certificate_file budget
+  pub words : AsksToPlan request model_file plan_file certificate_file budget
   pub file : List ℕ
   pub failed : Rose old.write_faults new.write_faults
   pub left : FailsAt (λ P. IsTrue old.told → OfModel old.file model_file P) plan_file certificate_file old new file

@@ -5,7 +5,7 @@ use Rattle.lot_sizing.specs.Plan.{IsFeasible, Plan}
 use Rattle.lot_io.specs.Outside.{Files, Printed, Shelved}
 use Rattle.plan_file.specs.Records.{IsPlanOf, records_of}
 use Rattle.report.specs.Summary.{summary_text}
-use Rattle.lotplan.specs.Judging.{IsJudgement, JudgeAnswer, JudgeExplains, PlanFileExplains, broken, feasible, judge_line, judge_status, no_plan, stopped}
+use Rattle.lotplan.specs.Judging.{IsJudgement, JudgeAnswer, JudgeExplains, PlanFileExplains, broken, feasible, judge_line, judge_status, no_plan, no_input}
 use Rattle.lotplan.specs.Reading.{OfFile, OfModel}
 use Rattle.lotplan.specs.Saying.{Gains, IsSaid}
 use Rattle.lotplan.specs.declared.said.Said.{Said}
@@ -40,7 +40,7 @@ abbrev pub FindsNone : JudgeAnswer → Type 0
 FindsNone (feasible amount) = ⊥
 FindsNone (no_plan fault) = ⊤
 FindsNone (broken rule) = ⊤
-FindsNone (stopped why) = ⊤
+FindsNone (no_input why) = ⊤
 
 -- what reporting on a plan ends in
 abbrev pub IsReport : Problem → Plan → ReportAnswer → Type 0
@@ -76,7 +76,7 @@ PlanFileIsReported problem p old new said =
 abbrev pub ReportSays : List ℕ → List ℕ → Shelved → Shelved → Said → Type 0
 ReportSays m p old new said = (answer : ReportAnswer) × ReportExplains m p old new answer × IsSaid (report_line answer) (report_status answer) said
 
--- ---- what status 0 says
+-- ---- what `DONE` says
 -- the plan in the plan file is feasible, and the line is its summary
 pub record SumsUp (before : Files) (model_file plan_file : List ℕ) (out_old out_new : Printed) : Type 0 where
   pub text : List ℕ

@@ -15,6 +15,7 @@ use Rattle.lotplan.specs.Reporting.{ReportAnswer, ReportExplains, ReportSays, re
 use Rattle.lotplan.specs.Generating.{FailsToGenerate, GenerateAnswer, GenerateExplains, GenerateSays, generate_line, generate_status}
 use Rattle.lotplan.specs.Showing.{DemoSays, ShowsBoth}
 use Rattle.lotplan.specs.declared.said.Said.{Said}
+use Rattle.lotplan.specs.declared.status.TheConstants.{DONE, NO_COMMAND}
 use Rattle.lotplan.specs.declared.status.Status.TheVariants.{Done, NoCommand, NoMemory}
 
 -- ---- the words, each command an arm
@@ -53,56 +54,56 @@ Leaves (Some (upgrading m n)) old new = OnlyReads old new
 Leaves (Some (bounding m)) old new = OnlyReads old new
 
 -- what a run did, printed and gave, where memory didn't run out
-abbrev pub RunsAs : Option Request → ℕ → Shelved → Shelved → Printed → Printed → Type 0
-RunsAs None code old new out_old out_new = (new ≡ old) × (text : List ℕ) × Prints text NoCommand code out_old out_new
-RunsAs (Some version) code old new out_old out_new = (new ≡ old) × Prints version_line Done code out_old out_new
-RunsAs (Some helping) code old new out_old out_new = (new ≡ old) × (text : List ℕ) × Prints text Done code out_old out_new
-RunsAs (Some (planning m p c budget)) code old new out_old out_new =
+abbrev pub AnswersAs : Option Request → ℕ → Shelved → Shelved → Printed → Printed → Type 0
+AnswersAs None code old new out_old out_new = (new ≡ old) × (text : List ℕ) × Prints text NoCommand code out_old out_new
+AnswersAs (Some version) code old new out_old out_new = (new ≡ old) × Prints version_line Done code out_old out_new
+AnswersAs (Some helping) code old new out_old out_new = (new ≡ old) × (text : List ℕ) × Prints text Done code out_old out_new
+AnswersAs (Some (planning m p c budget)) code old new out_old out_new =
     (answer : PlanAnswer) × PlanExplains m p c budget old new answer × Prints (plan_line answer) (plan_status answer) code out_old out_new
-RunsAs (Some (judging m p)) code old new out_old out_new =
+AnswersAs (Some (judging m p)) code old new out_old out_new =
     (answer : JudgeAnswer) × JudgeExplains m p old new answer × OnlyReads old new × Prints (judge_line answer) (judge_status answer) code out_old out_new
-RunsAs (Some (checking m p c)) code old new out_old out_new =
+AnswersAs (Some (checking m p c)) code old new out_old out_new =
     (answer : CheckAnswer) × CheckExplains m p c old new answer × OnlyReads old new × Prints (check_line answer) (check_status answer) code out_old out_new
-RunsAs (Some (reporting m p)) code old new out_old out_new =
+AnswersAs (Some (reporting m p)) code old new out_old out_new =
     (answer : ReportAnswer) × ReportExplains m p old new answer × OnlyReads old new × Prints (report_line answer) (report_status answer) code out_old out_new
-RunsAs (Some (generating seed items periods m)) code old new out_old out_new =
+AnswersAs (Some (generating seed items periods m)) code old new out_old out_new =
     (answer : GenerateAnswer) × GenerateExplains seed items periods m old new answer × Prints (generate_line answer) (generate_status answer) code out_old out_new
-RunsAs (Some (demonstrating seed)) code old new out_old out_new =
+AnswersAs (Some (demonstrating seed)) code old new out_old out_new =
     (new ≡ old) × (text : List ℕ) × ShowsBoth seed text × Prints text Done code out_old out_new
-RunsAs (Some (upgrading m n)) code old new out_old out_new =
+AnswersAs (Some (upgrading m n)) code old new out_old out_new =
     (answer : UpgradeAnswer) × UpgradeExplains m n old new answer × Prints (upgrade_line answer) (upgrade_status answer) code out_old out_new
-RunsAs (Some (bounding m)) code old new out_old out_new =
+AnswersAs (Some (bounding m)) code old new out_old out_new =
     (answer : BoundAnswer) × BoundExplains m old new answer × OnlyReads old new × Prints (bound_line answer) (bound_status answer) code out_old out_new
 
 -- memory ran out before anything was written or printed
-pub record RanOut (asked : Option Request) (code : ℕ) (old new : Shelved) (out_old out_new : Printed) : Type 0 where
+pub record RanOut (request : Option Request) (code : ℕ) (old new : Shelved) (out_old out_new : Printed) : Type 0 where
   pub is : code ≡ code_of NoMemory
-  pub left : Leaves asked old new
+  pub left : Leaves request old new
   pub silent : out_new ≡ out_old
 
 -- memory ran out, or the run did what the words ask for
-pub data IsProgramRun (asked : Option Request) (code : ℕ) (old new : Shelved) (out_old out_new : Printed) : Type 0 where
-  ran_out : RanOut asked code old new out_old out_new → IsProgramRun asked code old new out_old out_new
-  runs : RunsAs asked code old new out_old out_new → IsProgramRun asked code old new out_old out_new
+pub data IsProgramRun (request : Option Request) (code : ℕ) (old new : Shelved) (out_old out_new : Printed) : Type 0 where
+  ran_out : RanOut request code old new out_old out_new → IsProgramRun request code old new out_old out_new
+  runs : AnswersAs request code old new out_old out_new → IsProgramRun request code old new out_old out_new
 
 -- ---- the status that words and files call for, faults and out of memory aside
 abbrev pub CallFor : Option Request → Files → ℕ → Type 0
-CallFor None file status = status ≡ 4
-CallFor (Some version) file status = status ≡ 0
-CallFor (Some helping) file status = status ≡ 0
+CallFor None file status = status ≡ NO_COMMAND
+CallFor (Some version) file status = status ≡ DONE
+CallFor (Some helping) file status = status ≡ DONE
 CallFor (Some (planning m p c budget)) file status = FileCallsFor (file m) budget status
 CallFor (Some (judging m p)) file status = JudgeCallsFor (file m) (file p) status
 CallFor (Some (checking m p c)) file status = CheckCallsFor (file m) (file p) (file c) status
 CallFor (Some (reporting m p)) file status = JudgeCallsFor (file m) (file p) status
-CallFor (Some (generating seed items periods m)) file status = status ≡ 0
-CallFor (Some (demonstrating seed)) file status = status ≡ 0
+CallFor (Some (generating seed items periods m)) file status = status ≡ DONE
+CallFor (Some (demonstrating seed)) file status = status ≡ DONE
 CallFor (Some (upgrading m n)) file status = UpgradeCallsFor (file m) status
 CallFor (Some (bounding m)) file status = BoundCallsFor (file m) status
 
--- `check` of these files calls for 0, and for no other status
-pub record CallsForZero (after : Files) (model_file plan_file certificate_file : List ℕ) : Type 0 where
-  pub zero : CallFor (Some (checking model_file plan_file certificate_file)) after 0
-  pub alone : (status : ℕ) → CallFor (Some (checking model_file plan_file certificate_file)) after status → status ≡ 0
+-- `check` of these files calls for `DONE`, and for no other status
+pub record CallsForDone (after : Files) (model_file plan_file certificate_file : List ℕ) : Type 0 where
+  pub done : CallFor (Some (checking model_file plan_file certificate_file)) after DONE
+  pub alone : (status : ℕ) → CallFor (Some (checking model_file plan_file certificate_file)) after status → status ≡ DONE
 
 -- ---- how many bytes are read
 -- none for words that are no command, for the version and help, and where models are generated; one file within the limit where a model is planned, upgraded or bounded, and two where a plan is judged or reported on, or a certificate is checked, with three passes over its file besides
@@ -141,28 +142,28 @@ pub record HadNoFault (old new : Shelved) (out_old out_new : Printed) : Type 0 w
 
 -- ---- what each status says
 -- the words are no command, and some text says so
-pub record IsNoCommand (asked : Option Request) (out_old out_new : Printed) : Type 0 where
-  pub is : asked ≡ None
+pub record IsNoCommand (request : Option Request) (out_old out_new : Printed) : Type 0 where
+  pub is : request ≡ None
   pub text : List ℕ
   pub line : Gains text out_old out_new
 
 -- no plan is feasible: `plan` finds it, or `bound` does since no point meets the base rows
 abbrev pub IsInfeasible : Option Request → Files → Files → Printed → Printed → Type 0
-IsInfeasible asked before after out_old out_new = FindsNoPlan asked before after out_old out_new ⊎ FindsNoPoint asked before out_old out_new
+IsInfeasible request before after out_old out_new = FindsNoPlan request before after out_old out_new ⊎ FindsNoPoint request before out_old out_new
 
 -- the best cost was left open by `plan`, or the bound was not found by `bound`
 abbrev pub LeavesUndecided : Option Request → Files → Files → Printed → Printed → Type 0
-LeavesUndecided asked before after out_old out_new = LeavesOpen asked before after out_old out_new ⊎ FindsNoBound asked before out_old out_new
+LeavesUndecided request before after out_old out_new = LeavesOpen request before after out_old out_new ⊎ FindsNoBound request before out_old out_new
 
 -- a plan that was judged, or a certificate that was checked, has a fault, and the line names the first
 abbrev pub IsFaulty : Option Request → Files → Printed → Printed → Type 0
-IsFaulty asked before out_old out_new = FindsFault asked before out_old out_new ⊎ FindsRefused asked before out_old out_new
+IsFaulty request before out_old out_new = FindsFault request before out_old out_new ⊎ FindsRefused request before out_old out_new
 
 -- the plan file, the certificate file, the new model file or the generated one could not be written, and the line names it
 abbrev pub CannotWrite : Option Request → Shelved → Shelved → Printed → Printed → Type 0
-CannotWrite asked old new out_old out_new =
-    FailsToWrite asked old new out_old out_new
-    ⊎ (FailsToUpgrade asked old new out_old out_new ⊎ FailsToGenerate asked old new out_old out_new)
+CannotWrite request old new out_old out_new =
+    FailsToWrite request old new out_old out_new
+    ⊎ (FailsToUpgrade request old new out_old out_new ⊎ FailsToGenerate request old new out_old out_new)
 
 -- why the files that the words name gave nothing to go on with
 abbrev pub StopsFor : Option Request → Shelved → Shelved → ReadAnswer → Type 0
@@ -179,6 +180,6 @@ StopsFor (Some (upgrading m n)) old new why = FirstExplains m old new why
 StopsFor (Some (bounding m)) old new why = ModelExplains m old new why
 
 -- they did for this cause, and the line names it
-pub record Stops (asked : Option Request) (old new : Shelved) (out_old out_new : Printed) (why : ReadAnswer) : Type 0 where
-  pub cause : StopsFor asked old new why
+pub record Stops (request : Option Request) (old new : Shelved) (out_old out_new : Printed) (why : ReadAnswer) : Type 0 where
+  pub cause : StopsFor request old new why
   pub line : Gains (read_line why) out_old out_new

@@ -9,7 +9,7 @@ use Rattle.branching.specs.declared.found.Found.{Found}
 use Rattle.branching.specs.declared.found.RootSays.TheVariants as at_root
 use Rattle.report.specs.Generated.{generated}
 use Rattle.lotplan.specs.Finding.{IsFound}
-use Rattle.lotplan.specs.Planning.{IsAnswerTo, IsWithinOwn, PlanAnswer, above, between, infeasible, optimal, plan_line, stopped, unwritten}
+use Rattle.lotplan.specs.Planning.{IsAnswerTo, IsWithinOwn, PlanAnswer, above, between, infeasible, optimal, plan_line, no_input, unwritten}
 use Rattle.lotplan.specs.Saying.{Gains, IsSaid}
 use Rattle.lotplan.specs.declared.commands.demo.TheConstants.{COUPLED_BUDGET, COUPLED_ITEMS, COUPLED_PERIODS, FREE_BUDGET, FREE_ITEMS, FREE_PERIODS}
 use Rattle.lotplan.specs.declared.said.Said.{Said}
@@ -51,7 +51,7 @@ IsTrueAnswer problem (infeasible says nodes) = ⊥
 IsTrueAnswer problem (between says nodes bound amount) = IsBetween problem bound amount
 IsTrueAnswer problem (above says nodes bound) = ⊥
 IsTrueAnswer problem (unwritten file) = ⊥
-IsTrueAnswer problem (stopped why) = ⊥
+IsTrueAnswer problem (no_input why) = ⊥
 
 -- a best plan was found with one node
 abbrev pub IsBestAlone : PlanAnswer → Type 0
@@ -64,7 +64,7 @@ IsSpent budget (infeasible says nodes) = ⊤
 IsSpent budget (between says nodes bound amount) = budget < nodes + 2
 IsSpent budget (above says nodes bound) = budget < nodes + 2
 IsSpent budget (unwritten file) = ⊤
-IsSpent budget (stopped why) = ⊤
+IsSpent budget (no_input why) = ⊤
 
 -- the most branches of a path on one item in one period: one on its setup, and one on each bit of its lot, which isn't above `MAX_TOTAL` and so has at most 40
 abbrev pub entry_branches : ℕ
@@ -100,7 +100,7 @@ pub record ShowsBoth (seed : ℕ) (text : List ℕ) : Type 0 where
 abbrev pub DemoSays : ℕ → Said → Type 0
 DemoSays seed said = (text : List ℕ) × ShowsBoth seed text × IsSaid text Done said
 
--- ---- what status 0 says
+-- ---- what `DONE` says
 pub record Shows (seed : ℕ) (out_old out_new : Printed) : Type 0 where
   pub text : List ℕ
   pub shows : ShowsBoth seed text

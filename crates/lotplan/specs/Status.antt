@@ -1,18 +1,19 @@
 -- The number with which the process ends.
 use Rattle.std.specs.Prelude.{ℕ}
+use Rattle.lotplan.specs.declared.status.TheConstants.{DONE, NO_PLAN, UNDECIDED, FAULTY, NO_COMMAND, REFUSED, MISSING, UNREAD, UNWRITTEN, UNPRINTED, NO_MEMORY, TOO_LONG}
 use Rattle.lotplan.specs.declared.status.Status.{Status}
 use Rattle.lotplan.specs.declared.status.Status.TheVariants as status
 
 abbrev pub code_of : Status → ℕ
-code_of status.Done = 0
-code_of status.NoPlan = 1
-code_of status.Undecided = 2
-code_of status.Faulty = 3
-code_of status.NoCommand = 4
-code_of status.Refused = 5
-code_of status.Missing = 6
-code_of status.Unread = 7
-code_of status.Unwritten = 8
-code_of status.Unprinted = 9
-code_of status.NoMemory = 10
-code_of status.TooLong = 11
+code_of status.Done = DONE
+code_of status.NoPlan = NO_PLAN
+code_of status.Undecided = UNDECIDED
+code_of status.Faulty = FAULTY
+code_of status.NoCommand = NO_COMMAND
+code_of status.Refused = REFUSED
+code_of status.Missing = MISSING
+code_of status.Unread = UNREAD
+code_of status.Unwritten = UNWRITTEN
+code_of status.Unprinted = UNPRINTED
+code_of status.NoMemory = NO_MEMORY
+code_of status.TooLong = TOO_LONG

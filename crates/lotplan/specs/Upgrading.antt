@@ -12,6 +12,7 @@ use Rattle.lotplan.specs.Saying.{Gains, IsSaid}
 use Rattle.lotplan.specs.declared.commands.upgrade.UpgradeAnswer.{UpgradeAnswer as HeldAnswer}
 use Rattle.lotplan.specs.declared.commands.upgrade.UpgradeAnswer.TheVariants as held
 use Rattle.lotplan.specs.declared.said.Said.{Said}
+use Rattle.lotplan.specs.declared.status.TheConstants.{DONE, REFUSED, MISSING, TOO_LONG}
 use Rattle.lotplan.specs.declared.status.Status.{Status}
 use Rattle.lotplan.specs.declared.status.Status.TheVariants as status
 
@@ -22,23 +23,23 @@ pub data UpgradeAnswer : Type 0 where
   -- the file of this name could not be written
   unwritten : List ℕ → UpgradeAnswer
   -- the model file gave no problem
-  stopped : ReadAnswer → UpgradeAnswer
+  no_input : ReadAnswer → UpgradeAnswer
 
 -- what the program's own answer stands for
 abbrev pub upgrade_meant : HeldAnswer → UpgradeAnswer
 upgrade_meant (held.Written file) = written file.now
 upgrade_meant (held.Unwritten file) = unwritten file.now
-upgrade_meant (held.Stopped why) = stopped (read_meant why)
+upgrade_meant (held.NoInput why) = no_input (read_meant why)
 
 abbrev pub upgrade_status : UpgradeAnswer → Status
 upgrade_status (written file) = status.Done
 upgrade_status (unwritten file) = status.Unwritten
-upgrade_status (stopped why) = read_status why
+upgrade_status (no_input why) = read_status why
 
 abbrev pub upgrade_line : UpgradeAnswer → List ℕ
 upgrade_line (written file) = written_line file
 upgrade_line (unwritten file) = unwritten_line file
-upgrade_line (stopped why) = read_line why
+upgrade_line (no_input why) = read_line why
 
 -- ---- causes
 -- the new file's bytes are a text of the problem, and mean it
@@ -63,13 +64,13 @@ HoldsSomeFirst before model_file = (problem : Problem) × HoldsFirst before mode
 abbrev pub RewriteExplains : Problem → List ℕ → Shelved → Shelved → UpgradeAnswer → Type 0
 RewriteExplains problem n old new (written file) = (file ≡ n) × (IsTrue old.told → WritesModel new.file problem n) × StartsOnly n old new
 RewriteExplains problem n old new (unwritten file) = (file ≡ n) × Rose old.write_faults new.write_faults × StartsOnly n old new
-RewriteExplains problem n old new (stopped why) = ⊥
+RewriteExplains problem n old new (no_input why) = ⊥
 
 -- why the upgrade of these files ends in this answer, and what it leaves
 abbrev pub UpgradeExplains : List ℕ → List ℕ → Shelved → Shelved → UpgradeAnswer → Type 0
 UpgradeExplains m n old new (written file) = (file ≡ n) × (IsTrue old.told → HoldsUpgrade old.file new.file m n) × StartsOnly n old new
 UpgradeExplains m n old new (unwritten file) = (file ≡ n) × (IsTrue old.told → HoldsSomeFirst old.file m) × Rose old.write_faults new.write_faults × StartsOnly n old new
-UpgradeExplains m n old new (stopped why) = FirstExplains m old new why × OnlyReads old new
+UpgradeExplains m n old new (no_input why) = FirstExplains m old new why × OnlyReads old new
 
 -- what is said is an answer that has its cause
 abbrev pub RewriteSays : Problem → List ℕ → Shelved → Shelved → Said → Type 0
@@ -79,13 +80,13 @@ abbrev pub UpgradeSays : List ℕ → List ℕ → Shelved → Shelved → Said 
 UpgradeSays m n old new said = (answer : UpgradeAnswer) × UpgradeExplains m n old new answer × IsSaid (upgrade_line answer) (upgrade_status answer) said
 
 -- ---- the status that the model file calls for, faults and out of memory aside
--- 0 for a model of the first version, 5 for one that is refused as such, 6 where it is absent, 11 where it is too long
+-- `DONE` for a model of the first version, `REFUSED` for one that is refused as such, `MISSING` where it is absent, `TOO_LONG` where it is too long
 abbrev pub UpgradeCallsFor : Option (List ℕ) → ℕ → Type 0
-UpgradeCallsFor None status = status ≡ 6
+UpgradeCallsFor None status = status ≡ MISSING
 UpgradeCallsFor (Some bytes) status =
-    ((file_limit < length bytes) × (status ≡ 11))
+    ((file_limit < length bytes) × (status ≡ TOO_LONG))
     ⊎ ((length bytes ≤ file_limit)
-    × (((problem : Problem) × FirstVersionMeans bytes (Ok problem) × (status ≡ 0)) ⊎ ((fault : ModelFault) × FirstVersionMeans bytes (Err fault) × (status ≡ 5))))
+    × (((problem : Problem) × FirstVersionMeans bytes (Ok problem) × (status ≡ DONE)) ⊎ ((fault : ModelFault) × FirstVersionMeans bytes (Err fault) × (status ≡ REFUSED))))
 
 -- ---- what each status says
 -- the new file means the problem of the model file, which is one of the first version, and the line names it
@@ -94,10 +95,10 @@ pub record Upgrades (before after : Files) (model_file new_file : List ℕ) (out
   pub line : Gains (written_line new_file) out_old out_new
 
 -- they ask to upgrade a model of the first version, the new file could not be written, and the line names it
-pub record FailsToUpgrade (asked : Option Request) (old new : Shelved) (out_old out_new : Printed) : Type 0 where
+pub record FailsToUpgrade (request : Option Request) (old new : Shelved) (out_old out_new : Printed) : Type 0 where
   pub model_file : List ℕ
   pub new_file : List ℕ
-  pub words : asked ≡ Some (upgrading model_file new_file)
+  pub words : request ≡ Some (upgrading model_file new_file)
   pub holds : IsTrue old.told → HoldsSomeFirst old.file model_file
   pub failed : Rose old.write_faults new.write_faults
   pub line : Gains (unwritten_line new_file) out_old out_new

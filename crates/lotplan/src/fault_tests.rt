@@ -70,9 +70,9 @@ struct Case<'a> {
 }
 
 // This number alone, where it is asked for; none is numbered 0.
-fn only(alloc: Global, asked: bool, number: u64) -> Result<Vec<u64>, AllocError> {
+fn only(alloc: Global, wanted: bool, number: u64) -> Result<Vec<u64>, AllocError> {
     let mut list = Vec::new(alloc);
-    if asked && number > 0 {
+    if wanted && number > 0 {
         list.push(number)?;
     }
     Ok(list)

@@ -11,7 +11,7 @@ use existence::{
 };
 
 /// No words and files call for two statuses, but for `plan` where the search may leave a coupled model open, and for
-/// `bound` where a number of the exact run doesn't fit 128 bits: one of the two is 2 then.
+/// `bound` where a number of the exact run doesn't fit 128 bits: one of the two is `UNDECIDED` then.
 pub fn statuses_are_one()
     ensures { StatusesAreOne }
 {

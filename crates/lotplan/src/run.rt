@@ -2,9 +2,10 @@
 ghost use Rattle.std.specs.Prelude.{◌≡◌, ◌≢◌, ◌⊎◌, ◌≤◌, ◌+◌, ℕ, List, IsTrue, Some, None, map, string_bytes, IfOk, OnErr};
 ghost use Rattle.lot_draft.specs.declared.fault.ModelFault.{ModelFault};
 ghost use Rattle.lot_io.specs.Outside.{GrewBy, OnlyReads, OnlyWrites, Rose};
-ghost use Rattle.command_line.specs.Meant.{asked_by};
+ghost use Rattle.command_line.specs.Meant.{request_by};
 ghost use Rattle.command_line.specs.Words.{AreTaken, IsAllowed, bounding, checking, command_of, demonstrating, generating, judging, planning, reporting, upgrading};
 ghost use Rattle.lotplan.specs.Saying.{Ends, IsSaid, Prints};
+ghost use Rattle.lotplan.specs.declared.status.TheConstants.{DONE, NO_PLAN, UNDECIDED, FAULTY, NO_COMMAND, REFUSED, MISSING, UNREAD, UNWRITTEN, UNPRINTED, NO_MEMORY, TOO_LONG};
 ghost use Rattle.lotplan.specs.declared.status.Status.TheVariants.{NoCommand};
 ghost use Rattle.lotplan.specs.Reading.{missing, refused, too_long, unread};
 ghost use Rattle.lotplan.specs.Writing.{StartsAtMost, StartsOnly};
@@ -16,7 +17,7 @@ ghost use Rattle.lotplan.specs.Bounding.{FindsBound};
 ghost use Rattle.lotplan.specs.Reporting.{SumsUp};
 ghost use Rattle.lotplan.specs.Generating.{Generates};
 ghost use Rattle.lotplan.specs.Showing.{Shows};
-ghost use Rattle.lotplan.specs.Run.{CallFor, CallsForZero, CannotWrite, HadNoFault, IsFaulty, IsIdle, IsInfeasible, IsNoCommand, IsProgramRun, Leaves, LeavesUndecided, SaysFor, Stops, most_given, refused_line};
+ghost use Rattle.lotplan.specs.Run.{CallFor, CallsForDone, CannotWrite, HadNoFault, IsFaulty, IsIdle, IsInfeasible, IsNoCommand, IsProgramRun, Leaves, LeavesUndecided, SaysFor, Stops, most_given, refused_line};
 
 use crate::commands::bound::bound_files;
 use crate::commands::check::check_files;
@@ -39,112 +40,110 @@ use std::alloc::{AllocError, Global};
 /// `plan MODEL PLAN CERTIFICATE` with or without `--nodes N`, `judge MODEL PLAN`, `check MODEL PLAN CERTIFICATE`,
 /// `report MODEL PLAN`, `gen SEED ITEMS PERIODS MODEL`, `demo SEED`, `upgrade MODEL NEW`, `bound MODEL`, or a call for
 /// help. N is the most nodes that the certificate's tree may have, from 1 to `LARGEST_BUDGET`, and
-/// else `USUAL_BUDGET`. The numbers are 0 done, 1 no plan is feasible, 2 the best cost was left open, or the bound was not
-/// found, 3 the plan file holds no plan or one that breaks a rule, or the certificate is refused, 4 no command, 5 the
-/// model is refused, 6 a file is absent, 7 it could not be read, 8 it could not be written, 9 the lines could not be printed, 10 out of memory, 11 a file is
-/// longer than `MAX_FILE` bytes, or a certificate file than the most bytes that `cert_stream` reads. All memory is taken
-/// before the first write. `plan` writes the plan file before the certificate file, and where it found no plan the
-/// certificate file alone.
+/// else `USUAL_BUDGET`. The numbers, and what each means, stand in `status.rt`. All memory is taken before the first write.
+/// `plan` writes the plan file before the certificate file, and where it found no plan the certificate file alone.
 ///
 /// What is said of counts holds over every shelf and sink, the machine's own too; what is said of
 /// contents holds where they are told.
 pub fn run<S: Shelf, K: Sink>(alloc: Global, words: &[String], shelf: &mut S, out: &mut K) -> u8
-    // After `plan` with status 0 the plan file holds a best plan, the certificate file one that is accepted
+    // After `plan` with status `DONE` the plan file holds a best plan, the certificate file one that is accepted
     // with it and proves that no plan costs less, and the lines have the certificate's number of nodes and
     // the plan's cost.
-    ensures optimal { (m p c : List ℕ) (n : ℕ) → command_of (map string_bytes words.now) ≡ Some (planning m p c n) → result ≡ 0
+    ensures optimal { (m p c : List ℕ) (n : ℕ) → command_of (map string_bytes words.now) ≡ Some (planning m p c n) → result ≡ DONE
         → IsTrue (S.shown shelf.old).told
         → PlansBest (S.shown shelf.old).file (S.shown shelf.new).file m p c n (K.shown out.old) (K.shown out.new) }
 
-    // After `plan` with status 0, 1 or 2 `check` calls for 0 on the files that it left.
+    // After `plan` with status `DONE`, `NO_PLAN` or `UNDECIDED`, `check` calls for `DONE` on the files that it left.
     ensures checks { (m p c : List ℕ) (n : ℕ) → command_of (map string_bytes words.now) ≡ Some (planning m p c n)
-        → (result ≡ 0) ⊎ ((result ≡ 1) ⊎ (result ≡ 2)) → IsTrue (S.shown shelf.old).told → CallsForZero (S.shown shelf.new).file m p c }
+        → (result ≡ DONE) ⊎ ((result ≡ NO_PLAN) ⊎ (result ≡ UNDECIDED)) → IsTrue (S.shown shelf.old).told
+        → CallsForDone (S.shown shelf.new).file m p c }
 
-    // After `judge` with status 0 the plan file holds a feasible plan, and the line has its cost.
-    ensures judged { (m p : List ℕ) → command_of (map string_bytes words.now) ≡ Some (judging m p) → result ≡ 0
+    // After `judge` with status `DONE` the plan file holds a feasible plan, and the line has its cost.
+    ensures judged { (m p : List ℕ) → command_of (map string_bytes words.now) ≡ Some (judging m p) → result ≡ DONE
         → IsTrue (S.shown shelf.old).told
         → FindsFeasible (S.shown shelf.old).file m p (K.shown out.old) (K.shown out.new) }
 
-    // After `check` with status 0 the certificate is accepted, and the claim on the line is true of the
+    // After `check` with status `DONE` the certificate is accepted, and the claim on the line is true of the
     // problem, whoever wrote the file: the plan file's plan is best and costs what is claimed, no plan
     // is feasible, or none costs less than is claimed.
-    ensures checked { (m p c : List ℕ) → command_of (map string_bytes words.now) ≡ Some (checking m p c) → result ≡ 0
+    ensures checked { (m p c : List ℕ) → command_of (map string_bytes words.now) ≡ Some (checking m p c) → result ≡ DONE
         → IsTrue (S.shown shelf.old).told
         → Accepts (S.shown shelf.old).file m p c (K.shown out.old) (K.shown out.new) }
 
-    // After `upgrade` with status 0 the new file means the problem of the model file.
-    ensures upgraded { (m n : List ℕ) → command_of (map string_bytes words.now) ≡ Some (upgrading m n) → result ≡ 0
+    // After `upgrade` with status `DONE` the new file means the problem of the model file.
+    ensures upgraded { (m n : List ℕ) → command_of (map string_bytes words.now) ≡ Some (upgrading m n) → result ≡ DONE
         → IsTrue (S.shown shelf.old).told
         → Upgrades (S.shown shelf.old).file (S.shown shelf.new).file m n (K.shown out.old) (K.shown out.new) }
 
-    // After `report` with status 0 the plan file holds a feasible plan, and the line is its summary.
-    ensures summed { (m p : List ℕ) → command_of (map string_bytes words.now) ≡ Some (reporting m p) → result ≡ 0
+    // After `report` with status `DONE` the plan file holds a feasible plan, and the line is its summary.
+    ensures summed { (m p : List ℕ) → command_of (map string_bytes words.now) ≡ Some (reporting m p) → result ≡ DONE
         → IsTrue (S.shown shelf.old).told
         → SumsUp (S.shown shelf.old).file m p (K.shown out.old) (K.shown out.new) }
 
-    // After `gen` with status 0 the model file holds the coupled model of the seed, which means a problem with a
+    // After `gen` with status `DONE` the model file holds the coupled model of the seed, which means a problem with a
     // feasible plan.
     ensures generated { (seed items periods : ℕ) (m : List ℕ)
-        → command_of (map string_bytes words.now) ≡ Some (generating seed items periods m) → result ≡ 0
+        → command_of (map string_bytes words.now) ≡ Some (generating seed items periods m) → result ≡ DONE
         → IsTrue (S.shown shelf.old).told
         → Generates (S.shown shelf.new).file seed items periods m (K.shown out.old) (K.shown out.new) }
 
-    // After `demo` with status 0 the lines are those that `plan` prints of what was found of two models of the seed,
+    // After `demo` with status `DONE` the lines are those that `plan` prints of what was found of two models of the seed,
     // and what they say is so.
-    ensures showed { (seed : ℕ) → command_of (map string_bytes words.now) ≡ Some (demonstrating seed) → result ≡ 0
+    ensures showed { (seed : ℕ) → command_of (map string_bytes words.now) ≡ Some (demonstrating seed) → result ≡ DONE
         → Shows seed (K.shown out.old) (K.shown out.new) }
 
-    // After `bound` with status 0 the number on the line is the base bound of the problem, and no plan costs less.
-    ensures bounded { (m : List ℕ) → command_of (map string_bytes words.now) ≡ Some (bounding m) → result ≡ 0
+    // After `bound` with status `DONE` the number on the line is the base bound of the problem, and no plan costs less.
+    ensures bounded { (m : List ℕ) → command_of (map string_bytes words.now) ≡ Some (bounding m) → result ≡ DONE
         → IsTrue (S.shown shelf.old).told
         → FindsBound (S.shown shelf.old).file m (K.shown out.old) (K.shown out.new) }
 
-    // Without a fault the status is 10, or exactly what the words and the files call for.
+    // Without a fault the status is `NO_MEMORY`, or exactly what the words and the files call for.
     ensures called_for { IsTrue (S.shown shelf.old).told
         → HadNoFault (S.shown shelf.old) (S.shown shelf.new) (K.shown out.old) (K.shown out.new)
-        → (result ≡ 10) ⊎ CallFor (command_of (map string_bytes words.now)) (S.shown shelf.old).file result }
+        → (result ≡ NO_MEMORY) ⊎ CallFor (command_of (map string_bytes words.now)) (S.shown shelf.old).file result }
 
-    // The cause of each other status, and its lines. On status 1 there is no plan; after `plan` the certificate file
-    // proves it, and the plan file is as it was. On status 2 of `plan` the certificate file proves the bound, and the
+    // The cause of each other status, and its lines. On `NO_PLAN` there is none; after `plan` the certificate file
+    // proves it, and the plan file is as it was. On `UNDECIDED` after `plan` the certificate file proves the bound, and the
     // plan file holds a plan that costs more, or is as it was.
-    ensures infeasible { result ≡ 1 → IsTrue (S.shown shelf.old).told
+    ensures infeasible { result ≡ NO_PLAN → IsTrue (S.shown shelf.old).told
         → IsInfeasible (command_of (map string_bytes words.now)) (S.shown shelf.old).file (S.shown shelf.new).file (K.shown out.old) (K.shown out.new) }
-    ensures undecided { result ≡ 2 → IsTrue (S.shown shelf.old).told
+    ensures undecided { result ≡ UNDECIDED → IsTrue (S.shown shelf.old).told
         → LeavesUndecided (command_of (map string_bytes words.now)) (S.shown shelf.old).file (S.shown shelf.new).file (K.shown out.old) (K.shown out.new) }
-    ensures faulty { result ≡ 3 → IsTrue (S.shown shelf.old).told
+    ensures faulty { result ≡ FAULTY → IsTrue (S.shown shelf.old).told
         → IsFaulty (command_of (map string_bytes words.now)) (S.shown shelf.old).file (K.shown out.old) (K.shown out.new) }
-    ensures no_command { result ≡ 4 → IsNoCommand (command_of (map string_bytes words.now)) (K.shown out.old) (K.shown out.new) }
+    ensures no_command { result ≡ NO_COMMAND → IsNoCommand (command_of (map string_bytes words.now)) (K.shown out.old) (K.shown out.new) }
     ensures refused_words { command_of (map string_bytes words.now) ≡ None → AreTaken (map string_bytes words.now)
-        → (result ≡ 10) ⊎ Prints refused_line NoCommand result (K.shown out.old) (K.shown out.new) }
-    ensures refused { result ≡ 5 → (fault : ModelFault) × Stops (command_of (map string_bytes words.now))
+        → (result ≡ NO_MEMORY) ⊎ Prints refused_line NoCommand result (K.shown out.old) (K.shown out.new) }
+    ensures refused { result ≡ REFUSED → (fault : ModelFault) × Stops (command_of (map string_bytes words.now))
         (S.shown shelf.old) (S.shown shelf.new) (K.shown out.old) (K.shown out.new) (refused fault) }
-    ensures missing { result ≡ 6 → (file : List ℕ) × Stops (command_of (map string_bytes words.now))
+    ensures missing { result ≡ MISSING → (file : List ℕ) × Stops (command_of (map string_bytes words.now))
         (S.shown shelf.old) (S.shown shelf.new) (K.shown out.old) (K.shown out.new) (missing file) }
-    ensures unread { result ≡ 7 → (file : List ℕ) × Stops (command_of (map string_bytes words.now))
+    ensures unread { result ≡ UNREAD → (file : List ℕ) × Stops (command_of (map string_bytes words.now))
         (S.shown shelf.old) (S.shown shelf.new) (K.shown out.old) (K.shown out.new) (unread file) }
-    ensures unwritten { result ≡ 8 → CannotWrite (command_of (map string_bytes words.now))
+    ensures unwritten { result ≡ UNWRITTEN → CannotWrite (command_of (map string_bytes words.now))
         (S.shown shelf.old) (S.shown shelf.new) (K.shown out.old) (K.shown out.new) }
-    ensures unprinted { result ≡ 9 → Rose (K.shown out.old).faults (K.shown out.new).faults }
-    ensures too_long { result ≡ 11 → (file : List ℕ) × Stops (command_of (map string_bytes words.now))
+    ensures unprinted { result ≡ UNPRINTED → Rose (K.shown out.old).faults (K.shown out.new).faults }
+    ensures too_long { result ≡ TOO_LONG → (file : List ℕ) × Stops (command_of (map string_bytes words.now))
         (S.shown shelf.old) (S.shown shelf.new) (K.shown out.old) (K.shown out.new) (too_long file) }
 
-    // What is written: nothing on a status but 0, 1, 2, 8 and 9, and by `plan`, `upgrade` and `gen` alone; never
+    // What is written: nothing on a status but those that `quiet` names, and by `plan`, `upgrade` and `gen` alone; never
     // another file.
-    ensures quiet { result ≢ 0 → result ≢ 1 → result ≢ 2 → result ≢ 8 → result ≢ 9 → OnlyReads (S.shown shelf.old) (S.shown shelf.new) }
-    ensures wrote { (m p c : List ℕ) (n : ℕ) → command_of (map string_bytes words.now) ≡ Some (planning m p c n) → result ≡ 0
+    ensures quiet { result ≢ DONE → result ≢ NO_PLAN → result ≢ UNDECIDED → result ≢ UNWRITTEN → result ≢ UNPRINTED
+        → OnlyReads (S.shown shelf.old) (S.shown shelf.new) }
+    ensures wrote { (m p c : List ℕ) (n : ℕ) → command_of (map string_bytes words.now) ≡ Some (planning m p c n) → result ≡ DONE
         → GrewBy 2 (S.shown shelf.old).starts (S.shown shelf.new).starts }
-    ensures wrote_certificate { (m p c : List ℕ) (n : ℕ) → command_of (map string_bytes words.now) ≡ Some (planning m p c n) → result ≡ 1
+    ensures wrote_certificate { (m p c : List ℕ) (n : ℕ) → command_of (map string_bytes words.now) ≡ Some (planning m p c n) → result ≡ NO_PLAN
         → StartsOnly c (S.shown shelf.old) (S.shown shelf.new) }
-    ensures wrote_some { (m p c : List ℕ) (n : ℕ) → command_of (map string_bytes words.now) ≡ Some (planning m p c n) → result ≡ 2
+    ensures wrote_some { (m p c : List ℕ) (n : ℕ) → command_of (map string_bytes words.now) ≡ Some (planning m p c n) → result ≡ UNDECIDED
         → StartsBoth p c (S.shown shelf.old) (S.shown shelf.new) ⊎ StartsOnly c (S.shown shelf.old) (S.shown shelf.new) }
     ensures others { (m p c : List ℕ) (n : ℕ) → command_of (map string_bytes words.now) ≡ Some (planning m p c n)
         → StartsAtMostBoth p c (S.shown shelf.old) (S.shown shelf.new) }
-    ensures rewrote { (m n : List ℕ) → command_of (map string_bytes words.now) ≡ Some (upgrading m n) → result ≡ 0
+    ensures rewrote { (m n : List ℕ) → command_of (map string_bytes words.now) ≡ Some (upgrading m n) → result ≡ DONE
         → GrewBy 1 (S.shown shelf.old).starts (S.shown shelf.new).starts }
     ensures upgrade_others { (m n : List ℕ) → command_of (map string_bytes words.now) ≡ Some (upgrading m n)
         → StartsAtMost n (S.shown shelf.old) (S.shown shelf.new) }
     ensures wrote_generated { (seed items periods : ℕ) (m : List ℕ)
-        → command_of (map string_bytes words.now) ≡ Some (generating seed items periods m) → result ≡ 0
+        → command_of (map string_bytes words.now) ≡ Some (generating seed items periods m) → result ≡ DONE
         → GrewBy 1 (S.shown shelf.old).starts (S.shown shelf.new).starts }
     ensures generate_others { (seed items periods : ℕ) (m : List ℕ)
         → command_of (map string_bytes words.now) ≡ Some (generating seed items periods m)
@@ -168,9 +167,9 @@ pub fn run<S: Shelf, K: Sink>(alloc: Global, words: &[String], shelf: &mut S, ou
     ensures given { (S.shown shelf.new).given ≤ (S.shown shelf.old).given + most_given (command_of (map string_bytes words.now)) }
     ensures told { (S.shown shelf.new).told ≡ (S.shown shelf.old).told }
 
-    // What is printed: nothing on status 10, and else one piece.
-    ensures silent { result ≡ 10 → K.shown out.new ≡ K.shown out.old }
-    ensures one_piece { result ≢ 10 → GrewBy 1 (K.shown out.old).puts (K.shown out.new).puts }
+    // What is printed: nothing on `NO_MEMORY`, and else one piece.
+    ensures silent { result ≡ NO_MEMORY → K.shown out.new ≡ K.shown out.old }
+    ensures one_piece { result ≢ NO_MEMORY → GrewBy 1 (K.shown out.old).puts (K.shown out.new).puts }
     ensures told_sink { (K.shown out.new).told ≡ (K.shown out.old).told }
 
     // The whole: memory ran out before anything was written, or some answer explains what the run did.
@@ -186,7 +185,7 @@ pub fn run<S: Shelf, K: Sink>(alloc: Global, words: &[String], shelf: &mut S, ou
 // Prints what is said, if memory sufficed for it, and gives the number of the status.
 fn end_with<K: Sink>(said: &Result<Said, AllocError>, out: &mut K) -> u8
     ensures ends { Ends said.now result (K.shown out.old) (K.shown out.new) }
-    ensures one_piece { result ≢ 10 → GrewBy 1 (K.shown out.old).puts (K.shown out.new).puts }
+    ensures one_piece { result ≢ NO_MEMORY → GrewBy 1 (K.shown out.old).puts (K.shown out.new).puts }
     ensures told { (K.shown out.new).told ≡ (K.shown out.old).told }
 {
     match said {
@@ -216,10 +215,10 @@ fn said<S: Shelf>(alloc: Global, words: &[String], shelf: &mut S) -> Result<Said
 
 // What is said of a command.
 fn said_of<S: Shelf>(alloc: Global, command: Command<'_>, shelf: &mut S) -> Result<Said, AllocError>
-    requires { IsAllowed (asked_by command) }
-    ensures said { IfOk result (SaysFor (Some (asked_by command.entry)) (S.shown shelf.old) (S.shown shelf.new)) }
-    ensures memory { OnErr result (Leaves (Some (asked_by command.entry)) (S.shown shelf.old) (S.shown shelf.new)) }
-    ensures given { (S.shown shelf.new).given ≤ (S.shown shelf.old).given + most_given (Some (asked_by command.entry)) }
+    requires { IsAllowed (request_by command) }
+    ensures said { IfOk result (SaysFor (Some (request_by command.entry)) (S.shown shelf.old) (S.shown shelf.new)) }
+    ensures memory { OnErr result (Leaves (Some (request_by command.entry)) (S.shown shelf.old) (S.shown shelf.new)) }
+    ensures given { (S.shown shelf.new).given ≤ (S.shown shelf.old).given + most_given (Some (request_by command.entry)) }
 {
     match command {
         Command::Name => Said::new(alloc, "lotplan 1\n", Status::Done),

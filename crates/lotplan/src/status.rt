@@ -1,6 +1,31 @@
-// How a run ends.
+// How a run ends, and the numbers of that.
 ghost use Rattle.std.specs.Prelude.{◌≡◌};
 ghost use Rattle.lotplan.specs.Status.{code_of};
+
+// The numbers with which the process ends, each that of the status of its name. Clauses, definitions and proofs name them.
+pub const DONE: u8 = 0;
+
+pub const NO_PLAN: u8 = 1;
+
+pub const UNDECIDED: u8 = 2;
+
+pub const FAULTY: u8 = 3;
+
+pub const NO_COMMAND: u8 = 4;
+
+pub const REFUSED: u8 = 5;
+
+pub const MISSING: u8 = 6;
+
+pub const UNREAD: u8 = 7;
+
+pub const UNWRITTEN: u8 = 8;
+
+pub const UNPRINTED: u8 = 9;
+
+pub const NO_MEMORY: u8 = 10;
+
+pub const TOO_LONG: u8 = 11;
 
 /// How a run ends.
 #[derive(Clone, Copy, Debug, PartialEq, Eq)]
@@ -9,7 +34,7 @@ pub enum Status {
     Done,
     /// No plan is feasible.
     NoPlan,
-    /// What was looked for was not found.
+    /// The best cost was left open, or the bound was not found.
     Undecided,
     /// The plan file holds no plan, or one that breaks a rule, or the certificate is refused.
     Faulty,
@@ -27,7 +52,7 @@ pub enum Status {
     Unprinted,
     /// Memory ran out.
     NoMemory,
-    /// A file is too long.
+    /// A file is longer than `MAX_FILE` bytes, or a certificate file than the most bytes that `cert_stream` reads.
     TooLong,
 }
 
@@ -37,18 +62,18 @@ impl Status {
         ensures { result ≡ code_of self }
     {
         match self {
-            Status::Done => 0,
-            Status::NoPlan => 1,
-            Status::Undecided => 2,
-            Status::Faulty => 3,
-            Status::NoCommand => 4,
-            Status::Refused => 5,
-            Status::Missing => 6,
-            Status::Unread => 7,
-            Status::Unwritten => 8,
-            Status::Unprinted => 9,
-            Status::NoMemory => 10,
-            Status::TooLong => 11,
+            Status::Done => DONE,
+            Status::NoPlan => NO_PLAN,
+            Status::Undecided => UNDECIDED,
+            Status::Faulty => FAULTY,
+            Status::NoCommand => NO_COMMAND,
+            Status::Refused => REFUSED,
+            Status::Missing => MISSING,
+            Status::Unread => UNREAD,
+            Status::Unwritten => UNWRITTEN,
+            Status::Unprinted => UNPRINTED,
+            Status::NoMemory => NO_MEMORY,
+            Status::TooLong => TOO_LONG,
         }
     }
 }

@@ -1,7 +1,7 @@
 use fixtures::{need, plain_item, resource, usage};
 use lot_draft::{
-    Draft, DraftItem, DraftResource, Key, ModelCode, ModelFault, Place, item_place, later_fault,
-    plain_fault, resource_place,
+    Draft, DraftItem, DraftResource, Key, ModelCode, ModelFault, Place, item_named, later_fault,
+    plain_fault, resource_named,
 };
 use std::alloc::{AllocError, Global};
 use std::test::Fail;
@@ -90,23 +90,23 @@ fn two_items(alloc: Global) -> Result<Draft, AllocError> {
     draft(alloc, first, second)
 }
 
-// The places of names among the items A and B, and among the resources, which are m alone.
-fn places(alloc: Global, item: &str, resource: &str) -> Result<(Option<u32>, Option<u32>), Fail> {
+// The numbers of names among the items A and B, and among the resources, which are m alone.
+fn named(alloc: Global, item: &str, resource: &str) -> Result<(Option<u32>, Option<u32>), Fail> {
     let draft = two_items(alloc)?;
     if draft.items.len() > 40 || draft.resources.len() > 20 {
         return Err("too many".into());
     }
     Ok((
-        item_place(&draft.items, item),
-        resource_place(&draft.resources, resource),
+        item_named(&draft.items, item),
+        resource_named(&draft.resources, resource),
     ))
 }
 
 #[test]
-fn names_have_places(rt: HostRuntime) -> Result<(), Fail> {
+fn names_have_numbers(rt: HostRuntime) -> Result<(), Fail> {
     let alloc = rt.alloc();
-    assert_eq!(rt; places(alloc, "B", "m")?, (Some(2), Some(1)));
-    assert_eq!(rt; places(alloc, "m", "A")?, (None, None));
+    assert_eq!(rt; named(alloc, "B", "m")?, (Some(2), Some(1)));
+    assert_eq!(rt; named(alloc, "m", "A")?, (None, None));
     Ok(())
 }
 

@@ -108,6 +108,14 @@ struct Given<'a> {
     cost: Option<u128>,
 }
 
+// By how much one number is more than another; by nothing where one of them doesn't fit.
+fn growth(before: Option<i128>, after: Option<i128>) -> i128 {
+    match (before, after) {
+        (Some(before), Some(after)) => after.saturating_sub(before),
+        _ => 0,
+    }
+}
+
 // By how much the number of the node grows on a side of a branch, within a few rounds.
 fn gain(
     alloc: Global,
@@ -131,7 +139,7 @@ fn gain(
     fixed.hold(choice.item, choice.period, Held::Free);
     match reached {
         Reached::Open => {
-            let more = side.number().saturating_sub(rounds.number());
+            let more = growth(rounds.number(), side.number());
             Ok(more.max(0).min(most))
         }
         _ => Ok(most),
@@ -158,15 +166,19 @@ fn tried(
     })
 }
 
-// By how much the number of rounds may grow until it says as much as a plan costs; a part of it without a plan.
+// By how much the number of rounds may grow until it says as much as a plan costs; a part of it without a plan. It is the scale
+// at least, and where the number doesn't fit.
 fn most_gain(rounds: &Rounds, cost: Option<u128>) -> i128 {
     let scale = i128::from(rounds.prices().scale);
+    let Some(number) = rounds.number() else {
+        return scale;
+    };
     let most = match cost {
         Some(cost) => match i128::try_from(cost) {
-            Ok(cost) => cost.saturating_mul(scale).saturating_sub(rounds.number()),
-            Err(_) => rounds.number() / GROWTH_PARTS,
+            Ok(cost) => cost.saturating_mul(scale).saturating_sub(number),
+            Err(_) => number / GROWTH_PARTS,
         },
-        None => rounds.number() / GROWTH_PARTS,
+        None => number / GROWTH_PARTS,
     };
     most.max(scale)
 }

@@ -10,7 +10,7 @@ use Rattle.lin_rows.specs.declared.column.Column.{Column}
 use Rattle.lin_rows.specs.declared.column.Column.TheVariants.{X, Y, S, R}
 use Rattle.lin_rows.specs.declared.bound.Bound.{Bound}
 use Rattle.lin_rows.specs.declared.row.Term.{Term}
-use Rattle.lin_rows.specs.Bounds.{IsWithinBound, IsWithinNumber, bound_right, bound_row, bound_times}
+use Rattle.lin_rows.specs.Bounds.{MeetsBound, IsWithinNumber, bound_right, bound_row, bound_times}
 use Rattle.lin_rows.specs.Columns.{IsColumn}
 use Rattle.lin_rows.specs.Rows.{HoldsAt, LinPoint}
 use Rattle.split_trees.specs.Ranges.{IsChoice}
@@ -48,5 +48,5 @@ within : (most : Bool) (number den v : ℕ) → (bound_right most number *ℤ po
 within true number den v holds = omega (arith, ints, holds, neg_mul (pos number) (pos den), neg_mul (pos 1) (pos v), one_mul (pos v))
 within false number den v holds = omega (arith, ints, holds, one_mul (pos v))
 
-pub bound_holds : (q : LinPoint) (b : Bound) → HoldsAt q (bound_row b) → IsWithinBound q b
+pub bound_holds : (q : LinPoint) (b : Bound) → HoldsAt q (bound_row b) → MeetsBound q b
 bound_holds q b holds = within b.most b.number q.den (q.values b.column) holds

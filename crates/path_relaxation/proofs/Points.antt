@@ -16,7 +16,7 @@ use Rattle.lin_rows.specs.declared.base.RowName.{RowName}
 use Rattle.lin_rows.specs.declared.base.RowName.TheVariants.{Path}
 use Rattle.lin_rows.specs.declared.bound.Bound.{Bound}
 use Rattle.lin_rows.specs.Base.{HasRow, all_terms, is_some_term}
-use Rattle.lin_rows.specs.Bounds.{IsWithinBound, bound_row}
+use Rattle.lin_rows.specs.Bounds.{MeetsBound, bound_row}
 use Rattle.lin_rows.specs.Columns.{IsColumn}
 use Rattle.lin_rows.specs.Combining.{AllHold, AreOfProblem}
 use Rattle.lin_rows.specs.Costs.{point_cost}
@@ -85,11 +85,11 @@ module _ (m : Problem) (total : ℕ → ℕ) (path : List Bound) (names : BaseNa
         let (k, less, at) = names.every name has in
         subst (HoldsAt q) (base_named m total path name has) (one_holds q here (base_names m) name k less at (held_apart q here (base_names m) (names_to (length path) (λ k. Path k)) hold).0)
 
-    path_met : All (IsWithinBound q) path
+    path_met : All (MeetsBound q) path
     path_met k d less =
         let holds = to_holds q here (λ j. Path j) (length path) (suc k) (omega arith) (omega (arith, less)) (held_apart q here (base_names m) (names_to (length path) (λ j. Path j)) hold).1 in
         let place : suc k - 1 ≡ k = omega arith in
-        subst (IsWithinBound q) (get_or_default path k no_bound d less) (bound_holds q (slice_index_or path k no_bound) (subst (λ j. HoldsAt q (bound_row (slice_index_or path j no_bound))) place holds))
+        subst (MeetsBound q) (get_or_default path k no_bound d less) (bound_holds q (slice_index_or path k no_bound) (subst (λ j. HoldsAt q (bound_row (slice_index_or path j no_bound))) place holds))
 
   -- ---- a least point
   module _ (x : ℕ → ℚ) (value : ℚ) (den : ℕ) (z : ℕ → ℤ) (says : LeastSays (on_path m total path) list x value den z) where

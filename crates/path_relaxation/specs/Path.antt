@@ -6,12 +6,12 @@ use Rattle.lot_sizing.specs.Problem.{IsPlain, Problem}
 use Rattle.lin_rows.specs.declared.base.RowName.{RowName}
 use Rattle.lin_rows.specs.declared.base.RowName.TheVariants as row
 use Rattle.lin_rows.specs.declared.bound.Bound.{Bound}
-use Rattle.lin_rows.specs.Bounds.{IsWithinBound}
+use Rattle.lin_rows.specs.Bounds.{MeetsBound}
 use Rattle.lin_rows.specs.Costs.{point_cost}
 use Rattle.lin_rows.specs.Rows.{LinPoint}
 use Rattle.cert_lines.specs.Limits.{IsVersion}
 use Rattle.cert_lines.specs.Shapes.{LeafShape, LinearLeaf, FarkasLeaf, PointLeaf, leaf_shape}
-use Rattle.cert_lines.specs.declared.limits.TheConstants.{FIRST_VERSION}
+use Rattle.cert_lines.specs.declared.limits.TheConstants.{FIRST_CERT_VERSION}
 use Rattle.certificate.specs.Values.{AreLines, leaf_values}
 use Rattle.tableau.specs.declared.outcome.Outcome.{Outcome}
 use Rattle.tableau.specs.declared.outcome.Outcome.TheVariants as outcome
@@ -57,7 +57,7 @@ path_sides m total path = sides_named (on_path m total path) (path_names m (leng
 pub record IsMetBy (m : Problem) (total : ℕ → ℕ) (path : List Bound) (bound : ℕ) : Type 0 where
   pub point : LinPoint
   pub base : MeetsBaseRows m total point
-  pub bounds : All (IsWithinBound point) path
+  pub bounds : All (MeetsBound point) path
   pub cost : point_cost m point.values ≤ bound * point.den
 
 -- whichever largest totals are taken
@@ -66,7 +66,7 @@ IsMetAt m path bound = WithTotals m (λ total. IsMetBy m total path bound)
 
 -- the lines of the leaf are within the limits, in texts of the latest version, and in those of the first where the problem is plain
 abbrev pub IsWritableLeaf : Problem → LeafShape → Type 0
-IsWritableLeaf m leaf = (version : ℕ) → IsVersion version → (version ≡ FIRST_VERSION → IsPlain m) → AreLines version (leaf_values leaf)
+IsWritableLeaf m leaf = (version : ℕ) → IsVersion version → (version ≡ FIRST_CERT_VERSION → IsPlain m) → AreLines version (leaf_values leaf)
 
 -- without cuts the leaf says this on the path; its sums are small, and it can be written
 pub record IsGoodLeaf (m : Problem) (path : List Bound) (leaf : LeafShape) (says : LeafSays) : Type 0 where

@@ -5,14 +5,13 @@ ghost use Rattle.split_trees.specs.Paths.{AreChoices};
 ghost use Rattle.cert_checker.specs.Leaves.{HasDenominator};
 ghost use Rattle.path_relaxation.specs.Steps.{IsFarkasFound, IsLinearFound, IsRefused, SaysSmall};
 
-use crate::program::is_instance;
 use crate::{Exempt, PathSays};
 use acceptance::LeafSays;
 use cert_checker::{CheckFault, leaf_bound};
 use cert_lines::Leaf;
 use frac128::Frac;
 use lin_rows::Bound;
-use lot_model::Instance;
+use lot_model::{Instance, an_instance_breaks_no_rule};
 use root_rows::{LEAF_LINE, Side, WholeLeaf, whole_leaf};
 use std::alloc::{AllocError, Global};
 
@@ -46,7 +45,7 @@ pub(crate) fn linear_leaf(
     requires size { length multipliers.now ≡ length sides.now }
     ensures { IfOk result (IsLinearFound instance.now path.now sides.now multipliers.now) }
 {
-    is_instance(instance);
+    an_instance_breaks_no_rule(instance);
     let Some(WholeLeaf { den, parts }) = whole_leaf(alloc, sides, multipliers)? else {
         return Ok(PathSays::Exempt(Exempt::Leaf));
     };
@@ -71,7 +70,7 @@ pub(crate) fn farkas_leaf(
     requires size { length multipliers.now ≡ length sides.now }
     ensures { IfOk result (IsFarkasFound instance.now path.now sides.now multipliers.now) }
 {
-    is_instance(instance);
+    an_instance_breaks_no_rule(instance);
     let Some(WholeLeaf { den: _, parts }) = whole_leaf(alloc, sides, multipliers)? else {
         return Ok(PathSays::Exempt(Exempt::Leaf));
     };

@@ -1,6 +1,5 @@
 // The program of all base rows and of the bounds of a path.
 ghost use Rattle.std.specs.Prelude.{◌≡◌, ◌≤◌, ◌<◌, ◌+◌, ◌^◌, ◌++◌, ◌∷◌, [], false, length, IfOk};
-ghost use Rattle.lot_model.specs.Views.{IsInstance};
 ghost use Rattle.lin_rows.specs.declared.base.RowName.TheVariants.{Path};
 ghost use Rattle.lin_rows.specs.Bounds.{bound_row};
 ghost use Rattle.lin_rows.specs.Columns.{column_count};
@@ -13,16 +12,9 @@ ghost use Rattle.root_rows.specs.Sides.{side, turned_row};
 ghost use Rattle.path_relaxation.specs.Steps.{IsReady};
 
 use lin_rows::{Bound, RowName};
-use lot_model::Instance;
+use lot_model::{Instance, an_instance_breaks_no_rule};
 use root_rows::{RoundProgram, base_names_are_all, base_program, push_row};
 use std::alloc::{AllocError, Global};
-
-// What holds of each instance.
-pub(crate) fn is_instance(instance: &Instance)
-    ensures { IsInstance instance.now }
-{
-    let _ = instance.periods();
-}
 
 // The number of a bound has 64 bits.
 fn is_short(number: u64)
@@ -61,7 +53,7 @@ pub(crate) fn path_program(
     ensures { IfOk result (IsReady instance.now path.now) }
 {
     base_names_are_all();
-    is_instance(instance);
+    an_instance_breaks_no_rule(instance);
     let mut program = base_program(alloc, instance)?;
     for index in 0..path.len() {
         push_bound(alloc, instance, index as u32 + 1, path[index], &mut program)?;

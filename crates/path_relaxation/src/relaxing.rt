@@ -6,11 +6,11 @@ ghost use Rattle.path_relaxation.specs.Path.{IfAtLeast, IfExempt, IfNoPoint, IsE
 ghost use Rattle.path_relaxation.specs.Steps.{EndsEmpty, EndsLeast, IsReady, IsSaid};
 
 use crate::leaf::{farkas_leaf, linear_leaf};
-use crate::program::{is_instance, path_program};
+use crate::program::path_program;
 use crate::{Exempt, PathSays};
 use frac128::Frac;
 use lin_rows::Bound;
-use lot_model::Instance;
+use lot_model::{Instance, an_instance_breaks_no_rule};
 use root_rows::{MAX_PIVOTS, RoundProgram, base_names_are_all, empty_is_said, least_is_said};
 use std::alloc::{AllocError, Global};
 use tableau::Outcome;
@@ -31,7 +31,7 @@ fn least_says(
 {
     least_is_said();
     base_names_are_all();
-    is_instance(instance);
+    an_instance_breaks_no_rule(instance);
     linear_leaf(alloc, instance, path, &program.sides, multipliers)
 }
 
@@ -51,7 +51,7 @@ fn empty_says(
 {
     empty_is_said();
     base_names_are_all();
-    is_instance(instance);
+    an_instance_breaks_no_rule(instance);
     farkas_leaf(alloc, instance, path, &program.sides, multipliers)
 }
 

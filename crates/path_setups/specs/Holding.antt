@@ -15,8 +15,8 @@ abbrev pub held_at : List (List Held) → ℕ → ℕ → Held
 held_at lines item period = slice_index_or (line_of lines item) (period - 1) Free
 
 -- there is such a setup
-abbrev pub IsPlace : List (List Held) → ℕ → ℕ → Type 0
-IsPlace lines item period = (1 ≤ item) × (item ≤ length lines) × (1 ≤ period) × (period ≤ length (line_of lines item))
+abbrev pub HasCell : List (List Held) → ℕ → ℕ → Type 0
+HasCell lines item period = (1 ≤ item) × (item ≤ length lines) × (1 ≤ period) × (period ≤ length (line_of lines item))
 
 -- the same with another thing said of one setup
 abbrev pub with_held : List (List Held) → ℕ → ℕ → Held → List (List Held)
@@ -28,25 +28,25 @@ held_or item period held i t before = if (i == item) && (t == period) then held 
 
 -- the setups stay, and of one of them another thing is said
 abbrev pub IsHeld : List (List Held) → ℕ → ℕ → Held → List (List Held) → Type 0
-IsHeld lines item period held found = (i t : ℕ) → IsPlace lines i t → IsPlace found i t × (held_at found i t ≡ held_or item period held i t (held_at lines i t))
+IsHeld lines item period held found = (i t : ℕ) → HasCell lines i t → HasCell found i t × (held_at found i t ≡ held_or item period held i t (held_at lines i t))
 
 -- what a bound of a setup says, by its number on the path: most or least, and of which number
-abbrev pub told_by : Bool → ℕ → ℕ → Held
-told_by true zero n = AtMostZero n
-told_by true (suc k) n = Free
-told_by false zero n = Free
-told_by false (suc k) n = AtLeastOne n
+abbrev pub held_by : Bool → ℕ → ℕ → Held
+held_by true zero n = AtMostZero n
+held_by true (suc k) n = Free
+held_by false zero n = Free
+held_by false (suc k) n = AtLeastOne n
 
 -- it says so of one column, and nothing of another
-abbrev pub told_of : Column → Held → ℕ → ℕ → Held
-told_of (Y i t) held item period = if (item == i) && (period == t) then held else Free
-told_of (X i t) held item period = Free
-told_of (S i t) held item period = Free
-told_of (R i t) held item period = Free
+abbrev pub held_of : Column → Held → ℕ → ℕ → Held
+held_of (Y i t) held item period = if (item == i) && (period == t) then held else Free
+held_of (X i t) held item period = Free
+held_of (S i t) held item period = Free
+held_of (R i t) held item period = Free
 
 -- what the bound of a number on the path says of a setup
 abbrev pub says : Bound → ℕ → ℕ → ℕ → Held
-says b n item period = told_of b.column (told_by b.most b.number n) item period
+says b n item period = held_of b.column (held_by b.most b.number n) item period
 
 -- what the first says, and the second where the first says nothing
 abbrev pub or_held : Held → Held → Held
@@ -55,8 +55,8 @@ or_held (AtLeastOne n) held = AtLeastOne n
 or_held (AtMostZero n) held = AtMostZero n
 
 -- the setups stay, and of some of them something is said by a bound of a column
-abbrev pub IsToldOf : Column → Held → List (List Held) → List (List Held) → Type 0
-IsToldOf column held lines found = (i t : ℕ) → IsPlace lines i t → IsPlace found i t × (held_at found i t ≡ or_held (told_of column held i t) (held_at lines i t))
+abbrev pub IsPutOver : Column → Held → List (List Held) → List (List Held) → Type 0
+IsPutOver column held lines found = (i t : ℕ) → HasCell lines i t → HasCell found i t × (held_at found i t ≡ or_held (held_of column held i t) (held_at lines i t))
 
 -- what the last of the bounds that says something of a setup says, where the first one has this number
 abbrev pub last_held : List Bound → ℕ → ℕ → ℕ → Held
@@ -64,5 +64,5 @@ last_held [] n item period = Free
 last_held (b ∷ bs) n item period = or_held (last_held bs (n + 1) item period) (says b n item period)
 
 -- lists for these items and periods say what the path does
-abbrev pub AreTold : List Bound → List (List Held) → ℕ → ℕ → Type 0
-AreTold path lines item period = IsPlace lines item period × (held_at lines item period ≡ last_held path 1 item period)
+abbrev pub IsLastHeld : List Bound → List (List Held) → ℕ → ℕ → Type 0
+IsLastHeld path lines item period = HasCell lines item period × (held_at lines item period ≡ last_held path 1 item period)

@@ -3,7 +3,7 @@ ghost use Rattle.std.specs.Prelude.{◌≡◌, ◌↔◌, IsTrue, ◌<◌, ◌�
 ghost use Rattle.lin_rows.specs.Columns.{IsCell};
 ghost use Rattle.lin_rows.specs.declared.column.Column.TheVariants.{Y};
 ghost use Rattle.path_setups.specs.declared.fixed.Held.TheVariants.{Free};
-ghost use Rattle.path_setups.specs.Holding.{AreTold, IsHeld, IsToldOf, IsPlace, held_at, line_of, told_by, with_held};
+ghost use Rattle.path_setups.specs.Holding.{IsLastHeld, IsHeld, IsPutOver, HasCell, held_at, line_of, held_by, with_held};
 
 use lin_rows::{Bound, Column};
 use lot_model::Instance;
@@ -37,8 +37,8 @@ impl Model for Fixed {
 }
 
 // What one bound of a setup says.
-fn told(most: bool, number: u64, place: u32) -> Held
-    ensures { result ≡ told_by most number place }
+fn held_by(most: bool, number: u64, place: u32) -> Held
+    ensures { result ≡ held_by most number place }
 {
     match (most, number) {
         (true, 0) => Held::AtMostZero(place),
@@ -52,7 +52,7 @@ impl Fixed {
     // Whether there is such a setup.
     #[tactic(auto, using(crate::proofs::Places::line_map))]
     fn is_place(&self, item: u32, period: u32) -> bool
-        ensures { IsTrue result ↔ IsPlace self.now item period }
+        ensures { IsTrue result ↔ HasCell self.now item period }
     {
         if item < 1 || period < 1 || item as usize > self.items.len() {
             return false;
@@ -75,8 +75,8 @@ impl Fixed {
     /// What is said of the setup of an item in a period, both counted from 1; nothing outside. It takes no memory.
     #[tactic(auto, using(crate::proofs::Places::line_map))]
     pub fn get(&self, item: u32, period: u32) -> Held
-        ensures inside { IsPlace self.now item period → result ≡ held_at self.now item period }
-        ensures outside { (IsPlace self.now item period → ⊥) → result ≡ Free }
+        ensures inside { HasCell self.now item period → result ≡ held_at self.now item period }
+        ensures outside { (HasCell self.now item period → ⊥) → result ≡ Free }
     {
         if self.is_place(item, period) {
             self.items[(item - 1) as usize][(period - 1) as usize]
@@ -88,7 +88,7 @@ impl Fixed {
     // Another thing is said of a setup, where there is one.
     #[tactic(auto, using(crate::proofs::Places::line_map, crate::proofs::Places::set_map))]
     fn write(&mut self, item: u32, period: u32, held: Held)
-        ensures { IsPlace self.old item period → self.new ≡ with_held self.old item period held }
+        ensures { HasCell self.old item period → self.new ≡ with_held self.old item period held }
     {
         if item < 1 || period < 1 {
             return;
@@ -110,9 +110,9 @@ impl Fixed {
     }
 
     // Something is said of a setup, or nothing.
-    #[tactic(auto, using(crate::proofs::Places::told_none))]
-    fn tell(&mut self, item: u32, period: u32, held: Held)
-        ensures { IsToldOf (Y item period) held self.old self.new }
+    #[tactic(auto, using(crate::proofs::Places::put_none))]
+    fn put(&mut self, item: u32, period: u32, held: Held)
+        ensures { IsPutOver (Y item period) held self.old self.new }
     {
         match held {
             Held::Free => {}
@@ -122,11 +122,11 @@ impl Fixed {
 
     // A bound says something where it is one of a setup that leaves one value.
     fn take(&mut self, bound: &Bound, number: u32)
-        ensures { IsToldOf bound.now.column (told_by bound.now.most bound.now.number number) self.old self.new }
+        ensures { IsPutOver bound.now.column (held_by bound.now.most bound.now.number number) self.old self.new }
     {
-        let held = told(bound.most, bound.number, number);
+        let held = held_by(bound.most, bound.number, number);
         if let Column::Y { item, period } = bound.column {
-            self.tell(item, period, held);
+            self.put(item, period, held);
         }
     }
 }
@@ -148,7 +148,7 @@ fn free_setups(alloc: Global, items: u32, periods: u32) -> Result<Fixed, AllocEr
 /// What the bounds of a path say of each setup. The error is that memory ran out. It takes time in the number of cells and
 /// in the length of the path.
 pub fn fixed_setups(alloc: Global, instance: &Instance, path: &[Bound]) -> Result<Fixed, AllocError>
-    ensures last { length path.now < 2 ^ 32 → IfOk result (λ fixed. (i t : ℕ) → IsCell instance.now i t → AreTold path.now fixed i t) }
+    ensures last { length path.now < 2 ^ 32 → IfOk result (λ fixed. (i t : ℕ) → IsCell instance.now i t → IsLastHeld path.now fixed i t) }
 {
     let mut fixed = free_setups(alloc, instance.items(), instance.periods())?;
     let mut number = 0u32;

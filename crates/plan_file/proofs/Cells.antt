@@ -4,11 +4,12 @@ use Rattle.std.proofs.lemmas.Bool.{cases_lt}
 use Rattle.lot_sizing.specs.Problem.{Problem, item_count}
 use Rattle.lot_sizing.specs.Plan.{Plan}
 use Rattle.plan_rules.specs.Order.{HoldsBefore, IsBefore, IsFirst}
-use Rattle.plan_file.specs.Records.{IsGood, IsRead, Record}
+use Rattle.plan_file.specs.Records.{IsGood, IsRead, Record, field_number}
 use Rattle.plan_file.specs.Numbers.{AreSame, IsPutFrom}
 use Rattle.plan_file.specs.Faults.{IsRecordFault, IsCellFault}
 use Rattle.plan_file.specs.declared.fault.PlanFault.{PlanFault}
 use Rattle.plan_file.specs.declared.fault.PlanFault.TheVariants as fault
+use Rattle.plan_file.proofs.Fields.{field_high, field_low}
 
 -- what was read of a cell stays where the plan stays
 kept : (m : Problem) (rs : List Record) (p q : Plan) (i t : ℕ) → IsRead m rs p i t → AreSame p q i t → IsRead m rs q i t
@@ -58,5 +59,5 @@ pub stopped : (m : Problem) (rs : List Record) (p : Plan) (i t : ℕ) (f : PlanF
 stopped m rs p i t fault.Header low high t_low t_high so_far x = absurd x
 stopped m rs p i t fault.RowCount low high t_low t_high so_far x = (i, t, first m rs p i t low high t_low t_high so_far (λ good. x good.there), x)
 stopped m rs p i t (fault.Row n) low high t_low t_high so_far x = (i, t, first m rs p i t low high t_low t_high so_far (λ good. x.2 good.row), x)
-stopped m rs p i t (fault.Number n c) low high t_low t_high so_far x = (i, t, first m rs p i t low high t_low t_high so_far (λ good. x.3.bad (good.numbers c x.3.low x.3.high)), x)
+stopped m rs p i t (fault.Number n c) low high t_low t_high so_far x = (i, t, first m rs p i t low high t_low t_high so_far (λ good. x.3.bad (good.numbers (field_number c) (field_low c) (field_high c))), x)
 stopped m rs p i t fault.Memory low high t_low t_high so_far x = absurd x

@@ -1,5 +1,6 @@
 pub mod Reached
 pub mod Cells
+pub mod Fields
 pub mod Places
 pub mod Fronts
 pub mod Plain

@@ -4,11 +4,13 @@ use Rattle.std.proofs.lemmas.Bool.{cases_lt}
 use Rattle.lot_sizing.specs.Problem.{Problem, item_count}
 use Rattle.lot_sizing.specs.Plan.{Plan, EachCell}
 use Rattle.plan_rules.specs.Order.{IsFirst}
-use Rattle.plan_file.specs.Records.{HasHeader, IsGood, IsPlanOf, Record, number_of, record_at}
+use Rattle.plan_file.specs.Records.{HasHeader, IsGood, IsPlanOf, Record, field_number, number_of, record_at}
 use Rattle.plan_file.specs.Faults.{HasMore, IsCellFault, IsFirstBad, IsPlanFault, IsRecordFault}
 use Rattle.plan_file.specs.Laws.{HaveSame, RecordsMeanOneThing}
+use Rattle.plan_file.specs.declared.fault.NumberField.{NumberField}
 use Rattle.plan_file.specs.declared.fault.PlanFault.{PlanFault}
 use Rattle.plan_file.specs.declared.fault.PlanFault.TheVariants as fault
+use Rattle.plan_file.proofs.Fields.{field_low, one_field}
 
 -- the first place at which a rule is broken is one place
 first_row : (rows columns : ℕ) (R : ℕ → ℕ → Type 0) (i t j u : ℕ) → IsFirst rows columns R i t → IsFirst rows columns R j u → i < j → ⊥
@@ -25,8 +27,12 @@ one_place rows columns R i t j u a b =
     let same : i ≡ j = neither i j (first_row rows columns R i t j u a b) (first_row rows columns R j u i t b a) in
     (same, neither t u (first_column rows columns R i t j u a b same) (first_column rows columns R j u i t b a (sym same)))
 
-one_bad : (r : Record) (c d : ℕ) → IsFirstBad r c → IsFirstBad r d → c ≡ d
-one_bad r c d a b = neither c d (λ less. a.bad (b.before c a.low less)) (λ less. b.bad (a.before d b.low less))
+one_bad : (r : Record) (c d : NumberField) → IsFirstBad r c → IsFirstBad r d → c ≡ d
+one_bad r c d a b =
+    one_field c d
+    (neither (field_number c) (field_number d)
+    (λ less. a.bad (b.before (field_number c) (field_low c) less))
+    (λ less. b.bad (a.before (field_number d) (field_low d) less)))
 
 -- so is the fault of its record
 one_record : (m : Problem) (rs : List Record) (i t : ℕ) (f g : PlanFault) → f ≢ fault.Memory → g ≢ fault.Memory → IsRecordFault m rs i t f → IsRecordFault m rs i t g → f ≡ g

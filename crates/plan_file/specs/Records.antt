@@ -8,6 +8,8 @@ use Rattle.whole_numbers.specs.Digits.{IsWholeText}
 use Rattle.lot_sizing.specs.Problem.{Problem, item_at, item_count}
 use Rattle.lot_sizing.specs.Plan.{EachCell, Plan}
 use Rattle.plan_rules.specs.Cells.{place}
+use Rattle.plan_file.specs.declared.fault.NumberField.{NumberField}
+use Rattle.plan_file.specs.declared.fault.NumberField.TheVariants as fields
 
 -- a record as its fields
 abbrev pub Record : Type 0
@@ -24,6 +26,13 @@ record_at rs n = slice_index_or rs n []
 -- a field by its number, counted from 1
 abbrev pub field : Record → ℕ → List ℕ
 field r c = unwrap_or (field_at r (c - 1)) []
+
+-- the number of a field that holds a number
+abbrev pub field_number : NumberField → ℕ
+field_number fields.Make = 3
+field_number fields.Setup = 4
+field_number fields.Stock = 5
+field_number fields.Backlog = 6
 
 -- the first record of a plan file
 abbrev pub header : Record

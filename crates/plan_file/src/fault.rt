@@ -1,12 +1,40 @@
 // Why bytes were not read as a plan.
-ghost use Rattle.std.specs.Prelude.{Some};
+ghost use Rattle.std.specs.Prelude.{◌≡◌, Some};
+ghost use Rattle.plan_file.specs.Records.{field_number};
 ghost use Rattle.plan_file.specs.Texts.{plan_fault_text};
 
 use std::alloc::{AllocError, AllocFailed};
 use std::fmt;
 use thiserror::Error;
 
-/// Why bytes were not read as a plan. Records after the header are counted from 1, and so are fields.
+/// A field of a record that holds a number.
+#[derive(Clone, Copy, Debug, PartialEq, Eq)]
+pub enum NumberField {
+    /// Units made.
+    Make,
+    /// The setup, 0 or 1.
+    Setup,
+    /// Units in stock at the end of the period.
+    Stock,
+    /// Units owed at the end of the period.
+    Backlog,
+}
+
+impl NumberField {
+    // Its number in the record, counted from 1.
+    fn number(self) -> u32
+        ensures { result ≡ field_number self }
+    {
+        match self {
+            NumberField::Make => 3,
+            NumberField::Setup => 4,
+            NumberField::Stock => 5,
+            NumberField::Backlog => 6,
+        }
+    }
+}
+
+/// Why bytes were not read as a plan. Records after the header are counted from 1.
 #[derive(Clone, Copy, Debug, PartialEq, Eq, Error)]
 pub enum PlanFault {
     /// The first record isn't the header.
@@ -16,7 +44,7 @@ pub enum PlanFault {
     /// A record hasn't six fields, or isn't that of its item and period.
     Row(u64),
     /// A field of a record is no whole number of 64 bits.
-    Number(u64, u32),
+    Number(u64, NumberField),
     /// Memory ran out.
     Memory,
 }
@@ -52,7 +80,10 @@ impl fmt::Display for PlanFault {
             PlanFault::Header => f.write_str("plan header"),
             PlanFault::RowCount => f.write_str("plan count"),
             PlanFault::Row(record) => write!(f, "plan row {record}"),
-            PlanFault::Number(record, field) => write!(f, "plan number {record} {field}"),
+            PlanFault::Number(record, field) => {
+                let number = field.number();
+                write!(f, "plan number {record} {number}")
+            }
             PlanFault::Memory => f.write_str("out of memory"),
         }
     }

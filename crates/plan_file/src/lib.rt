@@ -14,7 +14,7 @@ mod reading;
 mod records;
 mod writing;
 
-pub use fault::PlanFault;
+pub use fault::{NumberField, PlanFault};
 pub use laws::{plan_texts_are_short, records_mean_one_thing};
 pub use limits::MAX_FILE;
 pub use reading::read_plan;

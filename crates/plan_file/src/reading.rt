@@ -11,8 +11,8 @@ ghost use Rattle.plan_file.specs.Records.{AreNumbersOf, HasHeader, HasNumbers, I
 ghost use Rattle.plan_file.specs.Faults.{IsFirstBad, IsPlanFault, IsRecordFault, IsCellFault};
 ghost use Rattle.plan_file.specs.Numbers.{ArePut, AreReadBefore, HasNumbersIn, IsPutFrom};
 
-use crate::PlanFault;
 use crate::records::first_records;
+use crate::{NumberField, PlanFault};
 use csv::ByteRecord;
 use lot_model::Instance;
 use plan_rules::{Grid, Plan};
@@ -85,25 +85,25 @@ pub struct Numbers {
 }
 
 // The numbers of a record, or the first of the last four fields that is none.
-fn numbers_of(row: &ByteRecord) -> Result<Numbers, u32>
+fn numbers_of(row: &ByteRecord) -> Result<Numbers, NumberField>
     ensures ok { IfOk result (HasNumbersIn (fields_of row.now)) }
     ensures bad { IfErr result (IsFirstBad (fields_of row.now)) }
 {
     let make = match number(field(row, 3)) {
         Some(n) => n,
-        None => return Err(3),
+        None => return Err(NumberField::Make),
     };
     let setup = match number(field(row, 4)) {
         Some(n) => n,
-        None => return Err(4),
+        None => return Err(NumberField::Setup),
     };
     let stock = match number(field(row, 5)) {
         Some(n) => n,
-        None => return Err(5),
+        None => return Err(NumberField::Stock),
     };
     let backlog = match number(field(row, 6)) {
         Some(n) => n,
-        None => return Err(6),
+        None => return Err(NumberField::Backlog),
     };
     Ok(Numbers {
         make,
@@ -159,7 +159,7 @@ fn read_record(
             put(instance, plan, item, period, numbers);
             Ok(())
         }
-        Err(column) => Err(PlanFault::Number(number as u64, column)),
+        Err(bad) => Err(PlanFault::Number(number as u64, bad)),
     }
 }
 

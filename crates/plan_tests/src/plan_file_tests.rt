@@ -1,6 +1,6 @@
 use fixtures::{instance_of, plain_item, steady_item};
 use lot_model::{DraftItem, Instance};
-use plan_file::{PlanFault, read_plan, write_plan};
+use plan_file::{NumberField, PlanFault, read_plan, write_plan};
 use plan_rules::{Grid, Plan};
 use std::alloc::{AllocError, Global};
 use std::test::Fail;
@@ -147,7 +147,7 @@ fn the_longest_plan_is_refused_at_its_end(rt: HostRuntime) -> Result<(), Fail> {
     let instance = long_instance(alloc)?;
     assert_eq!(rt;
         fault_of_the_end(alloc, &instance)?,
-        Some(PlanFault::Number(4_800, 6))
+        Some(PlanFault::Number(4_800, NumberField::Backlog))
     );
     Ok(())
 }

@@ -89,7 +89,8 @@ struct Given<'a> {
 #[derive(Debug, Drop)]
 pub struct Rounds {
     best: DualPrices,
-    number: i128,
+    // What the leaf of the best prices is expected to say, times the scale; None where that doesn't fit.
+    number: Option<i128>,
     average: Average,
     // The plans at the best prices.
     best_plan: Average,
@@ -127,8 +128,12 @@ fn scaled_step(step: i128, hundredths: i128) -> i128 {
     step.saturating_mul(hundredths) / 100
 }
 
-// By how much the number is to grow: up to what the plan costs, but by no more than where none is known.
-fn gap_to(number: i128, scale: u64, plan_cost: Option<u128>) -> i128 {
+// By how much the number is to grow: up to what the plan costs, but by no more than where none is known. Where the number
+// doesn't fit it is the scale, as where the number is 0 and no plan is known.
+fn gap_to(number: Option<i128>, scale: u64, plan_cost: Option<u128>) -> i128 {
+    let Some(number) = number else {
+        return i128::from(scale);
+    };
     let near = (number.max(0) / GROWTH_PARTS).saturating_add(i128::from(scale));
     match scaled(scale, plan_cost) {
         Some(cost) => near.min(cost.saturating_sub(number)),
@@ -136,11 +141,21 @@ fn gap_to(number: i128, scale: u64, plan_cost: Option<u128>) -> i128 {
     }
 }
 
-// Whether a leaf of this number says as much as the plan costs.
-fn is_closed(number: i128, scale: u64, plan_cost: Option<u128>) -> bool {
-    match scaled(scale, plan_cost) {
-        Some(cost) => number > cost.saturating_sub(i128::from(scale)),
-        None => false,
+// Whether a leaf of this number says as much as the plan costs; not so where there is no plan, or one of the two doesn't fit.
+fn is_closed(number: Option<i128>, scale: u64, plan_cost: Option<u128>) -> bool {
+    match (number, scaled(scale, plan_cost)) {
+        (Some(number), Some(cost)) => number > cost.saturating_sub(i128::from(scale)),
+        _ => false,
+    }
+}
+
+// Whether prices of this number are better than others. Those whose number doesn't fit never are, and those whose number fits
+// are better than they.
+fn is_better(number: Option<i128>, other: Option<i128>) -> bool {
+    match (number, other) {
+        (Some(number), Some(other)) => number > other,
+        (Some(_), None) => true,
+        (None, _) => false,
     }
 }
 
@@ -190,7 +205,7 @@ impl Rounds {
         })
     }
 
-    // The plan at the prices on trial enters the average, with the weight that makes the new direction shortest. It is told
+    // The plan at the prices on trial enters the average, with the weight that makes the new direction shortest. The answer is
     // whether the plan's direction is still the old one.
     fn mix(&mut self, given: Given<'_>, square: i128) -> bool {
         self.others
@@ -202,8 +217,8 @@ impl Rounds {
     }
 
     // The prices on trial are the best ones, or they aren't. Steps get longer where they may.
-    fn take(&mut self, number: i128, may_grow: bool) {
-        if number > self.number {
+    fn take(&mut self, number: Option<i128>, may_grow: bool) {
+        if is_better(number, self.number) {
             self.number = number;
             self.best.take_from(&self.trial);
             self.best_plan.take_from(&self.plan);
@@ -270,8 +285,12 @@ impl Rounds {
             given.fixed,
             &mut self.plan,
         )?;
-        self.is_tried = number <= 0;
-        Ok(number > 0)
+        let is_refuted = match number {
+            Some(number) => number > 0,
+            None => false,
+        };
+        self.is_tried = !is_refuted;
+        Ok(is_refuted)
     }
 
     // What has been reached, where the costs are dropped on trial or not.
@@ -325,8 +344,8 @@ impl Rounds {
         self.reached(given, &mut planning, true)
     }
 
-    /// What the leaf of the best prices is expected to say, times the scale.
-    pub fn number(&self) -> i128 {
+    /// What the leaf of the best prices is expected to say, times the scale; None where that doesn't fit.
+    pub fn number(&self) -> Option<i128> {
         self.number
     }
 

@@ -39,6 +39,14 @@ fn first_free(unit: &[i64]) -> Option<u32> {
     None
 }
 
+// The sum of two numbers; None where there isn't one of them, or it doesn't fit.
+fn added(one: Option<i128>, other: Option<i128>) -> Option<i128> {
+    match (one, other) {
+        (Some(one), Some(other)) => one.checked_add(other),
+        _ => None,
+    }
+}
+
 // The right sides of all capacities.
 fn capacity_value(instance: &Instance, prices: &DualPrices) -> i128 {
     let mut sum = 0i128;
@@ -58,21 +66,20 @@ impl Planning {
         }
     }
 
-    // The right side of an item's cut, with that of the balances by which prices were moved. What doesn't fit stays at the
-    // largest number: then there is no such cut.
-    fn item_value(&self, item: &Item) -> i128 {
+    // The right side of an item's cut, with that of the balances by which prices were moved; None where there is no such cut,
+    // or where that doesn't fit.
+    fn item_value(&self, item: &Item) -> Option<i128> {
         let costs = &self.costs;
         let held = dot(&costs.hold, &item.left);
         let asked = dot(&costs.shift, &item.demand);
         let opened = wide(at(&costs.shift, 1), item.opening);
         let ended = wide(costs.lift, item.end_max);
         self.serving
-            .cost()
-            .unwrap_or(i128::MAX)
-            .saturating_add(held)
-            .saturating_sub(asked)
-            .saturating_sub(ended)
-            .saturating_add(opened)
+            .cost()?
+            .checked_add(held)?
+            .checked_sub(asked)?
+            .checked_sub(ended)?
+            .checked_add(opened)
     }
 
     // What is made beyond all demand, up to the largest end stock, where the cheapest unit would cost less than nothing.
@@ -87,7 +94,7 @@ impl Planning {
         Some(Spare { period, units })
     }
 
-    // What an item adds to the right side of the leaf. Its plan is written where it has one.
+    // What an item adds to the right side of the leaf; None where that doesn't fit. Its plan is written where it has one.
     fn value_of(
         &mut self,
         instance: &Instance,
@@ -96,11 +103,11 @@ impl Planning {
         fixed: &Fixed,
         number: u32,
         plan: &mut Average,
-    ) -> Result<i128, AllocError>
+    ) -> Result<Option<i128>, AllocError>
         requires low { 1 ≤ number }
         requires high { number ≤ item_count instance.now }
     {
-        let mut sum = 0i128;
+        let mut sum = Some(0i128);
         match pricing.get(number) {
             Some(item) => {
                 self.costs.write(instance, item, prices, fixed)?;
@@ -110,10 +117,11 @@ impl Planning {
             }
             None => self.costs.write_fees(instance, prices, number)?,
         }
-        Ok(sum.saturating_add(fixed_value(&self.costs.fee, fixed.line(number))))
+        let more = fixed_value(&self.costs.fee, fixed.line(number));
+        Ok(added(sum, Some(more)))
     }
 
-    // What the leaf of prices says, times the scale. The plan is that of all items by themselves.
+    // What the leaf of prices says, times the scale; None where that doesn't fit. The plan is that of all items by themselves.
     pub(crate) fn value(
         &mut self,
         instance: &Instance,
@@ -121,11 +129,11 @@ impl Planning {
         prices: &DualPrices,
         fixed: &Fixed,
         plan: &mut Average,
-    ) -> Result<i128, AllocError> {
-        let mut sum = 0i128.saturating_sub(capacity_value(instance, prices));
+    ) -> Result<Option<i128>, AllocError> {
+        let mut sum = 0i128.checked_sub(capacity_value(instance, prices));
         for number in 1..instance.items() + 1 {
             let more = self.value_of(instance, pricing, prices, fixed, number, plan)?;
-            sum = sum.saturating_add(more);
+            sum = added(sum, more);
         }
         Ok(sum)
     }

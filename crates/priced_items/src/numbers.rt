@@ -162,6 +162,14 @@ pub fn none_is_negative(list: &[i64]) -> bool
     list.iter().all(|number| *number >= 0)
 }
 
+// The lower one of two numbers, the first of which there may not be.
+pub(crate) fn lower(one: Option<i64>, other: i64) -> i64 {
+    match one {
+        Some(number) => number.min(other),
+        None => other,
+    }
+}
+
 // The sum of numbers.
 pub(crate) fn sum_of(list: &[i64]) -> i64 {
     let mut sum = 0;

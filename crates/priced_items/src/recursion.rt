@@ -4,9 +4,7 @@ use crate::numbers::{add_times, at, less, plus, refill, wide};
 use crate::pricing::Item;
 use std::alloc::{AllocError, Global};
 
-// A server that is open: what all positions so far cost with it, and the first position that it serves. One that isn't
-// open yet costs the largest number, so that it begins wherever that costs less: this is the innermost loop, and an Option
-// would be one more comparison in each of its steps.
+// A server that is open: what all positions so far cost with it, and the first position that it serves.
 #[derive(Clone, Copy, Debug)]
 struct Open {
     cost: i128,
@@ -43,8 +41,8 @@ pub struct Serving {
     pub places: Vec<Served>,
     // Whether these are all positions.
     is_whole: bool,
-    // The servers, one for each period.
-    open: Vec<Open>,
+    // The servers, one for each period; None where one isn't open yet, or costs what doesn't fit.
+    open: Vec<Option<Open>>,
     // What a unit costs that a server makes for a period on, less what it costs to hold, or owe, from the first one.
     early: Vec<i64>,
     late: Vec<i64>,
@@ -70,25 +68,33 @@ fn after(list: &[i64], count: usize) -> &[i64] {
     &list[start..]
 }
 
-// A server after one more position: it goes on, or begins there.
-fn next_open(open: Open, begun: i128, position: u32, serving: i128) -> Open {
-    if begun < open.cost {
-        Open {
-            cost: begun.saturating_add(serving),
+// A server after one more position: it goes on, or begins there. None where that costs what doesn't fit.
+fn next_open(open: Option<Open>, begun: i128, position: u32, serving: i128) -> Option<Open> {
+    let before = match open {
+        Some(open) if open.cost <= begun => open,
+        _ => Open {
+            cost: begun,
             start: position,
-        }
-    } else {
-        Open {
-            cost: open.cost.saturating_add(serving),
-            start: open.start,
-        }
+        },
+    };
+    Some(Open {
+        cost: before.cost.checked_add(serving)?,
+        start: before.start,
+    })
+}
+
+// The cheaper one of the server at hand, if there is one, and another one.
+fn cheaper(best: Option<Served>, other: Served) -> Served {
+    match best {
+        Some(best) if best.cost <= other.cost => best,
+        _ => other,
     }
 }
 
 // A position is served by some servers, the first of which comes after a period: all of them go on or begin, and the
 // cheapest one is taken, where it is cheaper than the one at hand. None where there is none whose cost fits.
 fn serve(
-    open: &mut [Open],
+    open: &mut [Option<Open>],
     units: &[i64],
     setups: &[i64],
     more: i64,
@@ -97,10 +103,6 @@ fn serve(
     best: Option<Served>,
 ) -> Option<Served> {
     let mut best = best;
-    let mut least = match best {
-        Some(served) => served.cost,
-        None => i128::MAX,
-    };
     let mut server = first;
     for ((now, unit), setup) in open.iter_mut().zip(units).zip(setups) {
         server = server.saturating_add(1);
@@ -108,14 +110,14 @@ fn serve(
         let begun = position.before.saturating_add(i128::from(*setup));
         let next = next_open(*now, begun, position.number, serving);
         *now = next;
-        if next.cost < least {
-            least = next.cost;
-            best = Some(Served {
+        if let Some(Open { cost, start }) = next {
+            let served = Served {
                 period: position.period,
                 server,
-                start: next.start,
-                cost: least,
-            });
+                start,
+                cost,
+            };
+            best = Some(cheaper(best, served));
         }
     }
     best
@@ -143,12 +145,8 @@ impl Serving {
         write_sums(&mut self.owed, &costs.back)?;
         refill(&mut self.late, &costs.unit)?;
         add_times(&mut self.late, &self.owed, 1);
-        let closed = Open {
-            cost: i128::MAX,
-            start: 0,
-        };
         self.open.clear();
-        self.open.resize(costs.unit.len(), closed)?;
+        self.open.resize(costs.unit.len(), None)?;
         self.places.clear();
         self.is_whole = false;
         Ok(())

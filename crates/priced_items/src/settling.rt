@@ -3,10 +3,11 @@ ghost use Rattle.std.specs.Prelude.{◌≤◌};
 ghost use Rattle.lot_sizing.specs.Problem.{item_count};
 
 use crate::grid::{IntegerGrid, clear};
-use crate::numbers::{less, of_amount, over, plus, share, times};
+use crate::numbers::{less, lower, of_amount, over, plus, share, times};
 use crate::prices::DualPrices;
 use crate::pricing::Pricing;
 use lot_model::{Instance, Need};
+use std::alloc::{AllocError, Global};
 
 // Prices of stock are at most the holding costs.
 fn bound_above(line: &mut [i64], costs: &[u64], scale: i64) {
@@ -233,45 +234,90 @@ fn echelons_with(instance: &Instance, pricing: &Pricing, end: u32) -> i64 {
     count
 }
 
-// A component gets a part of what an end product costs that is owed, or keeps a smaller one of another end product.
-fn give_part(prices: &mut DualPrices, item: u32, period: u32, part: i64) {
-    let before = prices.back.get(item, period);
-    if before == 0 || part < before {
-        prices.back.put(item, period, part);
-    }
+// An end product that may be owed, and how many echelons share what that costs.
+#[derive(Clone, Copy)]
+struct EndProduct {
+    number: u32,
+    echelons: i64,
 }
 
-// Each component of an end product gets its part in a period, where so many echelons share what the end product costs.
-fn split_back(
+// All end products that may be owed.
+fn end_products(
+    alloc: Global,
+    instance: &Instance,
+    pricing: &Pricing,
+) -> Result<Vec<EndProduct>, AllocError> {
+    let mut ends = Vec::new(alloc);
+    for number in 1..instance.items() + 1 {
+        if instance.has_backlog_cost(number) {
+            let echelons = echelons_with(instance, pricing, number);
+            ends.push(EndProduct { number, echelons })?;
+        }
+    }
+    Ok(ends)
+}
+
+// A component's part of what an end product costs that is owed in a period; None where it isn't a component of it.
+fn part_of(
+    instance: &Instance,
+    pricing: &Pricing,
+    prices: &DualPrices,
+    end: EndProduct,
+    item: u32,
+    period: u32,
+) -> Option<i64> {
+    let weight = pricing.weight(item, end.number);
+    if item == end.number || weight <= 0 {
+        return None;
+    }
+    let cost = owed_cost(instance, pricing, prices, end.number, period);
+    Some(over(cost, times(end.echelons, weight)))
+}
+
+// The smallest of a component's parts in a period; None where it goes into no end product that may be owed.
+fn least_part(
+    instance: &Instance,
+    pricing: &Pricing,
+    prices: &DualPrices,
+    ends: &[EndProduct],
+    item: u32,
+    period: u32,
+) -> Option<i64> {
+    let mut least = None;
+    for end in ends {
+        if let Some(part) = part_of(instance, pricing, prices, *end, item, period) {
+            least = Some(lower(least, part));
+        }
+    }
+    least
+}
+
+// A component gets the smallest of its parts in each period.
+fn give_parts(
     instance: &Instance,
     pricing: &Pricing,
     prices: &mut DualPrices,
-    end: u32,
-    period: u32,
-    echelons: i64,
+    ends: &[EndProduct],
+    item: u32,
 ) {
-    let cost = owed_cost(instance, pricing, prices, end, period);
-    for item in 1..instance.items() + 1 {
-        let weight = pricing.weight(item, end);
-        if item != end && weight > 0 {
-            give_part(prices, item, period, over(cost, times(echelons, weight)));
-        }
-    }
-}
-
-// The same in each period.
-fn split_all(instance: &Instance, pricing: &Pricing, prices: &mut DualPrices, end: u32) {
-    let echelons = echelons_with(instance, pricing, end);
     for period in 1..instance.periods() + 1 {
-        split_back(instance, pricing, prices, end, period, echelons);
+        if let Some(part) = least_part(instance, pricing, prices, ends, item, period) {
+            prices.back.put(item, period, part);
+        }
     }
 }
 
-// Each echelon that an end product is in gets the same part of what it costs that is owed.
-pub(crate) fn split_backs(instance: &Instance, pricing: &Pricing, prices: &mut DualPrices) {
-    for end in 1..instance.items() + 1 {
-        if instance.has_backlog_cost(end) {
-            split_all(instance, pricing, prices, end);
-        }
+// Each echelon that an end product is in gets the same part of what it costs that is owed; a component of several end products
+// gets the smallest of these parts. The error is that memory ran out.
+pub(crate) fn split_backs(
+    alloc: Global,
+    instance: &Instance,
+    pricing: &Pricing,
+    prices: &mut DualPrices,
+) -> Result<(), AllocError> {
+    let ends = end_products(alloc, instance, pricing)?;
+    for item in 1..instance.items() + 1 {
+        give_parts(instance, pricing, prices, &ends, item);
     }
+    Ok(())
 }

@@ -1,6 +1,6 @@
 // The costs of items, split among the echelons.
 use crate::grid::IntegerGrid;
-use crate::numbers::{less, of_amount, over, plus, times};
+use crate::numbers::{less, lower, of_amount, over, plus, times};
 use crate::prices::DualPrices;
 use crate::pricing::{Item, Pricing};
 use crate::settling::{settle, split_backs};
@@ -48,14 +48,6 @@ fn scale_for(cost: u64) -> u64 {
         scale /= 2;
     }
     1
-}
-
-// The lower one of two parts, the first of which there may not be.
-fn lower(one: Option<i64>, other: i64) -> i64 {
-    match one {
-        Some(part) => part.min(other),
-        None => other,
-    }
 }
 
 // What is left of the prices of stock of the items that one is in, for each of it in them: at least 0. None where it is in
@@ -153,7 +145,7 @@ pub fn split_prices(
     let scale = scale_for(largest_cost(instance));
     let mut prices = DualPrices::zero(alloc, instance, scale)?;
     split_stocks(alloc, instance, pricing, &mut prices)?;
-    split_backs(instance, pricing, &mut prices);
+    split_backs(alloc, instance, pricing, &mut prices)?;
     settle(instance, pricing, &mut prices);
     Ok(prices)
 }

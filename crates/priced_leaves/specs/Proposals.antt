@@ -4,7 +4,7 @@ use Rattle.std.specs.List.{All}
 use Rattle.lot_sizing.specs.Problem.{Problem, item_count}
 use Rattle.cert_lines.specs.Line.{HasForm, HasLine}
 use Rattle.cert_lines.specs.Shapes.{BlockCut, CutShape, LsCut, PartLine, PriceCut, RoundCut, cut_first, cut_shape}
-use Rattle.cert_lines.specs.declared.limits.TheConstants.{FIRST_VERSION, MAX_PARTS}
+use Rattle.cert_lines.specs.declared.limits.TheConstants.{FIRST_CERT_VERSION, MAX_PARTS}
 use Rattle.priced_leaves.specs.declared.leaf.Priced.{Priced}
 
 -- block cuts of items after one and up to another, in rising order
@@ -19,7 +19,7 @@ AreRising most last (RoundCut divisor parts ∷ rest) = ⊥
 pub record IsProposal (m : Problem) (leaf : Priced) : Type 0 where
   pub blocks : AreRising (item_count m) 0 (map cut_shape leaf.cuts.items)
   pub cuts : All (λ cut. HasForm (cut_first (cut_shape cut))) leaf.cuts.items
-  pub parts : All (λ part. HasLine FIRST_VERSION (PartLine part)) leaf.parts.items
+  pub parts : All (λ part. HasLine FIRST_CERT_VERSION (PartLine part)) leaf.parts.items
   pub few : length leaf.parts.items ≤ MAX_PARTS
   pub den_low : 1 ≤ leaf.den
   pub den_high : leaf.den < 2 ^ 64

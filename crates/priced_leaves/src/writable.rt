@@ -3,11 +3,11 @@ ghost use Rattle.std.specs.Prelude.{◌∷◌, ◌↔◌, IfSome, IsTrue, List, 
 ghost use Rattle.std.specs.List.{All};
 ghost use Rattle.cert_lines.specs.Line.{HasForm, HasLine};
 ghost use Rattle.cert_lines.specs.Shapes.{CutShape, PartLine, cut_first, cut_shape};
-ghost use Rattle.cert_lines.specs.declared.limits.TheConstants.{FIRST_VERSION};
+ghost use Rattle.cert_lines.specs.declared.limits.TheConstants.{FIRST_CERT_VERSION};
 ghost use Rattle.priced_leaves.specs.Proposals.{AreRising, IsProposal};
 
 use crate::Priced;
-use cert_lines::{Cut, FIRST_VERSION, MAX_PARTS, Part, is_cut_line, is_part_line};
+use cert_lines::{Cut, FIRST_CERT_VERSION, MAX_PARTS, Part, is_cut_line, is_part_line};
 use lot_model::Instance;
 
 // The item of a block cut, where it comes after an item and isn't past the last one.
@@ -43,9 +43,11 @@ fn are_cut_lines(cuts: &[Cut]) -> bool
 
 // Whether each part has a line in texts of the first version.
 fn are_part_lines(parts: &[Part]) -> bool
-    ensures { IsTrue result ↔ All (λ part. HasLine FIRST_VERSION (PartLine part)) parts.now }
+    ensures { IsTrue result ↔ All (λ part. HasLine FIRST_CERT_VERSION (PartLine part)) parts.now }
 {
-    parts.iter().all(|part| is_part_line(*part, FIRST_VERSION))
+    parts
+        .iter()
+        .all(|part| is_part_line(*part, FIRST_CERT_VERSION))
 }
 
 // Cuts and parts as a proposal, where all of them are within the limits.

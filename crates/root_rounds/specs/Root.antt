@@ -9,7 +9,7 @@ use Rattle.lot_sizing.specs.Totals.{AreLargestTotals}
 use Rattle.lin_rows.specs.Columns.{column_count}
 use Rattle.lin_rows.specs.Combining.{AreOfProblem}
 use Rattle.lin_rows.specs.Rows.{LinRow}
-use Rattle.cert_lines.specs.declared.limits.TheConstants.{FIRST_VERSION, MAX_CUTS}
+use Rattle.cert_lines.specs.declared.limits.TheConstants.{FIRST_CERT_VERSION, MAX_CUTS}
 use Rattle.cert_lines.specs.declared.parts.Leaf.{Leaf}
 use Rattle.cert_lines.specs.Shapes.{CutShape, LeafShape, LinearLeaf, FarkasLeaf, PointLeaf, cut_shape, leaf_shape}
 use Rattle.certificate.specs.Values.{AreLines, all_cut_values, leaf_values}
@@ -157,7 +157,7 @@ pub record RootMeans (m : Problem) (r : Root) : Type 0 where
 -- ---- texts
 -- in the first version no row of a least or a late lot has a name, and a plain problem has none
 abbrev pub IsVersionFor : Problem → ℕ → Type 0
-IsVersionFor m version = version ≡ FIRST_VERSION → IsPlain m
+IsVersionFor m version = version ≡ FIRST_CERT_VERSION → IsPlain m
 
 -- each line of the cuts is one of a certificate's text, within its limits, in each version
 abbrev pub HaveCutLines : List CutShape → Type 0

@@ -11,7 +11,7 @@ use crate::separation::RootCuts;
 use bill::totals_exist;
 use branching::RootSays;
 use echelon::Explosion;
-use lot_model::{Instance, is_uncoupled};
+use lot_model::{Instance, an_instance_breaks_no_rule, is_uncoupled};
 use relaxation::{closed_values_are_floors, empty_is_impossible};
 use root_rows::{MAX_CELLS, RoundProgram, base_program};
 use std::alloc::{AllocError, Global};
@@ -95,8 +95,8 @@ fn make_rounds(
 ///   in it, is 2^127 or more.
 ///
 /// Each cut has its row, which holds at every plan. A leaf is there exactly after `Closed` and
-/// `Empty`. Cuts and leaf have lines in a certificate of `MAX_VERSION` and, where the model is plain, of
-/// `FIRST_VERSION` too: there are at most `MAX_CUTS` cuts and `MAX_PARTS` parts (of `cert_lines`), and each
+/// `Empty`. Cuts and leaf have lines in a certificate of `MAX_CERT_VERSION` and, where the model is plain, of
+/// `FIRST_CERT_VERSION` too: there are at most `MAX_CUTS` cuts and `MAX_PARTS` parts (of `cert_lines`), and each
 /// number is below 2^127 in absolute value. The error is that memory ran out.
 ///
 /// It keeps one program, its tableau and the cuts; it makes a tableau anew in each round.
@@ -111,8 +111,7 @@ pub fn root(alloc: Global, instance: &Instance) -> Result<Root, AllocError>
     totals_exist();
     closed_values_are_floors();
     empty_is_impossible();
-    // It reads that the instance is one.
-    let _periods = instance.periods();
+    an_instance_breaks_no_rule(instance);
     if is_uncoupled(instance) {
         return Ok(without_cuts(alloc, RootSays::Uncoupled));
     }

@@ -23,7 +23,7 @@ use branching::{PassedAt, RootSays};
 use echelon::Explosion;
 use frac128::Frac;
 use lin_rows::{Point, Row, RowName};
-use lot_model::Instance;
+use lot_model::{Instance, an_instance_breaks_no_rule};
 use ls_cuts::lesser_separates;
 use root_rows::{
     MAX_PIVOTS, RoundProgram, push_row, rounds_are_few, rounds_close, rounds_grow, rounds_refute,
@@ -78,8 +78,7 @@ fn push_rows(
     ensures ready { IfOk result (λ _. IsReady instance.now rows.now program.new) }
 {
     rounds_are_few();
-    // It reads that the instance is one.
-    let _periods = instance.periods();
+    an_instance_breaks_no_rule(instance);
     for index in from..rows.len() {
         push_cut(alloc, instance, index as u32 + 1, &rows[index], program)?;
     }
@@ -117,8 +116,6 @@ fn least_round(
 {
     lesser_separates();
     rounds_close();
-    // It reads that the instance is one.
-    let _periods = instance.periods();
     let before = state.list.rows.len();
     let point = Point::new(instance, point);
     if let Some(end) = separate_all(alloc, instance, explosion, &point, &mut state.list)? {

@@ -16,7 +16,7 @@ use crate::laws::{base_names_are_all, rounds_are_few, rows_are_small};
 use crate::names::base_names;
 use crate::program::{Side, lp_row, put_row};
 use lin_rows::{Row, RowFault, RowName, base_row};
-use lot_model::Instance;
+use lot_model::{Instance, an_instance_breaks_no_rule};
 use std::alloc::{AllocError, Global};
 use tableau::{Lp, LpRow};
 
@@ -27,13 +27,6 @@ pub struct RoundProgram {
     pub lp: Lp,
     /// One side of a row for each of its rows.
     pub sides: Vec<Side>,
-}
-
-// What holds of each instance.
-fn is_instance(instance: &Instance)
-    ensures { IsInstance instance.now }
-{
-    let _ = instance.periods();
 }
 
 // The row of a name that the rules make.
@@ -85,7 +78,7 @@ pub fn base_program(alloc: Global, instance: &Instance) -> Result<RoundProgram, 
 {
     base_names_are_all();
     rounds_are_few();
-    is_instance(instance);
+    an_instance_breaks_no_rule(instance);
     let costs = column_costs(alloc, instance)?;
     let names = base_names(alloc, instance)?;
     let mut sides = Vec::new(alloc);
@@ -117,7 +110,7 @@ pub fn push_row(
     ensures sides { IfOk result (λ _. round.new.sides.items ≡ round.old.sides.items ++ (side name false ∷ [])) }
     ensures fits { IfOk result (λ _. IsProgram round.new.lp) }
 {
-    is_instance(instance);
+    an_instance_breaks_no_rule(instance);
     let made = lp_row(alloc, instance, row, false)?;
     round.sides.push(Side {
         name,

@@ -1,4 +1,4 @@
 mod Pairs
-mod Runs
+mod Stretches
 mod Ceilings
 mod Unique

@@ -14,7 +14,7 @@ use Rattle.lin_rows.specs.Columns.{order_of}
 use Rattle.lin_rows.specs.Combining.{AreSigned, column_sum, sum_of}
 use Rattle.lin_rows.specs.Rows.{AreTerms, LinRow}
 use Rattle.lin_rows.specs.declared.total.Total.{Total}
-use Rattle.lin_rows.specs.Sums.{HasRoomToAdd, coefficient, same_column}
+use Rattle.lin_rows.specs.Sums.{FitsAdded, coefficient, same_column}
 use Rattle.lin_rows.proofs.Below.{coefficient_append, one_by_parts}
 use Rattle.lin_rows.proofs.Coefficients.{own_coefficient}
 use Rattle.lin_rows.proofs.Terms.{all_one}
@@ -198,7 +198,7 @@ pub part_large : (rows : List LinRow) (times : List ℤ) (k : ℕ) (r : LinRow) 
 part_large rows times k r z terms pair is (c, large) =
     (c, omega (arith, large, ap (λ ts. unsigned_abs (z *ℤ coefficient ts c)) is, amount_part (λ s. coefficient s.terms c) rows times k r z pair))
 
-pub right_large : (rows : List LinRow) (times : List ℤ) (k : ℕ) (r : LinRow) (z : ℤ) (total : Total) → IsPair rows times k r z → total.amount ≡ amount_of (take k rows) (take k times) (λ s. s.right) → (HasRoomToAdd total (z *ℤ r.right) → ⊥) → 2 ^ 127 ≤ right_amount rows times
+pub right_large : (rows : List LinRow) (times : List ℤ) (k : ℕ) (r : LinRow) (z : ℤ) (total : Total) → IsPair rows times k r z → total.amount ≡ amount_of (take k rows) (take k times) (λ s. s.right) → (FitsAdded total (z *ℤ r.right) → ⊥) → 2 ^ 127 ≤ right_amount rows times
 right_large rows times k r z total pair amount large = omega (arith, amount, not_below (total.amount + unsigned_abs (z *ℤ r.right)) (2 ^ 127) large, amount_part (λ s. s.right) rows times k r z pair)
   where
     not_below : (m n : ℕ) → (m < n → ⊥) → n ≤ m

@@ -53,18 +53,18 @@ pub record AreSums (rows : List LinRow) (times : List ℤ) (merged : List Term) 
   pub sums : (c : Column) → coefficient merged c ≡ column_sum rows times c
   pub small : All IsSmallTerm merged
 
--- a run as the one term that it becomes
-abbrev pub run_term : Stretch → Term
-run_term run = term run.column run.total.sum
+-- a stretch as the one term that it becomes
+abbrev pub stretch_term : Stretch → Term
+stretch_term stretch = term stretch.column stretch.total.sum
 
-abbrev pub run_with : Column → Total → Stretch
-run_with c total = record { column = c; total = total }
+abbrev pub stretch_with : Column → Total → Stretch
+stretch_with c total = record { column = c; total = total }
 
--- a term goes into the run of its column, or ends it and begins the next
+-- a term goes into the stretch of its column, or ends it and begins the next
 abbrev pub TakesTerm : List Term → Stretch → Term → List Term → Stretch → Type 0
-TakesTerm old run a new next =
-    ((same_column run.column a.column ≡ true) × (new ≡ old) × (next ≡ run_with run.column (with_more run.total a.times)))
-    ⊎ ((order_of run.column ≢ order_of a.column) × (new ≡ old ++ run_term run ∷ []) × (next ≡ run_with a.column (with_more no_total a.times)))
+TakesTerm old stretch a new next =
+    ((same_column stretch.column a.column ≡ true) × (new ≡ old) × (next ≡ stretch_with stretch.column (with_more stretch.total a.times)))
+    ⊎ ((order_of stretch.column ≢ order_of a.column) × (new ≡ old ++ stretch_term stretch ∷ []) × (next ≡ stretch_with a.column (with_more no_total a.times)))
 
 -- the least whole number that isn't below a over q
 abbrev pub ceiling : ℤ → ℤ → ℤ

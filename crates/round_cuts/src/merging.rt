@@ -5,8 +5,8 @@ ghost use Rattle.std.specs.List.Sorted.{IsNonDecreasingBy, IsPermutation};
 ghost use Rattle.lin_rows.specs.declared.column.Column.{Column};
 ghost use Rattle.lin_rows.specs.declared.fault.CutFault.TheVariants.{TooLarge};
 ghost use Rattle.lin_rows.specs.Columns.{order_of};
-ghost use Rattle.lin_rows.specs.Sums.{HasRoomToAdd, IsTotal, item_of, period_of, same_column};
-ghost use Rattle.round_cuts.specs.Merging.{IsMerged, IsOfSum, IsSmallTerm, TakesTerm, amount_in, run_term};
+ghost use Rattle.lin_rows.specs.Sums.{FitsAdded, IsTotal, item_of, period_of, same_column};
+ghost use Rattle.round_cuts.specs.Merging.{IsMerged, IsOfSum, IsSmallTerm, TakesTerm, amount_in, stretch_term};
 
 use lin_rows::{Column, CutFault, Term, Total};
 use std::alloc::{AllocError, Global};
@@ -54,9 +54,9 @@ pub(crate) struct Stretch {
 }
 
 impl Stretch {
-    // The one term that the run becomes.
+    // The one term that the stretch becomes.
     fn term(self) -> Term
-        ensures { result ≡ run_term self }
+        ensures { result ≡ stretch_term self }
     {
         Term {
             column: self.column,
@@ -73,26 +73,26 @@ pub(crate) fn push(terms: &mut Vec<Term>, term: Term) -> Result<(), AllocError>
     Ok(())
 }
 
-// The run with one more term of its column; or the run is done, and the term begins the next.
-fn take_term(done: &mut Vec<Term>, run: Stretch, term: Term) -> Result<Stretch, CutFault>
-    requires total { IsTotal run.total }
+// The stretch with one more term of its column; or the stretch is done, and the term begins the next.
+fn take_term(done: &mut Vec<Term>, stretch: Stretch, term: Term) -> Result<Stretch, CutFault>
+    requires total { IsTotal stretch.total }
     requires small { IsSmallTerm term }
-    ensures takes { IfOk result (λ next. TakesTerm done.old.items run term done.new.items next) }
+    ensures takes { IfOk result (λ next. TakesTerm done.old.items stretch term done.new.items next) }
     ensures total { IfOk result (λ next. IsTotal next.total) }
     ensures fault { IfErr result IsOfSum }
-    ensures same { result ≡ Err TooLarge → same_column run.column term.column ≡ true }
-    ensures large { result ≡ Err TooLarge → HasRoomToAdd run.total term.times → ⊥ }
+    ensures same { result ≡ Err TooLarge → same_column stretch.column term.column ≡ true }
+    ensures large { result ≡ Err TooLarge → FitsAdded stretch.total term.times → ⊥ }
 {
-    if is_same(run.column, term.column) {
-        if !run.total.has_room(1, term.times) {
+    if is_same(stretch.column, term.column) {
+        if !stretch.total.fits_added(1, term.times) {
             return Err(CutFault::TooLarge);
         }
         return Ok(Stretch {
-            column: run.column,
-            total: run.total.with_more(1, term.times),
+            column: stretch.column,
+            total: stretch.total.with_more(1, term.times),
         });
     }
-    push(done, run.term())?;
+    push(done, stretch.term())?;
     Ok(Stretch {
         column: term.column,
         total: Total::none().with_more(1, term.times),
@@ -112,13 +112,13 @@ pub(crate) fn merged(alloc: Global, terms: &[Term]) -> Result<Vec<Term>, CutFaul
     if terms.is_empty() {
         return Ok(done);
     }
-    let mut run = Stretch {
+    let mut stretch = Stretch {
         column: terms[0].column,
         total: Total::none(),
     };
     for place in 0..terms.len() {
-        run = take_term(&mut done, run, terms[place])?;
+        stretch = take_term(&mut done, stretch, terms[place])?;
     }
-    push(&mut done, run.term())?;
+    push(&mut done, stretch.term())?;
     Ok(done)
 }

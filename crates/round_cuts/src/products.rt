@@ -6,7 +6,7 @@ ghost use Rattle.lin_rows.specs.declared.fault.CutFault.TheVariants.{TooLarge};
 ghost use Rattle.lin_rows.specs.Base.{term};
 ghost use Rattle.lin_rows.specs.Combining.{AreSigned, right_sum};
 ghost use Rattle.lin_rows.specs.Rows.{AreTerms};
-ghost use Rattle.lin_rows.specs.Sums.{HasRoomToAdd, IsTotal, coefficient, with_more};
+ghost use Rattle.lin_rows.specs.Sums.{FitsAdded, IsTotal, coefficient, with_more};
 ghost use Rattle.round_cuts.specs.Merging.{AreProducts, IsOfSum, IsSmallTerm, products};
 ghost use Rattle.round_cuts.specs.Rounding.{column_amount, right_amount};
 
@@ -40,7 +40,7 @@ fn product(one: Term, times: i128) -> Option<Term>
     ensures small { IfSome result IsSmallTerm }
     ensures large { IsNone result → unsigned_abs (times *ℤ one.times) < 2 ^ 127 → ⊥ }
 {
-    if !Total::none().has_room(times, one.times) {
+    if !Total::none().fits_added(times, one.times) {
         return None;
     }
     Some(Term {
@@ -90,9 +90,9 @@ fn with_right(total: Total, row: &Row, times: i128) -> Option<Total>
     requires { IsTotal total }
     ensures sum { IfSome result (λ next. next ≡ with_more total (times *ℤ row.now.right)) }
     ensures total { IfSome result IsTotal }
-    ensures large { IsNone result → HasRoomToAdd total (times *ℤ row.now.right) → ⊥ }
+    ensures large { IsNone result → FitsAdded total (times *ℤ row.now.right) → ⊥ }
 {
-    if !total.has_room(times, row.right()) {
+    if !total.fits_added(times, row.right()) {
         return None;
     }
     Some(total.with_more(times, row.right()))

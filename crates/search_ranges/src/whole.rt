@@ -1,7 +1,7 @@
 // What holds where the ranges are the whole ones.
 ghost use Rattle.search_ranges.specs.Within.{LieInWhole};
 
-use lot_model::Instance;
+use lot_model::{Instance, an_instance_breaks_no_rule};
 use split_trees::plans_are_within;
 
 /// Each feasible plan of an instance lies within the whole ranges: a law, and the function does nothing.
@@ -9,6 +9,5 @@ pub fn lie_in_whole(instance: &Instance)
     ensures { LieInWhole instance.now }
 {
     plans_are_within();
-    // It reads that the instance is one.
-    let _periods = instance.periods();
+    an_instance_breaks_no_rule(instance);
 }

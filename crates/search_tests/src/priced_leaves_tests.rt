@@ -180,7 +180,7 @@ fn improved(
     let fixed = fixed_setups(alloc, instance, path)?;
     let mut rounds = started(alloc, instance, &pricing, &fixed)?;
     let reached = rounds.go_on(alloc, instance, &pricing, &fixed, None, count)?;
-    let found = rounds.number();
+    let found = rounds.number().ok_or("no number")?;
     let improved = rounds.into_improved();
     let says = rounded(found, improved.prices.scale);
     Ok((improved.prices, says, reached))

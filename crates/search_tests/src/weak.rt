@@ -32,14 +32,14 @@ fn weakly_said(node: &Node, state: &mut Option<u128>) -> Proposal
     requires state { IsWeakCost state.old }
     ensures state { IsWeakCost state.new }
     ensures kept { IsAtMost state.new state.old }
-    ensures asked { result.asked ≡ false }
+    ensures examined { result.examined ≡ false }
     ensures point { IsBelow result.says state.new → IsPoint node.now.ranges.items → ⊥ }
 {
     if open_place(&node.ranges).is_some() {
         return Proposal {
             leaf: Leaf::Point,
             says: Some(0),
-            asked: false,
+            examined: false,
             note: None,
         };
     }
@@ -47,7 +47,7 @@ fn weakly_said(node: &Node, state: &mut Option<u128>) -> Proposal
     Proposal {
         leaf: Leaf::Point,
         says: Some(1),
-        asked: false,
+        examined: false,
         note: None,
     }
 }
@@ -63,7 +63,7 @@ impl Guide<Option<u128>> for Weak {
 
     ghost IsHeir = { λ guide state rs path proposal. Unit {0} };
 
-    ghost Tells = { λ guide rs path proposal. proposal.asked ≡ true };
+    ghost IsEvident = { λ guide rs path proposal. proposal.examined ≡ true };
 
     ghost IsState = { λ guide state. IsWeakCost state };
 
@@ -127,7 +127,7 @@ impl Guide<Option<u128>> for Weak {
         Ok(Proposal {
             leaf: proposal.leaf,
             says,
-            asked: true,
+            examined: true,
             note: proposal.note,
         })
     }

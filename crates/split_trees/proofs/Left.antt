@@ -8,7 +8,7 @@ use Rattle.lot_sizing.specs.Plan.{Plan}
 use Rattle.lin_rows.specs.declared.bound.Bound.{Bound}
 use Rattle.lin_rows.specs.declared.column.Column.{Column}
 use Rattle.lin_rows.specs.declared.column.Column.TheVariants.{X, Y, S, R}
-use Rattle.lin_rows.specs.Bounds.{IsWithinBound, IsWithinNumber}
+use Rattle.lin_rows.specs.Bounds.{MeetsBound, IsWithinNumber}
 use Rattle.lin_rows.specs.Columns.{IsColumn, value_in}
 use Rattle.lin_rows.specs.Rows.{Values, whole_point}
 use Rattle.lin_rows.specs.Sums.{same_column}
@@ -23,7 +23,7 @@ once_within : (most : Bool) (number value : ℕ) → IsWithinNumber most number 
 once_within true number value = (λ is. omega (arith, is), λ is. omega (arith, is))
 once_within false number value = (λ is. omega (arith, is), λ is. omega (arith, is))
 
-pub bound_met : (v : Values) (b : Bound) → IsMet v b ↔ IsWithinBound (whole_point v) b
+pub bound_met : (v : Values) (b : Bound) → IsMet v b ↔ MeetsBound (whole_point v) b
 bound_met v b = once_within b.most b.number (v b.column)
 
 -- a quantity or a setup is a column

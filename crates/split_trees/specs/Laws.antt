@@ -5,7 +5,7 @@ use Rattle.lot_sizing.specs.Plan.{Plan, IsFeasible}
 use Rattle.lot_sizing.specs.Totals.{AreLargestTotals, IsRanking}
 use Rattle.lin_rows.specs.declared.bound.Bound.{Bound}
 use Rattle.lin_rows.specs.declared.column.Column.{Column}
-use Rattle.lin_rows.specs.Bounds.{IsWithinBound}
+use Rattle.lin_rows.specs.Bounds.{MeetsBound}
 use Rattle.lin_rows.specs.Columns.{value_in}
 use Rattle.lin_rows.specs.Rows.{Values, whole_point}
 use Rattle.certificate.specs.Counts.{node_count}
@@ -17,7 +17,7 @@ use Rattle.split_trees.specs.Trees.{EachLeaf, IsSplitTree, LiesAtOne, leaf_count
 
 -- values meet a bound where they are within it as a point of whole numbers
 abbrev pub BoundsAreMet : Type 0
-BoundsAreMet = (v : Values) (b : Bound) → IsMet v b ↔ IsWithinBound (whole_point v) b
+BoundsAreMet = (v : Values) (b : Bound) → IsMet v b ↔ MeetsBound (whole_point v) b
 
 -- a number is in what a path leaves of a range where it is in the range and meets each bound on the column
 abbrev pub NumbersAreLeft : Type 0

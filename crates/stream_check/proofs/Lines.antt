@@ -9,7 +9,7 @@ use Rattle.cert_lines.specs.declared.line.CertLine.TheVariants as line
 use Rattle.cert_lines.specs.Line.{HasLine, later_line}
 use Rattle.cert_lines.specs.Shapes.{BlockCut, BranchLine, CutLine, CutShape, EndLine, FarkasLeaf, FarkasLine, LeafShape, LineShape, LinearLeaf, LinearLine, LsCut, PartLine, PointLeaf, PointLine, PriceCut, RoundCut, RoundLine, cut_first, cut_parts, leaf_first, leaf_parts, leaf_shape, line_shape}
 use Rattle.certificate.specs.Shapes.{End, Split, TreeShape}
-use Rattle.certificate.specs.Needs.{Takes, a_cut, a_part, a_tree, the_end}
+use Rattle.certificate.specs.Dues.{Takes, a_cut, a_part, a_tree, the_end}
 use Rattle.certificate.specs.Values.{Values, part_values, tree_values, value_text}
 use Rattle.certificate.proofs.Needed.{not_cut, not_end, not_tree}
 use Rattle.cert_checker.specs.Cuts.{HasDivisor}

@@ -12,7 +12,7 @@ use Rattle.cert_lines.specs.declared.parts.Claim.{Claim}
 use Rattle.split_trees.specs.Paths.{AreChoices, AreMet, IsMet, at_least, at_most}
 use Rattle.split_trees.specs.Ranges.{IsChoice}
 use Rattle.split_trees.specs.Trees.{high_path, low_path}
-use Rattle.stream_check.specs.Nodes.{AreCovered, AreSmall, IsSafe, MeetsOne, later, later_from, needed, other_side}
+use Rattle.stream_check.specs.Nodes.{AreCovered, AreSmall, IsSafe, MeetsOne, later, later_from, trees_due, other_side}
 
 later_from_more : (before path : List Bound) (b : Bound) → later_from before (path ++ (b ∷ [])) ≡ other_side b.most (before ++ path) b ++ later_from before path
 later_from_more before [] b =
@@ -32,13 +32,13 @@ pub later_high : (path : List Bound) (b : Bound) → b.most ≡ false → later 
 later_high path b is = later_more path b ∙ ap (λ most. other_side most path b ++ later path) is
 
 -- after a low side its high side is
-pub later_low : (path : List Bound) (b : Bound) → b.most ≡ true → later (path ++ (b ∷ [])) ≡ needed true (path ++ (at_least b.column (b.number + 1) ∷ []))
+pub later_low : (path : List Bound) (b : Bound) → b.most ≡ true → later (path ++ (b ∷ [])) ≡ trees_due true (path ++ (at_least b.column (b.number + 1) ∷ []))
 later_low path b is =
     let over = at_least b.column (b.number + 1) in
     later_more path b ∙ ap (λ most. other_side most path b ++ later path) is ∙ ap (λ ps. (path ++ (over ∷ [])) ∷ ps) (sym (later_more path over))
 
 -- both sides of a branch are
-pub needed_sides : (path : List Bound) (c : Column) (n : ℕ) → needed true (low_path path c n) ≡ low_path path c n ∷ high_path path c n ∷ later path
+pub needed_sides : (path : List Bound) (c : Column) (n : ℕ) → trees_due true (low_path path c n) ≡ low_path path c n ∷ high_path path c n ∷ later path
 needed_sides path c n = ap (λ ps. low_path path c n ∷ ps) (later_more path (at_most c n))
 
 -- ---- plans
@@ -50,7 +50,7 @@ meets_side v path c n met =
     (cases_lt (v c) (n + 1))
 
 -- values that meet the path to a branch meet that to one of its sides
-pub covered_sides : (m : Problem) (claim : Claim) (path : List Bound) (c : Column) (n : ℕ) → AreCovered m claim (needed true path) → AreCovered m claim (needed true (low_path path c n))
+pub covered_sides : (m : Problem) (claim : Claim) (path : List Bound) (c : Column) (n : ℕ) → AreCovered m claim (trees_due true path) → AreCovered m claim (trees_due true (low_path path c n))
 covered_sides m claim path c n covered = λ p feasible.
     let v = value_in p in
     subst (λ paths. IsSafe m claim p ⊎ MeetsOne v paths) (sym (needed_sides path c n))
@@ -58,12 +58,12 @@ covered_sides m claim path c n covered = λ p feasible.
     ⊎_elim (λ met. ⊎_elim (λ low. inl low) (λ high. inr (inl high)) (meets_side v path c n met)) (λ more. inr (inr more)) meets)) (covered p feasible))
 
 -- a leaf that says enough is done
-pub covered_leaf : (m : Problem) (claim : Claim) (path : List Bound) → ((p : Plan) → IsFeasible m p → AreMet (value_in p) path → IsSafe m claim p) → AreCovered m claim (needed true path) → AreCovered m claim (later path)
+pub covered_leaf : (m : Problem) (claim : Claim) (path : List Bound) → ((p : Plan) → IsFeasible m p → AreMet (value_in p) path → IsSafe m claim p) → AreCovered m claim (trees_due true path) → AreCovered m claim (later path)
 covered_leaf m claim path safe covered = λ p feasible.
     ⊎_elim (λ is. inl is) (λ meets. ⊎_elim (λ met. inl (safe p feasible met)) (λ more. inr more) meets) (covered p feasible)
 
 -- at first one path, without bounds
-pub covered_first : (m : Problem) (claim : Claim) → AreCovered m claim (needed true [])
+pub covered_first : (m : Problem) (claim : Claim) → AreCovered m claim (trees_due true [])
 covered_first m claim = λ p feasible. inr (inl (All-nil (IsMet (value_in p))))
 
 -- in the end no path is left

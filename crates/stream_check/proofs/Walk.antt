@@ -21,7 +21,7 @@ use Rattle.stream_check.specs.declared.fault.StreamFault.{StreamFault}
 use Rattle.stream_check.specs.declared.fault.StreamFault.TheVariants as stream
 use Rattle.stream_check.specs.declared.units.Node.{Node}
 use Rattle.stream_check.specs.declared.units.Node.TheVariants as node
-use Rattle.stream_check.specs.Nodes.{AreLeft, AreShort, Decide, IsBranchStop, IsFirstOf, IsLeafStop, Splits, later, needed, node_values, trees_values}
+use Rattle.stream_check.specs.Nodes.{AreLeft, AreShort, Decide, IsBranchStop, IsFirstOf, IsLeafStop, Splits, later, trees_due, node_values, trees_values}
 use Rattle.stream_check.specs.Passes.{Awaits, IsRefusal}
 use Rattle.stream_check.proofs.Forest.{decide_leaf, decide_node, decide_range, decide_sides, lines_first, lines_sides, short_branch, short_sides}
 use Rattle.stream_check.proofs.Stack.{needed_sides}
@@ -55,19 +55,19 @@ module _ (m : Problem) (rows : List LinRow) (claim : Claim) (whole : TreeShape) 
       let (more, first_of, next) = read t (trees_values ts ++ EndLine ∷ []) (awaits_same (lines_first t ts) awaits) in
       record { tree = t; trees = ts; more = more; short = short; decide = decide; first_of = first_of; awaits = next }
 
-  pub node_left : AreLeft m rows claim whole first (needed true path) version old name a
+  pub node_left : AreLeft m rows claim whole first (trees_due true path) version old name a
       → ((t : TreeShape) (ls : Values) → Awaits old name a version (tree_values t ++ ls) → (more : Values) × IsFirstOf n t more × Awaits new name b version (more ++ ls))
       → IsNodeLeft m rows claim whole first path version new name b a.number n
   node_left left read = left_trees left.trees left.short left.awaits left.decide read
 
   -- ---- a branch
-  pub branch_on : (column : Column) (at : ℕ) (down : List Bound) → n ≡ node.Branch column at → down ≡ low_path path column at → Splits m path column at → b.number ≡ a.number + length (node_values n) → IsNodeLeft m rows claim whole first path version new name b a.number n → AreLeft m rows claim whole first (needed true down) version new name b
+  pub branch_on : (column : Column) (at : ℕ) (down : List Bound) → n ≡ node.Branch column at → down ≡ low_path path column at → Splits m path column at → b.number ≡ a.number + length (node_values n) → IsNodeLeft m rows claim whole first path version new name b a.number n → AreLeft m rows claim whole first (trees_due true down) version new name b
   branch_on column at down is is_down splits number left =
       let (low, high, whole_is, more_is) = first_branch left.tree column at left.more (subst (λ x. IsFirstOf x left.tree left.more) is left.first_of) in
       let line : b.number ≡ a.number + 1 = number ∙ ap (λ x. a.number + length (node_values x)) is in
       let short : AreShort (path ∷ later path) (Split column at low high ∷ left.trees) = subst (λ t. AreShort (path ∷ later path) (t ∷ left.trees)) whole_is left.short in
       let decide : Decide m rows claim whole first (path ∷ later path) (Split column at low high ∷ left.trees) a.number = subst (λ t. Decide m rows claim whole first (path ∷ later path) (t ∷ left.trees) a.number) whole_is left.decide in
-      subst (λ paths. AreLeft m rows claim whole first paths version new name b) (sym (ap (needed true) is_down ∙ needed_sides path column at)) (record {
+      subst (λ paths. AreLeft m rows claim whole first paths version new name b) (sym (ap (trees_due true) is_down ∙ needed_sides path column at)) (record {
         trees = low ∷ high ∷ left.trees;
         short = short_sides path (later path) column at low high left.trees short;
         awaits = awaits_same (lines_sides low high left.trees left.more more_is) left.awaits;
@@ -120,7 +120,7 @@ module _ (m : Problem) (rows : List LinRow) (claim : Claim) (whole : TreeShape) 
 
 -- ---- the whole tree
 -- at first it is left
-pub whole_left : (m : Problem) (rows : List LinRow) (claim : Claim) (tree : TreeShape) (version : ℕ) (shelf : Shelved) (name : List ℕ) (r : LineReader) → longest_path tree ≤ MAX_BRANCHES → Awaits shelf name r version (tree_values tree ++ EndLine ∷ []) → AreLeft m rows claim tree r.number (needed true []) version shelf name r
+pub whole_left : (m : Problem) (rows : List LinRow) (claim : Claim) (tree : TreeShape) (version : ℕ) (shelf : Shelved) (name : List ℕ) (r : LineReader) → longest_path tree ≤ MAX_BRANCHES → Awaits shelf name r version (tree_values tree ++ EndLine ∷ []) → AreLeft m rows claim tree r.number (trees_due true []) version shelf name r
 whole_left m rows claim tree version shelf name r short awaits = record {
   trees = tree ∷ [];
   short = (omega (arith, short), tt);

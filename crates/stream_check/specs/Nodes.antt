@@ -64,9 +64,9 @@ abbrev pub later : List Bound → List (List Bound)
 later path = later_from [] path
 
 -- the paths to all trees that are needed, where one is
-abbrev pub needed : Bool → List Bound → List (List Bound)
-needed true path = path ∷ later path
-needed false path = []
+abbrev pub trees_due : Bool → List Bound → List (List Bound)
+trees_due true path = path ∷ later path
+trees_due false path = []
 
 -- the high side of a branch has a number of 64 bits
 abbrev pub AreSmall : List Bound → Type 0

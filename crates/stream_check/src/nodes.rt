@@ -18,7 +18,7 @@ ghost use Rattle.cert_checker.specs.Named.{IsReadyFor};
 ghost use Rattle.cert_checker.specs.Leaves.{HasDenominator};
 ghost use Rattle.cert_checker.specs.Checks.{LeafIsGood, TreeIsGood};
 ghost use Rattle.cert_stream.specs.Reader.{IsSound, left_of};
-ghost use Rattle.stream_check.specs.Nodes.{AreCovered, AreLeftOf, AreSmall, IsBranchStop, IsLeafStop, IsSafe, Splits, TreeIsRefused, later, needed};
+ghost use Rattle.stream_check.specs.Nodes.{AreCovered, AreLeftOf, AreSmall, IsBranchStop, IsLeafStop, IsSafe, Splits, TreeIsRefused, later, trees_due};
 ghost use Rattle.stream_check.specs.Passes.{Gives, HasLeft, IsStep};
 
 use crate::StreamFault;
@@ -68,7 +68,7 @@ fn go_down(
 // Goes on from a leaf to the high side of the last branch whose low side was done, if there is one.
 fn go_over(path: &mut Vec<Bound>) -> Result<bool, AllocError>
     requires small { AreSmall path.old.items }
-    ensures needed { IfOk result (λ more. needed more path.new.items ≡ later path.old.items) }
+    ensures trees_due { IfOk result (λ more. trees_due more path.new.items ≡ later path.old.items) }
     ensures choices { OnOk result ((m : Problem) → AreChoices m path.old.items → AreChoices m path.new.items) }
     ensures small { OnOk result (AreSmall path.new.items) }
 {
@@ -147,11 +147,11 @@ fn check_node<S: Shelf>(
     ensures small { OnOk result (AreSmall path.new.items) }
     ensures left { OnOk result (left_of reader.new < left_of reader.old) }
     ensures covered { IfOk result (λ more.
-        AreCovered given.entry.instance.now given.entry.claim (needed true path.old.items)
-        → AreCovered given.entry.instance.now given.entry.claim (needed more path.new.items)) }
+        AreCovered given.entry.instance.now given.entry.claim (trees_due true path.old.items)
+        → AreCovered given.entry.instance.now given.entry.claim (trees_due more path.new.items)) }
     ensures awaited { (whole : TreeShape) (first : ℕ)
-        → AreLeftOf given.entry text.entry whole first (needed true path.old.items) (S.shown shelf.old) reader.old
-        → Gives (λ more. AreLeftOf given.entry text.entry whole first (needed more path.new.items)
+        → AreLeftOf given.entry text.entry whole first (trees_due true path.old.items) (S.shown shelf.old) reader.old
+        → Gives (λ more. AreLeftOf given.entry text.entry whole first (trees_due more path.new.items)
         (S.shown shelf.new) reader.new)
         (TreeIsRefused given.entry.instance.now given.entry.rows.now given.entry.claim whole first) result }
     ensures step { IsStep text.entry.name.now (S.shown shelf.old) (S.shown shelf.new) reader.old reader.new result }

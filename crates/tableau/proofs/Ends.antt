@@ -12,8 +12,8 @@ use Rattle.algebra.proofs.Claims.{le2, le3, le5, same3, same4, same5, so, from, 
 use Rattle.algebra.proofs.Sums.{sum-add, sum-le, sum-nonneg, sum-only, sum-same, sum-scale, sum-split, sum-sub, sum-swap, sum-zero}
 use Rattle.tableau.specs.Program.{Program, column_count, cost_at, entry_at, right_at, row_count, sum_ℚ, zero_ℚ}
 use Rattle.tableau.specs.Dictionary.{Dictionary, Meets, Solves, basic_at, cell, cost_of, height, nonbasic_at, slack_of, width}
-use Rattle.tableau.specs.Run.{IsLast, IsNegative}
-use Rattle.tableau.specs.Meaning.{AreBest, AreEmpty, HasNames, IsDictionaryOf, coefficient_at, column_sum, cost_sum, opposite_at, right_sum, value_at}
+use Rattle.tableau.specs.Run.{IsPrimalFeasible, IsNegative}
+use Rattle.tableau.specs.Meaning.{AreBest, AreEmpty, IsBasis, IsDictionaryOf, coefficient_at, column_sum, cost_sum, opposite_at, right_sum, value_at}
 use Rattle.tableau.proofs.Numbers.{if_other, if_same, sum_one}
 
 le_self : (a b : ℚ) → a ≡ b → a ≤ℚ b
@@ -22,7 +22,7 @@ le_self a b e = subst (λ x. a ≤ℚ x) e (Q.le_refl a)
 if_le : (a b : ℕ) (x : ℚ) → (a ≡ b → zero_ℚ ≤ℚ x) → zero_ℚ ≤ℚ (if a == b then x else zero_ℚ)
 if_le a b x le = ⊎_elim (λ is. subst (λ z. zero_ℚ ≤ℚ z) (sym (if_same a b x zero_ℚ is)) (le is)) (λ apart. le_self zero_ℚ _ (sym (if_other a b x zero_ℚ apart))) (cases_eq a b)
 
-module _ (p : Program) (d : Dictionary) (names : HasNames p d) where
+module _ (p : Program) (d : Dictionary) (names : IsBasis p d) where
   -- the number of variables but the cost
   abbrev all : ℕ
   all = column_count p + row_count p
@@ -194,7 +194,7 @@ module _ (p : Program) (w : ℕ → ℚ) (a b : ℚ) (identity : (u : ℕ → �
 
 -- ---- the last dictionary
 module _ (p : Program) (d : Dictionary) (is : IsDictionaryOf p d) where
-  abbrev names : HasNames p d
+  abbrev names : IsBasis p d
   names = is.names
 
   -- the values of the variables where the nonbasic ones are 0
@@ -204,7 +204,7 @@ module _ (p : Program) (d : Dictionary) (is : IsDictionaryOf p d) where
   corner_is : (v : ℕ) → 1 ≤ v → corner p d names v ≡ value_at d v
   corner_is v low = if_other v 0 (whole (pos 1)) (value_at d v) (λ e. omega (arith, e, low))
 
-  value_le : IsLast d → (v : ℕ) → v < cost_of p → zero_ℚ ≤ℚ value_at d v
+  value_le : IsPrimalFeasible d → (v : ℕ) → v < cost_of p → zero_ℚ ≤ℚ value_at d v
   value_le last v low = sum-nonneg rational_ordered (height d) (λ i. if basic_at d i == v then cell d i 0 else zero_ℚ) (λ i high. if_le (basic_at d i) v (cell d i 0) (λ e. ⊎_elim (λ none. absurd (omega (arith, e, low, names.cost, ap (basic_at d) none))) (λ some. last i (omega (arith, some)) high) (cases_eq i 0)))
 
   coefficient_le : (v : ℕ) → 1 ≤ v → zero_ℚ ≤ℚ coefficient_at d 0 v
@@ -216,7 +216,7 @@ module _ (p : Program) (d : Dictionary) (is : IsDictionaryOf p d) where
       same4 rational_ring (λ t c b a. from (con (negsuc 0)) c (b ⊗ a ⊕ t) (so t (con (pos 1) ⊗ c ⊕ (con (pos 0) ⊖ b) ⊗ a))) refl (sum_ℚ (column_count p + row_count p) (λ v. coefficient_at d 0 (v + 1) *ℚ u (v + 1))) (u (cost_of p)) (cell d 0 0) (u 0)
       (ap u (sym names.cost) ∙ is.same.solves u meets 0 (omega (arith, names.rows)) ∙ row_split p d names 0 u)
 
-  point_rows : IsLast d → (k : ℕ) → k < row_count p → right_at p k ≤ℚ sum_ℚ (column_count p) (λ c. entry_at p k c *ℚ value_at d (c + 1))
+  point_rows : IsPrimalFeasible d → (k : ℕ) → k < row_count p → right_at p k ≤ℚ sum_ℚ (column_count p) (λ c. entry_at p k c *ℚ value_at d (c + 1))
   point_rows last k less =
       le3 rational_ordered (λ v s r. from 1 (con (pos 0)) v (from_same (con (pos 1)) v (s ⊖ r ⊗ con (pos 1)) (so r s))) refl (value_at d (slack_of p k)) (sum_ℚ (column_count p) (λ c. entry_at p k c *ℚ value_at d (c + 1))) (right_at p k)
       (value_le last (slack_of p k) (omega (arith, less)))
@@ -227,7 +227,7 @@ module _ (p : Program) (d : Dictionary) (is : IsDictionaryOf p d) where
       sum-same rational_ring (column_count p) (λ c. cost_at p c *ℚ value_at d (c + 1)) (λ c. cost_at p c *ℚ corner p d names (c + 1)) (λ c small. ap (λ x. cost_at p c *ℚ x) (sym (corner_is (c + 1) (omega arith))))
       ∙ sym at_corner.cost ∙ corner_is (cost_of p) (omega arith) ∙ ap (value_at d) (sym names.cost) ∙ basic_value p d names 0 (omega (arith, names.rows))
 
-  pub last_is_best : IsLast d → AreBest p (λ c. value_at d (c + 1)) (λ k. coefficient_at d 0 (slack_of p k)) (cell d 0 0)
+  pub last_is_best : IsPrimalFeasible d → AreBest p (λ c. value_at d (c + 1)) (λ k. coefficient_at d 0 (slack_of p k)) (cell d 0 0)
   last_is_best last = record {
     feasible = record { columns = λ c less. value_le last (c + 1) (omega (arith, less)); rows = point_rows last };
     cost = point_cost;

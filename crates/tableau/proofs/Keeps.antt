@@ -16,7 +16,7 @@ use Rattle.algebra.proofs.Sums.{sum-same, sum-first}
 use Rattle.tableau.specs.Program.{Program, column_count, cost_at, entry_at, right_at, row_count, sum_ℚ, zero_ℚ}
 use Rattle.tableau.specs.Dictionary.{Dictionary, IsPivoted, IsStart, Meets, Solves, basic_at, cell, cost_of, factor_at, height, nonbasic_at, width}
 use Rattle.tableau.specs.Run.{IsCandidate, IsPositive, Rule, Runs, ratio_at}
-use Rattle.tableau.specs.Meaning.{HasNames, IsDictionaryOf, IsDual, SaysTheSame}
+use Rattle.tableau.specs.Meaning.{IsBasis, IsDictionaryOf, IsDualFeasible, SaysTheSame}
 use Rattle.tableau.proofs.Pivots.{Turn, solves_back, solves_on}
 use Rattle.tableau.specs.Laws.{AreKept}
 
@@ -65,7 +65,7 @@ module _ (p : Program) (d : Dictionary) (start : IsStart p d) where
   start_row : (i : ℕ) → i < height d → ((i ≡ 0) × (basic_at d i ≡ cost_of p)) ⊎ ((1 ≤ i) × (basic_at d i ≡ column_count p + i))
   start_row i high = ⊎_elim (λ none. inl (none, ap (basic_at d) none ∙ start.first)) (λ some. inr (omega (arith, some), start_basic i (omega (arith, some)) high)) (cases_eq i 0)
 
-  pub start_names : HasNames p d
+  pub start_names : IsBasis p d
   start_names = record {
     rows = start.rows;
     columns = start.columns;
@@ -121,7 +121,7 @@ module _ (p : Program) (d : Dictionary) (start : IsStart p d) where
   cost_le : (c : ℕ) → zero_ℚ ≤ℚ cost_at p c
   cost_le c = whole-le (pos 0) _ (omega (arith, ints))
 
-  start_dual : IsDual d
+  start_dual : IsDualFeasible d
   start_dual t low high =
       let is : t - 1 + 1 ≡ t = omega (arith, low) in
       subst (λ u. zero_ℚ ≤ℚ cell d 0 u) is (subst (λ z. zero_ℚ ≤ℚ z) (sym (start.costs (t - 1) (omega (arith, low, high, start.columns)))) (cost_le (t - 1)))
@@ -151,7 +151,7 @@ module _ (p : Program) (d e : Dictionary) (k j : ℕ) (old : IsDictionaryOf p d)
   column_high : (t : ℕ) → t < width e → t < width d
   column_high t high = omega (arith, high, piv.columns)
 
-  new_names : HasNames p e
+  new_names : IsBasis p e
   new_names = record {
     rows = omega (arith, piv.rows, old.names.rows);
     columns = omega (arith, piv.columns, old.names.columns);
@@ -193,7 +193,7 @@ module _ (p : Program) (d e : Dictionary) (k j : ℕ) (old : IsDictionaryOf p d)
         le4 rational_ordered (λ c f r i. from_times r f (c ⊗ i) (from_same c (i ⊗ r) (con (pos 1)) (so (con (pos 0)) (c ⊖ f ⊗ r)))) refl (cell d 0 t) (factor_at d k j 0) (cell d k t) (inv_ℚ (cell d k t)) (positive_le (cell d k t) some) (least t (record { low = low; high = high; positive = some })) one)
         (is_positive (cell d k t))
 
-    new_dual : IsDual e
+    new_dual : IsDualFeasible e
     new_dual t low high =
         ⊎_elim
         (λ is. subst (λ u. zero_ℚ ≤ℚ cell e 0 u) (sym is) (subst (λ z. zero_ℚ ≤ℚ z) (sym (piv.pivot_column 0 (omega (arith, k_high)) (omega (arith, k_low)))) factor_le))

@@ -12,8 +12,8 @@ use Rattle.tableau.specs.declared.outcome.Outcome.{Outcome}
 use Rattle.tableau.specs.declared.outcome.Outcome.TheVariants as outcome
 use Rattle.tableau.specs.Program.{Program, column_count, row_count, sum_ℚ, zero_ℚ}
 use Rattle.tableau.specs.Dictionary.{Dictionary, IsPivoted, IsStart, basic_at, cell, factor_at, height, nonbasic_at, slack_of, width}
-use Rattle.tableau.specs.Run.{IsCandidate, IsEntering, IsFittingStep, IsLast, IsLeaving, IsNegative, IsPositive, IsStep, OtherFits, RowFits, Runs, UpdateFits, ratio_at}
-use Rattle.tableau.specs.Meaning.{HasNames, coefficient_at, opposite_at, value_at}
+use Rattle.tableau.specs.Run.{IsCandidate, IsEntering, IsFittingStep, IsPrimalFeasible, IsLeaving, IsNegative, IsPositive, IsStep, OtherFits, RowFits, Runs, UpdateFits, ratio_at}
+use Rattle.tableau.specs.Meaning.{IsBasis, coefficient_at, opposite_at, value_at}
 use Rattle.tableau.specs.Steps.{HasNoneTo}
 use Rattle.tableau.specs.Outcomes.{GoesOn, IsEmptyOf, IsLeastOf, IsOutcome, IsReached, IsRefused, number_at}
 use Rattle.tableau.specs.Laws.{IsAlike, IsSameOutcome}
@@ -120,15 +120,15 @@ module _ (d e : Dictionary) (a : IsAlike d e) where
           (cases_eq t j)
 
 -- ---- one row leaves, and one column enters
-pub one_leaving : (p : Program) (d : Dictionary) → HasNames p d → (k h : ℕ) → IsLeaving d k → IsLeaving d h → k ≡ h
+pub one_leaving : (p : Program) (d : Dictionary) → IsBasis p d → (k h : ℕ) → IsLeaving d k → IsLeaving d h → k ≡ h
 one_leaving p d names k h a b = names.rows_apart k h a.high b.high (omega (arith, a.least h b.low b.high b.negative, b.least k a.low a.high a.negative))
 
-one_entering : (p : Program) (d : Dictionary) → HasNames p d → (k j t : ℕ) → IsEntering d k j → IsEntering d k t → j ≡ t
+one_entering : (p : Program) (d : Dictionary) → IsBasis p d → (k j t : ℕ) → IsEntering d k j → IsEntering d k t → j ≡ t
 one_entering p d names k j t a b =
     let same : ratio_at d k j ≡ ratio_at d k t = Q.le_antisym (ratio_at d k j) (ratio_at d k t) (a.least t b.candidate) (b.least j a.candidate) in
     names.columns_apart j t a.candidate.high b.candidate.high (omega (arith, a.ties t b.candidate same, b.ties j a.candidate (sym same)))
 
-steps_alike : (p : Program) (d e f g : Dictionary) → HasNames p d → IsAlike d e → IsStep IsFittingStep d f → IsStep IsFittingStep e g → IsAlike f g
+steps_alike : (p : Program) (d e f g : Dictionary) → IsBasis p d → IsAlike d e → IsStep IsFittingStep d f → IsStep IsFittingStep e g → IsAlike f g
 steps_alike p d e f g names a s t =
     let row : s.row ≡ t.row = one_leaving p d names s.row t.row s.chosen.step.leaving (leaving_alike d e a t.row t.chosen.step.leaving) in
     let theirs : IsEntering d s.row t.column = entering_alike d e a s.row t.column s.chosen.step.leaving.high (subst (λ k. IsEntering e k t.column) (sym row) t.chosen.step.entering) in
@@ -157,10 +157,10 @@ StandsStill d = (k t : ℕ) → IsLeaving d k → IsCandidate d k t → ⊥
 step_goes_on : (d e : Dictionary) → IsStep IsFittingStep d e → GoesOn d
 step_goes_on d e s = record { row = s.row; leaving = s.chosen.step.leaving; column = s.column; candidate = s.chosen.step.entering.candidate }
 
-last_stands : (d : Dictionary) → IsLast d → StandsStill d
+last_stands : (d : Dictionary) → IsPrimalFeasible d → StandsStill d
 last_stands d last k t leaving candidate = leaving.negative (last k leaving.low leaving.high)
 
-empty_stands : (p : Program) (d : Dictionary) → HasNames p d → (k : ℕ) → IsLeaving d k → HasNoneTo d k (width d) → StandsStill d
+empty_stands : (p : Program) (d : Dictionary) → IsBasis p d → (k : ℕ) → IsLeaving d k → HasNoneTo d k (width d) → StandsStill d
 empty_stands p d names k mine none h t leaving candidate =
     let c : IsCandidate d k t = subst (λ i. IsCandidate d i t) (one_leaving p d names h k leaving mine) candidate in
     none t c.high c
@@ -213,7 +213,7 @@ module _ (d e : Dictionary) (a : IsAlike d e) (k j i t : ℕ) (k_high : k < heig
       (λ same. row_fits (row same), λ apart. other_fits (other apart))
 
 -- no fitting step is made where something is refused
-refused_stays : (p : Program) (d e f : Dictionary) → HasNames p d → IsAlike d e → (row column : ℕ) → IsRefused d row column → IsStep IsFittingStep e f → ⊥
+refused_stays : (p : Program) (d e f : Dictionary) → IsBasis p d → IsAlike d e → (row column : ℕ) → IsRefused d row column → IsStep IsFittingStep e f → ⊥
 refused_stays p d e f names a row column r s = ⊎_elim
     (λ ratio.
     let (t, refused, number, place) = ratio in
@@ -327,7 +327,7 @@ module _ (p : Program) (pivots : ℕ) where
       let row : a.row ≡ b.row = one_leaving p d (run_is p r.made d r.run).names a.row b.row a.leaving (leaving_alike d e alike b.row b.leaving) in
       same_lists (row_count p) ys ws a.rows b.rows (λ k high. a.multipliers k high ∙ opposite_alike d e alike a.row (slack_of p k) a.leaving.high ∙ ap (λ i. opposite_at e i (slack_of p k)) row ∙ sym (b.multipliers k high))
 
-  least_empty : (d e : Dictionary) (ys : List ℚ) → IsReached p pivots d → IsReached p pivots e → IsLast d → IsEmptyOf p e ys → ⊥
+  least_empty : (d e : Dictionary) (ys : List ℚ) → IsReached p pivots d → IsReached p pivots e → IsPrimalFeasible d → IsEmptyOf p e ys → ⊥
   least_empty d e ys r s last b =
       let alike : IsAlike d e = alike_ends p r.made s.made d e r.run (standing_ends d (last_stands d last)) s.run (standing_ends e (empty_still e ys s b)) in
       let l : IsLeaving d b.row = leaving_alike d e alike b.row b.leaving in

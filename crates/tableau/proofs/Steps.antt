@@ -12,7 +12,7 @@ use Rattle.tableau.proofs.Numbers.{if_other, if_same}
 use Rattle.algebra.proofs.Rings.{con, ◌⊖◌, ◌⊜◌, ring1}
 use Rattle.tableau.specs.Program.{Program, column_count, cost_at, entry_at, right_at, row_count, sum_ℚ, zero_ℚ}
 use Rattle.tableau.specs.Dictionary.{Dictionary, basic_at, cell, height, nonbasic_at, slack_of, width}
-use Rattle.tableau.specs.Run.{IsFittingStep, IsLast, IsLeaving, IsPositive, IsStep, Runs}
+use Rattle.tableau.specs.Run.{IsFittingStep, IsPrimalFeasible, IsLeaving, IsPositive, IsStep, Runs}
 use Rattle.tableau.specs.Meaning.{AreBest, AreEmpty, IsDictionaryOf, coefficient_at, column_sum, opposite_at, right_sum, value_at}
 use Rattle.tableau.proofs.Keeps.{KeepsDual}
 use Rattle.tableau.specs.Steps.{HasNoneTo, HasSameNames}
@@ -157,7 +157,7 @@ column_place c = omega arith
 pub same_dictionary : (p : Program) (n : ℕ) (d e : Dictionary) → e ≡ d → Runs IsFittingStep p n d → Runs IsFittingStep p n e
 same_dictionary p n d e is run = subst (Runs IsFittingStep p n) (sym is) run
 
-pub least_given : (p : Program) (pivots n columns rows : ℕ) (d : Dictionary) (o : Outcome) → Runs IsFittingStep p n d → n ≤ pivots → IsLast d → columns ≡ column_count p → rows ≡ row_count p → GivesLeast d columns rows o → IsOutcome p pivots o × IsCertain p o
+pub least_given : (p : Program) (pivots n columns rows : ℕ) (d : Dictionary) (o : Outcome) → Runs IsFittingStep p n d → n ≤ pivots → IsPrimalFeasible d → columns ≡ column_count p → rows ≡ row_count p → GivesLeast d columns rows o → IsOutcome p pivots o × IsCertain p o
 least_given p pivots n columns rows d (outcome.Least point multipliers value) run few last same_columns same_rows given =
     let least : IsLeastOf p d point.items multipliers.items value = record {
       last = last;

@@ -6,7 +6,7 @@ use Rattle.tableau.specs.declared.outcome.Outcome.{Outcome}
 use Rattle.tableau.specs.declared.outcome.Outcome.TheVariants as outcome
 use Rattle.tableau.specs.Program.{Program, column_count, row_count}
 use Rattle.tableau.specs.Dictionary.{Dictionary, width}
-use Rattle.tableau.specs.Run.{IsFittingStep, IsLast, IsLeaving, IsStep, Runs}
+use Rattle.tableau.specs.Run.{IsFittingStep, IsPrimalFeasible, IsLeaving, IsStep, Runs}
 use Rattle.tableau.specs.Steps.{HasNoneTo}
 use Rattle.tableau.specs.Outcomes.{GivesEmpty, GivesLeast, GoesOn, IsCertain, IsOutcome}
 use Rattle.tableau.specs.Stepwise.{DoesSay, HasEnded, IsAtEnd, IsEndAfter, IsEndOf, State, TellsEnd, at}
@@ -53,7 +53,7 @@ empty_ends p columns rows i t o to leaving same_columns same_rows given =
     let both = empty_given p to.made to.made columns rows i t o to.run (omega arith) leaving (end_none p t to i leaving) same_columns same_rows given in
     (end_of_empty p to.made columns rows i t o given both.0, both.1)
 
-pub least_ends : (p : Program) (columns rows : ℕ) (t : Dictionary) (o : Outcome) → HasRunTo p t → IsLast t → columns ≡ column_count p → rows ≡ row_count p → GivesLeast t columns rows o → IsEndOf p o × IsCertain p o
+pub least_ends : (p : Program) (columns rows : ℕ) (t : Dictionary) (o : Outcome) → HasRunTo p t → IsPrimalFeasible t → columns ≡ column_count p → rows ≡ row_count p → GivesLeast t columns rows o → IsEndOf p o × IsCertain p o
 least_ends p columns rows t o to last same_columns same_rows given =
     let both = least_given p to.made to.made columns rows t o to.run (omega arith) last same_columns same_rows given in
     (end_of_least p to.made columns rows t o given both.0, both.1)
@@ -73,7 +73,7 @@ pub empty_after : (p : Program) (made columns rows i : ℕ) (t : Dictionary) (o 
 empty_after p made columns rows i t o to leaving same_columns same_rows given =
     (empty_given p made made columns rows i t o to.run (omega arith) leaving (end_none p t (record { made = made; run = to.run; ended = to.ended }) i leaving) same_columns same_rows given).0
 
-pub least_after : (p : Program) (made columns rows : ℕ) (t : Dictionary) (o : Outcome) → HasRunAfter p made t → IsLast t → columns ≡ column_count p → rows ≡ row_count p → GivesLeast t columns rows o → IsOutcome p made o
+pub least_after : (p : Program) (made columns rows : ℕ) (t : Dictionary) (o : Outcome) → HasRunAfter p made t → IsPrimalFeasible t → columns ≡ column_count p → rows ≡ row_count p → GivesLeast t columns rows o → IsOutcome p made o
 least_after p made columns rows t o to last same_columns same_rows given = (least_given p made made columns rows t o to.run (omega arith) last same_columns same_rows given).0
 
 -- an outcome of an end is that of a run that may make more pivots

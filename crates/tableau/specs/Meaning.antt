@@ -7,7 +7,7 @@ use Rattle.tableau.specs.Run.{IsPositive}
 
 -- ---- the invariant, whatever the rule
 -- the basic variables are a basis: each variable has one place; the cost is basic in row 0, and the constants stand in column 0
-pub record HasNames (p : Program) (d : Dictionary) : Type 0 where
+pub record IsBasis (p : Program) (d : Dictionary) : Type 0 where
   pub rows : height d ≡ row_count p + 1
   pub columns : width d ≡ column_count p + 1
   pub cost : basic_at d 0 ≡ cost_of p
@@ -26,13 +26,13 @@ pub record SaysTheSame (p : Program) (d : Dictionary) : Type 0 where
   pub meets : (x : ℕ → ℚ) → Solves d x → Meets p x
 
 -- no reduced cost is negative: the basis is dual feasible
-abbrev pub IsDual : Dictionary → Type 0
-IsDual d = (t : ℕ) → 1 ≤ t → t < width d → zero_ℚ ≤ℚ cell d 0 t
+abbrev pub IsDualFeasible : Dictionary → Type 0
+IsDualFeasible d = (t : ℕ) → 1 ≤ t → t < width d → zero_ℚ ≤ℚ cell d 0 t
 
 pub record IsDictionaryOf (p : Program) (d : Dictionary) : Type 0 where
-  pub names : HasNames p d
+  pub names : IsBasis p d
   pub same : SaysTheSame p d
-  pub dual : IsDual d
+  pub dual : IsDualFeasible d
 
 -- ---- what the end of a run says
 -- the value of a variable where the nonbasic ones are 0

@@ -7,7 +7,7 @@ use Rattle.tableau.specs.declared.outcome.Outcome.{Outcome}
 use Rattle.tableau.specs.declared.outcome.Outcome.TheVariants as outcome
 use Rattle.tableau.specs.Program.{Program, column_count, row_count, zero_ℚ}
 use Rattle.tableau.specs.Dictionary.{Dictionary, basic_at, cell, height, nonbasic_at, slack_of, width}
-use Rattle.tableau.specs.Run.{IsCandidate, IsEntering, IsFittingStep, IsLast, IsLeaving, IsStep, Runs, UpdateFits}
+use Rattle.tableau.specs.Run.{IsCandidate, IsEntering, IsFittingStep, IsPrimalFeasible, IsLeaving, IsStep, Runs, UpdateFits}
 use Rattle.tableau.specs.Meaning.{AreBest, AreEmpty, coefficient_at, opposite_at, value_at}
 use Rattle.tableau.specs.Steps.{HasNoneTo, IsRefusedRatio}
 
@@ -34,7 +34,7 @@ pub record IsRefused (d : Dictionary) (row column : ℕ) : Type 0 where
   pub which : ((t : ℕ) × IsRefusedRatio d pivot_row t × (row ≡ 0) × (column ≡ nonbasic_at d t)) ⊎ IsRefusedUpdate d pivot_row row column
 
 abbrev pub DoesStep : Dictionary → Dictionary → Step → Type 0
-DoesStep d e Last = IsLast d × (e ≡ d)
+DoesStep d e Last = IsPrimalFeasible d × (e ≡ d)
 DoesStep d e (Empty k) = IsLeaving d k × HasNoneTo d k (width d) × (e ≡ d)
 DoesStep d e Pivoted = IsStep IsFittingStep d e
 DoesStep d e (Refused row column) = IsRefused d row column
@@ -51,7 +51,7 @@ pub record IsReached (p : Program) (pivots : ℕ) (d : Dictionary) : Type 0 wher
 
 -- the point and the multipliers of the last dictionary
 pub record IsLeastOf (p : Program) (d : Dictionary) (xs ys : List ℚ) (x : ℚ) : Type 0 where
-  pub last : IsLast d
+  pub last : IsPrimalFeasible d
   pub columns : length xs ≡ column_count p
   pub point : (c : ℕ) → c < column_count p → number_at xs c ≡ value_at d (c + 1)
   pub rows : length ys ≡ row_count p

@@ -56,8 +56,8 @@ pub record IsLeastIndex (d : Dictionary) (k j : ℕ) : Type 0 where
   pub entering : IsEntering d k j
 
 -- no constant is negative: the basis is primal feasible
-abbrev pub IsLast : Dictionary → Type 0
-IsLast d = (i : ℕ) → 1 ≤ i → i < height d → zero_ℚ ≤ℚ cell d i 0
+abbrev pub IsPrimalFeasible : Dictionary → Type 0
+IsPrimalFeasible d = (i : ℕ) → 1 ≤ i → i < height d → zero_ℚ ≤ℚ cell d i 0
 
 -- ---- which ratios and updates fit
 abbrev pub RatioFits : Dictionary → ℕ → ℕ → Type 0

@@ -6,7 +6,7 @@ use Rattle.tableau.specs.declared.run.StepSays.{StepSays}
 use Rattle.tableau.specs.declared.run.StepSays.TheVariants.{Moved, Ended, Passed}
 use Rattle.tableau.specs.Program.{Program}
 use Rattle.tableau.specs.Dictionary.{Dictionary, IsStart, width}
-use Rattle.tableau.specs.Run.{IsFittingStep, IsLast, IsLeaving, IsStep, Runs}
+use Rattle.tableau.specs.Run.{IsFittingStep, IsPrimalFeasible, IsLeaving, IsStep, Runs}
 use Rattle.tableau.specs.Steps.{HasNoneTo}
 use Rattle.tableau.specs.Outcomes.{GoesOn, IsOutcome, IsRefused}
 
@@ -17,7 +17,7 @@ pub data State : Type 0 where
 
 -- the run ends here: no constant is negative, or the row that leaves has no column that may enter
 abbrev pub HasEnded : Dictionary → Type 0
-HasEnded d = IsLast d ⊎ ((k : ℕ) × IsLeaving d k × HasNoneTo d k (width d))
+HasEnded d = IsPrimalFeasible d ⊎ ((k : ℕ) × IsLeaving d k × HasNoneTo d k (width d))
 
 abbrev pub IsStarted : Program → State → Type 0
 IsStarted p s = (d : Dictionary) × (s ≡ at d) × IsStart p d

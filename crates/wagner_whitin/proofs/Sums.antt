@@ -6,7 +6,7 @@ use Rattle.std.proofs.lemmas.Grind.{get_or_default_zero}
 use Rattle.lot_sizing.specs.Sums.{sum_to, sum_from}
 use Rattle.lot_sizing.specs.Problem.{entry, backlog_price, IsSeries}
 use Rattle.lot_sizing.specs.Single.{Single, IsWithinBounds, IsServer, period_count, unit_price}
-use Rattle.wagner_whitin.specs.declared.prices.CostSums.{CostSums}
+use Rattle.wagner_whitin.specs.declared.cost_sums.CostSums.{CostSums}
 use Rattle.wagner_whitin.specs.Tables.{AreSums, AreCostSums}
 
 -- a table of sums takes the next one
@@ -63,9 +63,9 @@ pub record IsUnit (s : Single) (u t low high : ℕ) : Type 0 where
   pub value : entry s.unit u + (high - low) ≡ unit_price s u t
   pub small : entry s.unit u + (high - low) ≤ 121 * 10 ^ 9
 
-pub kept_unit : (s : Single) (prices : CostSums) (u t : ℕ) → IsWithinBounds s → AreCostSums s prices → 1 ≤ u → u ≤ t → t ≤ period_count s → IsUnit s u t (slice_index_or prices.held.items (u - 1) 0) (slice_index_or prices.held.items (t - 1) 0)
-kept_unit s prices u t within table low order high =
-    let part = between (period_count s) (entry s.hold) prices.held.items u t table.held (entry_small (period_count s) s.hold within.hold) low order high in
+pub kept_unit : (s : Single) (cost_sums : CostSums) (u t : ℕ) → IsWithinBounds s → AreCostSums s cost_sums → 1 ≤ u → u ≤ t → t ≤ period_count s → IsUnit s u t (slice_index_or cost_sums.held.items (u - 1) 0) (slice_index_or cost_sums.held.items (t - 1) 0)
+kept_unit s cost_sums u t within table low order high =
+    let part = between (period_count s) (entry s.hold) cost_sums.held.items u t table.held (entry_small (period_count s) s.hold within.hold) low order high in
     let none : u - t ≡ 0 = omega (arith, order) in
     record {
       order = part.order;
@@ -77,10 +77,10 @@ owed_sums : (n : ℕ) (back : Option (List ℕ)) (sums : List ℕ) → (IsNone b
 owed_sums n None sums some table = absurd (some refl)
 owed_sums n (Some costs) sums some table = table
 
-pub owed_unit : (s : Single) (prices : CostSums) (u t : ℕ) → IsWithinBounds s → AreCostSums s prices → IsServer s u t → 1 ≤ t → t < u → u ≤ period_count s → IsUnit s u t (slice_index_or prices.owed.items (t - 1) 0) (slice_index_or prices.owed.items (u - 1) 0)
-owed_unit s prices u t within table server low order high =
-    let sums = owed_sums (period_count s) s.back prices.owed.items (λ none. omega (arith, server.in_time none, order)) table.owed in
-    let part = between (period_count s) (backlog_price s.back) prices.owed.items t u sums (back_small (period_count s) s.back within.back) low (omega (arith, order)) high in
+pub owed_unit : (s : Single) (cost_sums : CostSums) (u t : ℕ) → IsWithinBounds s → AreCostSums s cost_sums → IsServer s u t → 1 ≤ t → t < u → u ≤ period_count s → IsUnit s u t (slice_index_or cost_sums.owed.items (t - 1) 0) (slice_index_or cost_sums.owed.items (u - 1) 0)
+owed_unit s cost_sums u t within table server low order high =
+    let sums = owed_sums (period_count s) s.back cost_sums.owed.items (λ none. omega (arith, server.in_time none, order)) table.owed in
+    let part = between (period_count s) (backlog_price s.back) cost_sums.owed.items t u sums (back_small (period_count s) s.back within.back) low (omega (arith, order)) high in
     let none : t - u ≡ 0 = omega (arith, order) in
     record {
       order = part.order;
@@ -101,19 +101,19 @@ pub record IsPrice (s : Single) (u t unit low high : ℕ) : Type 0 where
   pub value : unit + (high - low) ≡ unit_price s u t
   pub small : unit + (high - low) ≤ 121 * 10 ^ 9
 
-pub kept_price : (s : Single) (prices : CostSums) (u t unit low high : ℕ) → IsWithinBounds s → AreCostSums s prices → IsServer s u t → u ≤ t → t ≤ period_count s → IsRead s.unit (u - 1) unit → IsRead prices.held.items (u - 1) low → IsRead prices.held.items (t - 1) high → IsPrice s u t unit low high
-kept_price s prices u t unit low high within table server order t_high read_unit read_low read_high =
-    let is_unit = kept_unit s prices u t within table server.low order t_high in
+pub kept_price : (s : Single) (cost_sums : CostSums) (u t unit low high : ℕ) → IsWithinBounds s → AreCostSums s cost_sums → IsServer s u t → u ≤ t → t ≤ period_count s → IsRead s.unit (u - 1) unit → IsRead cost_sums.held.items (u - 1) low → IsRead cost_sums.held.items (t - 1) high → IsPrice s u t unit low high
+kept_price s cost_sums u t unit low high within table server order t_high read_unit read_low read_high =
+    let is_unit = kept_unit s cost_sums u t within table server.low order t_high in
     let a = read_is s.unit (u - 1) unit (omega (arith, within.unit.size, server.low, server.high)) read_unit in
-    let b = read_is prices.held.items (u - 1) low (omega (arith, table.held.size, server.low, server.high)) read_low in
-    let d = read_is prices.held.items (t - 1) high (omega (arith, table.held.size, t_high)) read_high in
+    let b = read_is cost_sums.held.items (u - 1) low (omega (arith, table.held.size, server.low, server.high)) read_low in
+    let d = read_is cost_sums.held.items (t - 1) high (omega (arith, table.held.size, t_high)) read_high in
     record { order = omega (arith, is_unit.order, b, d); value = omega (arith, is_unit.value, a, b, d); small = omega (arith, is_unit.small, a, b, d) }
 
-pub owed_price : (s : Single) (prices : CostSums) (u t unit low high : ℕ) → IsWithinBounds s → AreCostSums s prices → IsServer s u t → 1 ≤ t → t < u → IsRead s.unit (u - 1) unit → IsRead prices.owed.items (t - 1) low → IsRead prices.owed.items (u - 1) high → IsPrice s u t unit low high
-owed_price s prices u t unit low high within table server t_low order read_unit read_low read_high =
-    let sums = owed_sums (period_count s) s.back prices.owed.items (λ none. omega (arith, server.in_time none, order)) table.owed in
-    let is_unit = owed_unit s prices u t within table server t_low order server.high in
+pub owed_price : (s : Single) (cost_sums : CostSums) (u t unit low high : ℕ) → IsWithinBounds s → AreCostSums s cost_sums → IsServer s u t → 1 ≤ t → t < u → IsRead s.unit (u - 1) unit → IsRead cost_sums.owed.items (t - 1) low → IsRead cost_sums.owed.items (u - 1) high → IsPrice s u t unit low high
+owed_price s cost_sums u t unit low high within table server t_low order read_unit read_low read_high =
+    let sums = owed_sums (period_count s) s.back cost_sums.owed.items (λ none. omega (arith, server.in_time none, order)) table.owed in
+    let is_unit = owed_unit s cost_sums u t within table server t_low order server.high in
     let a = read_is s.unit (u - 1) unit (omega (arith, within.unit.size, server.low, server.high)) read_unit in
-    let b = read_is prices.owed.items (t - 1) low (omega (arith, sums.size, server.high, order)) read_low in
-    let d = read_is prices.owed.items (u - 1) high (omega (arith, sums.size, server.high)) read_high in
+    let b = read_is cost_sums.owed.items (t - 1) low (omega (arith, sums.size, server.high, order)) read_low in
+    let d = read_is cost_sums.owed.items (u - 1) high (omega (arith, sums.size, server.high)) read_high in
     record { order = omega (arith, is_unit.order, b, d); value = omega (arith, is_unit.value, a, b, d); small = omega (arith, is_unit.small, a, b, d) }

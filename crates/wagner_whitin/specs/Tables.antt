@@ -5,7 +5,7 @@ use Rattle.lot_sizing.specs.Problem.{entry}
 use Rattle.lot_sizing.specs.declared.Block.{Block}
 use Rattle.lot_sizing.specs.declared.limits.TheConstants.{MAX_AMOUNT, MAX_PERIODS, MAX_TOTAL}
 use Rattle.lot_sizing.specs.Single.{Single, IsServer, IsBlock, period_count, period_of, block_cost, potential}
-use Rattle.wagner_whitin.specs.declared.prices.CostSums.{CostSums}
+use Rattle.wagner_whitin.specs.declared.cost_sums.CostSums.{CostSums}
 use Rattle.wagner_whitin.specs.declared.plain.Candidate.{Candidate}
 use Rattle.wagner_whitin.specs.declared.server_blocks.ServerBlock.{ServerBlock}
 
@@ -14,9 +14,9 @@ pub record AreSums (n : ℕ) (f : ℕ → ℕ) (sums : List ℕ) : Type 0 where
   pub size : length sums ≡ n + 1
   pub each : (k : ℕ) → k ≤ n → slice_index_or sums k 0 ≡ sum_to k f
 
-pub record AreCostSums (s : Single) (prices : CostSums) : Type 0 where
-  pub held : AreSums (period_count s) (entry s.hold) prices.held.items
-  pub owed : IfSome s.back (λ costs. AreSums (period_count s) (entry costs) prices.owed.items)
+pub record AreCostSums (s : Single) (cost_sums : CostSums) : Type 0 where
+  pub held : AreSums (period_count s) (entry s.hold) cost_sums.held.items
+  pub owed : IfSome s.back (λ costs. AreSums (period_count s) (entry costs) cost_sums.owed.items)
 
 -- the highest price of a unit: it is made, and held or owed in every period
 abbrev pub most_price : ℕ

@@ -13,6 +13,7 @@
 //! what the definitions of `lot_sizing` say: the cost is that of some net plan, and no net plan costs less.
 #![tactic(auto)]
 
+mod cost_sums;
 mod counting;
 mod digits;
 mod hull;
@@ -21,7 +22,6 @@ mod line_sums;
 mod line_table;
 mod lines;
 mod plain;
-mod prices;
 mod server_blocks;
 mod solving;
 mod table;

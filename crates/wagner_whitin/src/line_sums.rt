@@ -6,8 +6,8 @@ ghost use Rattle.echelon.specs.Views.{single_of_item};
 ghost use Rattle.wagner_whitin.specs.Tables.{AreSums};
 ghost use Rattle.wagner_whitin.specs.Lines.{AreLineSums, held_at, net_at};
 
+use crate::cost_sums::sums;
 use crate::lines::LineSums;
-use crate::prices::sums;
 use echelon::SingleItem;
 use std::alloc::{AllocError, Global};
 

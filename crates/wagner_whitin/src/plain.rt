@@ -5,16 +5,16 @@ ghost use Rattle.lot_sizing.specs.Single.{IsBlock, IsLeastNetCost, IsServer, IsW
 ghost use Rattle.echelon.specs.Views.{single_of_item};
 ghost use Rattle.wagner_whitin.specs.Tables.{AreCostSums, IsCandidate, IsCheapestLast, IsTable, most_cost, most_for_one};
 
-use crate::prices::CostSums;
+use crate::cost_sums::CostSums;
 use crate::server_blocks::{last_potential, last_server, serving_cost};
 use crate::table::{self, LeastCosts};
 use echelon::{Block, SingleItem};
 use std::alloc::{AllocError, Global};
 
 // What a block costs, added up position by position.
-fn block_cost(single: &SingleItem, prices: &CostSums, needed: &[u32], block: Block) -> u128
+fn block_cost(single: &SingleItem, cost_sums: &CostSums, needed: &[u32], block: Block) -> u128
     requires within { IsWithinBounds (single_of_item single.now) }
-    requires prices { AreCostSums (single_of_item single.now) prices.now }
+    requires cost_sums { AreCostSums (single_of_item single.now) cost_sums.now }
     requires needed { needed.now ≡ positions (single_of_item single.now) }
     requires block { IsBlock (single_of_item single.now) block }
     ensures value { result ≡ block_cost (single_of_item single.now) block }
@@ -23,7 +23,7 @@ fn block_cost(single: &SingleItem, prices: &CostSums, needed: &[u32], block: Blo
     let mut cost = single.setup[(block.server - 1) as usize] as u128;
     for place in block.first..block.last + 1 {
         let period = needed[(place - 1) as usize];
-        cost += serving_cost(single, prices, block.server, period);
+        cost += serving_cost(single, cost_sums, block.server, period);
     }
     cost
 }
@@ -46,14 +46,14 @@ fn cheaper(one: Candidate, other: Candidate) -> Candidate
 // The cheapest block that serves these positions, after the potential of those before.
 fn cheapest_server(
     single: &SingleItem,
-    prices: &CostSums,
+    cost_sums: &CostSums,
     needed: &[u32],
     before: u128,
     first: u32,
     last: u32,
 ) -> Candidate
     requires within { IsWithinBounds (single_of_item single.now) }
-    requires prices { AreCostSums (single_of_item single.now) prices.now }
+    requires cost_sums { AreCostSums (single_of_item single.now) cost_sums.now }
     requires needed { needed.now ≡ positions (single_of_item single.now) }
     requires low { 1 ≤ first }
     requires order { first ≤ last }
@@ -68,7 +68,7 @@ fn cheapest_server(
         server: period,
     };
     let mut best = Candidate {
-        cost: before + block_cost(single, prices, needed, own),
+        cost: before + block_cost(single, cost_sums, needed, own),
         block: own,
     };
     for server in 1..last_server(single, period) + 1 {
@@ -77,7 +77,7 @@ fn cheapest_server(
             last,
             server,
         };
-        let cost = before + block_cost(single, prices, needed, block);
+        let cost = before + block_cost(single, cost_sums, needed, block);
         best = cheaper(best, Candidate { cost, block });
     }
     best
@@ -98,12 +98,12 @@ fn potential_before(potentials: &[u128], position: u32) -> u128
 // The cheapest block that ends with the position after those of the potentials.
 fn cheapest_last(
     single: &SingleItem,
-    prices: &CostSums,
+    cost_sums: &CostSums,
     needed: &[u32],
     potentials: &[u128],
 ) -> Candidate
     requires within { IsWithinBounds (single_of_item single.now) }
-    requires prices { AreCostSums (single_of_item single.now) prices.now }
+    requires cost_sums { AreCostSums (single_of_item single.now) cost_sums.now }
     requires needed { needed.now ≡ positions (single_of_item single.now) }
     requires some { length potentials.now < position_count (single_of_item single.now) }
     requires small { (k : ℕ) → k ≤ length potentials.now → potential potentials.now k ≤ k * most_for_one }
@@ -112,7 +112,7 @@ fn cheapest_last(
     let last = potentials.len() as u32 + 1;
     let mut best = cheapest_server(
         single,
-        prices,
+        cost_sums,
         needed,
         last_potential(potentials),
         last,
@@ -122,7 +122,7 @@ fn cheapest_last(
         let before = potential_before(potentials, first);
         best = cheaper(
             best,
-            cheapest_server(single, prices, needed, before, first, last),
+            cheapest_server(single, cost_sums, needed, before, first, last),
         );
     }
     best
@@ -134,11 +134,11 @@ fn plain_costs(alloc: Global, single: &SingleItem) -> Result<LeastCosts, AllocEr
     ensures { IfOk result (λ table. IsTable (single_of_item single.now) (position_count (single_of_item single.now)) table.potentials.items table.lasts.items) }
 {
     let needed = echelon::positions(alloc, single)?;
-    let prices = CostSums::of(alloc, single)?;
+    let cost_sums = CostSums::of(alloc, single)?;
     let mut potentials = Vec::with_capacity(alloc, needed.len())?;
     let mut lasts = Vec::with_capacity(alloc, needed.len())?;
     for _ in 0..needed.len() {
-        let best = cheapest_last(single, &prices, &needed, &potentials);
+        let best = cheapest_last(single, &cost_sums, &needed, &potentials);
         lasts.push(best.block)?;
         potentials.push(best.cost)?;
     }

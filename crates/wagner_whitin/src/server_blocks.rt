@@ -5,7 +5,7 @@ ghost use Rattle.lot_sizing.specs.Single.{IsWithinBounds, IsServer, net_demand, 
 ghost use Rattle.echelon.specs.Views.{single_of_item};
 ghost use Rattle.wagner_whitin.specs.Tables.{AreCostSums, AreServerBlocks, BlockCostsAtMost, IsServerBlock, IsServerBlockOrNone, most_for_one, most_serving, block_at};
 
-use crate::prices::CostSums;
+use crate::cost_sums::CostSums;
 use echelon::SingleItem;
 
 /// The cheapest last block of a server that ends with a position, and what all up to it costs.
@@ -27,9 +27,9 @@ pub fn last_potential(potentials: &[u128]) -> u128
 }
 
 /// What it costs that a server serves a period, its setup aside.
-pub fn serving_cost(single: &SingleItem, prices: &CostSums, server: u32, period: u32) -> u128
+pub fn serving_cost(single: &SingleItem, cost_sums: &CostSums, server: u32, period: u32) -> u128
     requires within { IsWithinBounds (single_of_item single.now) }
-    requires prices { AreCostSums (single_of_item single.now) prices.now }
+    requires cost_sums { AreCostSums (single_of_item single.now) cost_sums.now }
     requires low { 1 ≤ period }
     requires high { period ≤ period_count (single_of_item single.now) }
     requires server { IsServer (single_of_item single.now) server period }
@@ -37,7 +37,7 @@ pub fn serving_cost(single: &SingleItem, prices: &CostSums, server: u32, period:
     ensures small { result ≤ most_serving }
 {
     let net = single.net[(period - 1) as usize];
-    let price = prices.of_unit(single, server, period);
+    let price = cost_sums.of_unit(single, server, period);
     net * price as u128
 }
 
@@ -55,14 +55,14 @@ fn cheaper_start(block: Option<ServerBlock>, fresh: ServerBlock) -> ServerBlock
 // A server's block with one position more: the block goes on, or begins with the position.
 fn extended(
     single: &SingleItem,
-    prices: &CostSums,
+    cost_sums: &CostSums,
     potentials: &[u128],
     server: u32,
     period: u32,
     block: Option<ServerBlock>,
 ) -> ServerBlock
     requires within { IsWithinBounds (single_of_item single.now) }
-    requires prices { AreCostSums (single_of_item single.now) prices.now }
+    requires cost_sums { AreCostSums (single_of_item single.now) cost_sums.now }
     requires count { length potentials.now < MAX_PERIODS }
     requires period { period ≡ period_of (single_of_item single.now) (length potentials.now + 1) }
     requires low { 1 ≤ period }
@@ -72,7 +72,7 @@ fn extended(
     requires block { IsServerBlockOrNone (single_of_item single.now) potentials.now server (length potentials.now) block }
     ensures { IsServerBlock (single_of_item single.now) potentials.now server (length potentials.now + 1) result }
 {
-    let serving = serving_cost(single, prices, server, period);
+    let serving = serving_cost(single, cost_sums, server, period);
     let setup = single.setup[(server - 1) as usize];
     let fresh = ServerBlock {
         cost: last_potential(potentials) + setup as u128,
@@ -105,14 +105,14 @@ pub fn last_server(single: &SingleItem, period: u32) -> u32
 /// One position more, of the period, in the block of each server that may serve it.
 pub fn serve(
     single: &SingleItem,
-    prices: &CostSums,
+    cost_sums: &CostSums,
     potentials: &[u128],
     period: u32,
     limit: u32,
     blocks: &mut [Option<ServerBlock>],
 )
     requires within { IsWithinBounds (single_of_item single.now) }
-    requires prices { AreCostSums (single_of_item single.now) prices.now }
+    requires cost_sums { AreCostSums (single_of_item single.now) cost_sums.now }
     requires count { length potentials.now < MAX_PERIODS }
     requires some { length potentials.now < position_count (single_of_item single.now) }
     requires period { period ≡ period_of (single_of_item single.now) (length potentials.now + 1) }
@@ -127,7 +127,7 @@ pub fn serve(
     for server in 1..limit + 1 {
         let block = blocks[(server - 1) as usize];
         blocks[(server - 1) as usize] = Some(extended(
-            single, prices, potentials, server, period, block,
+            single, cost_sums, potentials, server, period, block,
         ));
     }
 }

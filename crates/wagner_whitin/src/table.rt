@@ -5,7 +5,7 @@ ghost use Rattle.echelon.specs.Views.{single_of_item};
 ghost use Rattle.wagner_whitin.specs.Solution.{IsSolution};
 ghost use Rattle.wagner_whitin.specs.Tables.{AreCostSums, AreServerBlocks, IsTable};
 
-use crate::prices::CostSums;
+use crate::cost_sums::CostSums;
 use crate::server_blocks;
 use echelon::{Block, Blocks, SingleItem};
 use std::alloc::{AllocError, Global};
@@ -23,14 +23,14 @@ pub fn least_costs(alloc: Global, single: &SingleItem) -> Result<LeastCosts, All
     ensures { IfOk result (λ table. IsTable (single_of_item single.now) (position_count (single_of_item single.now)) table.potentials.items table.lasts.items) }
 {
     let needed = echelon::positions(alloc, single)?;
-    let prices = CostSums::of(alloc, single)?;
+    let cost_sums = CostSums::of(alloc, single)?;
     let mut blocks = vec![in alloc; None; single.net.len()]?;
     let mut potentials = Vec::with_capacity(alloc, needed.len())?;
     let mut lasts = Vec::with_capacity(alloc, needed.len())?;
     for place in 0..needed.len() {
         let period = needed[place];
         let limit = server_blocks::last_server(single, period);
-        server_blocks::serve(single, &prices, &potentials, period, limit, &mut blocks);
+        server_blocks::serve(single, &cost_sums, &potentials, period, limit, &mut blocks);
         let Some(best) = server_blocks::cheapest(&blocks, limit) else {
             unreachable!();
         };

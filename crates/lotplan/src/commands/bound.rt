@@ -25,7 +25,7 @@ pub enum BoundAnswer<'a> {
     /// A number of the run doesn't fit 128 bits.
     Passed,
     /// The model file gave no instance.
-    Stopped(ReadAnswer<'a>),
+    NoInput(ReadAnswer<'a>),
 }
 
 impl BoundAnswer<'_> {
@@ -44,7 +44,7 @@ impl BoundAnswer<'_> {
             BoundAnswer::Bound(_) => Status::Done,
             BoundAnswer::Empty => Status::NoPlan,
             BoundAnswer::Skipped | BoundAnswer::Passed => Status::Undecided,
-            BoundAnswer::Stopped(why) => why.status(),
+            BoundAnswer::NoInput(why) => why.status(),
         }
     }
 
@@ -57,7 +57,7 @@ impl BoundAnswer<'_> {
             BoundAnswer::Empty => String::from_str(alloc, "empty\n"),
             BoundAnswer::Skipped => String::from_str(alloc, "skipped\n"),
             BoundAnswer::Passed => String::from_str(alloc, "passed\n"),
-            BoundAnswer::Stopped(why) => why.line(alloc),
+            BoundAnswer::NoInput(why) => why.line(alloc),
         }
     }
 }
@@ -85,7 +85,7 @@ pub fn bound_files<S: Shelf>(alloc: Global, model: &str, shelf: &mut S) -> Resul
             let answer = bound_instance(alloc, &instance)?;
             answer.answer_line(alloc)
         }
-        Err(Stop::Answered(why)) => BoundAnswer::Stopped(why).answer_line(alloc),
+        Err(Stop::Answered(why)) => BoundAnswer::NoInput(why).answer_line(alloc),
         Err(Stop::Memory) => Err(AllocError),
     }
 }

@@ -30,7 +30,7 @@ pub enum CheckAnswer<'a> {
     /// The certificate is refused.
     Rejected(Rejected),
     /// A file gave nothing to go on with.
-    Stopped(ReadAnswer<'a>),
+    NoInput(ReadAnswer<'a>),
 }
 
 impl CheckAnswer<'_> {
@@ -50,7 +50,7 @@ impl CheckAnswer<'_> {
             CheckAnswer::NoCertificate(_) => Status::Faulty,
             CheckAnswer::NoPlan(_) => Status::Faulty,
             CheckAnswer::Rejected(_) => Status::Faulty,
-            CheckAnswer::Stopped(why) => why.status(),
+            CheckAnswer::NoInput(why) => why.status(),
         }
     }
 
@@ -63,7 +63,7 @@ impl CheckAnswer<'_> {
             CheckAnswer::NoCertificate(fault) => line_of_text(alloc, fault),
             CheckAnswer::NoPlan(fault) => no_plan_line(alloc, fault),
             CheckAnswer::Rejected(rejected) => line_of_refusal(alloc, rejected),
-            CheckAnswer::Stopped(why) => why.line(alloc),
+            CheckAnswer::NoInput(why) => why.line(alloc),
         }
     }
 }
@@ -122,9 +122,9 @@ fn refusal<'a>(certificate: &'a str, fault: StreamFault) -> Result<CheckAnswer<'
     ensures { IfOk result (λ answer. IsRefusal certificate.entry.now fault (check_meant answer)) }
 {
     match fault {
-        StreamFault::Missing => Ok(CheckAnswer::Stopped(ReadAnswer::Missing(certificate))),
-        StreamFault::Failed => Ok(CheckAnswer::Stopped(ReadAnswer::Unread(certificate))),
-        StreamFault::TooLong => Ok(CheckAnswer::Stopped(ReadAnswer::TooLong(certificate))),
+        StreamFault::Missing => Ok(CheckAnswer::NoInput(ReadAnswer::Missing(certificate))),
+        StreamFault::Failed => Ok(CheckAnswer::NoInput(ReadAnswer::Unread(certificate))),
+        StreamFault::TooLong => Ok(CheckAnswer::NoInput(ReadAnswer::TooLong(certificate))),
         StreamFault::Text(fault) => Ok(CheckAnswer::NoCertificate(fault)),
         StreamFault::Rejected(rejected) => Ok(CheckAnswer::Rejected(rejected)),
         StreamFault::Memory => Err(AllocError),
@@ -164,7 +164,7 @@ fn check_planned<'a, S: Shelf>(
     match read_plan_file(alloc, instance, plan, shelf) {
         Ok(given) => check_given(alloc, instance, Some(&given), certificate, shelf),
         Err(PlanStop::NoPlan(fault)) => Ok(CheckAnswer::NoPlan(fault)),
-        Err(PlanStop::Answered(why)) => Ok(CheckAnswer::Stopped(why)),
+        Err(PlanStop::Answered(why)) => Ok(CheckAnswer::NoInput(why)),
         Err(PlanStop::Memory) => Err(AllocError),
     }
 }
@@ -207,7 +207,7 @@ pub fn check_files<S: Shelf>(
             let answer = check_claim(alloc, &instance, plan, certificate, shelf)?;
             answer.answer_line(alloc)
         }
-        Err(Stop::Answered(why)) => CheckAnswer::Stopped(why).answer_line(alloc),
+        Err(Stop::Answered(why)) => CheckAnswer::NoInput(why).answer_line(alloc),
         Err(Stop::Memory) => Err(AllocError),
     }
 }

@@ -11,7 +11,7 @@ use crate::commands::plan::{PlanAnswer, answer_of, found_of};
 use crate::said::Said;
 use crate::status::Status;
 use instance_reader::{ReadModelFault, read_instance};
-use lot_model::Instance;
+use lot_model::{Instance, an_instance_breaks_no_rule};
 use report::{GenFault, generate};
 use std::alloc::{AllocError, Global};
 
@@ -74,7 +74,7 @@ fn plan_shown(
     requires own { HasOwnPeriod instance.now }
     ensures { IfOk result (λ answer. IsShown instance.now budget (plan_meant answer)) }
 {
-    instance.periods();
+    an_instance_breaks_no_rule(instance);
     let found = found_of(alloc, instance, budget)?;
     Ok(answer_of(instance, &found))
 }

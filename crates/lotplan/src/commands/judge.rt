@@ -25,7 +25,7 @@ pub enum JudgeAnswer<'a> {
     /// The plan breaks this rule first.
     Broken(Broken),
     /// The model file gave no instance, or the plan file no bytes.
-    Stopped(ReadAnswer<'a>),
+    NoInput(ReadAnswer<'a>),
 }
 
 impl JudgeAnswer<'_> {
@@ -43,7 +43,7 @@ impl JudgeAnswer<'_> {
         match self {
             JudgeAnswer::Feasible(_) => Status::Done,
             JudgeAnswer::NoPlan(_) | JudgeAnswer::Broken(_) => Status::Faulty,
-            JudgeAnswer::Stopped(why) => why.status(),
+            JudgeAnswer::NoInput(why) => why.status(),
         }
     }
 
@@ -55,7 +55,7 @@ impl JudgeAnswer<'_> {
             JudgeAnswer::Feasible(cost) => format!(in alloc; "feasible {cost}\n"),
             JudgeAnswer::NoPlan(fault) => no_plan_line(alloc, fault),
             JudgeAnswer::Broken(rule) => format!(in alloc; "{rule}\n"),
-            JudgeAnswer::Stopped(why) => why.line(alloc),
+            JudgeAnswer::NoInput(why) => why.line(alloc),
         }
     }
 }
@@ -85,7 +85,7 @@ fn judge_plan<S: Shelf>(
     match read_plan_file(alloc, instance, plan, shelf) {
         Ok(given) => judge_given(instance, &given).answer_line(alloc),
         Err(PlanStop::NoPlan(fault)) => JudgeAnswer::NoPlan(fault).answer_line(alloc),
-        Err(PlanStop::Answered(why)) => JudgeAnswer::Stopped(why).answer_line(alloc),
+        Err(PlanStop::Answered(why)) => JudgeAnswer::NoInput(why).answer_line(alloc),
         Err(PlanStop::Memory) => Err(AllocError),
     }
 }
@@ -103,7 +103,7 @@ pub fn judge_files<S: Shelf>(
 {
     match read_model(alloc, model, shelf) {
         Ok(instance) => judge_plan(alloc, &instance, plan, shelf),
-        Err(Stop::Answered(why)) => JudgeAnswer::Stopped(why).answer_line(alloc),
+        Err(Stop::Answered(why)) => JudgeAnswer::NoInput(why).answer_line(alloc),
         Err(Stop::Memory) => Err(AllocError),
     }
 }

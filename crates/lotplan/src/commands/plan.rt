@@ -63,7 +63,7 @@ pub enum PlanAnswer<'a> {
     /// The plan file or the certificate file, of this name, could not be written.
     Unwritten(&'a str),
     /// The model file gave no instance.
-    Stopped(ReadAnswer<'a>),
+    NoInput(ReadAnswer<'a>),
 }
 
 impl PlanAnswer<'_> {
@@ -83,7 +83,7 @@ impl PlanAnswer<'_> {
             PlanAnswer::Infeasible { .. } => Status::NoPlan,
             PlanAnswer::Between { .. } | PlanAnswer::Above { .. } => Status::Undecided,
             PlanAnswer::Unwritten(_) => Status::Unwritten,
-            PlanAnswer::Stopped(why) => why.status(),
+            PlanAnswer::NoInput(why) => why.status(),
         }
     }
 
@@ -114,7 +114,7 @@ impl PlanAnswer<'_> {
                 format!(in alloc; "{root}nodes {nodes}\nundecided {bound}\n")
             }
             PlanAnswer::Unwritten(file) => unwritten_line(alloc, *file),
-            PlanAnswer::Stopped(why) => why.line(alloc),
+            PlanAnswer::NoInput(why) => why.line(alloc),
         }
     }
 }
@@ -261,7 +261,7 @@ pub fn plan_files<S: Shelf>(
 {
     match read_model(alloc, model, shelf) {
         Ok(instance) => plan_instance(alloc, &instance, budget, plan, certificate, shelf),
-        Err(Stop::Answered(why)) => PlanAnswer::Stopped(why).answer_line(alloc),
+        Err(Stop::Answered(why)) => PlanAnswer::NoInput(why).answer_line(alloc),
         Err(Stop::Memory) => Err(AllocError),
     }
 }

@@ -43,7 +43,7 @@ fn report_plan<S: Shelf>(
     match read_plan_file(alloc, instance, plan, shelf) {
         Ok(given) => report_given(alloc, instance, &given),
         Err(PlanStop::NoPlan(fault)) => JudgeAnswer::NoPlan(fault).answer_line(alloc),
-        Err(PlanStop::Answered(why)) => JudgeAnswer::Stopped(why).answer_line(alloc),
+        Err(PlanStop::Answered(why)) => JudgeAnswer::NoInput(why).answer_line(alloc),
         Err(PlanStop::Memory) => Err(AllocError),
     }
 }
@@ -61,7 +61,7 @@ pub fn report_files<S: Shelf>(
 {
     match read_model(alloc, model, shelf) {
         Ok(instance) => report_plan(alloc, &instance, plan, shelf),
-        Err(Stop::Answered(why)) => JudgeAnswer::Stopped(why).answer_line(alloc),
+        Err(Stop::Answered(why)) => JudgeAnswer::NoInput(why).answer_line(alloc),
         Err(Stop::Memory) => Err(AllocError),
     }
 }

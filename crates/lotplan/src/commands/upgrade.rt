@@ -13,7 +13,7 @@ use crate::status::Status;
 use crate::writing::{unwritten_line, written_line};
 use instance_reader::{model_texts_are_read, write_model};
 use lot_io::{Shelf, write_file};
-use lot_model::Instance;
+use lot_model::{Instance, an_instance_breaks_no_rule};
 use std::alloc::{AllocError, Global};
 
 /// What `upgrade` answers.
@@ -24,7 +24,7 @@ pub enum UpgradeAnswer<'a> {
     /// The file of this name could not be written.
     Unwritten(&'a str),
     /// The model file gave no instance.
-    Stopped(ReadAnswer<'a>),
+    NoInput(ReadAnswer<'a>),
 }
 
 impl UpgradeAnswer<'_> {
@@ -42,7 +42,7 @@ impl UpgradeAnswer<'_> {
         match self {
             UpgradeAnswer::Written(_) => Status::Done,
             UpgradeAnswer::Unwritten(_) => Status::Unwritten,
-            UpgradeAnswer::Stopped(why) => why.status(),
+            UpgradeAnswer::NoInput(why) => why.status(),
         }
     }
 
@@ -53,7 +53,7 @@ impl UpgradeAnswer<'_> {
         match self {
             UpgradeAnswer::Written(file) => written_line(alloc, *file),
             UpgradeAnswer::Unwritten(file) => unwritten_line(alloc, *file),
-            UpgradeAnswer::Stopped(why) => why.line(alloc),
+            UpgradeAnswer::NoInput(why) => why.line(alloc),
         }
     }
 }
@@ -62,7 +62,7 @@ impl UpgradeAnswer<'_> {
 fn texts_mean_it(instance: &Instance)
     ensures { (bytes : List ℕ) → IsModelText instance.now bytes → BytesMean bytes (Ok instance.now) }
 {
-    instance.periods();
+    an_instance_breaks_no_rule(instance);
     model_texts_are_read();
 }
 
@@ -100,7 +100,7 @@ pub fn upgrade_files<S: Shelf>(
 {
     match read_first_model(alloc, model, shelf) {
         Ok(instance) => write_upgraded(alloc, &instance, upgraded, shelf),
-        Err(Stop::Answered(why)) => UpgradeAnswer::Stopped(why).answer_line(alloc),
+        Err(Stop::Answered(why)) => UpgradeAnswer::NoInput(why).answer_line(alloc),
         Err(Stop::Memory) => Err(AllocError),
     }
 }

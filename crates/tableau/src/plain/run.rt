@@ -2,7 +2,7 @@
 ghost use Rattle.std.specs.Prelude.{◌≡◌, ◌≤◌, ◌<◌, ◌+◌, ◌^◌, IfOk, length};
 ghost use Rattle.tableau.specs.Program.{column_count, row_count};
 ghost use Rattle.tableau.specs.Dictionary.{basic_at, cell, height, nonbasic_at, width};
-ghost use Rattle.tableau.specs.Run.{IsLast};
+ghost use Rattle.tableau.specs.Run.{IsPrimalFeasible};
 ghost use Rattle.tableau.specs.declared.limits.TheConstants.{MAX_PROGRAM_SIZE};
 ghost use Rattle.tableau.specs.Meaning.{coefficient_at, opposite_at, value_at};
 ghost use Rattle.tableau.specs.Outcomes.{AreApart, AreValues, GivesEmpty, GivesLeast, IsCertain, IsNowhere, IsOutcome, IsPutIn};

@@ -4,7 +4,7 @@ ghost use Rattle.rational.specs.Rational.{whole, neg_ℚ, ◌*ℚ◌, ◌-ℚ◌
 ghost use Rattle.frac128.specs.Limits.{Fits, divided_ℚ};
 ghost use Rattle.tableau.specs.Program.{zero_ℚ};
 ghost use Rattle.tableau.specs.Dictionary.{IsPivoted, basic_at, cell, height, nonbasic_at, width};
-ghost use Rattle.tableau.specs.Run.{IsCandidate, IsEntering, IsLast, IsLeaving, OtherFits, RatioFits, RowFits, UpdateFits};
+ghost use Rattle.tableau.specs.Run.{IsCandidate, IsEntering, IsPrimalFeasible, IsLeaving, OtherFits, RatioFits, RowFits, UpdateFits};
 ghost use Rattle.tableau.specs.Steps.{AreExchanged, CellFits, GoesBefore, HasNoneTo, HasSameNames, IsBetter, IsDivided, IsLower, IsRefusedRatio, IsRowUpdated, IsSet, RatiosFitTo, UpdatesFit};
 
 use frac128::{Frac, plain};
@@ -125,7 +125,7 @@ impl Tableau {
     // The row of the least-numbered basic variable whose value is negative.
     pub(crate) fn leaving(&self) -> Option<usize>
         ensures some { IfSome result (IsLeaving self.now) }
-        ensures none { IsNone result → IsLast self.now }
+        ensures none { IsNone result → IsPrimalFeasible self.now }
     {
         let mut best = None;
         for row in 1..self.height() {

@@ -59,6 +59,6 @@ ask_branch-returns-clause-deep g t c =
 pub ask_side-returns-clause-same_node : goal.ask_side-returns-clause-same_node
 ask_side-returns-clause-same_node g t c =
     back_node c.args.most c.args.node.now c.ask_tree.new.node c.leave.new.node c.args.split c.in_ok-range.range c.in_ok-range.ensures.range
-    (c.in_ok-asked.ensures.same_node.ranges ∙ c.in_ok-range.ensures.side.ranges)
-    (c.in_ok-asked.ensures.same_node.path ∙ c.in_ok-range.ensures.side.path)
+    (c.in_ok-examined.ensures.same_node.ranges ∙ c.in_ok-range.ensures.side.ranges)
+    (c.in_ok-examined.ensures.same_node.path ∙ c.in_ok-range.ensures.side.path)
     c.leave.ensures.ranges c.leave.ensures.path

@@ -4,7 +4,7 @@ use Rattle.branch_and_bound.specs.Trees.{least_said}
 use Rattle.branch_and_bound.specs.Claims.{IsLeastClaim}
 use Rattle.branch_and_bound.proofs.Trees.{IsGrown}
 use Rattle.branch_and_bound.proofs.Claims.{cause, no_bound, shown}
-use Rattle.branch_and_bound.proofs.Shown.{claimed, grown, held, nodes_of_branches, short_of_branches, split_of_branches, told}
+use Rattle.branch_and_bound.proofs.Shown.{claimed, grown, held, nodes_of_branches, short_of_branches, split_of_branches, evident}
 use Rattle.branch_and_bound.proofs.searching.search.Goals as goal
 
 pub returns-clause-nodes : goal.returns-clause-nodes
@@ -24,7 +24,7 @@ returns-clause-split g c = split_of_branches (g.G.Guide.rules c.args.guide.now) 
 pub returns-clause-holds : goal.returns-clause-holds
 returns-clause-holds g c =
     let best = g.G.Guide.cost c.search_tree.new.state in
-    held (g.G.Guide.rules c.args.guide.now) (g.G.Guide.Holds c.args.guide.now c.search_tree.new.state) (g.G.Guide.Tells c.args.guide.now) best c.args.ranges.items c.in_ok-tree.tree c.in_ok-tree.ensures.tree.branches c.in_ok-tree.ensures.tree.sound
+    held (g.G.Guide.rules c.args.guide.now) (g.G.Guide.Holds c.args.guide.now c.search_tree.new.state) (g.G.Guide.IsEvident c.args.guide.now) best c.args.ranges.items c.in_ok-tree.tree c.in_ok-tree.ensures.tree.branches c.in_ok-tree.ensures.tree.sound
 
 pub returns-clause-shown : goal.returns-clause-shown
 returns-clause-shown g c =
@@ -38,14 +38,14 @@ returns-clause-evidence g c =
     let best = g.G.Guide.cost c.search_tree.new.state in
     let tree = c.in_ok-tree.tree in
     let said : IsLeastClaim best (least_said tree) c.claim_of.result = claimed best c.best.result c.least_number.result tree c.claim_of.result c.best.ensures c.least_number.ensures c.claim_of.ensures in
-    told (g.G.Guide.rules c.args.guide.now) (g.G.Guide.Holds c.args.guide.now c.search_tree.new.state) (g.G.Guide.Tells c.args.guide.now) best (least_said tree) c.args.ranges.items tree c.claim_of.result c.in_ok-tree.ensures.tree.branches c.in_ok-tree.ensures.tree.sound c.in_ok-tree.ensures.settled refl said
+    evident (g.G.Guide.rules c.args.guide.now) (g.G.Guide.Holds c.args.guide.now c.search_tree.new.state) (g.G.Guide.IsEvident c.args.guide.now) best (least_said tree) c.args.ranges.items tree c.claim_of.result c.in_ok-tree.ensures.tree.branches c.in_ok-tree.ensures.tree.sound c.in_ok-tree.ensures.settled refl said
 
 pub returns-clause-cause : goal.returns-clause-cause
 returns-clause-cause g c =
     let best = g.G.Guide.cost c.search_tree.new.state in
     let tree = c.in_ok-tree.tree in
     let said : IsLeastClaim best (least_said tree) c.claim_of.result = claimed best c.best.result c.least_number.result tree c.claim_of.result c.best.ensures c.least_number.ensures c.claim_of.ensures in
-    let all : IsGrown (g.G.Guide.rules c.args.guide.now) best c.args.budget c.args.ranges.items [] tree = grown (g.G.Guide.rules c.args.guide.now) (g.G.Guide.Holds c.args.guide.now c.search_tree.new.state) (g.G.Guide.Tells c.args.guide.now) best c.args.budget c.search_tree.new.room c.args.ranges.items tree c.requires.budget c.in_ok-tree.ensures.rest c.in_ok-tree.ensures.tree.branches c.in_ok-tree.ensures.tree.sound c.in_ok-tree.ensures.deep in
+    let all : IsGrown (g.G.Guide.rules c.args.guide.now) best c.args.budget c.args.ranges.items [] tree = grown (g.G.Guide.rules c.args.guide.now) (g.G.Guide.Holds c.args.guide.now c.search_tree.new.state) (g.G.Guide.IsEvident c.args.guide.now) best c.args.budget c.search_tree.new.room c.args.ranges.items tree c.requires.budget c.in_ok-tree.ensures.rest c.in_ok-tree.ensures.tree.branches c.in_ok-tree.ensures.tree.sound c.in_ok-tree.ensures.deep in
     cause (g.G.Guide.rules c.args.guide.now) best (least_said tree) c.args.budget c.args.ranges.items tree c.claim_of.result c.requires.ordered all refl said
 
 pub returns-clause-decided : goal.returns-clause-decided
@@ -53,5 +53,5 @@ returns-clause-decided g c =
     let best = g.G.Guide.cost c.search_tree.new.state in
     let tree = c.in_ok-tree.tree in
     let said : IsLeastClaim best (least_said tree) c.claim_of.result = claimed best c.best.result c.least_number.result tree c.claim_of.result c.best.ensures c.least_number.ensures c.claim_of.ensures in
-    let all : IsGrown (g.G.Guide.rules c.args.guide.now) best c.args.budget c.args.ranges.items [] tree = grown (g.G.Guide.rules c.args.guide.now) (g.G.Guide.Holds c.args.guide.now c.search_tree.new.state) (g.G.Guide.Tells c.args.guide.now) best c.args.budget c.search_tree.new.room c.args.ranges.items tree c.requires.budget c.in_ok-tree.ensures.rest c.in_ok-tree.ensures.tree.branches c.in_ok-tree.ensures.tree.sound c.in_ok-tree.ensures.deep in
+    let all : IsGrown (g.G.Guide.rules c.args.guide.now) best c.args.budget c.args.ranges.items [] tree = grown (g.G.Guide.rules c.args.guide.now) (g.G.Guide.Holds c.args.guide.now c.search_tree.new.state) (g.G.Guide.IsEvident c.args.guide.now) best c.args.budget c.search_tree.new.room c.args.ranges.items tree c.requires.budget c.in_ok-tree.ensures.rest c.in_ok-tree.ensures.tree.branches c.in_ok-tree.ensures.tree.sound c.in_ok-tree.ensures.deep in
     no_bound (g.G.Guide.rules c.args.guide.now) best (least_said tree) c.args.budget c.args.ranges.items tree c.claim_of.result c.requires.ordered all refl said

@@ -1,6 +1,6 @@
 use Rattle.std.proofs.Common.{◌≡◌}
 use Rattle.branch_and_bound.specs.Counts.{branches}
-use Rattle.branch_and_bound.specs.Growing.{unasked}
+use Rattle.branch_and_bound.specs.Growing.{unexamined}
 use Rattle.branch_and_bound.specs.Guided.{AtNode, IsGuided, IsLater, IsSameNode, IsSoundTree, StaysDeep}
 use Rattle.branch_and_bound.proofs.settling.settle.Given as goal
 
@@ -16,4 +16,4 @@ invariant-loop-alloc g l = record {
 }
 
 abbrev pub decreases-loop-alloc : goal.decreases-loop-alloc
-decreases-loop-alloc g l = unasked l.tree
+decreases-loop-alloc g l = unexamined l.tree

@@ -14,4 +14,4 @@ pub returns-clause-begins : goal.returns-clause-begins
 returns-clause-begins c = λ version known.
     let m = c.args.instance.now in
     let good = subst (λ list. HaveGoodRows m (map cut_shape list) c.in_ok-rows.rows.items) c.deref.ensures.value c.in_ok-rows.ensures.rows in
-    closed_begins m version c.args.cuts.items c.args.leaf c.args.amount _ c.cut_rows_are_one.ensures c.periods-periods.ensures.instance.limits known c.requires good c.in_ok-rows.ensures.columns_exist refl refl c.proposal_of.ensures.says c.proposal_of.ensures.leaf
+    closed_begins m version c.args.cuts.items c.args.leaf c.args.amount _ c.cut_rows_are_one.ensures c.an_instance_breaks_no_rule.ensures.limits known c.requires good c.in_ok-rows.ensures.columns_exist refl refl c.proposal_of.ensures.says c.proposal_of.ensures.leaf

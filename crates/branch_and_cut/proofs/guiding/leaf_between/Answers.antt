@@ -9,7 +9,7 @@ pub returns-clause-leaf : goal.returns-clause-leaf
 returns-clause-leaf c =
     let g = c.args.model.now in
     let node = c.args.node.now in
-    ok_on c.told.result _ _ (λ p kept. kept g.least c.keep_built.new.known.rows.items (kept_from g c.priced.new.known c.keep_built.new.known node.ranges.items node.path.items c.in_ok-proposal.proposal c.in_ok-keep_built.ensures.rows c.in_ok-proposal.ensures.lasting)) c.told.ensures.kept
+    ok_on c.with_evidence.result _ _ (λ p kept. kept g.least c.keep_built.new.known.rows.items (kept_from g c.priced.new.known c.keep_built.new.known node.ranges.items node.path.items c.in_ok-proposal.proposal c.in_ok-keep_built.ensures.rows c.in_ok-proposal.ensures.lasting)) c.with_evidence.ensures.kept
 
 pub returns-clause-more : goal.returns-clause-more
 returns-clause-more c =
@@ -22,7 +22,7 @@ returns-clause-more c =
       after = record { more = first.after.more; rows = ap (λ v. v.items) next.rows ∙ first.after.rows };
       kept = at_most_on (cost_kept new) (cost_kept c.priced.new.known.best) (cost_kept old) next.kept first.kept;
     } in
-    anyway c.told.result _ more
+    anyway c.with_evidence.result _ more
 
 pub returns-then-not-is_relaxed-clause-leaf : goal.returns-then-not-is_relaxed-clause-leaf
 returns-then-not-is_relaxed-clause-leaf c =

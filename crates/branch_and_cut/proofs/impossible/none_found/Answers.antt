@@ -8,7 +8,7 @@ pub returns-clause-proved : goal.returns-clause-proved
 returns-clause-proved c =
     let m = c.args.instance.now in
     let by : Grounds m = record {
-      instance = c.periods-periods.ensures.instance;
+      instance = c.an_instance_breaks_no_rule.ensures;
       totals_are_one = c.totals_are_one.ensures;
       accepted_over_ranges = c.accepted_over_ranges.ensures;
       made_is_writable = c.made_is_writable.ensures.shapes;

@@ -3,8 +3,8 @@ use Rattle.std.proofs.lemmas.List.{length-map}
 use Rattle.cert_lines.specs.Shapes.{cut_shape}
 use Rattle.branch_and_cut.proofs.searching.search.Goals as goal
 
-pub answer-requires-clause-asked : goal.answer-requires-clause-asked
-answer-requires-clause-asked c = record {
+pub answer-requires-clause-start : goal.answer-requires-clause-start
+answer-requires-clause-start c = record {
   room = c.requires.budget;
   given = c.requires.ranges;
   good = c.requires.first;

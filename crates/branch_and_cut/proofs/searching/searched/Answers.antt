@@ -7,7 +7,7 @@ use Rattle.branch_and_cut.proofs.searching.searched.Goals as goal
 pub search-requires-clause-state : goal.search-requires-clause-state
 search-requires-clause-state c =
     let begins = c.in_ok-begun.ensures.begins c.version_of-version.result c.version_of-version.ensures.known in
-    record { given = c.requires.asked.given; begun = begins.begun; cuts = begins.cuts; best = c.in_ok-best.ensures.made; sums = c.in_ok-sums.ensures; explosion = c.in_ok-explosion.ensures }
+    record { given = c.requires.start.given; begun = begins.begun; cuts = begins.cuts; best = c.in_ok-best.ensures.made; sums = c.in_ok-sums.ensures; explosion = c.in_ok-explosion.ensures }
 
 pub finish-requires-clause-searched : goal.finish-requires-clause-searched
 finish-requires-clause-searched c =
@@ -24,7 +24,7 @@ finish-requires-clause-searched c =
         split = found.split;
         holds = found.holds;
         shown = found.shown;
-        told = found.evidence;
+        evident = found.evidence;
         cause = found.cause;
         decided = found.decided;
       },
@@ -56,11 +56,11 @@ returns c =
       split = found.split;
       holds = found.holds;
       shown = found.shown;
-      told = found.evidence;
+      evident = found.evidence;
       cause = found.cause;
       decided = found.decided;
     } in
-    searched_ok g k c.args.budget c.version_of-version.result c.args.first c.finish.result c.args.said c.args.apart c.in_ok-best.best refl refl c.requires.asked.root c.requires.coupled c.requires.some c.requires.apart c.apart_is_one.ensures c.lie_in_whole.ensures c.whole_is_proved.ensures
+    searched_ok g k c.args.budget c.version_of-version.result c.args.first c.finish.result c.args.said c.args.apart c.in_ok-best.best refl refl c.requires.start.root c.requires.coupled c.requires.some c.requires.apart c.apart_is_one.ensures c.lie_in_whole.ensures c.whole_is_proved.ensures
     c.finish.ensures.proved
     (ended_on g k c.args.budget rs c.in_ok-found.found c.finish.result is c.finish.ensures.shown)
     c.finish.ensures.plan c.finish.ensures.root c.finish.ensures.version c.version_of-version.ensures.version c.in_ok-begun.ensures.apart c.in_ok-begun.ensures.closed found.state.best found.kept c.in_ok-best.ensures.kept c.in_ok-best.ensures.own

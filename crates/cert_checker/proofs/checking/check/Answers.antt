@@ -13,7 +13,7 @@ returns-clause-claim c =
     let s = shape_of c.args.certificate.now in
     let given = option_copied c.args.plan in
     IfOk-weaker c.examine.result (λ _. IsGoodCertificate m s given) (λ _. IsTrueOf m s.claim (plan_given given))
-    (λ _ is. true_of m s given c.accepted_is_true.ensures c.totals_exist.ensures.weights c.periods-periods.ensures.instance is)
+    (λ _ is. true_of m s given c.accepted_is_true.ensures c.totals_exist.ensures.weights c.an_instance_breaks_no_rule.ensures is)
     c.examine.ensures.certified
 
 pub returns-clause-never : goal.returns-clause-never
@@ -22,5 +22,5 @@ returns-clause-never c =
     let s = shape_of c.args.certificate.now in
     let given = option_copied c.args.plan in
     IfErr-weaker c.examine.result (HasFault m s given) (IsNeverRefused m s given)
-    (λ f faulty. never m s given f c.judgement_is_one.ensures c.cut_rows_go_on.ensures.places c.cut_rows_are_one.ensures c.says_are_one.ensures c.periods-periods.ensures.instance.limits faulty)
+    (λ f faulty. never m s given f c.judgement_is_one.ensures c.cut_rows_go_on.ensures.places c.cut_rows_are_one.ensures c.says_are_one.ensures c.an_instance_breaks_no_rule.ensures.limits faulty)
     c.examine.ensures.fault

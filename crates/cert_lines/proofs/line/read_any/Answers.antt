@@ -3,7 +3,7 @@ use Rattle.cert_lines.specs.Forms.{IsLineOf}
 use Rattle.cert_lines.specs.Shapes.{line_shape}
 use Rattle.cert_lines.proofs.Splits.{words_in}
 use Rattle.cert_lines.proofs.Meant.{line_read, line_written}
-use Rattle.cert_lines.proofs.Runs.{given, nothing}
+use Rattle.cert_lines.proofs.Listed.{given, nothing}
 use Rattle.cert_lines.proofs.line.read_any.Goals as goal
 
 pub returns-in-Some-clause-value : goal.returns-in-Some-clause-value

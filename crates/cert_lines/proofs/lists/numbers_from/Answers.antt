@@ -1,6 +1,6 @@
 use Rattle.std.proofs.Common.{◌+◌, ◌^◌, arith, sym, subst}
 use Rattle.cert_lines.proofs.Splits.{words_in}
-use Rattle.cert_lines.proofs.Runs.{IsListTo, list_end, list_more, no_number}
+use Rattle.cert_lines.proofs.Listed.{IsListTo, list_end, list_more, no_number}
 use Rattle.cert_lines.proofs.lists.numbers_from.Goals as goal
 
 pub loop-place-preserved : goal.loop-place-preserved

@@ -1,6 +1,6 @@
 use Rattle.std.proofs.Common.{◌^◌}
 use Rattle.cert_lines.proofs.Splits.{words_in}
-use Rattle.cert_lines.proofs.Runs.{IsListTo}
+use Rattle.cert_lines.proofs.Listed.{IsListTo}
 use Rattle.cert_lines.proofs.lists.numbers_from.Given as goal
 
 abbrev pub invariant-loop-place : goal.invariant-loop-place

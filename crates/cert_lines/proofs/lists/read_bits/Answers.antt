@@ -1,6 +1,6 @@
 use Rattle.std.proofs.Common.{◌<◌, ◌∙◌, ap, subst, sym, length, slice_index_or, true, false}
 use Rattle.cert_lines.specs.Text.{bits_text}
-use Rattle.cert_lines.proofs.Runs.{bit_byte, bits_more}
+use Rattle.cert_lines.proofs.Listed.{bit_byte, bits_more}
 use Rattle.cert_lines.proofs.lists.read_bits.Goals.{then-byte-eq49+in_ok-push, else-byte-eq49+then-byte-eq48+in_ok-push-2}
 use Rattle.cert_lines.proofs.lists.read_bits.Goals as goal
 

@@ -2,7 +2,7 @@ use Rattle.std.proofs.Common.{◌≡◌, ◌+◌, ◌^◌, ap, arith, codes, len
 use Rattle.std.proofs.lemmas.List.{length-map}
 use Rattle.cert_lines.specs.Words.{word_at}
 use Rattle.cert_lines.proofs.Splits.{words_in}
-use Rattle.cert_lines.proofs.Runs.{given, moved, same_four, same_from}
+use Rattle.cert_lines.proofs.Listed.{given, moved, same_four, same_from}
 use Rattle.cert_lines.proofs.lists.read_block.Goals as goal
 
 pub returns-then-next-words-clause-none : goal.returns-then-next-words-clause-none

@@ -1,7 +1,7 @@
 use Rattle.std.proofs.Common.{◌≡◌, ◌+◌, ◌^◌, arith, codes, length}
 use Rattle.cert_lines.specs.Words.{IsListFrom}
 use Rattle.cert_lines.proofs.Splits.{words_in}
-use Rattle.cert_lines.proofs.Runs.{given, moved, not_there, nothing, other_back, other_hold, other_unit}
+use Rattle.cert_lines.proofs.Listed.{given, moved, not_there, nothing, other_back, other_hold, other_unit}
 use Rattle.cert_lines.proofs.lists.read_four.Goals as goal
 
 pub returns-in_default-3-clause-none : goal.returns-in_default-3-clause-none

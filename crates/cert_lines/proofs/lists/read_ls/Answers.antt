@@ -3,7 +3,7 @@ use Rattle.cert_lines.specs.Text.{bits_text}
 use Rattle.cert_lines.specs.Words.{word_at}
 use Rattle.cert_lines.proofs.Splits.{same_number, word_read, words_in}
 use Rattle.cert_lines.proofs.Joins.{bits_length}
-use Rattle.cert_lines.proofs.Runs.{given}
+use Rattle.cert_lines.proofs.Listed.{given}
 use Rattle.cert_lines.proofs.lists.read_ls.Goals as goal
 
 pub returns-then-len-last-clause-none : goal.returns-then-len-last-clause-none

@@ -1,6 +1,6 @@
 use Rattle.std.proofs.Common.{codes, length}
 use Rattle.cert_lines.proofs.Splits.{words_in}
-use Rattle.cert_lines.proofs.Runs.{given, same_four}
+use Rattle.cert_lines.proofs.Listed.{given, same_four}
 use Rattle.cert_lines.proofs.lists.read_price.Goals as goal
 
 pub returns-then-four-words-clause-none : goal.returns-then-four-words-clause-none

@@ -2,7 +2,7 @@ use Rattle.std.proofs.Common.{List, ◌∷◌, ◌<◌, [], rules}
 use Rattle.cert_lines.specs.declared.limits.TheConstants.{MAX_BRANCHES}
 use Rattle.cert_lines.specs.Shapes.{BranchLine}
 use Rattle.certificate.specs.Shapes.{tree_shape}
-use Rattle.certificate.specs.Needs.{IsFaultFrom, Due, a_tree}
+use Rattle.certificate.specs.Dues.{IsFaultFrom, Due, a_tree}
 use Rattle.certificate.specs.Rest.{AreRead}
 use Rattle.certificate.proofs.Needed.{high_fault, low_fault, node_high, node_read, tree_read}
 use Rattle.certificate.proofs.reading.+read_tree.Goals as goal

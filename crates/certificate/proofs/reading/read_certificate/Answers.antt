@@ -1,7 +1,7 @@
 use Rattle.std.proofs.Common.{◌≡◌, length, ◌∷◌, ◌≤◌, ◌∙◌, ◌++◌, [], rules, arith, ap, append-nil}
-use Rattle.certificate.specs.Needs.{IsFaultFrom, a_tree, the_end}
+use Rattle.certificate.specs.Dues.{IsFaultFrom, a_tree, the_end}
 use Rattle.certificate.specs.Counts.{longest_path}
-use Rattle.certificate.specs.Faults.{IsCertTextFault, body_needs}
+use Rattle.certificate.specs.Faults.{IsCertTextFault, body_dues}
 use Rattle.certificate.specs.Values.{values_text}
 use Rattle.std.specs.Prelude.{map}
 use Rattle.std.proofs.lemmas.List.{length-map}
@@ -21,7 +21,7 @@ pub returns-in_err-tree-clause-refused : goal.returns-in_err-tree-clause-refused
 returns-in_err-tree-clause-refused c =
     let a = c.read_heads.new.rest in
     let b = c.read_cuts.new.rest in
-    let from : IsFaultFrom c.in_ok-version.version (body_needs c.in_ok-version.count) a.text.now a.line c.in_err-tree.field-0.0 = tree_fault a b (map cut_shape c.in_ok-cuts.cuts.items) c.in_ok-version.count c.in_err-tree.field-0.0 c.in_ok-cuts.ensures.cuts (omega (arith, c.in_ok-cuts.ensures.count, length-map c.in_ok-cuts.cuts.items cut_shape)) (c.in_err-tree.ensures.refused (the_end ∷ [])) in
+    let from : IsFaultFrom c.in_ok-version.version (body_dues c.in_ok-version.count) a.text.now a.line c.in_err-tree.field-0.0 = tree_fault a b (map cut_shape c.in_ok-cuts.cuts.items) c.in_ok-version.count c.in_err-tree.field-0.0 c.in_ok-cuts.ensures.cuts (omega (arith, c.in_ok-cuts.ensures.count, length-map c.in_ok-cuts.cuts.items cut_shape)) (c.in_err-tree.ensures.refused (the_end ∷ [])) in
     let why : IsCertTextFault c.args.bytes.now c.in_err-tree.field-0.0 = cuts_fault c.args.bytes.now a c.in_ok-version.version c.in_ok-version.claim c.in_ok-version.count c.in_err-tree.field-0.0 c.in_ok-version.ensures.text c.in_ok-version.ensures.lines c.in_ok-version.ensures.number from in
     search (rules, why)
 
@@ -31,7 +31,7 @@ returns-in_err-read_end-clause-refused c =
     let b = c.read_cuts.new.rest in
     let paths : longest_path (tree_shape c.in_ok-tree.tree) ≤ MAX_BRANCHES = omega (arith, c.in_ok-tree.ensures.paths) in
     let last : IsFaultFrom c.in_ok-version.version (a_tree 0 ∷ the_end ∷ []) b.text.now b.line c.in_err-read_end.field-0.0 = end_fault b c.read_tree.new.rest (tree_shape c.in_ok-tree.tree) c.in_err-read_end.field-0.0 c.in_ok-tree.ensures.tree paths c.in_err-read_end.ensures.refused in
-    let from : IsFaultFrom c.in_ok-version.version (body_needs c.in_ok-version.count) a.text.now a.line c.in_err-read_end.field-0.0 = tree_fault a b (map cut_shape c.in_ok-cuts.cuts.items) c.in_ok-version.count c.in_err-read_end.field-0.0 c.in_ok-cuts.ensures.cuts (omega (arith, c.in_ok-cuts.ensures.count, length-map c.in_ok-cuts.cuts.items cut_shape)) last in
+    let from : IsFaultFrom c.in_ok-version.version (body_dues c.in_ok-version.count) a.text.now a.line c.in_err-read_end.field-0.0 = tree_fault a b (map cut_shape c.in_ok-cuts.cuts.items) c.in_ok-version.count c.in_err-read_end.field-0.0 c.in_ok-cuts.ensures.cuts (omega (arith, c.in_ok-cuts.ensures.count, length-map c.in_ok-cuts.cuts.items cut_shape)) last in
     let why : IsCertTextFault c.args.bytes.now c.in_err-read_end.field-0.0 = cuts_fault c.args.bytes.now a c.in_ok-version.version c.in_ok-version.claim c.in_ok-version.count c.in_err-read_end.field-0.0 c.in_ok-version.ensures.text c.in_ok-version.ensures.lines c.in_ok-version.ensures.number from in
     search (rules, why)
 

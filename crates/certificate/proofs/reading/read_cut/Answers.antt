@@ -1,14 +1,14 @@
 use Rattle.std.proofs.Common.{List, ◌∷◌, [], refl, rules, subst}
 use Rattle.cert_lines.specs.Shapes.{RoundLine, line_shape}
-use Rattle.certificate.specs.Needs.{IsFaultFrom, Due, a_cut, a_part}
+use Rattle.certificate.specs.Dues.{IsFaultFrom, Due, a_cut, a_part}
 use Rattle.certificate.specs.Rest.{AreRead}
-use Rattle.certificate.proofs.Needed.{fault_here, fault_shape, line_fault, not_cut, read_line_of, some_need}
+use Rattle.certificate.proofs.Needed.{fault_here, fault_shape, line_fault, not_cut, read_line_of, some_due}
 use Rattle.std.specs.Prelude.{replicate}
 use Rattle.certificate.proofs.reading.read_cut.Goals as goal
 
 pub returns-in_err-cut-clause-refused : goal.returns-in_err-cut-clause-refused
 returns-in_err-cut-clause-refused c =
-    let why : (later : List Due) → IsFaultFrom c.args.version (a_cut ∷ later) c.args.rest.now.text.now c.args.rest.now.line c.in_err-cut.field-0.0 = λ later. fault_here {version = c.args.version} (a_cut ∷ later) c.args.rest.now.text.now c.args.rest.now.line c.in_err-cut.field-0.0 (c.in_err-cut.ensures.refused (a_cut ∷ later) (λ _. some_need a_cut later)) in
+    let why : (later : List Due) → IsFaultFrom c.args.version (a_cut ∷ later) c.args.rest.now.text.now c.args.rest.now.line c.in_err-cut.field-0.0 = λ later. fault_here {version = c.args.version} (a_cut ∷ later) c.args.rest.now.text.now c.args.rest.now.line c.in_err-cut.field-0.0 (c.in_err-cut.ensures.refused (a_cut ∷ later) (λ _. some_due a_cut later)) in
     search (rules, why)
 
 pub returns-in_err-parts-in-Round-clause-refused : goal.returns-in_err-parts-in-Round-clause-refused

@@ -1,6 +1,6 @@
 use Rattle.std.proofs.Common.{List, ◌++◌, rules, arith}
 use Rattle.std.specs.Prelude.{replicate}
-use Rattle.certificate.specs.Needs.{IsFaultFrom, Due, a_cut}
+use Rattle.certificate.specs.Dues.{IsFaultFrom, Due, a_cut}
 use Rattle.certificate.proofs.Needed.{cut_fault, read_cut_more}
 use Rattle.certificate.proofs.reading.read_cuts.Goals as goal
 

@@ -1,14 +1,14 @@
 use Rattle.std.proofs.Common.{◌∷◌, [], rules, subst}
 use Rattle.cert_lines.specs.Shapes.{EndLine, line_shape}
-use Rattle.certificate.specs.Needs.{IsFaultFrom, the_end}
+use Rattle.certificate.specs.Dues.{IsFaultFrom, the_end}
 use Rattle.certificate.specs.Rest.{AreRead}
 use Rattle.certificate.proofs.Feeds.{some_text}
-use Rattle.certificate.proofs.Needed.{fault_here, fault_past, fault_shape, not_end, read_line_of, some_need, stop_past}
+use Rattle.certificate.proofs.Needed.{fault_here, fault_past, fault_shape, not_end, read_line_of, some_due, stop_past}
 use Rattle.certificate.proofs.reading.read_end.Goals as goal
 
 pub returns-in_err-next_line-clause-refused : goal.returns-in_err-next_line-clause-refused
 returns-in_err-next_line-clause-refused c =
-    let why : IsFaultFrom c.args.version (the_end ∷ []) c.args.rest.now.text.now c.args.rest.now.line c.in_err-next_line.field-0.0 = fault_here {version = c.args.version} (the_end ∷ []) c.args.rest.now.text.now c.args.rest.now.line c.in_err-next_line.field-0.0 (c.in_err-next_line.ensures.refused (the_end ∷ []) (λ _. some_need the_end [])) in
+    let why : IsFaultFrom c.args.version (the_end ∷ []) c.args.rest.now.text.now c.args.rest.now.line c.in_err-next_line.field-0.0 = fault_here {version = c.args.version} (the_end ∷ []) c.args.rest.now.text.now c.args.rest.now.line c.in_err-next_line.field-0.0 (c.in_err-next_line.ensures.refused (the_end ∷ []) (λ _. some_due the_end [])) in
     search (rules, why)
 
 pub returns-in_default : goal.returns-in_default

@@ -1,8 +1,8 @@
 use Rattle.std.proofs.Common.{List, ◌∷◌, [], refl, rules, subst, arith}
 use Rattle.cert_lines.specs.Shapes.{LinearLine, FarkasLine, line_shape}
-use Rattle.certificate.specs.Needs.{IsFaultFrom, Due, a_tree, a_part}
+use Rattle.certificate.specs.Dues.{IsFaultFrom, Due, a_tree, a_part}
 use Rattle.certificate.specs.Rest.{AreRead}
-use Rattle.certificate.proofs.Needed.{fault_deep, fault_here, fault_shape, line_fault, not_tree, read_line_of, some_need}
+use Rattle.certificate.proofs.Needed.{fault_deep, fault_here, fault_shape, line_fault, not_tree, read_line_of, some_due}
 use Rattle.std.specs.Prelude.{replicate}
 use Rattle.certificate.specs.declared.fault.CertTextFault.TheVariants.{Shape}
 use Rattle.certificate.proofs.reading.read_node.Goals.{in-Branch+else-above-eq-MAX_BRANCHES, in-Linear+in_ok-parts-in-Linear, in-Farkas+in_ok-parts-in-Farkas, in-Point, in_default}
@@ -10,7 +10,7 @@ use Rattle.certificate.proofs.reading.read_node.Goals as goal
 
 pub returns-in_err-column-clause-refused : goal.returns-in_err-column-clause-refused
 returns-in_err-column-clause-refused c =
-    let why : (later : List Due) → IsFaultFrom c.args.version (a_tree c.args.above ∷ later) c.args.rest.now.text.now c.args.rest.now.line c.in_err-column.field-0.0 = λ later. fault_here {version = c.args.version} (a_tree c.args.above ∷ later) c.args.rest.now.text.now c.args.rest.now.line c.in_err-column.field-0.0 (c.in_err-column.ensures.refused (a_tree c.args.above ∷ later) (λ _. some_need (a_tree c.args.above) later)) in
+    let why : (later : List Due) → IsFaultFrom c.args.version (a_tree c.args.above ∷ later) c.args.rest.now.text.now c.args.rest.now.line c.in_err-column.field-0.0 = λ later. fault_here {version = c.args.version} (a_tree c.args.above ∷ later) c.args.rest.now.text.now c.args.rest.now.line c.in_err-column.field-0.0 (c.in_err-column.ensures.refused (a_tree c.args.above ∷ later) (λ _. some_due (a_tree c.args.above) later)) in
     search (rules, why)
 
 pub returns-then-above-eq-MAX_BRANCHES-clause-refused : goal.returns-then-above-eq-MAX_BRANCHES-clause-refused

@@ -1,12 +1,12 @@
 use Rattle.std.proofs.Common.{List, ◌∷◌, refl, rules}
 use Rattle.cert_lines.specs.Shapes.{line_shape}
-use Rattle.certificate.specs.Needs.{IsFaultFrom, Due, a_part}
-use Rattle.certificate.proofs.Needed.{fault_here, fault_shape, some_need}
+use Rattle.certificate.specs.Dues.{IsFaultFrom, Due, a_part}
+use Rattle.certificate.proofs.Needed.{fault_here, fault_shape, some_due}
 use Rattle.certificate.proofs.reading.read_part.Goals as goal
 
 pub returns-in_err-next_line-clause-refused : goal.returns-in_err-next_line-clause-refused
 returns-in_err-next_line-clause-refused c =
-    let why : (later : List Due) → IsFaultFrom c.args.version (a_part ∷ later) c.args.rest.now.text.now c.args.rest.now.line c.in_err-next_line.field-0.0 = λ later. fault_here {version = c.args.version} (a_part ∷ later) c.args.rest.now.text.now c.args.rest.now.line c.in_err-next_line.field-0.0 (c.in_err-next_line.ensures.refused (a_part ∷ later) (λ _. some_need a_part later)) in
+    let why : (later : List Due) → IsFaultFrom c.args.version (a_part ∷ later) c.args.rest.now.text.now c.args.rest.now.line c.in_err-next_line.field-0.0 = λ later. fault_here {version = c.args.version} (a_part ∷ later) c.args.rest.now.text.now c.args.rest.now.line c.in_err-next_line.field-0.0 (c.in_err-next_line.ensures.refused (a_part ∷ later) (λ _. some_due a_part later)) in
     search (rules, why)
 
 pub returns-in-None-clause-refused : goal.returns-in-None-clause-refused

@@ -1,6 +1,6 @@
 use Rattle.std.proofs.Common.{List, ◌++◌, rules, arith}
 use Rattle.std.specs.Prelude.{replicate}
-use Rattle.certificate.specs.Needs.{IsFaultFrom, Due, a_part}
+use Rattle.certificate.specs.Dues.{IsFaultFrom, Due, a_part}
 use Rattle.certificate.proofs.Needed.{part_fault, read_part_more}
 use Rattle.certificate.proofs.reading.read_parts.Goals as goal
 

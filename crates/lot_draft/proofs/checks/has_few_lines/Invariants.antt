@@ -4,8 +4,8 @@ use Rattle.lot_sizing.specs.declared.limits.TheConstants.{MAX_BILL_LINES}
 use Rattle.lot_draft.specs.Raw.{raw_item}
 use Rattle.lot_draft.proofs.checks.has_few_lines.Given as goal
 
-abbrev pub invariant-loop-place : goal.invariant-loop-place
-invariant-loop-place l = record {
-  count : l.count ≡ sum_by (λ i. length i.needs) (take l.place (map raw_item l.items));
+abbrev pub invariant-loop-at : goal.invariant-loop-at
+invariant-loop-at l = record {
+  count : l.count ≡ sum_by (λ i. length i.needs) (take l.at (map raw_item l.items));
   few : l.count ≤ MAX_BILL_LINES;
 }

@@ -1,5 +1,5 @@
 use Rattle.std.proofs.Common.{refl, sym, subst, map, string_bytes, IfOk, OnErr}
-use Rattle.command_line.specs.Meant.{asked_by}
+use Rattle.command_line.specs.Meant.{request_by}
 use Rattle.command_line.specs.Words.{command_of}
 use Rattle.lotplan.specs.Run.{Leaves, SaysFor}
 use Rattle.lotplan.proofs.Explained.{leaves_same}
@@ -7,30 +7,30 @@ use Rattle.lotplan.proofs.run.said.Goals as goal
 
 pub said_of-requires : goal.said_of-requires
 said_of-requires g c =
-    let asked = rw (c.in-Ok-Command.field-0-is) at c.in-Ok-Command.ensures.means in
-    c.commands_are_allowed.ensures (map string_bytes c.args.words.now) (asked_by c.in-Ok-Command.command) (sym asked)
+    let request = rw (c.in-Ok-Command.field-0-is) at c.in-Ok-Command.ensures.means in
+    c.commands_are_allowed.ensures (map string_bytes c.args.words.now) (request_by c.in-Ok-Command.command) (sym request)
 
 pub returns-in-Ok-Command-clause-said : goal.returns-in-Ok-Command-clause-said
 returns-in-Ok-Command-clause-said g c =
-    let asked = rw (c.in-Ok-Command.field-0-is) at c.in-Ok-Command.ensures.means in
-    subst (λ a. IfOk c.said_of.result (SaysFor a (g.S.Shelf.shown c.args.shelf.now) (g.S.Shelf.shown c.said_of.new.shelf))) asked c.said_of.ensures.said
+    let request = rw (c.in-Ok-Command.field-0-is) at c.in-Ok-Command.ensures.means in
+    subst (λ a. IfOk c.said_of.result (SaysFor a (g.S.Shelf.shown c.args.shelf.now) (g.S.Shelf.shown c.said_of.new.shelf))) request c.said_of.ensures.said
 
 pub returns-in-Ok-Command-clause-memory : goal.returns-in-Ok-Command-clause-memory
 returns-in-Ok-Command-clause-memory g c =
-    let asked = rw (c.in-Ok-Command.field-0-is) at c.in-Ok-Command.ensures.means in
-    subst (λ a. OnErr c.said_of.result (Leaves a (g.S.Shelf.shown c.args.shelf.now) (g.S.Shelf.shown c.said_of.new.shelf))) asked c.said_of.ensures.memory
+    let request = rw (c.in-Ok-Command.field-0-is) at c.in-Ok-Command.ensures.means in
+    subst (λ a. OnErr c.said_of.result (Leaves a (g.S.Shelf.shown c.args.shelf.now) (g.S.Shelf.shown c.said_of.new.shelf))) request c.said_of.ensures.memory
 
 pub returns-in-Ok-Help-clause-said : goal.returns-in-Ok-Help-clause-said
 returns-in-Ok-Help-clause-said g c =
-    let asked = rw (c.in-Ok-Help.field-0-is) at c.in-Ok-Help.ensures.means in
+    let request = rw (c.in-Ok-Help.field-0-is) at c.in-Ok-Help.ensures.means in
     let old = g.S.Shelf.shown c.args.shelf.now in
-    subst (λ a. SaysFor a old old c.of.result) asked (refl, string_bytes c.in-Ok-Help.text, c.of.ensures)
+    subst (λ a. SaysFor a old old c.of.result) request (refl, string_bytes c.in-Ok-Help.text, c.of.ensures)
 
 pub returns-in-Ok-Refused-clause-said : goal.returns-in-Ok-Refused-clause-said
 returns-in-Ok-Refused-clause-said g c =
-    let asked = rw (c.in-Ok-Refused.field-0-is) at c.in-Ok-Refused.ensures.means in
+    let request = rw (c.in-Ok-Refused.field-0-is) at c.in-Ok-Refused.ensures.means in
     let old = g.S.Shelf.shown c.args.shelf.now in
-    subst (λ a. SaysFor a old old c.of-in-Ok-Refused.result) asked (refl, string_bytes c.in-Ok-Refused.text, c.of-in-Ok-Refused.ensures)
+    subst (λ a. SaysFor a old old c.of-in-Ok-Refused.result) request (refl, string_bytes c.in-Ok-Refused.text, c.of-in-Ok-Refused.ensures)
 
 pub returns-in-Err-clause-memory : goal.returns-in-Err-clause-memory
 returns-in-Err-clause-memory g c = leaves_same (command_of (map string_bytes c.args.words.now)) (g.S.Shelf.shown c.args.shelf.now)

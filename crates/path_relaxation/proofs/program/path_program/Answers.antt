@@ -17,8 +17,8 @@ push_bound-requires-clause-few c =
     let path = c.args.path.now in
     let k = c.loop-index.index in
     let p = c.loop-index.program in
-    let (total, totals, small) = c.is_instance.ensures.totals in
-    few_all m total path k p.lp p.sides.items (c.loop-index.invariant.made total totals) c.is_instance.ensures.limits (omega (arith, c.loop-index-test.true, c.requires.short))
+    let (total, totals, small) = c.an_instance_breaks_no_rule.ensures.totals in
+    few_all m total path k p.lp p.sides.items (c.loop-index.invariant.made total totals) c.an_instance_breaks_no_rule.ensures.limits (omega (arith, c.loop-index-test.true, c.requires.short))
 
 pub loop-index-preserved : goal.loop-index-preserved
 loop-index-preserved c =

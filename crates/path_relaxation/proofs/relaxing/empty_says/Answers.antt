@@ -6,7 +6,7 @@ use Rattle.path_relaxation.proofs.relaxing.empty_says.Goals as goal
 
 pub farkas_leaf-requires-clause-size : goal.farkas_leaf-requires-clause-size
 farkas_leaf-requires-clause-size c =
-    c.requires.ends.size ∙ sym (ap length c.deref.ensures.value ∙ rows_are c.args.instance.now c.args.path.now c.args.program.now c.requires.ready c.is_instance.ensures)
+    c.requires.ends.size ∙ sym (ap length c.deref.ensures.value ∙ rows_are c.args.instance.now c.args.path.now c.args.program.now c.requires.ready c.an_instance_breaks_no_rule.ensures)
 
 pub returns : goal.returns
 returns c =
@@ -16,4 +16,4 @@ returns c =
     let ys = c.args.multipliers.now in
     let found = rw c.deref.ensures.value at c.farkas_leaf.ensures in
     IfOk-weaker c.farkas_leaf.result (IsFarkasFound m path program.sides.items ys) (IsSaid m path)
-    (farkas_said m path program c.requires.ready c.is_instance.ensures c.base_names_are_all.ensures c.requires.choices c.requires.short ys c.requires.ends.size c.empty_is_said.ensures c.requires.ends) found
+    (farkas_said m path program c.requires.ready c.an_instance_breaks_no_rule.ensures c.base_names_are_all.ensures c.requires.choices c.requires.short ys c.requires.ends.size c.empty_is_said.ensures c.requires.ends) found

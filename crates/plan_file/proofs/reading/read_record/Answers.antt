@@ -27,4 +27,4 @@ returns-in-Err-clause-refused c =
     let r = fields_of c.index-rows-number.result in
     let n = (c.args.item - 1) * c.periods.result + c.args.period in
     let at : IsHere m (map fields_of c.args.rows.now) c.args.item c.args.period n r = here m c.args.rows.now c.args.item c.args.period c.periods.result n c.index-rows-number.result c.periods.ensures.value refl c.requires.low c.if-number-rows.false c.index-rows-number.is in
-    (at.number, at.there, subst (λ a. IsTrue (is_row m c.args.item c.args.period a)) (sym at.same) (sym c.is_row.ensures ∙ c.if-not-is_row.false), subst (λ a. IsFirstBad a c.in-Err.column) (sym at.same) c.in-Err.ensures.bad)
+    (at.number, at.there, subst (λ a. IsTrue (is_row m c.args.item c.args.period a)) (sym at.same) (sym c.is_row.ensures ∙ c.if-not-is_row.false), subst (λ a. IsFirstBad a c.in-Err.bad) (sym at.same) c.in-Err.ensures.bad)

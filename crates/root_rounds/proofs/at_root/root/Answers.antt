@@ -7,7 +7,7 @@ use Rattle.root_rounds.proofs.RootWhole.{bounds_are, cells_are, figures_exist, n
 use Rattle.root_rounds.proofs.at_root.root.Goals as goal
 
 pub returns-then-is_uncoupled-clause-figures : goal.returns-then-is_uncoupled-clause-figures
-returns-then-is_uncoupled-clause-figures c = figures_exist c.args.instance.now c.totals_exist.ensures.weights c.periods-periods.ensures.instance
+returns-then-is_uncoupled-clause-figures c = figures_exist c.args.instance.now c.totals_exist.ensures.weights c.an_instance_breaks_no_rule.ensures
 
 pub returns-then-is_uncoupled-clause-writable : goal.returns-then-is_uncoupled-clause-writable
 returns-then-is_uncoupled-clause-writable c =
@@ -15,7 +15,7 @@ returns-then-is_uncoupled-clause-writable c =
     none_writable c.args.instance.now said.result (ap (map cut_shape) said.ensures.cuts) said.ensures.leaf
 
 pub returns-in_err-program-clause-figures : goal.returns-in_err-program-clause-figures
-returns-in_err-program-clause-figures c = figures_exist c.args.instance.now c.totals_exist.ensures.weights c.periods-periods.ensures.instance
+returns-in_err-program-clause-figures c = figures_exist c.args.instance.now c.totals_exist.ensures.weights c.an_instance_breaks_no_rule.ensures
 
 pub returns-then-cells-gt-MAX_CELLS-clause-means : goal.returns-then-cells-gt-MAX_CELLS-clause-means
 returns-then-cells-gt-MAX_CELLS-clause-means c =
@@ -41,10 +41,10 @@ returns-then-cells-gt-MAX_CELLS-clause-skipped c = λ cells.
     let m = c.args.instance.now in
     let r = c.without_cuts-then-cells-gt-MAX_CELLS.result in
     let means = returns-then-cells-gt-MAX_CELLS-clause-means c in
-    skipped_is m (root_cuts r) means.rows r.leaf (figures_exist m c.totals_exist.ensures.weights c.periods-periods.ensures.instance) cells r.says means.says
+    skipped_is m (root_cuts r) means.rows r.leaf (figures_exist m c.totals_exist.ensures.weights c.an_instance_breaks_no_rule.ensures) cells r.says means.says
 
 pub returns-then-cells-gt-MAX_CELLS-clause-figures : goal.returns-then-cells-gt-MAX_CELLS-clause-figures
-returns-then-cells-gt-MAX_CELLS-clause-figures c = figures_exist c.args.instance.now c.totals_exist.ensures.weights c.periods-periods.ensures.instance
+returns-then-cells-gt-MAX_CELLS-clause-figures c = figures_exist c.args.instance.now c.totals_exist.ensures.weights c.an_instance_breaks_no_rule.ensures
 
 pub make_rounds-requires-clause-tried : goal.make_rounds-requires-clause-tried
 make_rounds-requires-clause-tried c =
@@ -64,14 +64,14 @@ returns-clause-uncoupled c =
 pub returns-clause-skipped : goal.returns-clause-skipped
 returns-clause-skipped c =
     let m = c.args.instance.now in
-    let figures = figures_exist m c.totals_exist.ensures.weights c.periods-periods.ensures.instance in
+    let figures = figures_exist m c.totals_exist.ensures.weights c.an_instance_breaks_no_rule.ensures in
     IfOk-weaker c.make_rounds.result (RootMeans m) _ (λ r means cells. skipped_is m (root_cuts r) means.rows r.leaf figures cells r.says means.says) c.make_rounds.ensures.means
 
 pub returns-clause-bounds : goal.returns-clause-bounds
 returns-clause-bounds c =
     let m = c.args.instance.now in
-    let figures = figures_exist m c.totals_exist.ensures.weights c.periods-periods.ensures.instance in
-    IfOk-weaker c.make_rounds.result (RootMeans m) _ (λ r means. bounds_are m (root_cuts r) means.rows r.leaf figures c.periods-periods.ensures.instance c.closed_values_are_floors.ensures c.empty_is_impossible.ensures r.says means.says) c.make_rounds.ensures.means
+    let figures = figures_exist m c.totals_exist.ensures.weights c.an_instance_breaks_no_rule.ensures in
+    IfOk-weaker c.make_rounds.result (RootMeans m) _ (λ r means. bounds_are m (root_cuts r) means.rows r.leaf figures c.an_instance_breaks_no_rule.ensures c.closed_values_are_floors.ensures c.empty_is_impossible.ensures r.says means.says) c.make_rounds.ensures.means
 
 pub returns-clause-figures : goal.returns-clause-figures
-returns-clause-figures c = figures_exist c.args.instance.now c.totals_exist.ensures.weights c.periods-periods.ensures.instance
+returns-clause-figures c = figures_exist c.args.instance.now c.totals_exist.ensures.weights c.an_instance_breaks_no_rule.ensures

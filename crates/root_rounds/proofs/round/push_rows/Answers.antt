@@ -19,7 +19,7 @@ push_cut-requires-clause-unequal c =
 
 pub push_cut-requires-clause-few : goal.push_cut-requires-clause-few
 push_cut-requires-clause-few c =
-    program_few c.args.instance.now c.args.rows.now c.loop-index.index c.index-rows-index.result c.loop-index-test.true c.index-rows-index.is c.loop-index.program c.loop-index.invariant c.rounds_are_few.ensures c.periods-periods.ensures.instance c.requires.few
+    program_few c.args.instance.now c.args.rows.now c.loop-index.index c.index-rows-index.result c.loop-index-test.true c.index-rows-index.is c.loop-index.program c.loop-index.invariant c.rounds_are_few.ensures c.an_instance_breaks_no_rule.ensures c.requires.few
 
 pub loop-index-preserved : goal.loop-index-preserved
 loop-index-preserved c =

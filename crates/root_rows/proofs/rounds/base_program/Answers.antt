@@ -15,12 +15,12 @@ put_named-requires-clause-named c =
 pub new-requires : goal.new-requires
 new-requires c =
     let m = c.args.instance.now in
-    let (total, totals, small) = c.is_instance.ensures.totals in
+    let (total, totals, small) = c.an_instance_breaks_no_rule.ensures.totals in
     let costs = c.in_ok-costs.costs.items in
     let rows = map inequality_of c.put_named.new.rows.items in
     let list = c.put_named.new.sides.items in
     let round = first_round m c.deref.result.now costs list rows (c.deref.ensures.value ∙ c.in_ok-names.ensures) c.in_ok-costs.ensures c.in_ok-put_named.ensures.sides c.in_ok-put_named.ensures.rows total totals in
-    base_fits m total (program_with costs rows) list round (c.rounds_are_few.ensures m total [] (program_with costs rows) list c.is_instance.ensures.limits (omega arith) round) c.in_ok-put_named.ensures.fit
+    base_fits m total (program_with costs rows) list round (c.rounds_are_few.ensures m total [] (program_with costs rows) list c.an_instance_breaks_no_rule.ensures.limits (omega arith) round) c.in_ok-put_named.ensures.fit
 
 pub returns-clause-round : goal.returns-clause-round
 returns-clause-round c = λ total totals.
@@ -32,5 +32,5 @@ returns-clause-round c = λ total totals.
 pub returns-clause-sized : goal.returns-clause-sized
 returns-clause-sized c =
     let m = c.args.instance.now in
-    let (total, totals, small) = c.is_instance.ensures.totals in
-    c.rounds_are_few.ensures m total [] c.new.result c.put_named.new.sides.items c.is_instance.ensures.limits (omega arith) (returns-clause-round c total totals)
+    let (total, totals, small) = c.an_instance_breaks_no_rule.ensures.totals in
+    c.rounds_are_few.ensures m total [] c.new.result c.put_named.new.sides.items c.an_instance_breaks_no_rule.ensures.limits (omega arith) (returns-clause-round c total totals)

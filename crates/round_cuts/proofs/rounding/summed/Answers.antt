@@ -4,7 +4,7 @@ use Rattle.std.proofs.lemmas.List.Sorted.{All-permutation}
 use Rattle.lin_rows.specs.declared.column.Column.{Column}
 use Rattle.round_cuts.specs.Merging.{AreSums, IsMerged, IsSmallTerm, amount_in}
 use Rattle.round_cuts.specs.Rounding.{column_amount}
-use Rattle.round_cuts.proofs.Runs.{are_sums, amounts_are, map_ok}
+use Rattle.round_cuts.proofs.Stretches.{are_sums, amounts_are, map_ok}
 use Rattle.round_cuts.proofs.rounding.summed.Goals as goal
 
 pub merged-requires-clause-small : goal.merged-requires-clause-small

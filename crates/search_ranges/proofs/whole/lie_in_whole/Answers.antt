@@ -2,4 +2,4 @@ use Rattle.search_ranges.proofs.InWhole.{lie_whole}
 use Rattle.search_ranges.proofs.whole.lie_in_whole.Goals as goal
 
 pub returns : goal.returns
-returns c = lie_whole c.args.instance.now c.periods-periods.ensures.instance c.plans_are_within.ensures
+returns c = lie_whole c.args.instance.now c.an_instance_breaks_no_rule.ensures c.plans_are_within.ensures

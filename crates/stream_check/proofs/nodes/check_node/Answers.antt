@@ -3,7 +3,7 @@ use Rattle.lot_io.specs.Outside.{Shelved}
 use Rattle.cert_lines.specs.Shapes.{leaf_shape}
 use Rattle.split_trees.specs.Ranges.{WithTotals}
 use Rattle.cert_checker.specs.Checks.{IsGoodLeaf, ground}
-use Rattle.stream_check.specs.Nodes.{AreCovered, IsLeafStop, needed}
+use Rattle.stream_check.specs.Nodes.{AreCovered, IsLeafStop, trees_due}
 use Rattle.stream_check.proofs.Stack.{covered_sides}
 use Rattle.stream_check.proofs.Walk.{branch_off, branch_on, leaf_off, leaf_on, node_left}
 use Rattle.stream_check.proofs.Ways.{err_is}
@@ -39,7 +39,7 @@ returns-in_err-check_leaf-in-Leaf-clause-awaited g c =
 
 pub returns-in_ok-go_down-in-Branch-clause-covered : goal.returns-in_ok-go_down-in-Branch-clause-covered
 returns-in_ok-go_down-in-Branch-clause-covered g c = λ covered.
-    subst (λ path. AreCovered c.args.given.instance.now c.args.given.claim (needed true path)) (sym c.in_ok-go_down-in-Branch.ensures.down) (covered_sides c.args.given.instance.now c.args.given.claim c.args.path.now.items c.in-Branch.column c.in-Branch.at covered)
+    subst (λ path. AreCovered c.args.given.instance.now c.args.given.claim (trees_due true path)) (sym c.in_ok-go_down-in-Branch.ensures.down) (covered_sides c.args.given.instance.now c.args.given.claim c.args.path.now.items c.in-Branch.column c.in-Branch.at covered)
 
 pub returns-in_ok-go_down-in-Branch-clause-awaited : goal.returns-in_ok-go_down-in-Branch-clause-awaited
 returns-in_ok-go_down-in-Branch-clause-awaited g c = λ whole first left.
@@ -64,4 +64,4 @@ returns-in_ok-go_over-in-Leaf-clause-awaited g c = λ whole first left.
     let new : Shelved = g.S.Shelf.shown c.read_node.new.shelf in
     let node = c.in_ok-column.field-0 in
     let next = node_left m rows c.args.given.claim whole first path c.args.text.version c.args.text.name.now old new c.args.reader.now c.read_node.new.reader node left c.in_ok-column.ensures.awaited in
-    leaf_on m rows c.args.given.claim whole first path c.args.text.version c.args.text.name.now old new c.args.reader.now c.read_node.new.reader node c.in-Leaf.leaf (needed c.in_ok-go_over-in-Leaf.field-0 c.go_over.new.path.items) c.in-Leaf.is c.in_ok-go_over-in-Leaf.ensures.needed (subst (λ p. WithTotals m (λ total. IsGoodLeaf (ground m total rows c.args.given.claim) p (leaf_shape c.in-Leaf.leaf))) c.deref.ensures.value c.in_ok-check_leaf-in-Leaf.ensures.good) c.in_ok-column.ensures.number next
+    leaf_on m rows c.args.given.claim whole first path c.args.text.version c.args.text.name.now old new c.args.reader.now c.read_node.new.reader node c.in-Leaf.leaf (trees_due c.in_ok-go_over-in-Leaf.field-0 c.go_over.new.path.items) c.in-Leaf.is c.in_ok-go_over-in-Leaf.ensures.trees_due (subst (λ p. WithTotals m (λ total. IsGoodLeaf (ground m total rows c.args.given.claim) p (leaf_shape c.in-Leaf.leaf))) c.deref.ensures.value c.in_ok-check_leaf-in-Leaf.ensures.good) c.in_ok-column.ensures.number next

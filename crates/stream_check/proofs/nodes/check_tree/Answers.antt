@@ -3,7 +3,7 @@ use Rattle.std.proofs.lemmas.List.Elements.{All-nil}
 use Rattle.lot_io.specs.Outside.{Shelved}
 use Rattle.split_trees.specs.Paths.{AreChoices}
 use Rattle.split_trees.specs.Ranges.{IsChoice}
-use Rattle.stream_check.specs.Nodes.{AreCovered, AreLeft, AreSmall, needed}
+use Rattle.stream_check.specs.Nodes.{AreCovered, AreLeft, AreSmall, trees_due}
 use Rattle.stream_check.proofs.Stack.{covered_first}
 use Rattle.stream_check.proofs.Walk.{whole_left}
 use Rattle.stream_check.proofs.Ways.{on_none, on_on}
@@ -20,8 +20,8 @@ loop-more-init g c =
       ready = c.in_ok-named.ensures;
       choices = subst (AreChoices m) none (All-nil (λ d. IsChoice m d.column));
       small = subst AreSmall none (All-nil (λ d. IsTrue d.most → d.number + 1 < 2 ^ 64));
-      covered = subst (λ path. AreCovered m c.args.claim (needed true path)) none (covered_first m c.args.claim);
-      awaited = λ tree short awaits. subst (λ path. AreLeft m c.args.rows.now c.args.claim tree a.number (needed true path) c.args.text.version shelf c.args.text.name.now a) none (whole_left m c.args.rows.now c.args.claim tree c.args.text.version shelf c.args.text.name.now a short awaits);
+      covered = subst (λ path. AreCovered m c.args.claim (trees_due true path)) none (covered_first m c.args.claim);
+      awaited = λ tree short awaits. subst (λ path. AreLeft m c.args.rows.now c.args.claim tree a.number (trees_due true path) c.args.text.version shelf c.args.text.name.now a) none (whole_left m c.args.rows.now c.args.claim tree c.args.text.version shelf c.args.text.name.now a short awaits);
     }
 
 pub loop-more-preserved : goal.loop-more-preserved
@@ -35,8 +35,8 @@ loop-more-preserved g c =
       ready = c.in_ok-more.ensures.ready;
       choices = c.in_ok-more.ensures.choices;
       small = c.in_ok-more.ensures.small;
-      covered = c.in_ok-more.ensures.covered (subst (λ more. AreCovered m c.args.claim (needed more path)) c.loop-more-test.true so_far.covered);
+      covered = c.in_ok-more.ensures.covered (subst (λ more. AreCovered m c.args.claim (trees_due more path)) c.loop-more-test.true so_far.covered);
       awaited = λ tree short awaits.
           c.in_ok-more.ensures.awaited tree c.args.reader.now.number
-          (subst (λ more. AreLeft m c.args.rows.now c.args.claim tree c.args.reader.now.number (needed more path) c.args.text.version now c.args.text.name.now c.loop-more.reader) c.loop-more-test.true (so_far.awaited tree short awaits));
+          (subst (λ more. AreLeft m c.args.rows.now c.args.claim tree c.args.reader.now.number (trees_due more path) c.args.text.version now c.args.text.name.now c.loop-more.reader) c.loop-more-test.true (so_far.awaited tree short awaits));
     }

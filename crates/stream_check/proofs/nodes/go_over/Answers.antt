@@ -4,8 +4,8 @@ use Rattle.stream_check.specs.Nodes.{later}
 use Rattle.stream_check.proofs.Stack.{choices_over, choices_popped, later_high, later_low, small_popped}
 use Rattle.stream_check.proofs.nodes.go_over.Goals as goal
 
-pub returns-then-bound-clause-needed : goal.returns-then-bound-clause-needed
-returns-then-bound-clause-needed c =
+pub returns-then-bound-clause-trees_due : goal.returns-then-bound-clause-trees_due
+returns-then-bound-clause-trees_due c =
     ap (λ path. path ∷ later path) c.in_ok-push.ensures.items ∙ sym (later_low c.pop.new.self.items c.in-Some.bound c.if-bound.true)
     ∙ ap later (sym c.in-Some.ensures.items) ∙ c.loop-bound.invariant.later_same
 

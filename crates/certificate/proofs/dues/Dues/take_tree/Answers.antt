@@ -2,7 +2,7 @@ use Rattle.std.proofs.Common.{◌≡◌, ◌∷◌, ◌∙◌, ◌+◌, ◌++◌
 use Rattle.std.specs.Prelude.{IsErrOf, OnOk}
 use Rattle.cert_lines.specs.Shapes.{line_shape}
 use Rattle.certificate.specs.declared.dues.Misfit.TheVariants.{Deep, Unwanted}
-use Rattle.certificate.specs.Needs.{IsDeep, IsTooDeep, IsUnwanted, TakesAll, Takes, a_tree, after}
+use Rattle.certificate.specs.Dues.{IsDeep, IsTooDeep, IsUnwanted, TakesAll, Takes, a_tree, after}
 use Rattle.certificate.specs.Stacks.{dues_in}
 use Rattle.certificate.proofs.Piles.{dues_of, tree_first}
 use Rattle.certificate.proofs.dues.Dues.take_tree.Goals as goal

@@ -1,4 +1,4 @@
-use Rattle.lotplan.specs.Judging.{judge_meant, no_plan, stopped}
+use Rattle.lotplan.specs.Judging.{judge_meant, no_plan, no_input}
 use Rattle.lotplan.specs.Reading.{read_meant}
 use Rattle.lotplan.proofs.Judged.{plan_in_file, says_file}
 use Rattle.lotplan.proofs.commands.judge.judge_plan.Goals as goal
@@ -12,4 +12,4 @@ pub returns-in-Err-NoPlan-clause-said : goal.returns-in-Err-NoPlan-clause-said
 returns-in-Err-NoPlan-clause-said g c = says_file c.args.instance.now c.args.plan.now (g.S.Shelf.shown c.args.shelf.now) (g.S.Shelf.shown c.read_plan_file.new.shelf) (no_plan c.in-Err-NoPlan.fault) c.answer_line-in-Err-NoPlan.result (rw (c.in-Err-NoPlan.field-0-is) at c.in-Err-NoPlan.ensures.stop) c.answer_line-in-Err-NoPlan.ensures
 
 pub returns-in-Err-Answered-clause-said : goal.returns-in-Err-Answered-clause-said
-returns-in-Err-Answered-clause-said g c = says_file c.args.instance.now c.args.plan.now (g.S.Shelf.shown c.args.shelf.now) (g.S.Shelf.shown c.read_plan_file.new.shelf) (stopped (read_meant c.in-Err-Answered.why)) c.answer_line-in-Err-Answered.result (rw (c.in-Err-Answered.field-0-is) at c.in-Err-Answered.ensures.stop) c.answer_line-in-Err-Answered.ensures
+returns-in-Err-Answered-clause-said g c = says_file c.args.instance.now c.args.plan.now (g.S.Shelf.shown c.args.shelf.now) (g.S.Shelf.shown c.read_plan_file.new.shelf) (no_input (read_meant c.in-Err-Answered.why)) c.answer_line-in-Err-Answered.result (rw (c.in-Err-Answered.field-0-is) at c.in-Err-Answered.ensures.stop) c.answer_line-in-Err-Answered.ensures

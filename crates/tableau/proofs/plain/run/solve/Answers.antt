@@ -3,7 +3,7 @@ use Rattle.std.proofs.lemmas.List.{length-map}
 use Rattle.tableau.specs.Held.{inequality_of}
 use Rattle.tableau.specs.Program.{column_count, row_count}
 use Rattle.tableau.specs.Dictionary.{height, width}
-use Rattle.tableau.specs.Run.{IsLast, IsLeaving}
+use Rattle.tableau.specs.Run.{IsPrimalFeasible, IsLeaving}
 use Rattle.tableau.specs.Steps.{HasNoneTo}
 use Rattle.tableau.specs.Outcomes.{GivesEmpty, GivesLeast, IsCertain, IsOutcome}
 use Rattle.tableau.proofs.Steps.{columns_are_apart, empty_given, if_ok, is_nowhere, least_given, rows_are_apart, run_more, same_dictionary}
@@ -16,10 +16,10 @@ pub least-requires-clause-columns_apart : goal.least-requires-clause-columns_apa
 least-requires-clause-columns_apart c = columns_are_apart c.args.lp.now c.loop-made.made c.step.new.self (same_dictionary c.args.lp.now c.loop-made.made c.loop-made.tableau c.step.new.self c.in-Last.ensures.1 c.loop-made.invariant)
 
 pub returns-in-Last-clause-outcome : goal.returns-in-Last-clause-outcome
-returns-in-Last-clause-outcome c = if_ok (GivesLeast c.step.new.self c.len-columns.result c.len-rows.result) (IsOutcome c.args.lp.now c.args.pivots) c.least.result (λ o given. (least_given c.args.lp.now c.args.pivots c.loop-made.made c.len-columns.result c.len-rows.result c.step.new.self o (same_dictionary c.args.lp.now c.loop-made.made c.loop-made.tableau c.step.new.self c.in-Last.ensures.1 c.loop-made.invariant) (omega (arith, c.loop-made-test.true)) (subst IsLast (sym c.in-Last.ensures.1) c.in-Last.ensures.0) (omega (arith, c.len-columns.ensures, c.lp.inside.costs.ok.0, ap column_count c.lp.view_is)) (omega (arith, c.len-rows.ensures, c.lp.inside.rows.ok.0, length-map c.lp.inside.rows.items inequality_of, ap row_count c.lp.view_is)) given).0) c.least.ensures
+returns-in-Last-clause-outcome c = if_ok (GivesLeast c.step.new.self c.len-columns.result c.len-rows.result) (IsOutcome c.args.lp.now c.args.pivots) c.least.result (λ o given. (least_given c.args.lp.now c.args.pivots c.loop-made.made c.len-columns.result c.len-rows.result c.step.new.self o (same_dictionary c.args.lp.now c.loop-made.made c.loop-made.tableau c.step.new.self c.in-Last.ensures.1 c.loop-made.invariant) (omega (arith, c.loop-made-test.true)) (subst IsPrimalFeasible (sym c.in-Last.ensures.1) c.in-Last.ensures.0) (omega (arith, c.len-columns.ensures, c.lp.inside.costs.ok.0, ap column_count c.lp.view_is)) (omega (arith, c.len-rows.ensures, c.lp.inside.rows.ok.0, length-map c.lp.inside.rows.items inequality_of, ap row_count c.lp.view_is)) given).0) c.least.ensures
 
 pub returns-in-Last-clause-certain : goal.returns-in-Last-clause-certain
-returns-in-Last-clause-certain c = if_ok (GivesLeast c.step.new.self c.len-columns.result c.len-rows.result) (IsCertain c.args.lp.now) c.least.result (λ o given. (least_given c.args.lp.now c.args.pivots c.loop-made.made c.len-columns.result c.len-rows.result c.step.new.self o (same_dictionary c.args.lp.now c.loop-made.made c.loop-made.tableau c.step.new.self c.in-Last.ensures.1 c.loop-made.invariant) (omega (arith, c.loop-made-test.true)) (subst IsLast (sym c.in-Last.ensures.1) c.in-Last.ensures.0) (omega (arith, c.len-columns.ensures, c.lp.inside.costs.ok.0, ap column_count c.lp.view_is)) (omega (arith, c.len-rows.ensures, c.lp.inside.rows.ok.0, length-map c.lp.inside.rows.items inequality_of, ap row_count c.lp.view_is)) given).1) c.least.ensures
+returns-in-Last-clause-certain c = if_ok (GivesLeast c.step.new.self c.len-columns.result c.len-rows.result) (IsCertain c.args.lp.now) c.least.result (λ o given. (least_given c.args.lp.now c.args.pivots c.loop-made.made c.len-columns.result c.len-rows.result c.step.new.self o (same_dictionary c.args.lp.now c.loop-made.made c.loop-made.tableau c.step.new.self c.in-Last.ensures.1 c.loop-made.invariant) (omega (arith, c.loop-made-test.true)) (subst IsPrimalFeasible (sym c.in-Last.ensures.1) c.in-Last.ensures.0) (omega (arith, c.len-columns.ensures, c.lp.inside.costs.ok.0, ap column_count c.lp.view_is)) (omega (arith, c.len-rows.ensures, c.lp.inside.rows.ok.0, length-map c.lp.inside.rows.items inequality_of, ap row_count c.lp.view_is)) given).1) c.least.ensures
 
 pub empty-requires-clause-columns_apart : goal.empty-requires-clause-columns_apart
 empty-requires-clause-columns_apart c = columns_are_apart c.args.lp.now c.loop-made.made c.step.new.self (same_dictionary c.args.lp.now c.loop-made.made c.loop-made.tableau c.step.new.self c.in-Empty.ensures.2 c.loop-made.invariant)

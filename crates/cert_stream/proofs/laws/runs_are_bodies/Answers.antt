@@ -1,5 +1,0 @@
-use Rattle.cert_stream.proofs.Bodies.{body_of}
-use Rattle.cert_stream.proofs.laws.runs_are_bodies.Goals as goal
-
-pub returns : goal.returns
-returns c = λ version count ls lines runs. body_of version count ls lines runs
