@@ -31,7 +31,7 @@ use Rattle.acceptance.specs.Accepts.{GoesWith, IsSmallLeaf, SaysEnough}
 use Rattle.cert_checker.specs.declared.fault.Why.{Why}
 use Rattle.cert_checker.specs.declared.fault.Why.TheVariants as why
 use Rattle.cert_checker.specs.Cuts.{HasDivisor, OfProblem}
-use Rattle.cert_checker.specs.Checks.{ComesWith, Ground, HaveDenominators, HaveGoodRows, IsCertified, IsGoodLeaf, IsGoodTree, IsPlanFault, claim_line, first_line, ground, plan_given}
+use Rattle.cert_checker.specs.Checks.{ComesWith, Ground, HaveDenominators, HaveGoodRows, IsCertified, IsGoodLeaf, IsGoodTree, IsPlanFault, line_at_claim, first_line, ground, plan_given}
 use Rattle.existence.specs.Plans.{GridsAreJudged}
 use Rattle.answers_exist.specs.Checking.{CertificatesComeOut, IsDecided}
 use Rattle.answers_exist.proofs.Cuts.{CutGrounds, cuts_out, one_total, rows_of_problem}
@@ -87,15 +87,15 @@ module _ (by : Grounds) (m : Problem) (rank : ℕ → ℕ) (limits : IsWithinLim
   PlanFault claim given = (at : ℕ) × (w : Why) × IsPlanFault m claim given at w
 
   judged_plan : (c : ℕ) (p : Plan) (found : Result ℕ Broken) → IsJudged m p found → ComesWith m (Optimal c) (Some p) ⊎ PlanFault (Optimal c) (Some p)
-  judged_plan c p (Err broken) is = inr (claim_line, why.Plan broken, (refl, is))
+  judged_plan c p (Err broken) is = inr (line_at_claim, why.Plan broken, (refl, is))
   judged_plan c p (Ok amount) is =
       ⊎_elim
       (λ same. inl (is.0, is.1, same))
-      (λ other. inr (claim_line, why.Costs (cost m (plan_of p)) c, (refl, (is.0, is.1, refl, refl, other))))
+      (λ other. inr (line_at_claim, why.Costs (cost m (plan_of p)) c, (refl, (is.0, is.1, refl, refl, other))))
       (cases_eq (cost m (plan_of p)) c)
 
   plan_out : (claim : Claim) (given : Option Plan) → ComesWith m claim given ⊎ PlanFault claim given
-  plan_out (Optimal c) None = inr (claim_line, why.PlanMissing, (refl, tt))
+  plan_out (Optimal c) None = inr (line_at_claim, why.PlanMissing, (refl, tt))
   plan_out (Optimal c) (Some p) = let found = by.judged m p in judged_plan c p found.0 found.1
   plan_out Infeasible given = inl tt
   plan_out (BoundOf c) given = inl tt

@@ -40,8 +40,8 @@ GivenFits m None = ⊤
 GivenFits m (Some p) = AllFit m p
 
 -- the line of the claim, and that of the first cut
-abbrev pub claim_line : ℕ
-claim_line = CLAIM_LINE
+abbrev pub line_at_claim : ℕ
+line_at_claim = CLAIM_LINE
 
 abbrev pub first_line : ℕ
 first_line = FIRST_CUT_LINE
@@ -62,7 +62,7 @@ IsOptimalFault m c (Some p) (why.Costs amount claimed) =
 IsOptimalFault m c _ _ = ⊥
 
 abbrev pub IsPlanFault : Problem → Claim → Option Plan → (at : ℕ) → Why → Type 0
-IsPlanFault m (Optimal c) given at w = (at ≡ claim_line) × IsOptimalFault m c given w
+IsPlanFault m (Optimal c) given at w = (at ≡ line_at_claim) × IsOptimalFault m c given w
 IsPlanFault m Infeasible given at w = ⊥
 IsPlanFault m (BoundOf c) given at w = ⊥
 

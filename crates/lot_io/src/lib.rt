@@ -1,6 +1,6 @@
 //! What lies outside the planner: named files to read and write, and a place to print to.
 //!
-//! Family: outside. It stands on `whole_numbers`; `cert_stream`, `stream_check` and `lotplan` stand on it.
+//! Family: outside. It stands on `whole_numbers`; `cert_stream`, `stream_check`, `lotplan` and `lotplan_main` stand on it.
 //!
 //! `Shelf` and `Sink` are the two traits that the rest is written over. Each has one ghost member,
 //! `shown`: what it tells of its contents, and its counts. `specs/Outside` has the words in which

@@ -4,7 +4,7 @@ use Rattle.lot_io.specs.Outside.{Files, OnlyReads, Printed, Shelved}
 use Rattle.command_line.specs.Words.{Request}
 use Rattle.lotplan.specs.Run.{Stops}
 use Rattle.lotplan.specs.Status.{code_of}
-use Rattle.lotplan.specs.Reading.{FileExplains, FirstExplains, IsTooLong, ModelExplains, ReadAnswer, refused, missing, unread, too_long, read_status, IsStopCause, read_meant}
+use Rattle.lotplan.specs.Reading.{FileExplains, FirstExplains, IsTooLong, ModelExplains, ReadAnswer, refused, missing, unread, too_long, read_status, ExplainsStop, read_meant}
 use Rattle.lotplan.specs.declared.model_file.Stop.{Stop}
 use Rattle.lotplan.specs.declared.model_file.Stop.TheVariants.{Answered, Memory}
 use Rattle.lotplan.specs.declared.status.TheConstants.{REFUSED, UNWRITTEN, TOO_LONG}
@@ -29,7 +29,7 @@ model_stops m old new (missing file) x = x
 model_stops m old new (unread file) x = x
 model_stops m old new (too_long file) x = x
 
-pub stop_of_model : (m : List ℕ) (old new : Shelved) (stop : Stop) → IsStopCause (FileExplains m old new) stop → IsStopCause (ModelExplains m old new) stop
+pub stop_of_model : (m : List ℕ) (old new : Shelved) (stop : Stop) → ExplainsStop (FileExplains m old new) stop → ExplainsStop (ModelExplains m old new) stop
 stop_of_model m old new (Answered why) x = model_stops m old new (read_meant why) x
 stop_of_model m old new Memory x = tt
 
@@ -40,7 +40,7 @@ first_stops m old new (missing file) x = x
 first_stops m old new (unread file) x = x
 first_stops m old new (too_long file) x = x
 
-pub stop_of_first : (m : List ℕ) (old new : Shelved) (stop : Stop) → IsStopCause (FileExplains m old new) stop → IsStopCause (FirstExplains m old new) stop
+pub stop_of_first : (m : List ℕ) (old new : Shelved) (stop : Stop) → ExplainsStop (FileExplains m old new) stop → ExplainsStop (FirstExplains m old new) stop
 stop_of_first m old new (Answered why) x = first_stops m old new (read_meant why) x
 stop_of_first m old new Memory x = tt
 

@@ -100,9 +100,9 @@ read_meant (held.Unread file) = unread file.now
 read_meant (held.TooLong file) = too_long file.now
 
 -- the answer has its cause; out of memory needs none
-abbrev pub IsStopCause : (ReadAnswer → Type 0) → Stop → Type 0
-IsStopCause P (stop.Answered why) = P (read_meant why)
-IsStopCause P stop.Memory = ⊤
+abbrev pub ExplainsStop : (ReadAnswer → Type 0) → Stop → Type 0
+ExplainsStop P (stop.Answered why) = P (read_meant why)
+ExplainsStop P stop.Memory = ⊤
 
 abbrev pub read_status : ReadAnswer → Status
 read_status (refused fault) = status.Refused
@@ -129,10 +129,10 @@ FileExplains name old new (unread file) = (file ≡ name) × Rose old.faults new
 FileExplains name old new (too_long file) = (file ≡ name) × RoseBy (file_limit + 1) old.given new.given × (IsTrue old.told → IsTooLong old.file name)
 
 -- why the reading of a plan file of a problem gives no plan; out of memory needs no cause
-abbrev pub IsPlanStopCause : Problem → List ℕ → Shelved → Shelved → PlanStop → Type 0
-IsPlanStopCause problem p old new (plan_stop.NoPlan fault) = IsTrue old.told → OfFile old.file p (λ bytes. AreNoPlan problem bytes fault)
-IsPlanStopCause problem p old new (plan_stop.Answered why) = FileExplains p old new (read_meant why)
-IsPlanStopCause problem p old new plan_stop.Memory = ⊤
+abbrev pub ExplainsPlanStop : Problem → List ℕ → Shelved → Shelved → PlanStop → Type 0
+ExplainsPlanStop problem p old new (plan_stop.NoPlan fault) = IsTrue old.told → OfFile old.file p (λ bytes. AreNoPlan problem bytes fault)
+ExplainsPlanStop problem p old new (plan_stop.Answered why) = FileExplains p old new (read_meant why)
+ExplainsPlanStop problem p old new plan_stop.Memory = ⊤
 
 -- why the reading of a model ends in this answer
 abbrev pub ModelExplains : List ℕ → Shelved → Shelved → ReadAnswer → Type 0

@@ -2,7 +2,7 @@
 ghost use Rattle.std.specs.Prelude.{◌≡◌, ◌≤◌, ◌+◌, length, string_bytes, IsTrue, Some, IfOk, IfErr};
 ghost use Rattle.lot_io.specs.Outside.{OnlyReads, piece_size};
 ghost use Rattle.plan_rules.specs.Held.{AllFit};
-ghost use Rattle.lotplan.specs.Reading.{FileExplains, FirstExplains, HoldsFirst, HoldsPlan, HoldsProblem, IsPlanStopCause, IsStopCause, ModelExplains, file_limit, no_plan_line, read_line, read_meant, read_status};
+ghost use Rattle.lotplan.specs.Reading.{FileExplains, FirstExplains, HoldsFirst, HoldsPlan, HoldsProblem, ExplainsPlanStop, ExplainsStop, ModelExplains, file_limit, no_plan_line, read_line, read_meant, read_status};
 
 use crate::status::Status;
 use instance_reader::{ReadModelFault, read_first_version, read_instance};
@@ -86,7 +86,7 @@ pub fn read_bytes<'a, S: Shelf>(
 ) -> Result<Vec<u8>, Stop<'a>>
     ensures bytes { IfOk result (λ bytes. IsTrue (S.shown shelf.old).told → (S.shown shelf.old).file name.entry.now ≡ Some bytes.items) }
     ensures short { IfOk result (λ bytes. length bytes.items ≤ file_limit) }
-    ensures stop { IfErr result (IsStopCause (FileExplains name.entry.now (S.shown shelf.old) (S.shown shelf.new))) }
+    ensures stop { IfErr result (ExplainsStop (FileExplains name.entry.now (S.shown shelf.old) (S.shown shelf.new))) }
     ensures reads { OnlyReads (S.shown shelf.old) (S.shown shelf.new) }
     ensures given { (S.shown shelf.new).given ≤ (S.shown shelf.old).given + (file_limit + piece_size) }
 {
@@ -106,7 +106,7 @@ pub fn read_model<'a, S: Shelf>(
     shelf: &mut S,
 ) -> Result<Instance, Stop<'a>>
     ensures ok { IfOk result (λ instance. IsTrue (S.shown shelf.old).told → HoldsProblem (S.shown shelf.old).file model.entry.now instance) }
-    ensures stop { IfErr result (IsStopCause (ModelExplains model.entry.now (S.shown shelf.old) (S.shown shelf.new))) }
+    ensures stop { IfErr result (ExplainsStop (ModelExplains model.entry.now (S.shown shelf.old) (S.shown shelf.new))) }
     ensures reads { OnlyReads (S.shown shelf.old) (S.shown shelf.new) }
     ensures given { (S.shown shelf.new).given ≤ (S.shown shelf.old).given + (file_limit + piece_size) }
 {
@@ -128,7 +128,7 @@ pub fn read_first_model<'a, S: Shelf>(
     shelf: &mut S,
 ) -> Result<Instance, Stop<'a>>
     ensures ok { IfOk result (λ instance. IsTrue (S.shown shelf.old).told → HoldsFirst (S.shown shelf.old).file model.entry.now instance) }
-    ensures stop { IfErr result (IsStopCause (FirstExplains model.entry.now (S.shown shelf.old) (S.shown shelf.new))) }
+    ensures stop { IfErr result (ExplainsStop (FirstExplains model.entry.now (S.shown shelf.old) (S.shown shelf.new))) }
     ensures reads { OnlyReads (S.shown shelf.old) (S.shown shelf.new) }
     ensures given { (S.shown shelf.new).given ≤ (S.shown shelf.old).given + (file_limit + piece_size) }
 {
@@ -152,7 +152,7 @@ pub fn read_plan_file<'a, S: Shelf>(
 ) -> Result<Plan, PlanStop<'a>>
     ensures fits { IfOk result (AllFit instance.now) }
     ensures plan { IfOk result (λ given. IsTrue (S.shown shelf.old).told → HoldsPlan (S.shown shelf.old).file plan.entry.now instance.now given) }
-    ensures stop { IfErr result (IsPlanStopCause instance.now plan.entry.now (S.shown shelf.old) (S.shown shelf.new)) }
+    ensures stop { IfErr result (ExplainsPlanStop instance.now plan.entry.now (S.shown shelf.old) (S.shown shelf.new)) }
     ensures reads { OnlyReads (S.shown shelf.old) (S.shown shelf.new) }
     ensures given { (S.shown shelf.new).given ≤ (S.shown shelf.old).given + (file_limit + piece_size) }
 {

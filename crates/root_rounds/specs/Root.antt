@@ -80,8 +80,8 @@ pub record EndsRound (m : Problem) (total : ℕ → ℕ) (weight : ℕ → ℕ �
   pub run : EndsRun m total weight cuts end
 
 -- its run has more pivots than it may, or it is the last one and has found more cuts
-abbrev pub IsStopped : Problem → (ℕ → ℕ) → (ℕ → ℕ → ℕ) → ℕ → List CutShape → Type 0
-IsStopped m total weight round cuts =
+abbrev pub StopsRounds : Problem → (ℕ → ℕ) → (ℕ → ℕ → ℕ) → ℕ → List CutShape → Type 0
+StopsRounds m total weight round cuts =
     EndsRound m total weight round cuts (outcome.Stopped MAX_PIVOTS) ⊎ ((round ≡ MAX_ROUNDS) × AreCutsAfter m total weight MAX_ROUNDS cuts)
 
 -- some step of its separation doesn't fit; what it has found by then stands behind the cuts of the rounds before
@@ -126,7 +126,7 @@ RoundsSay m root.Uncoupled cuts rows leaf = ⊥
 RoundsSay m (root.Skipped cells) cuts rows leaf = ⊥
 RoundsSay m (root.Closed c) cuts rows leaf = Closes m c × IsSomeAnd leaf (λ a. SaysAmount m rows c (leaf_shape a))
 RoundsSay m root.Empty cuts rows leaf = HasNoPoint m × IsSomeAnd leaf (λ a. SaysNone m rows (leaf_shape a))
-RoundsSay m (root.Stopped round) cuts rows leaf = WithFigures m (λ total weight. IsStopped m total weight round cuts) × IsNone leaf
+RoundsSay m (root.Stopped round) cuts rows leaf = WithFigures m (λ total weight. StopsRounds m total weight round cuts) × IsNone leaf
 RoundsSay m (root.Passed round at) cuts rows leaf = WithFigures m (λ total weight. IsPassed m total weight round cuts at) × IsNone leaf
 
 abbrev pub SaysOf : Problem → RootSays → List CutShape → List LinRow → Option Leaf → Type 0

@@ -1,7 +1,7 @@
 use Rattle.std.proofs.Common.{map, string_bytes}
 use Rattle.command_line.specs.Words.{command_of}
 use Rattle.lotplan.proofs.Explained.{accepts, bound_reads, bounds, called, check_reads, checks, fails_to_read, faulty, feasible, generate_only, generate_others, generates, idle, infeasible, is_long, is_run, judge_reads, misses, no_command, optimal, others, quiet, refused_words, refuses, report_reads, rewrote, shows, silent, sums_up, tells, undecided, unprinted, unwritten, upgrade_others, upgrades, wrote, wrote_made, wrote_one, wrote_some}
-use Rattle.lotplan.proofs.run.run.Goals as goal
+use Rattle.lotplan.proofs.running.run.Goals as goal
 
 pub returns-clause-run : goal.returns-clause-run
 returns-clause-run g c = is_run (command_of (map string_bytes c.args.words.now)) c.end_with.result (g.S.Shelf.shown c.args.shelf.now) (g.S.Shelf.shown c.said-said.new.shelf) (g.K.Sink.shown c.args.out.now) (g.K.Sink.shown c.end_with.new.out) c.said-said.result c.said-said.ensures.said c.said-said.ensures.memory c.end_with.ensures.ends

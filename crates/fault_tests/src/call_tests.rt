@@ -3,9 +3,10 @@
 ghost use Rattle.std.specs.Prelude.{false, None, []};
 ghost use Rattle.lot_io.specs.Outside.{Printed, Shelved};
 
-use crate::check_tests::{BY_BRANCHES, BY_LS_CUTS, SHORT_SHOP};
-use crate::tests::{Left, SHOP, holds, is_checked, put, status_of, texts};
 use lot_io::{MemoryShelf, MemorySink, Shelf, ShelfFault, Sink, SinkFailed, WriteFailed};
+use run_fixtures::{
+    BY_BRANCHES, BY_LS_CUTS, Left, SHOP, SHORT_SHOP, holds, is_checked, put, status_of, texts,
+};
 use std::alloc::{AllocError, Global};
 use std::collections::BTreeMap;
 use std::test::Fail;

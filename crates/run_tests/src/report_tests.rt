@@ -1,5 +1,4 @@
-use crate::check_tests::SHOP_PLAN;
-use crate::tests::{SHOP, left_by, read_as, shelf_with};
+use run_fixtures::{SHOP, SHOP_PLAN, left_by, read_as, shelf_with};
 use std::alloc::{AllocError, Global};
 use std::test::Fail;
 

@@ -3,7 +3,7 @@ use Rattle.command_line.specs.Meant.{request_by}
 use Rattle.command_line.specs.Words.{command_of}
 use Rattle.lotplan.specs.Run.{Leaves, SaysFor}
 use Rattle.lotplan.proofs.Explained.{leaves_same}
-use Rattle.lotplan.proofs.run.said.Goals as goal
+use Rattle.lotplan.proofs.running.said.Goals as goal
 
 pub said_of-requires : goal.said_of-requires
 said_of-requires g c =

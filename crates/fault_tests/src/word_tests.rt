@@ -1,4 +1,4 @@
-use crate::tests::{Left, TEN, left_by, shelf_with, unprinted};
+use run_fixtures::{Left, TEN, left_by, shelf_with, unprinted};
 use std::alloc::{AllocError, Global};
 use std::test::Fail;
 

@@ -1,23 +1,9 @@
-use crate::tests::{
-    SHOP, WORKSHOP, has_records, holds, left_by, one_item, one_lot, put, shelf_with_records,
+use run_fixtures::{
+    BY_BRANCHES, BY_LS_CUTS, SHOP, SHOP_PLAN, SHORT_SHOP, WORKSHOP, changed, checked_as,
+    is_rejected, left_by, one_item, one_lot, three_files,
 };
-use lot_io::MemoryShelf;
 use std::alloc::{AllocError, Global};
 use std::test::Fail;
-
-// A best plan of the shop, which costs 23.
-pub const SHOP_PLAN: &str = "A,1,5,1,3,0\nA,2,5,1,0,0\n";
-
-// The shop's plan is best, by branches on setups.
-pub const BY_BRANCHES: &str = "lotcert 1\nclaim optimal 23\ncuts 0\nbranch y 1 1 0\nfarkas 3\n\
-    part link 1 1 1\npart path 1 10\npart balance 1 1 1\nbranch y 1 2 0\nfarkas 5\n\
-    part link 1 2 1\npart path 2 10\npart balance 1 2 1\npart capacity 1 1 1\n\
-    part balance 1 1 1\nlinear 1 4\npart balance 1 2 1\npart capacity 1 2 1\n\
-    part path 1 10\npart path 2 11\nend\n";
-
-// Each of the shop's plans costs at least 20, by (l,S) cuts.
-pub const BY_LS_CUTS: &str = "lotcert 1\nclaim bound 20\ncuts 2\nls 1 1 1\nls 1 2 01\nlinear 8 4\n\
-    part balance 1 1 -8\npart capacity 1 1 2\npart cut 1 41\npart cut 2 10\nend\n";
 
 // The shop's plan is best, by a rounding cut and one node.
 const BY_ROUNDING: &str = "lotcert 1\nclaim optimal 23\ncuts 2\nls 1 1 1\nround 10 4\n\
@@ -40,10 +26,7 @@ const OWED_PLAN: &str = "A,1,0,0,0,4\nA,2,10,1,0,0\n";
 const BY_A_BLOCK_CUT: &str = "lotcert 1\nclaim optimal 28\ncuts 1\n\
     block 1 f 100 20 g 0 0 h 1 1 b 2 2 p 28 28\nlinear 1 1\npart cut 1 1\nend\n";
 
-// A shop that has less time than its demand takes, and the certificate that no plan is feasible.
-pub const SHORT_SHOP: &str =
-    "version = 1\nperiods = 1\n[[resource]]\nname = \"m\"\ncapacity = 9\n[[item]]\nname = \"A\"\ndemand = [10]\nuses = [{ resource = \"m\", unit = 1, setup = 0 }]\n";
-
+// The certificate that no plan of the shop that is short of time is feasible.
 const BY_CAPACITY: &str = "lotcert 1\nclaim infeasible\ncuts 0\nfarkas 2\npart balance 1 1 1\n\
     part capacity 1 1 1\nend\n";
 
@@ -51,56 +34,6 @@ const BY_CAPACITY: &str = "lotcert 1\nclaim infeasible\ncuts 0\nfarkas 2\npart b
 const BY_BOTH_ITEMS: &str = "lotcert 1\nclaim bound 130\ncuts 2\n\
     price 1 w 2 0 1 3 g 0 0 0 0 h 2 2 2 0 b 0 0 0 0\nls 2 1 1\nlinear 8 2\npart cut 1 8\n\
     part cut 2 3\nend\n";
-
-// The text with other lines in place of the first to the last of these, counted from 1.
-pub fn changed(
-    alloc: Global,
-    text: &str,
-    first: usize,
-    last: usize,
-    lines: &str,
-) -> Result<String, AllocError> {
-    let mut changed = String::new(alloc);
-    for (place, old) in text.lines().enumerate() {
-        if place + 1 == first {
-            changed.push_str(lines)?;
-        }
-        if place + 1 < first || place + 1 > last {
-            write!(changed, "{old}\n")?;
-        }
-    }
-    Ok(changed)
-}
-
-// A shelf with a model, a plan of these records and a certificate, of whose fetches these fail.
-fn three_files(
-    alloc: Global,
-    model: &str,
-    records: &str,
-    certificate: &str,
-    fetch: &[u64],
-) -> Result<MemoryShelf, AllocError> {
-    let mut shelf = shelf_with_records(alloc, model, records, fetch)?;
-    put(alloc, &mut shelf, "c", certificate.as_bytes())?;
-    Ok(shelf)
-}
-
-// Whether a check of these texts ends with this status and prints this line, and no file changes.
-pub fn checked_as(
-    alloc: Global,
-    model: &str,
-    records: &str,
-    certificate: &str,
-    status: u8,
-    line: &str,
-) -> Result<bool, AllocError> {
-    let shelf = three_files(alloc, model, records, certificate, &[])?;
-    let left = left_by(alloc, &["check", "m", "p", "c"], shelf, &[])?;
-    let said = left.status == status && left.prints(line);
-    let kept = left.shelf.files.len() == 3 && left.shelf.starts == 0;
-    let same = holds(&left.shelf, "m", model) && holds(&left.shelf, "c", certificate);
-    Ok(said && kept && same && has_records(alloc, &left.shelf, records)?)
-}
 
 // Whether a plan of these records of one item with these lines is accepted with this certificate and this line.
 fn item_accepted_as(
@@ -147,20 +80,6 @@ fn the_example_prints_what_the_readme_shows(rt: HostRuntime) -> Result<(), Fail>
     let line = "rejected C7 line 6 says 130\n";
     assert!(rt; larger_claim_is_rejected(alloc, "claim bound 131\n", line)?);
     Ok(())
-}
-
-// Whether the certificate by branches with other lines in place of the first to the last of these is rejected with this
-// line, beside a plan of these records of the shop.
-pub fn is_rejected(
-    alloc: Global,
-    records: &str,
-    first: usize,
-    last: usize,
-    lines: &str,
-    line: &str,
-) -> Result<bool, AllocError> {
-    let text = changed(alloc, BY_BRANCHES, first, last, lines)?;
-    checked_as(alloc, SHOP, records, text.as_str(), 3, line)
 }
 
 #[test]
@@ -316,64 +235,5 @@ fn a_plan_is_read_where_an_optimal_cost_is_claimed(rt: HostRuntime) -> Result<()
             "{line}"
         );
     }
-    Ok(())
-}
-
-// The file that is read at a fetch: the model, the certificate for its claim, the plan, and the certificate again.
-fn read_at(number: u64) -> &'static str {
-    match number {
-        1 | 2 => "m",
-        3 | 4 | 5 => "c",
-        6 | 7 => "p",
-        _ => "c",
-    }
-}
-
-// A check of the shop where the fetch of this number fails: its status, whether the file that is read then is named, how
-// many fetches failed, and whether no file changed.
-fn checked_with_fault(alloc: Global, number: u64) -> Result<(u8, bool, u64, bool), AllocError> {
-    let file = read_at(number);
-    let line = format!(in alloc; "refused read {file}\n")?;
-    let shelf = three_files(alloc, SHOP, SHOP_PLAN, BY_BRANCHES, &[number])?;
-    let left = left_by(alloc, &["check", "m", "p", "c"], shelf, &[])?;
-    let named = left.prints(line.as_str());
-    let kept = left.shelf.files.len() == 3 && left.shelf.starts == 0;
-    Ok((left.status, named, left.shelf.faults, kept))
-}
-
-#[test]
-fn each_fetch_that_fails_is_named(rt: HostRuntime) -> Result<(), Fail> {
-    let alloc = rt.alloc();
-    for number in 1..32u64 {
-        let (status, named, faults, kept) = checked_with_fault(alloc, number)?;
-        if status == 0 {
-            assert!(rt; number > 8 && faults == 0);
-            return Ok(());
-        }
-        assert_eq!(rt; (status, named, kept), (7, true, true), "{number}");
-    }
-    assert!(rt; false, "no run met no fault");
-    Ok(())
-}
-
-// A shelf with a shop, a plan file that is longer than a file may be, and a certificate.
-fn long_plan(alloc: Global) -> Result<MemoryShelf, AllocError> {
-    let plan = vec![in alloc; b'\n'; 16_777_217]?;
-    let mut shelf = three_files(alloc, SHOP, "", BY_BRANCHES, &[])?;
-    put(alloc, &mut shelf, "p", plan.as_slice())?;
-    Ok(shelf)
-}
-
-// The status of a check with a plan file that is too long, and whether this line is printed.
-fn long_plan_ends(alloc: Global, line: &str) -> Result<(u8, bool), AllocError> {
-    let shelf = long_plan(alloc)?;
-    let left = left_by(alloc, &["check", "m", "p", "c"], shelf, &[])?;
-    Ok((left.status, left.prints(line)))
-}
-
-#[test]
-fn a_long_plan_is_refused(rt: HostRuntime) -> Result<(), Fail> {
-    let alloc = rt.alloc();
-    assert_eq!(rt; long_plan_ends(alloc, "refused long p\n")?, (11, true));
     Ok(())
 }

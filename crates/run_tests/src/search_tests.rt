@@ -1,7 +1,6 @@
-use crate::check_tests::{SHOP_PLAN, SHORT_SHOP};
-use crate::tests::{
-    Left, SHOP, TWELVE, WORKSHOP, claims, ends_in, has_records, holds, is_accepted, is_checked,
-    is_planned, left_of_plan, one_item,
+use run_fixtures::{
+    Left, SHOP, SHOP_PLAN, SHORT_SHOP, TWELVE, WORKSHOP, claims, ends_in, has_records, holds,
+    is_accepted, is_checked, is_planned, left_of_plan, one_item,
 };
 use std::alloc::{AllocError, Global};
 use std::test::Fail;

@@ -182,6 +182,19 @@ pub fn run<S: Shelf, K: Sink>(alloc: Global, words: &[String], shelf: &mut S, ou
     end_with(&said, out)
 }
 
+/// Prints the refusal of words that are no text in UTF-8, and gives the number of the status: `NO_COMMAND`, or
+/// `UNPRINTED` where printing fails. It takes no memory.
+pub fn refuse_words<K: Sink>(out: &mut K) -> u8
+    ensures refused { Prints refused_line NoCommand result (K.shown out.old) (K.shown out.new) }
+    ensures one_piece { GrewBy 1 (K.shown out.old).puts (K.shown out.new).puts }
+    ensures told { (K.shown out.new).told ≡ (K.shown out.old).told }
+{
+    match out.put(b"refused words\n") {
+        Ok(()) => Status::NoCommand.code(),
+        Err(_) => Status::Unprinted.code(),
+    }
+}
+
 // Prints what is said, if memory sufficed for it, and gives the number of the status.
 fn end_with<K: Sink>(said: &Result<Said, AllocError>, out: &mut K) -> u8
     ensures ends { Ends said.now result (K.shown out.old) (K.shown out.new) }

@@ -1,7 +1,8 @@
 // Forty damaged files: twelve models, nine plans and nineteen certificates, each with the line and the status that it
 // gets. No file changes.
-use crate::check_tests::{BY_LS_CUTS, SHOP_PLAN, changed, checked_as, is_rejected};
-use crate::tests::{SHOP, TEN, ends_in, judged_as};
+use run_fixtures::{
+    BY_LS_CUTS, SHOP, SHOP_PLAN, TEN, changed, checked_as, ends_in, is_rejected, judged_as,
+};
 use std::alloc::{AllocError, Global};
 use std::test::Fail;
 

@@ -1,7 +1,7 @@
-use crate::tests::{
+use lot_io::{MemoryShelf, MemorySink};
+use run_fixtures::{
     TEN, TWELVE, holds, is_checked, left_by, one_item, shelf_with, status_of, texts, unprinted,
 };
-use lot_io::{MemoryShelf, MemorySink};
 use std::alloc::{AllocError, Global};
 use std::test::Fail;
 

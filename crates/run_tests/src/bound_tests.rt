@@ -1,5 +1,4 @@
-use crate::check_tests::SHORT_SHOP;
-use crate::tests::{SHOP, WORKSHOP, holds, left_by, one_item, shelf_with};
+use run_fixtures::{SHOP, SHORT_SHOP, WORKSHOP, holds, left_by, one_item, shelf_with};
 use std::alloc::{AllocError, Global};
 use std::test::Fail;
 

@@ -1,0 +1,20 @@
+//! `lotplan`: plans lots in whole numbers, with proof that no plan costs less.
+//!
+//! Family: commands. It stands on `command_line` for the words, on `lot_io`, `instance_reader` and `plan_file` for files, on
+//! `branch_and_cut`, `stream_check`, `base_bound` and `report` for what is done, and on `existence` and `answers_exist` for its
+//! laws; `lotplan_main` and, of tests, `run_fixtures` stand on it.
+//!
+//! `run` reads the words, plans, judges, checks, reports, generates, upgrades or bounds, writes and prints; what each
+//! status means is its contract. `refuse_words` is for words that are no text, which `run` can't be given.
+#![tactic(auto)]
+
+mod commands;
+mod laws;
+mod model_file;
+mod running;
+mod said;
+pub mod status;
+mod writing;
+
+pub use laws::{statuses_are_one, statuses_exist};
+pub use running::{refuse_words, run};
