@@ -1,4 +1,0 @@
-use Rattle.row_tests.proofs.wagner_whitin_tests.numbers_are_compared.Given as goal
-
-abbrev pub ghosts-both_ways : goal.ghosts-both_ways
-ghosts-both_ways g a = record { name = a.blank.name; parts = a.blank.parts }

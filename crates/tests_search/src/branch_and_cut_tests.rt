@@ -1,0 +1,217 @@
+ghost use Rattle.std.specs.Prelude.{◌≤◌};
+
+use branch_and_cut::{Found, Ranges, RootSays, search, search_all};
+use cert_checker::check;
+use certificate::{Claim, is_writable};
+use fixtures::{Item, MADE, Resource, instance};
+use lot_model::Instance;
+use std::alloc::Global;
+use std::test::Fail;
+
+// One item on a resource of this capacity.
+fn model(alloc: Global, periods: u32, demand: &[i64], capacity: i64) -> Result<Instance, Fail> {
+    let machine = Resource {
+        name: "m",
+        capacity: &[capacity],
+    };
+    instance(alloc, periods, &[machine], &[Item { demand, ..MADE }])
+}
+
+// One item without a resource.
+fn alone(alloc: Global, periods: u32, demand: &[i64]) -> Result<Instance, Fail> {
+    let only = Item {
+        demand,
+        uses: &[],
+        ..MADE
+    };
+    instance(alloc, periods, &[], &[only])
+}
+
+// What is found of one item on a resource of this capacity, once the checker accepts it.
+fn found(
+    alloc: Global,
+    periods: u32,
+    demand: &[i64],
+    capacity: i64,
+    budget: u64,
+) -> Result<Found, Fail>
+    requires { 1 ≤ budget }
+{
+    let instance = model(alloc, periods, demand, capacity)?;
+    let found = search_all(alloc, &instance, budget, None)?;
+    if check(alloc, &instance, &found.certificate, found.plan.as_ref()).is_err() {
+        return Err("not accepted".into());
+    }
+    Ok(found)
+}
+
+// How much a plan makes in the first and the second of two periods.
+fn made(found: &Found) -> Result<(u64, u64), Fail> {
+    match &found.plan {
+        Some(plan) => {
+            if (plan.make.items(), plan.make.periods()) != (1, 2) {
+                return Err("another instance".into());
+            }
+            Ok((plan.make.get(1, 1), plan.make.get(1, 2)))
+        }
+        None => Err("no plan".into()),
+    }
+}
+
+// The claim of one item in two periods on a resource of 6, whether its certificate can be written, and how much its plan
+// makes in each period.
+fn best(alloc: Global, demand: &[i64]) -> Result<(Claim, bool, (u64, u64)), Fail> {
+    let found = found(alloc, 2, demand, 6, 1_000)?;
+    let quantities = made(&found)?;
+    Ok((
+        found.certificate.claim,
+        is_writable(&found.certificate),
+        quantities,
+    ))
+}
+
+// Both periods make 5 units, of which 3 are held.
+#[test]
+fn a_best_plan_is_found(rt: HostRuntime) -> Result<(), Fail> {
+    let alloc = rt.alloc();
+    assert_eq!(rt; best(alloc, &[2, 8])?, (Claim::Optimal(23), true, (5, 5)));
+    Ok(())
+}
+
+// With a capacity of 9 no plan makes 10 units in one period.
+#[test]
+fn that_there_is_no_plan_is_found(rt: HostRuntime) -> Result<(), Fail> {
+    let alloc = rt.alloc();
+    let found = found(alloc, 1, &[10], 9, 1)?;
+    let claim = found.certificate.claim;
+    assert_eq!(rt; (claim, found.plan.is_none()), (Claim::Infeasible, true));
+    assert_eq!(rt; (found.root, found.nodes), (RootSays::Empty, 1));
+    Ok(())
+}
+
+// What is claimed of one item without a resource, what the root says, and the nodes of the search.
+fn said_alone(alloc: Global, demand: &[i64]) -> Result<(Claim, RootSays, u64), Fail> {
+    let instance = alone(alloc, 2, demand)?;
+    let found = search_all(alloc, &instance, 1, None)?;
+    Ok((found.certificate.claim, found.root, found.nodes))
+}
+
+// Without a resource the items are planned by themselves: one setup for both periods costs 10, and holding 8 units costs 8.
+#[test]
+fn an_uncoupled_model_takes_one_node(rt: HostRuntime) -> Result<(), Fail> {
+    let alloc = rt.alloc();
+    let said = (Claim::Optimal(18), RootSays::Uncoupled, 1);
+    assert_eq!(rt; said_alone(alloc, &[2, 8])?, said);
+    Ok(())
+}
+
+// The ranges of an item in two periods, of which between so much and so much is made in the first one.
+fn ranges_of(alloc: Global, instance: &Instance, low: u64, high: u64) -> Result<Ranges, Fail> {
+    let mut ranges = Ranges::all(alloc, instance)?;
+    if (ranges.low.items(), ranges.low.periods()) != (1, 2)
+        || (ranges.high.items(), ranges.high.periods()) != (1, 2)
+    {
+        return Err("another instance".into());
+    }
+    ranges.low.set(1, 1, low);
+    ranges.high.set(1, 1, high);
+    Ok(ranges)
+}
+
+// What is found within these ranges.
+fn between(alloc: Global, instance: &Instance, low: u64, high: u64) -> Result<Found, Fail> {
+    let ranges = ranges_of(alloc, instance, low, high)?;
+    if !ranges.are_of(instance) {
+        return Err("no ranges of the instance".into());
+    }
+    Ok(search(alloc, instance, ranges, 1_000, None)?)
+}
+
+// A demand of 2 and of 8, on a resource of 11 or by itself.
+fn two_lots(alloc: Global, is_shared: bool) -> Result<Instance, Fail> {
+    if is_shared {
+        model(alloc, 2, &[2, 8], 11)
+    } else {
+        alone(alloc, 2, &[2, 8])
+    }
+}
+
+// The claim of a search over all ranges, and how much its plan makes in each period.
+fn best_of_all(alloc: Global, is_shared: bool) -> Result<(Claim, (u64, u64)), Fail> {
+    let instance = two_lots(alloc, is_shared)?;
+    let found = search_all(alloc, &instance, 1_000, None)?;
+    let quantities = made(&found)?;
+    Ok((found.certificate.claim, quantities))
+}
+
+// What is claimed within ranges, and whether there is no plan.
+fn claimed(alloc: Global, is_shared: bool, low: u64, high: u64) -> Result<(Claim, bool), Fail> {
+    let instance = two_lots(alloc, is_shared)?;
+    let found = between(alloc, &instance, low, high)?;
+    Ok((found.certificate.claim, found.plan.is_none()))
+}
+
+// How much the plan within ranges makes in each period.
+fn made_within(alloc: Global, is_shared: bool, low: u64, high: u64) -> Result<(u64, u64), Fail> {
+    let instance = two_lots(alloc, is_shared)?;
+    let found = between(alloc, &instance, low, high)?;
+    made(&found)
+}
+
+// Both lots in one period cost 18.
+#[test]
+fn a_best_plan_of_all_is_found(rt: HostRuntime) -> Result<(), Fail> {
+    let alloc = rt.alloc();
+    let best = (Claim::Optimal(18), (10, 0));
+    assert_eq!(rt; best_of_all(alloc, true)?, best);
+    assert_eq!(rt; best_of_all(alloc, false)?, best);
+    Ok(())
+}
+
+// With at most 5 units in the first period two setups are needed, and to hold nothing is best; with no more than 1 unit there
+// nothing is feasible.
+#[test]
+fn a_best_plan_within_ranges_is_found(rt: HostRuntime) -> Result<(), Fail> {
+    let alloc = rt.alloc();
+    for (is_shared, low, high, claim) in [
+        (true, 0u64, 10u64, Claim::Optimal(18)),
+        (true, 0, 5, Claim::Optimal(20)),
+        (true, 5, 5, Claim::Optimal(23)),
+        (true, 0, 1, Claim::Infeasible),
+        (false, 0, 10, Claim::Optimal(18)),
+        (false, 0, 5, Claim::Optimal(20)),
+        (false, 5, 5, Claim::Optimal(23)),
+        (false, 0, 1, Claim::Infeasible),
+    ] {
+        let want = (claim, claim == Claim::Infeasible);
+        assert_eq!(rt;
+            claimed(alloc, is_shared, low, high)?,
+            want,
+            "at most {high}"
+        );
+    }
+    Ok(())
+}
+
+#[test]
+fn a_plan_stays_within_its_ranges(rt: HostRuntime) -> Result<(), Fail> {
+    let alloc = rt.alloc();
+    assert_eq!(rt; made_within(alloc, true, 0, 5)?, (2, 8));
+    assert_eq!(rt; made_within(alloc, false, 0, 5)?, (2, 8));
+    Ok(())
+}
+
+// Whether the ranges of so many periods are ranges of three.
+fn fit(alloc: Global, periods: u32) -> Result<bool, Fail> {
+    let demand = [2i64];
+    let ranges = Ranges::all(alloc, &alone(alloc, periods, &demand)?)?;
+    let instance = alone(alloc, 3, &demand)?;
+    Ok(ranges.are_of(&instance))
+}
+
+#[test]
+fn ranges_of_another_shape_are_told(rt: HostRuntime) -> Result<(), Fail> {
+    let alloc = rt.alloc();
+    assert_eq!(rt; (fit(alloc, 2)?, fit(alloc, 3)?), (false, true));
+    Ok(())
+}
