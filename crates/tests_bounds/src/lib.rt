@@ -1,11 +1,12 @@
-//! Tests of the crates of plans, of certificates as texts and of bounds: the judge, plan files, summaries, generated models, first
-//! plans, the lines of certificates, bounds and uncoupled instances.
+//! Tests of the crates of plans, of certificates with their checker, and of bounds: the judge, plan files, models that are written,
+//! certificates as texts and what the checker says of them, bounds and uncoupled instances.
 //!
-//! Family: tests. It stands on `plan_rules`, `plan_file`, `report`, `built_plans`, `first_plans`, `cert_lines`, `certificate`,
-//! `split_trees`, `root_rows`, `path_relaxation`, `base_bound`, `apart` and `uncoupled`, on `wagner_whitin` for the items of models
-//! that `report` draws, and calls them as any other crate does; nothing stands on it.
+//! Family: tests. It stands on `plan_rules`, `plan_file`, `instance_reader`, `cert_lines`, `certificate`, `split_trees`,
+//! `cert_checker`, `cert_stream`, `stream_check`, `root_rows`, `path_relaxation`, `base_bound`, `apart` and `uncoupled`, and calls
+//! them as any other crate does; nothing stands on it.
 //!
-//! Each crate that is tested has files of its own. The crate `fixtures` has what they make their instances of.
+//! Each crate that is tested has files of its own. The crate `fixtures` has what they make their instances of, and `shops` the
+//! models and the plan that several of them have in common.
 #![tactic(auto)]
 
 #[cfg(test)]
@@ -13,13 +14,17 @@ mod apart_tests;
 #[cfg(test)]
 mod base_bound_tests;
 #[cfg(test)]
+mod cert_checker_cut_tests;
+#[cfg(test)]
+mod cert_checker_leaf_tests;
+#[cfg(test)]
 mod cert_lines_tests;
+#[cfg(test)]
+mod cert_stream_tests;
 #[cfg(test)]
 mod certificate_reading_tests;
 #[cfg(test)]
 mod certificate_tests;
-#[cfg(test)]
-mod first_plans_tests;
 #[cfg(test)]
 mod instance_reader_tests;
 #[cfg(test)]
@@ -29,10 +34,12 @@ mod plan_file_tests;
 #[cfg(test)]
 mod plan_rules_tests;
 #[cfg(test)]
-mod report_generating_tests;
-#[cfg(test)]
 mod root_rows_tests;
 #[cfg(test)]
+mod shops;
+#[cfg(test)]
 mod split_trees_tests;
+#[cfg(test)]
+mod stream_check_tests;
 #[cfg(test)]
 mod uncoupled_tests;

@@ -159,20 +159,20 @@ fn both_costs(alloc: Global, instance: &Instance) -> Result<(u128, u128), Fail> 
     Ok((found.cost, plain))
 }
 
-// The least cost of an item over three periods, by the recursion and by the plain one.
+// The least cost of an item over three periods, by the recursion and by the plain one. Its numbers are its demands, and then what a
+// unit costs that is owed.
 fn least_costs(
     alloc: Global,
-    demand: [i64; 3],
-    backlog_cost: i64,
+    numbers: [i64; 4],
     opening: i64,
     end_min: i64,
 ) -> Result<(u128, u128), Fail> {
     let only = Item {
-        demand: &demand,
+        demand: &numbers[..3],
         unit_cost: &[1],
         setup_cost: &[12, 10, 12],
         hold_cost: &[1, 2, 1],
-        backlog_cost: Some(&[backlog_cost]),
+        backlog_cost: Some(&numbers[3..]),
         opening,
         end_min,
         ..PLAIN
@@ -184,14 +184,14 @@ fn least_costs(
 #[test]
 fn both_recursions_give_the_same_cost(rt: HostRuntime) -> Result<(), Fail> {
     let alloc = rt.alloc();
-    for (demand, backlog_cost, opening, end_min, want) in [
-        ([5i64, 5, 5], 2i64, 0i64, 0i64, 44u128),
-        ([5, 5, 5], 0, 0, 0, 27),
-        ([0, 0, 9], 1, 0, 0, 21),
-        ([9, 0, 0], 3, 4, 2, 25),
-        ([0, 0, 0], 1, 7, 0, 0),
+    for (numbers, opening, end_min, want) in [
+        ([5i64, 5, 5, 2], 0i64, 0i64, 44u128),
+        ([5, 5, 5, 0], 0, 0, 27),
+        ([0, 0, 9, 1], 0, 0, 21),
+        ([9, 0, 0, 3], 4, 2, 25),
+        ([0, 0, 0, 1], 7, 0, 0),
     ] {
-        let costs = least_costs(alloc, demand, backlog_cost, opening, end_min)?;
+        let costs = least_costs(alloc, numbers, opening, end_min)?;
         assert_eq!(rt; costs, (want, want));
     }
     Ok(())

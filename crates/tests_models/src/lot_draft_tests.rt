@@ -15,15 +15,18 @@ const FIRST: Item<'static> = Item {
     ..PLAIN
 };
 
+// B, which takes nothing.
+const SECOND: Item<'static> = Item {
+    name: "B",
+    demand: &[2, 8],
+    setup_cost: &[10],
+    hold_cost: &[1],
+    ..PLAIN
+};
+
 // The draft of the resource, an item and B over two periods.
 fn draft(alloc: Global, first: Item) -> Result<Draft, AllocError> {
-    let second = Item {
-        name: "B",
-        needs: &[],
-        uses: &[],
-        ..FIRST
-    };
-    draft_of(alloc, 2, &[MACHINE], &[first, second])
+    draft_of(alloc, 2, &[MACHINE], &[first, SECOND])
 }
 
 // What a draft is refused for first, written.

@@ -1,4 +1,3 @@
-use crate::shops::PROMPT;
 use branching::{Found, RootSays, plan_uncoupled};
 use cert_checker::check;
 use certificate::{Claim, is_writable, read_certificate, write_certificate};
@@ -21,11 +20,16 @@ const MOST: i64 = 1_000_000_000;
 const FULL: &str = "lotcert 1\nclaim infeasible\ncuts 0\nfarkas 3\n\
     part balance 2 1 -1\npart balance 2 2 -1\npart endmax 2 1\nend\n";
 
-// Another item than the prompt one, with the same demand and costs.
-const SECOND: Item<'static> = Item {
-    name: "B",
-    ..PROMPT
+// An item that is asked for 4 and 6, with setup costs 100 and 20 and hold cost 1.
+const FIRST: Item<'static> = Item {
+    demand: &[4, 6],
+    setup_cost: &[100, 20],
+    hold_cost: &[1],
+    ..PLAIN
 };
+
+// Another one.
+const SECOND: Item<'static> = Item { name: "B", ..FIRST };
 
 // What is found of an instance, once the checker accepts it.
 fn accepted(alloc: Global, instance: &Instance) -> Result<Found, Fail> {
@@ -63,7 +67,7 @@ fn is_text(alloc: Global, found: &Found, want: &str) -> Result<bool, Fail> {
 
 // What is found of A and of another item, once the checker accepts it.
 fn found_with(alloc: Global, other: Item) -> Result<Found, Fail> {
-    let instance = instance(alloc, 2, &[], &[PROMPT, other])?;
+    let instance = instance(alloc, 2, &[], &[FIRST, other])?;
     accepted(alloc, &instance)
 }
 

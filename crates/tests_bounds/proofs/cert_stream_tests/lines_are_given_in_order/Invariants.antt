@@ -1,5 +1,5 @@
 use Rattle.cert_stream.specs.Reader.{IsSound}
-use Rattle.tests_search.proofs.cert_stream_tests.values_are_given_in_order.Given as goal
+use Rattle.tests_bounds.proofs.cert_stream_tests.lines_are_given_in_order.Given as goal
 
 -- the numbers of the pass fit together
 abbrev pub invariant-loop-want : goal.invariant-loop-want

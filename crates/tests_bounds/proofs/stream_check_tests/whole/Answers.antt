@@ -1,6 +1,6 @@
 use Rattle.std.proofs.Common.{arith}
 use Rattle.certificate.specs.Shapes.{shape_of}
-use Rattle.tests_search.proofs.stream_check_tests.whole.Goals as goal
+use Rattle.tests_bounds.proofs.stream_check_tests.whole.Goals as goal
 
 pub check-requires-clause-lines : goal.check-requires-clause-lines
 check-requires-clause-lines c =
