@@ -1,0 +1,5 @@
+pub mod Ranges
+pub mod Walk
+pub mod Adding
+pub mod Totals
+pub mod Timing

@@ -1,0 +1,3 @@
+pub mod Pegs
+pub mod Sums
+pub mod Texts
