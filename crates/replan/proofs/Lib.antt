@@ -1,0 +1,5 @@
+pub mod Caps
+pub mod Growing
+pub mod Drafts
+pub mod ReadBack
+pub mod Resting

@@ -1,0 +1,4 @@
+pub mod Capped
+pub mod Answers
+pub mod Laws
+pub mod Texts
