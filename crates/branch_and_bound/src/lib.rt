@@ -8,7 +8,7 @@
 //! of a range, `is_below` compares costs, and `whole_is_measured` counts the choices of a whole problem.
 //!
 //! Family: search. It stands on `lin_rows`, whose columns are branched on, on `cert_lines` and `certificate`, whose
-//! leaves and trees it gives, and on the sums of `lot_sizing`; `search_ranges`, `known_plans`, `node_splits`,
+//! leaves and trees it gives, and on the sums of `lot_sizing`; `search_ranges`, `incumbent`, `node_splits`,
 //! `branch_and_cut` and, in proofs alone, `lotplan` stand on it.
 #![tactic(auto)]
 

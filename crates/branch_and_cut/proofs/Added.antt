@@ -19,7 +19,7 @@ use Rattle.branch_and_cut.specs.Adding.{IsBlockCut, IsNextRow}
 use Rattle.branch_and_cut.specs.Begun.{AreKnownCuts, IsBegun}
 use Rattle.branch_and_cut.specs.Branching.{good_stays}
 use Rattle.branch_and_cut.specs.Knowing.{IsKnown, ranges_in, shapes}
-use Rattle.known_plans.specs.Kept.{IsMadeWithin}
+use Rattle.incumbent.specs.Kept.{IsMadeWithin}
 use Rattle.branch_and_cut.proofs.Openings.{columns_more}
 
 -- ---- block cuts

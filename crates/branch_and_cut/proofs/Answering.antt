@@ -30,15 +30,15 @@ use Rattle.branch_and_cut.specs.declared.knowing.Known.{Known}
 use Rattle.branch_and_cut.specs.Answer.{IsAnswer, IsAnswerWithin, IsRootOf}
 use Rattle.branch_and_cut.specs.Beginning.{AreApart}
 use Rattle.branch_and_cut.specs.Finishing.{IsFinished, IsSearched}
-use Rattle.known_plans.specs.Kept.{KeepsGiven, KeepsOwnMade, IsNoWorse, cost_kept, plan_kept, IsMadeWithin}
+use Rattle.incumbent.specs.Kept.{KeepsGiven, KeepsOwnMade, IsNoWorse, cost_kept, plan_kept, IsMadeWithin}
 use Rattle.branch_and_cut.specs.Knowing.{ranges_in}
 use Rattle.branch_and_cut.specs.Search.{CostsAtMost, GoesTogether, IsClaimedAtLeast, IsDecided, IsImpossibleByOne, IsNoLessThanApart, IsSaidAtRoot, IsVersionOf, KeepsFirst, KeepsOwn, UsesRoot}
-use Rattle.known_plans.specs.Good.{IsGoodPlan, IsGoodWithin}
+use Rattle.incumbent.specs.Good.{IsGoodPlan, IsGoodWithin}
 use Rattle.branch_and_cut.specs.SearchWithin.{HasEvidenceWithin, IsProvedWithin, IsUndecidedWithin, WholeIsProved}
 use Rattle.search_ranges.specs.Within.{LieInWhole, AllLieWithin, IsWhole}
 use Rattle.branch_and_cut.specs.Search as shown
 use Rattle.branch_and_cut.proofs.Best.{first_kept, good_first, good_kept, own_kept}
-use Rattle.known_plans.proofs.Best.{given_on}
+use Rattle.incumbent.proofs.Best.{given_on}
 use Rattle.branch_and_cut.proofs.Finished.{made_of}
 use Rattle.branch_and_cut.proofs.Overall.{cause_whole, one_within, shows_whole}
 use Rattle.branch_and_cut.proofs.Evidence.{at_most_on}

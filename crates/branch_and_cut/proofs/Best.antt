@@ -7,10 +7,10 @@ use Rattle.plan_rules.specs.declared.plan.Plan.{Plan}
 use Rattle.plan_rules.specs.declared.plan.Planned.{Planned}
 use Rattle.plan_rules.specs.Held.{plan_of}
 use Rattle.split_trees.specs.Ranges.{Ranges}
-use Rattle.first_plans.specs.Made.{IsMade}
+use Rattle.own_plan.specs.Made.{IsMade}
 use Rattle.search_ranges.specs.Within.{AllLieWithin}
-use Rattle.known_plans.specs.Good.{IsGoodPlan, IsGoodWithin, cost_of}
-use Rattle.known_plans.specs.Kept.{CostsNoMore, IsMadeWithin, KeepsGiven, KeepsOwnMade, plan_kept}
+use Rattle.incumbent.specs.Good.{IsGoodPlan, IsGoodWithin, cost_of}
+use Rattle.incumbent.specs.Kept.{CostsNoMore, IsMadeWithin, KeepsGiven, KeepsOwnMade, plan_kept}
 use Rattle.branch_and_cut.specs.Search.{CostsAtMost, KeepsFirst, KeepsOwn}
 
 pub costs_kept : (m : Problem) (best : Option Planned) (amount : ℕ) → IfSome best (IsMade m) → CostsNoMore best amount → CostsAtMost m (plan_kept best) amount

@@ -27,7 +27,7 @@ use Rattle.acceptance.specs.Named.{names}
 use Rattle.acceptance.specs.Says.{Says}
 use Rattle.cert_checker.specs.Checks.{ComesWith, HaveGoodRows, line_count, plan_given}
 use Rattle.cert_checker.specs.Cuts.{OfProblem}
-use Rattle.first_plans.specs.Made.{IsMade}
+use Rattle.own_plan.specs.Made.{IsMade}
 use Rattle.branching.specs.declared.found.Found.{Found}
 use Rattle.branching.specs.declared.found.RootSays.{RootSays}
 use Rattle.leaf_growth.specs.declared.limits.TheConstants.{MAX_NODES}
@@ -46,7 +46,7 @@ use Rattle.branch_and_bound.specs.Trees.{AtLeaf, EachLeaf, IsSplitTree, SomeLeaf
 use Rattle.branch_and_cut.specs.declared.guiding.Model.{Model}
 use Rattle.branch_and_cut.specs.declared.knowing.Known.{Known}
 use Rattle.branch_and_cut.specs.Finishing.{IsFinished, IsSearched}
-use Rattle.known_plans.specs.Kept.{cost_kept, plan_kept, IsMadeWithin}
+use Rattle.incumbent.specs.Kept.{cost_kept, plan_kept, IsMadeWithin}
 use Rattle.branch_and_cut.specs.Knowing.{ranges_in, shapes}
 use Rattle.branch_and_cut.specs.Leaves.{IsGoodLeafWithin, IsKept, IsEvidentAt, said}
 use Rattle.search_ranges.specs.Nodes.{IsNodeOf, choice_place, choice_rules}

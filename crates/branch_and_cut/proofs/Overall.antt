@@ -18,26 +18,26 @@ use Rattle.cert_lines.specs.declared.parts.Claim.{Claim}
 use Rattle.cert_lines.specs.declared.parts.Claim.TheVariants.{Optimal, Infeasible, Bound as BoundOf}
 use Rattle.cert_lines.specs.Shapes.{FarkasLeaf, LeafShape, LinearLeaf, PointLeaf}
 use Rattle.certificate.specs.Counts.{node_count}
-use Rattle.certificate.specs.Shapes.{End, Shape, Split, TreeShape, shape_of}
+use Rattle.certificate.specs.Shapes.{End, Split, TreeShape, shape_of}
 use Rattle.split_trees.specs.Paths.{left_to}
 use Rattle.split_trees.specs.Ranges.{IsChoice, IsWithin, Ranges, whole_ranges}
 use Rattle.split_trees.specs.Spans.{Span}
 use Rattle.split_trees.specs.Trees.{EachLeaf, IsSplitTree, high_path, low_path}
 use Rattle.acceptance.specs.declared.says.LeafSays.{LeafSays}
 use Rattle.acceptance.specs.declared.says.LeafSays.TheVariants.{NoPlan, AtLeast}
-use Rattle.acceptance.specs.Accepts.{Fits, GoesWith, IsAccepted, IsTrueOf, IsTrueWithin, SaysEnough}
+use Rattle.acceptance.specs.Accepts.{Fits, IsAccepted, IsTrueOf, IsTrueWithin, SaysEnough}
 use Rattle.acceptance.specs.Laws.{AcceptedByBoth, AcceptedIsTrue, CutRowsAreOne}
 use Rattle.acceptance.specs.Named.{Named, names}
 use Rattle.acceptance.specs.Says as says
 use Rattle.acceptance.specs.Says.{Says, point_make, point_setup}
-use Rattle.cert_checker.specs.Checks.{ComesWith, IsCertified, plan_given}
+use Rattle.cert_checker.specs.Checks.{plan_given}
 use Rattle.branching.specs.declared.found.Found.{Found}
 use Rattle.branching.specs.Found.{IsProved}
 use Rattle.root_rounds.specs.Root.{HasFigures}
 use Rattle.branch_and_cut.specs.Search.{HasEvidence, IfBound, IsDeepIfOpen, IsEvidence, IsUndecided, SaysAmount, SomeLeaf, WithRows, tree_in}
-use Rattle.branch_and_cut.specs.SearchWithin.{HasEvidenceWithin, IsCertifiedWithin, IsDeepIfOpenWithin, IsProvedWithin, IsUndecidedWithin, SaysAmountWithin, WholeIsProved}
+use Rattle.branch_and_cut.specs.SearchWithin.{HasEvidenceWithin, IsDeepIfOpenWithin, IsProvedWithin, IsUndecidedWithin, SaysAmountWithin, WholeIsProved}
 use Rattle.search_ranges.specs.Within.{IsWhole}
-use Rattle.known_plans.proofs.Chosen.{least_on, none_on}
+use Rattle.incumbent.proofs.Chosen.{least_on, none_on}
 use Rattle.branch_and_cut.proofs.Proved.{each_map, goes_within}
 
 -- ---- certificates

@@ -22,7 +22,7 @@ use Rattle.split_trees.specs.Spans.{Span}
 use Rattle.acceptance.specs.Named.{names}
 use Rattle.acceptance.specs.Says as says
 use Rattle.acceptance.specs.Says.{HasNone, IsLeastCost, Says, point_make, point_setup}
-use Rattle.first_plans.specs.Made.{IsMade}
+use Rattle.own_plan.specs.Made.{IsMade}
 use Rattle.leaf_growth.specs.Written.{LeafHasLines}
 use Rattle.branch_and_bound.specs.declared.node.Range.{Range}
 use Rattle.branch_and_bound.specs.declared.proposal.Proposal.{Proposal}
@@ -35,8 +35,8 @@ use Rattle.branch_and_cut.specs.Begun.{AreKnownCuts, IsBegun}
 use Rattle.branch_and_cut.specs.Branching.{good_within}
 use Rattle.search_ranges.specs.Sides.{point_at}
 use Rattle.branch_and_cut.specs.Knowing.{IsAfter, IsKeptIn, IsKnown, IsLastingIn, ranges_in, shapes}
-use Rattle.known_plans.specs.Kept.{IsMadeWithin, IsNoWorse, cost_kept}
-use Rattle.known_plans.proofs.Chosen.{least_on, none_on}
+use Rattle.incumbent.specs.Kept.{IsMadeWithin, IsNoWorse, cost_kept}
+use Rattle.incumbent.proofs.Chosen.{least_on, none_on}
 use Rattle.branch_and_cut.specs.Leaves.{IsKept, LeafSaysWithin, said}
 use Rattle.search_ranges.specs.Nodes.{IsNodeOf, cell_place, choice_place, least_make, least_setup, span_in}
 use Rattle.search_ranges.specs.Numbering.{place_below, place_x, place_y}

@@ -29,11 +29,6 @@ pub record IsNextRow (m : Problem) (rows : List LinRow) (cut : CutShape) (row : 
   pub columns_exist : HasItsColumns m row
 
 -- ---- leaves
--- a leaf that takes rows by their names, whose parts have lines in texts of each version
-pub record HasRowParts (leaf : LeafShape) : Type 0 where
-  pub of_rows : IsOfRows leaf
-  pub parts : All (λ part. HasLine FIRST_CERT_VERSION (PartLine part)) (leaf_parts leaf)
-
 -- a leaf that takes rows by their names, whose lines are those of texts
 pub record IsTested (leaf : LeafShape) : Type 0 where
   pub of_rows : IsOfRows leaf

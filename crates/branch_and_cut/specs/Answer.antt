@@ -9,7 +9,7 @@ use Rattle.split_trees.specs.Ranges.{Ranges}
 use Rattle.root_rounds.specs.declared.round_leaf.Root.{Root}
 use Rattle.root_rounds.specs.Root.{AreWritable, BoundsPlans, HasFigures, RootMeans, root_cuts}
 use Rattle.branch_and_cut.specs.Search.{DecidesSmall, GoesTogether, HasEvidence, IfBound, IsNoLessThanApart, IsSaidAtRoot, IsUndecided, IsVersionOf, KeepsFirst, KeepsOwn, UsesRoot, WithRows}
-use Rattle.known_plans.specs.Good.{IsGoodPlan, IsGoodWithin}
+use Rattle.incumbent.specs.Good.{IsGoodPlan, IsGoodWithin}
 use Rattle.branch_and_cut.specs.SearchWithin.{HasEvidenceWithin, IsProvedWithin, IsUndecidedWithin}
 use Rattle.search_ranges.specs.declared.within.Ranges.{Ranges as Given}
 use Rattle.search_ranges.specs.Within.{AreGiven, IsWhole, given_ranges}

@@ -11,7 +11,7 @@ use Rattle.branch_and_bound.specs.Trees.{EachLeaf, IsSplitTree}
 use Rattle.branch_and_cut.specs.declared.guiding.Model.{Model}
 use Rattle.branch_and_cut.specs.declared.knowing.Known.{Known}
 use Rattle.branch_and_cut.specs.Knowing.{IsKeptIn, IsKnown, IsNodeIn, IsEvidentIn, ranges_in}
-use Rattle.known_plans.specs.Kept.{cost_kept}
+use Rattle.incumbent.specs.Kept.{cost_kept}
 use Rattle.search_ranges.specs.Nodes.{choice_place, choice_rules}
 use Rattle.branch_and_cut.specs.Search.{DecidesSmall, GoesTogether, IfBound, IsClaimedAtLeast, WithRows}
 use Rattle.branch_and_cut.specs.SearchWithin.{HasEvidenceWithin, IsUndecidedWithin}

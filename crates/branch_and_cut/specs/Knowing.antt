@@ -1,6 +1,5 @@
 -- What the search of a model knows while it goes on.
 use Rattle.std.specs.Prelude.{◌≡◌, ℕ, ◌++◌, List, map, IfSome}
-use Rattle.lot_sizing.specs.Plan as terms
 use Rattle.lin_rows.specs.Rows.{LinRow}
 use Rattle.cert_lines.specs.Shapes.{CutShape, cut_shape}
 use Rattle.echelon.specs.Weights.{IsExplosionOf}
@@ -17,7 +16,7 @@ use Rattle.branch_and_cut.specs.Leaves.{IsKept, IsLasting, IsEvidentAt}
 use Rattle.search_ranges.specs.Nodes.{IsNodeOf}
 use Rattle.branch_and_cut.specs.Adding.{IsJudged}
 use Rattle.search_ranges.specs.Within.{AreGiven, given_ranges}
-use Rattle.known_plans.specs.Kept.{IsMadeWithin, IsNoWorse}
+use Rattle.incumbent.specs.Kept.{IsMadeWithin, IsNoWorse}
 
 -- ---- cuts
 abbrev pub shapes : Known → List CutShape

@@ -21,8 +21,8 @@ use Rattle.branching.specs.declared.found.RootSays.{RootSays}
 use Rattle.branching.specs.declared.found.RootSays.TheVariants as root
 use Rattle.root_rounds.specs.declared.round_leaf.Root.{Root}
 use Rattle.root_rounds.specs.Root.{RootMeans}
-use Rattle.first_plans.specs.OwnPeriod.{IsOwnPeriod}
-pub use Rattle.known_plans.specs.Good.{IsGoodPlan, cost_of}
+use Rattle.own_plan.specs.OwnPeriod.{IsOwnPeriod}
+pub use Rattle.incumbent.specs.Good.{IsGoodPlan, cost_of}
 use Rattle.apart.specs.Apart.{IsApart}
 use Rattle.path_relaxation.specs.declared.says.Exempt.{Exempt}
 use Rattle.path_relaxation.specs.Path.{IsExempt, IsMetAt}

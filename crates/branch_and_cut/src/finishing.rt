@@ -3,7 +3,7 @@ ghost use Rattle.std.specs.Prelude.{◌≡◌, ℕ, List, IfOk};
 ghost use Rattle.root_rounds.specs.Root.{HasFigures};
 ghost use Rattle.branch_and_bound.specs.declared.node.Range.{Range};
 ghost use Rattle.branch_and_cut.specs.Finishing.{IsFinished, IsSearched};
-ghost use Rattle.known_plans.specs.Kept.{plan_kept};
+ghost use Rattle.incumbent.specs.Kept.{plan_kept};
 ghost use Rattle.branch_and_cut.specs.Knowing.{ranges_in};
 ghost use Rattle.branch_and_cut.specs.SearchWithin.{IsProvedWithin};
 
@@ -13,7 +13,7 @@ use acceptance::{accepted_over_ranges, says_are_one};
 use branch_and_bound::{Searched, strip, whole_is_measured};
 use branching::Found;
 use certificate::{Certificate, shapes_are_counted};
-use known_plans::best_plan;
+use incumbent::best_plan;
 use leaf_growth::{MAX_NODES, few_lines, made_is_writable};
 use lot_model::an_instance_breaks_no_rule;
 use lot_sizing::totals_are_one;

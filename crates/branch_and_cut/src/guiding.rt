@@ -6,21 +6,22 @@ ghost use Rattle.branch_and_bound.specs.Ranges.{AreOrdered, IsPoint};
 ghost use Rattle.branch_and_cut.specs.Branching.{after_on, after_same, kept_lasts, kept_stays};
 ghost use Rattle.search_ranges.specs.Sides.{node_side};
 ghost use Rattle.branch_and_cut.specs.Knowing.{IsAfter, IsKeptIn, IsKnown, IsLastingIn, IsNodeIn, IsReached, IsEvidentIn, KnowsMore, ranges_in};
-ghost use Rattle.known_plans.specs.Kept.{cost_kept};
+ghost use Rattle.incumbent.specs.Kept.{cost_kept};
 ghost use Rattle.search_ranges.specs.Nodes.{choice_rules};
 
 use crate::asking::with_evidence;
 use crate::knowing::Known;
+use crate::plugged::{Guided, State};
 use crate::pointing::{at_point, keep_built};
 use crate::pricing::priced;
+use crate::splitting::split_of;
 use branch_and_bound::{Guide, Node, Proposal, Split, is_below, open_place};
 use branching::RootSays;
 use cert_lines::copy_leaf;
 use echelon::Explosion;
-use known_plans::best_cost;
+use incumbent::best_cost;
 use lot_model::Instance;
-use node_splits::split_of;
-use priced_leaves::Pricing;
+use search_plugins::{Heuristic, Proposer, Watch};
 use search_ranges::{Ranges, open_setup};
 use std::alloc::{AllocError, Global};
 
@@ -33,10 +34,6 @@ pub(crate) struct Model<'a> {
     pub(crate) ranges: &'a Ranges,
     /// The units of each item in each other.
     pub(crate) explosion: Explosion,
-    /// What prices of the model are made with.
-    pub(crate) pricing: Pricing,
-    /// Whether branches are tried before one is chosen: where the model isn't large.
-    pub(crate) tries: bool,
     /// The version of the certificate's text.
     pub(crate) version: u32,
     /// What was said at the root.
@@ -85,75 +82,112 @@ fn is_relaxed(model: &Model, node: &Node, proposal: &Proposal, known: &Known) ->
         && open_setup(model.instance, &node.ranges).is_none()
 }
 
-// A leaf for a node that isn't one choice: that of the node above, that of rounds of prices, or what the relaxation on the
-// path says, where it is solved. A plan with the setups that are chosen by then is tried beside.
-fn leaf_between(
+// A leaf for a node that isn't one choice: that of the node above, that of a proposal, or what the relaxation on the
+// path says, where it is solved. Plans with the setups that are chosen by then are tried beside.
+fn leaf_between<P: Proposer, H: Heuristic<P::Hint>, W: Watch>(
     alloc: Global,
-    model: &Model,
+    guided: &Guided<'_, P, H>,
     node: &Node,
     above: &Proposal,
-    known: &mut Known,
+    state: &mut State<P::State, H::State, W>,
 ) -> Result<Proposal, AllocError>
-    requires reached { IsReached model.now known.old node.now }
-    requires above { IsLastingIn model.now known.old node.now.path.items above.now }
-    ensures more { OnOk result (KnowsMore model.now known.old known.new) }
-    ensures leaf { IfOk result (IsKeptIn model.now known.new node.now.ranges.items node.now.path.items) }
-    ensures evident { IfOk result (λ p. p.examined ≡ true → IsEvidentIn model.now node.now.path.items p) }
+    requires reached { IsReached guided.now.model state.old.known node.now }
+    requires above { IsLastingIn guided.now.model state.old.known node.now.path.items above.now }
+    ensures more { OnOk result (KnowsMore guided.now.model state.old.known state.new.known) }
+    ensures leaf { IfOk result (IsKeptIn guided.now.model state.new.known node.now.ranges.items node.now.path.items) }
+    ensures evident { IfOk result (λ p. p.examined ≡ true → IsEvidentIn guided.now.model node.now.path.items p) }
 {
-    let same = inherited(alloc, model, node, above, known)?;
-    let proposal = priced(alloc, model, node, same, known)?;
-    if !is_relaxed(model, node, &proposal, known) {
+    let model = &guided.model;
+    let same = inherited(alloc, model, node, above, &state.known)?;
+    let proposal = priced(alloc, guided, node, same, state)?;
+    if !is_relaxed(model, node, &proposal, &state.known) {
         return Ok(proposal);
     }
-    keep_built(alloc, model, node, known)?;
+    let effort = &mut state.effort;
+    keep_built(
+        alloc,
+        model,
+        guided.heuristic,
+        node,
+        effort,
+        &mut state.known,
+    )?;
     with_evidence(alloc, model, node, proposal)
 }
 
 // A leaf for a node, where that of the node above says as much here.
-fn leaf_for(
+fn leaf_for<P: Proposer, H: Heuristic<P::Hint>, W: Watch>(
     alloc: Global,
-    model: &Model,
+    guided: &Guided<'_, P, H>,
     node: &Node,
     above: &Proposal,
-    known: &mut Known,
+    state: &mut State<P::State, H::State, W>,
 ) -> Result<Proposal, AllocError>
     requires ordered { AreOrdered node.now.ranges.items }
-    requires reached { IsReached model.now known.old node.now }
-    requires above { IsLastingIn model.now known.old node.now.path.items above.now }
-    ensures more { OnOk result (KnowsMore model.now known.old known.new) }
-    ensures leaf { IfOk result (IsKeptIn model.now known.new node.now.ranges.items node.now.path.items) }
-    ensures evident { IfOk result (λ p. p.examined ≡ true → IsEvidentIn model.now node.now.path.items p) }
-    ensures closed { IfOk result (λ p. IsBelow p.says (cost_kept known.new.best) → IsPoint node.now.ranges.items → ⊥) }
+    requires reached { IsReached guided.now.model state.old.known node.now }
+    requires above { IsLastingIn guided.now.model state.old.known node.now.path.items above.now }
+    ensures more { OnOk result (KnowsMore guided.now.model state.old.known state.new.known) }
+    ensures leaf { IfOk result (IsKeptIn guided.now.model state.new.known node.now.ranges.items node.now.path.items) }
+    ensures evident { IfOk result (λ p. p.examined ≡ true → IsEvidentIn guided.now.model node.now.path.items p) }
+    ensures closed { IfOk result (λ p. IsBelow p.says (cost_kept state.new.known.best) → IsPoint node.now.ranges.items → ⊥) }
 {
     if open_place(&node.ranges).is_none() {
-        return at_point(alloc, model, node, known);
+        return at_point(alloc, &guided.model, node, &mut state.known);
     }
-    leaf_between(alloc, model, node, above, known)
+    leaf_between(alloc, guided, node, above, state)
 }
 
-impl Guide<Known> for Model<'_> {
-    ghost rules = { λ g. choice_rules g.instance.now };
+// The same, of which the watcher is told.
+fn watched_leaf<P: Proposer, H: Heuristic<P::Hint>, W: Watch>(
+    alloc: Global,
+    guided: &Guided<'_, P, H>,
+    node: &Node,
+    above: &Proposal,
+    state: &mut State<P::State, H::State, W>,
+) -> Result<Proposal, AllocError>
+    requires ordered { AreOrdered node.now.ranges.items }
+    requires reached { IsReached guided.now.model state.old.known node.now }
+    requires above { IsLastingIn guided.now.model state.old.known node.now.path.items above.now }
+    ensures more { OnOk result (KnowsMore guided.now.model state.old.known state.new.known) }
+    ensures leaf { IfOk result (IsKeptIn guided.now.model state.new.known node.now.ranges.items node.now.path.items) }
+    ensures evident { IfOk result (λ p. p.examined ≡ true → IsEvidentIn guided.now.model node.now.path.items p) }
+    ensures closed { IfOk result (λ p. IsBelow p.says (cost_kept state.new.known.best) → IsPoint node.now.ranges.items → ⊥) }
+{
+    let leaf = leaf_for(alloc, guided, node, above, state)?;
+    let cost = best_cost(&state.known.best);
+    state.watch.node(node.path.len(), leaf.says, cost);
+    Ok(leaf)
+}
 
-    ghost IsNode = { λ g rs path. IsNodeIn g rs path };
+impl<P: Proposer, H: Heuristic<P::Hint>, W: Watch> Guide<State<P::State, H::State, W>>
+    for Guided<'_, P, H> {
+    ghost rules = { λ g. choice_rules g.model.instance.now };
 
-    ghost Grows = { IsAfter };
+    ghost IsNode = { λ g rs path. IsNodeIn g.model rs path };
 
-    ghost Holds = { λ g k rs path p. IsKeptIn g k rs path p };
+    ghost Grows = { λ a b. IsAfter a.known b.known };
 
-    ghost IsHeir = { λ g k rs path p. IsLastingIn g k path p };
+    ghost Holds = { λ g k rs path p. IsKeptIn g.model k.known rs path p };
 
-    ghost IsEvident = { λ g rs path p. IsEvidentIn g path p };
+    ghost IsHeir = { λ g k rs path p. IsLastingIn g.model k.known path p };
 
-    ghost IsState = { λ g k. IsKnown g k };
+    ghost IsEvident = { λ g rs path p. IsEvidentIn g.model path p };
 
-    ghost cost = { λ k. cost_kept k.best };
+    ghost IsState = { λ g k. IsKnown g.model k.known };
 
-    fn best(&self, state: &Known) -> Option<u128> {
-        best_cost(&state.best)
+    ghost cost = { λ k. cost_kept k.known.best };
+
+    fn best(&self, state: &State<P::State, H::State, W>) -> Option<u128> {
+        best_cost(&state.known.best)
     }
 
-    fn start(&self, alloc: Global, node: &Node, state: &mut Known) -> Result<Proposal, AllocError> {
-        leaf_for(alloc, self, node, &self.first, state)
+    fn start(
+        &self,
+        alloc: Global,
+        node: &Node,
+        state: &mut State<P::State, H::State, W>,
+    ) -> Result<Proposal, AllocError> {
+        watched_leaf(alloc, self, node, &self.model.first, state)
     }
 
     fn propose(
@@ -161,13 +195,22 @@ impl Guide<Known> for Model<'_> {
         alloc: Global,
         node: &Node,
         above: &Proposal,
-        state: &mut Known,
+        state: &mut State<P::State, H::State, W>,
     ) -> Result<Proposal, AllocError> {
-        leaf_for(alloc, self, node, above, state)
+        watched_leaf(alloc, self, node, above, state)
     }
 
-    fn branch(&self, node: &Node, proposal: &Proposal, state: &Known) -> Split {
-        split_of(self.instance, &node.ranges, state.notes.get(proposal.note))
+    fn branch(
+        &self,
+        node: &Node,
+        proposal: &Proposal,
+        state: &State<P::State, H::State, W>,
+    ) -> Split {
+        let instance = self.model.instance;
+        let place = self
+            .proposer
+            .branch(instance, &node.ranges, proposal.note, &state.notes);
+        split_of(instance, &node.ranges, place)
     }
 
     fn ask(
@@ -175,18 +218,18 @@ impl Guide<Known> for Model<'_> {
         alloc: Global,
         node: &Node,
         proposal: Proposal,
-        _state: &mut Known,
+        _state: &mut State<P::State, H::State, W>,
     ) -> Result<Proposal, AllocError> {
-        with_evidence(alloc, self, node, proposal)
+        with_evidence(alloc, &self.model, node, proposal)
     }
 
-    ghost sides = { λ g most rs path c at node split. node_side g.instance.now (ranges_in g) most rs path c at node split };
+    ghost sides = { λ g most rs path c at node split. node_side g.model.instance.now (ranges_in g.model) most rs path c at node split };
 
-    ghost same = { after_same };
+    ghost same = { λ a. after_same a.known };
 
-    ghost grows_on = { after_on };
+    ghost grows_on = { λ a b c. after_on a.known b.known c.known };
 
-    ghost stays = { λ g a b rs path p after is. kept_stays g.instance.now (ranges_in g) g.version g.least a b rs path p after is };
+    ghost stays = { λ g a b rs path p after is. kept_stays g.model.instance.now (ranges_in g.model) g.model.version g.model.least a.known b.known rs path p after is };
 
-    ghost heirs = { λ g k most rs path c at p is split. kept_lasts g.instance.now (ranges_in g) g.version g.least k.rows.items most rs path c ((choice_rules g.instance.now).place c) at p is split };
+    ghost heirs = { λ g k most rs path c at p is split. kept_lasts g.model.instance.now (ranges_in g.model) g.model.version g.model.least k.known.rows.items most rs path c ((choice_rules g.model.instance.now).place c) at p is split };
 }

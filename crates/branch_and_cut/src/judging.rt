@@ -3,9 +3,10 @@ ghost use Rattle.std.specs.Prelude.{◌≡◌, false, IfSome, OnOk};
 ghost use Rattle.cert_lines.specs.Shapes.{leaf_shape};
 ghost use Rattle.plan_rules.specs.Rows.{IfFound};
 ghost use Rattle.branch_and_bound.specs.Costs.{IsAtMost};
-ghost use Rattle.branch_and_cut.specs.Adding.{HasRowParts, IsTested};
+ghost use Rattle.branch_and_cut.specs.Adding.{IsTested};
 ghost use Rattle.branch_and_cut.specs.Knowing.{IsJudgedIn, IsLastingIn, IsReached, KnowsTheSame};
 ghost use Rattle.branch_and_cut.specs.Leaves.{said};
+ghost use Rattle.search_plugins.specs.Proposals.{HasRowParts};
 
 use crate::guiding::Model;
 use crate::knowing::Known;

@@ -1,9 +1,7 @@
 // What a search knows while it goes on.
 use cert_checker::NamedSums;
 use certificate::Cut;
-use known_plans::Effort;
 use lin_rows::Row;
-use node_splits::Notes;
 use plan_rules::Planned;
 
 /// The cuts so far with their rows, which the leaves name, and the best plan so far.
@@ -14,8 +12,4 @@ pub(crate) struct Known {
     pub(crate) best: Option<Planned>,
     /// Sums of rows, by which leaves are judged.
     pub(crate) sums: NamedSums,
-    /// What rounds of prices came to at nodes, for those below them. Nothing is claimed of it.
-    pub(crate) notes: Notes,
-    /// What finding plans may still take, and what was tried. Nothing is claimed of it.
-    pub(crate) effort: Effort,
 }

@@ -1,12 +1,13 @@
 //! The search of every model: branching on quantities and setups, with cuts, and a certificate of what is found.
 //!
 //! `search_all` searches the plans of a model, and `search` those within `Ranges` that are given. Each gives a `Found`: a plan,
-//! if there is one, and a certificate of what is claimed.
+//! if there is one, and a certificate of what is claimed. Both are given what proposes leaves, branches and plans, and what is
+//! told of the nodes (`search_plugins`); what they promise holds for any.
 //!
-//! Family: search. It stands on `branch_and_bound` for the tree, on `search_ranges` for the ranges, on `root_rounds`, `apart`,
-//! `priced_leaves` and `path_relaxation` for cuts and leaves, on `known_plans` and `first_plans` for plans, on `node_splits` for
-//! branches, on `branching` for uncoupled models, and on `leaf_growth`, `cert_checker` and `acceptance` for what certificates
-//! are; `lotplan` stands on it.
+//! Family: search. It stands on `branch_and_bound` for the tree, on `search_ranges` for the ranges, on `root_rounds`, `apart` and
+//! `path_relaxation` for cuts and leaves, on `incumbent` for the best plan, on `search_plugins` for what is plugged in, on
+//! `branching` for uncoupled models, and on `leaf_growth`, `cert_checker` and `acceptance` for what certificates are; `lotplan`
+//! stands on it. No plugin is below it.
 #![tactic(auto)]
 
 mod adding;
@@ -17,9 +18,11 @@ mod guiding;
 mod impossible;
 mod judging;
 mod knowing;
+mod plugged;
 mod pointing;
 mod pricing;
 mod searching;
+mod splitting;
 mod whole;
 
 pub use branching::{Found, PassedAt, RootSays};

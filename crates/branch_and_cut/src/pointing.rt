@@ -3,15 +3,14 @@ ghost use Rattle.std.specs.Prelude.{◌≡◌, false, IfOk, OnOk};
 ghost use Rattle.branch_and_bound.specs.Costs.{IsBelow};
 ghost use Rattle.branch_and_bound.specs.Ranges.{IsPoint};
 ghost use Rattle.branch_and_cut.specs.Knowing.{IsKeptIn, IsKnown, IsReached, KnowsMore};
-ghost use Rattle.known_plans.specs.Kept.{IsNoWorse, cost_kept};
+ghost use Rattle.incumbent.specs.Kept.{IsNoWorse, cost_kept};
 
 use crate::guiding::Model;
 use crate::knowing::Known;
 use branch_and_bound::{Node, Proposal};
 use cert_lines::Leaf;
-use first_plans::built_plan;
-use known_plans::{best_cost, keep_within, plan_at};
-use search_ranges::least_grid;
+use incumbent::{best_cost, keep_within, plan_at};
+use search_plugins::Heuristic;
 use split_trees::ranges_are_left;
 use std::alloc::{AllocError, Global};
 
@@ -43,12 +42,13 @@ pub(crate) fn at_point(
     })
 }
 
-/// Keeps the plan that is built backward with the setups of a node whose setups are all chosen, where it lies within the
-/// ranges and is better than the best so far.
-pub(crate) fn keep_built(
+/// Plans at a node whose setups are all chosen. The best plan is kept.
+pub(crate) fn keep_built<T, H: Heuristic<T>>(
     alloc: Global,
     model: &Model,
+    heuristic: &H,
     node: &Node,
+    effort: &mut H::State,
     known: &mut Known,
 ) -> Result<(), AllocError>
     requires reached { IsReached model.now known.old node.now }
@@ -56,9 +56,13 @@ pub(crate) fn keep_built(
     ensures rows { OnOk result (known.new.rows ≡ known.old.rows) }
     ensures kept { OnOk result (IsNoWorse known.new.best known.old.best) }
 {
-    let cells = model.instance.items() as usize * model.instance.periods() as usize;
-    let setup = least_grid(alloc, model.instance, &node.ranges, cells)?;
-    let built = built_plan(alloc, model.instance, &setup)?;
-    keep_within(model.instance, model.ranges, &mut known.best, built);
-    Ok(())
+    let best = &mut known.best;
+    heuristic.at_node(
+        alloc,
+        model.instance,
+        model.ranges,
+        &node.ranges,
+        effort,
+        best,
+    )
 }

@@ -7,7 +7,8 @@ ghost use Rattle.leaf_growth.specs.Written.{HasVersion};
 ghost use Rattle.branch_and_cut.specs.Answer.{IsAnswer, IsAnswerWithin, StartsWell};
 ghost use Rattle.branch_and_cut.specs.Beginning.{AreApart};
 ghost use Rattle.branch_and_cut.specs.Search.{DecidesSmall, GoesTogether, HasEvidence, IfBound, IsNoLessThanApart, IsSaidAtRoot, IsUndecided, IsVersionOf, KeepsFirst, KeepsOwn, UsesRoot, WithRows};
-ghost use Rattle.known_plans.specs.Good.{IsGoodPlan, IsGoodWithin};
+ghost use Rattle.incumbent.specs.Good.{IsGoodPlan, IsGoodWithin};
+ghost use Rattle.incumbent.specs.Kept.{IsFirstBest, IsFirstWithin};
 ghost use Rattle.branch_and_cut.specs.SearchWithin.{HasEvidenceWithin, IsProvedWithin, IsUndecidedWithin};
 ghost use Rattle.search_ranges.specs.Within.{AreGiven, IsWhole, given_ranges};
 
@@ -16,6 +17,7 @@ use crate::finishing::finish;
 use crate::guiding::Model;
 use crate::impossible::none_found;
 use crate::knowing::Known;
+use crate::plugged::{Guided, State};
 use crate::whole::whole_is_proved;
 use apart::{Apart, apart, apart_is_one};
 use branch_and_bound as engine;
@@ -23,22 +25,13 @@ use branching::{Found, RootSays, plan_uncoupled};
 use cert_checker::NamedSums;
 use certificate::{FIRST_CERT_VERSION, MAX_CERT_VERSION};
 use echelon::Explosion;
-use known_plans::{Effort, best_by_programs};
+use incumbent::best_to_begin;
 use lot_model::{Instance, is_plain};
-use node_splits::Notes;
-use plan_rules::Plan;
-use priced_leaves::Pricing;
+use plan_rules::{Plan, Planned};
 use root_rounds::{Root, root};
+use search_plugins::{Heuristic, Proposer, Watch};
 use search_ranges::{Ranges, lie_in_whole, lies_within, listed};
 use std::alloc::{AllocError, Global};
-
-// Branches are tried before one is chosen in a model with at most so many items times periods.
-const TRIED_SIZE: u32 = 400;
-
-// Whether branches are tried before one is chosen.
-fn tries_branches(instance: &Instance) -> bool {
-    instance.items() * instance.periods() <= TRIED_SIZE
-}
 
 // The version of a certificate's text: the first one where the model is plain, and else the latest.
 fn version_of(instance: &Instance) -> u32
@@ -52,9 +45,29 @@ fn version_of(instance: &Instance) -> u32
     }
 }
 
-// What a search within the ranges finds.
-fn searched(
+// The best plan to begin with, after those that are proposed.
+fn best_at_start<T, H: Heuristic<T>>(
     alloc: Global,
+    heuristic: &H,
+    instance: &Instance,
+    ranges: &Ranges,
+    first: Option<Plan>,
+    effort: &mut H::State,
+) -> Result<Option<Planned>, AllocError>
+    requires { IsFirstWithin instance.now ranges.now first }
+    ensures { IfOk result (IsFirstBest instance.now ranges.now first) }
+{
+    let mut best = best_to_begin(alloc, instance, ranges, first)?;
+    heuristic.at_start(alloc, instance, ranges, effort, &mut best)?;
+    Ok(best)
+}
+
+// What a search within the ranges finds.
+fn searched<P: Proposer, H: Heuristic<P::Hint>, W: Watch + Drop>(
+    alloc: Global,
+    proposer: &P,
+    heuristic: &H,
+    watch: W,
     instance: &Instance,
     ranges: &Ranges,
     budget: u64,
@@ -73,40 +86,49 @@ fn searched(
     whole_is_proved(instance);
     let says = said.says;
     let version = version_of(instance);
-    let best = best_by_programs(alloc, instance, ranges, first)?;
+    let mut effort = heuristic.begin(alloc, instance)?;
+    let best = best_at_start(alloc, heuristic, instance, ranges, first, &mut effort)?;
     let begun = begin(alloc, instance, said, apart)?;
     let explosion = Explosion::of(alloc, instance)?;
-    let pricing = Pricing::new(alloc, instance, &explosion)?;
     let sums = NamedSums::new(alloc, instance)?;
-    let tries = tries_branches(instance);
     let model = Model {
         instance,
         ranges,
         explosion,
-        pricing,
-        tries,
         version,
         root: says,
         least: begun.least,
         first: begun.first,
     };
-    let mut known = Known {
+    let known = Known {
         cuts: begun.cuts,
         rows: begun.rows,
         best,
         sums,
-        notes: Notes::new(alloc),
-        effort: Effort::new(alloc),
+    };
+    let guided = Guided {
+        model,
+        proposer,
+        heuristic,
+    };
+    let mut state = State {
+        known,
+        notes: proposer.begin(alloc, instance)?,
+        effort,
+        watch,
     };
     let list = listed(alloc, instance, ranges)?;
-    let found = engine::search(alloc, &model, list, &mut known, budget)?;
-    finish(alloc, &model, known, found)
+    let found = engine::search(alloc, &guided, list, &mut state, budget)?;
+    finish(alloc, &guided.model, state.known, found)
 }
 
 // What is found of a model without coupling: its best plan, where that lies within the ranges; that there is none; and
 // otherwise what a search finds.
-fn alone(
+fn alone<P: Proposer, H: Heuristic<P::Hint>, W: Watch + Drop>(
     alloc: Global,
+    proposer: &P,
+    heuristic: &H,
+    watch: W,
     instance: &Instance,
     ranges: &Ranges,
     budget: u64,
@@ -125,7 +147,9 @@ fn alone(
     if lies_within(instance, ranges, &found.plan) {
         return Ok(found);
     }
-    searched(alloc, instance, ranges, budget, first, said, apart)
+    searched(
+        alloc, proposer, heuristic, watch, instance, ranges, budget, first, said, apart,
+    )
 }
 
 // What is found of a model of which the root says that its relaxation has no point.
@@ -146,8 +170,11 @@ fn impossible(
 }
 
 // What is found, by what is said at the root.
-fn answer(
+fn answer<P: Proposer, H: Heuristic<P::Hint>, W: Watch + Drop>(
     alloc: Global,
+    proposer: &P,
+    heuristic: &H,
+    watch: W,
     instance: &Instance,
     ranges: &Ranges,
     budget: u64,
@@ -160,9 +187,13 @@ fn answer(
     ensures { IfOk result (IsAnswerWithin instance.now (given_ranges ranges.now) budget first) }
 {
     match said.says {
-        RootSays::Uncoupled => alone(alloc, instance, ranges, budget, first, said, apart),
+        RootSays::Uncoupled => alone(
+            alloc, proposer, heuristic, watch, instance, ranges, budget, first, said, apart,
+        ),
         RootSays::Empty => Ok(impossible(instance, ranges, budget, first, said)),
-        _ => searched(alloc, instance, ranges, budget, first, said, apart),
+        _ => searched(
+            alloc, proposer, heuristic, watch, instance, ranges, budget, first, said, apart,
+        ),
     }
 }
 
@@ -186,10 +217,17 @@ fn answer(
 ///
 /// Over the whole ranges all holds that `search_all` promises (`whole`).
 ///
-/// The error is that memory ran out. It takes memory for a tableau and for the tree with its leaves. A tree of more than
-/// `MAX_NODES` nodes, 2^45, is given up with the same error.
-pub fn search(
+/// All of it holds for any proposer, heuristic and watcher. Leaves that are proposed are judged, and cuts and places to branch on
+/// are tested; a heuristic may put a feasible plan within the ranges, which costs no more, in the place of the best one. The
+/// watcher is told of the nodes of the tree.
+///
+/// The error is that memory ran out, by a plugin's word too. It takes memory for a tableau and for the tree with its leaves. A
+/// tree of more than `MAX_NODES` nodes, 2^45, is given up with the same error.
+pub fn search<P: Proposer, H: Heuristic<P::Hint>, W: Watch + Drop>(
     alloc: Global,
+    proposer: &P,
+    heuristic: &H,
+    watch: W,
     instance: &Instance,
     ranges: Ranges,
     budget: u64,
@@ -213,7 +251,9 @@ pub fn search(
 {
     let said = root(alloc, instance)?;
     let apart = apart(alloc, instance)?;
-    let found = answer(alloc, instance, &ranges, budget, first, said, apart)?;
+    let found = answer(
+        alloc, proposer, heuristic, watch, instance, &ranges, budget, first, said, apart,
+    )?;
     Ok(found)
 }
 
@@ -238,10 +278,17 @@ pub fn search(
 /// about twice the number of all choices of quantities and setups decides every model whose largest totals and setups
 /// have at most `MAX_BRANCHES` binary digits over all items and periods.
 ///
-/// The error is that memory ran out. It takes memory for a tableau and for the tree with its leaves. A tree of more than
-/// `MAX_NODES` nodes, 2^45, is given up with the same error.
-pub fn search_all(
+/// All of it holds for any proposer, heuristic and watcher. Leaves that are proposed are judged, and cuts and places to branch on
+/// are tested; a heuristic may put a feasible plan, which costs no more, in the place of the best one. The
+/// watcher is told of the nodes of the tree.
+///
+/// The error is that memory ran out, by a plugin's word too. It takes memory for a tableau and for the tree with its leaves. A
+/// tree of more than `MAX_NODES` nodes, 2^45, is given up with the same error.
+pub fn search_all<P: Proposer, H: Heuristic<P::Hint>, W: Watch + Drop>(
     alloc: Global,
+    proposer: &P,
+    heuristic: &H,
+    watch: W,
     instance: &Instance,
     budget: u64,
     first: Option<Plan>,
@@ -265,5 +312,7 @@ pub fn search_all(
 {
     lie_in_whole(instance);
     let ranges = Ranges::all(alloc, instance)?;
-    search(alloc, instance, ranges, budget, first)
+    search(
+        alloc, proposer, heuristic, watch, instance, ranges, budget, first,
+    )
 }

@@ -1,5 +1,2 @@
-pub mod Asked
-pub mod Own
-pub mod Rows
 pub mod NetDemands
 pub mod Covers

@@ -6,7 +6,7 @@ use Rattle.lot_sizing.specs.Problem.{Problem, demand, item_at}
 use Rattle.lot_sizing.specs.Plan.{Table, used_up}
 use Rattle.lot_sizing.specs.Net.{needed_to}
 use Rattle.lot_sizing.proofs.Sums.{sum_to_at}
-use Rattle.built_plans.specs.OwnPeriod.{asked_with}
+use Rattle.own_plan.specs.OwnPeriod.{asked_with}
 
 -- what is asked for up to a period
 pub asked_so_far : (m : Problem) (make : Table) (i t asked d used : ℕ) → 1 ≤ t → asked ≡ sum_to (t - 1) (λ u. demand m i u + used_up m make i u) → d ≡ demand m i t → used ≡ used_up m make i t → asked + (d + used) ≡ sum_to t (λ u. demand m i u + used_up m make i u)

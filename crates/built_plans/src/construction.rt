@@ -4,8 +4,8 @@ ghost use Rattle.lot_sizing.specs.Problem.{item_count};
 ghost use Rattle.plan_rules.specs.Cells.{Fits};
 ghost use Rattle.built_plans.specs.Construction.{HasShape};
 
-use crate::own_period::fill;
 use lot_model::Instance;
+use own_plan::fill_own_lots;
 use plan_rules::Grid;
 use std::alloc::{AllocError, Global};
 
@@ -61,7 +61,7 @@ pub fn begin(alloc: Global, instance: &Instance, late: u32) -> Result<Constructi
     let mut make = Grid::filled(alloc, instance.items(), instance.periods(), 0)?;
     let mut setup = Grid::filled(alloc, instance.items(), instance.periods(), 0)?;
     let earlier = Grid::filled(alloc, instance.items(), instance.periods(), 0)?;
-    fill(instance, &mut make, &mut setup);
+    fill_own_lots(instance, &mut make, &mut setup);
     let left = row_totals(alloc, instance, &make)?;
     let carried = vec![in alloc; 0u64; instance.items() as usize]?;
     let limit = vec![in alloc; Some(0u64); instance.items() as usize]?;

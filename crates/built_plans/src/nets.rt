@@ -4,10 +4,10 @@ ghost use Rattle.lot_sizing.specs.Problem.{item_count};
 ghost use Rattle.lot_sizing.specs.Net.{net_in};
 ghost use Rattle.echelon.specs.Views.{HasEach};
 ghost use Rattle.plan_rules.specs.Cells.{Fits, table_of};
-ghost use Rattle.built_plans.specs.OwnPeriod.{asked_with};
+ghost use Rattle.own_plan.specs.OwnPeriod.{asked_with};
 
-use crate::own_period::needed_by;
 use lot_model::Instance;
+use own_plan::needed_by;
 use plan_rules::{Grid, used_up};
 use std::alloc::{AllocError, Global};
 

@@ -4,6 +4,8 @@ ghost use Rattle.lot_io.specs.Outside.{Printed, Shelved};
 
 use lot_io::{MemoryShelf, MemorySink, Shelf, ShelfFault, Sink, SinkFailed, WriteFailed};
 use lotplan::run;
+use plan_plugin::Plans;
+use price_plugin::Prices;
 use std::alloc::{AllocError, Global};
 use std::collections::BTreeMap;
 
@@ -118,7 +120,7 @@ impl Sink for UntoldSink {
 
 // The status that the words end with. No clause says so: what a run leaves is printed, and rests on no promise of `run`.
 fn status_of<S: Shelf, K: Sink>(alloc: Global, words: &[String], shelf: &mut S, out: &mut K) -> u8 {
-    run(alloc, words, shelf, out)
+    run(alloc, &Prices, &Plans, &mut (), words, shelf, out)
 }
 
 // Runs words over a shelf and an output that tell what they hold, or don't.

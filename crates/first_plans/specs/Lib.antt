@@ -1,4 +1,4 @@
-pub use Rattle.built_plans.specs.OwnPeriod
+pub use Rattle.own_plan.specs.OwnPeriod
 pub mod Made
 pub mod Families
 pub mod Trials

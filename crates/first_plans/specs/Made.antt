@@ -4,8 +4,8 @@ use Rattle.lot_sizing.specs.Problem.{Problem, IsPlain}
 use Rattle.lot_sizing.specs.Plan.{Plan, IsFeasible, cost}
 use Rattle.plan_rules.specs.Held.{plan_of}
 use Rattle.plan_rules.specs.declared.plan.Planned.{Planned}
-use Rattle.built_plans.specs.OwnPeriod.{IsOwnPeriod}
-pub use Rattle.built_plans.specs.Made.{IsMade, CostsAsOwn}
+use Rattle.own_plan.specs.OwnPeriod.{IsOwnPeriod}
+pub use Rattle.own_plan.specs.Made.{IsMade, CostsAsOwn}
 pub use Rattle.item_lots.specs.Improved.{IsNoDearer}
 
 -- the own-period plan, which costs no more than any plan that has its numbers

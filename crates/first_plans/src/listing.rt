@@ -9,8 +9,9 @@ ghost use Rattle.first_plans.specs.Made.{HasOwn, IsEmptyUnlessPlain, IsGrown, Is
 use crate::by_families::{improved_by_families, tries_within};
 use crate::improving::improved;
 use crate::kicks::kicked;
-use built_plans::{PARTS, built_plan, own_period_plan, wanted_apart, wanted_spread};
+use built_plans::{PARTS, built_plan, wanted_apart, wanted_spread};
 use lot_model::{Instance, is_plain};
+use own_plan::own_period_plan;
 use plan_rules::{Grid, Planned};
 use std::alloc::{AllocError, Global};
 

@@ -2,7 +2,7 @@
 use Rattle.std.specs.Prelude.{⊤}
 use Rattle.lot_sizing.specs.Problem.{Problem}
 use Rattle.plan_rules.specs.Cells.{Fits}
-use Rattle.built_plans.specs.Made.{IsMade}
+use Rattle.own_plan.specs.Made.{IsMade}
 use Rattle.fixed_setups.specs.declared.plunging.Dive.{Dive}
 use Rattle.fixed_setups.specs.declared.plunging.After.{After}
 use Rattle.fixed_setups.specs.declared.plunging.After.TheVariants.{Found, Open, Ended}

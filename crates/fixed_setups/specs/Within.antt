@@ -3,7 +3,7 @@ use Rattle.std.specs.Prelude.{◌≡◌, ◌≤◌, ◌<◌, ◌*◌, ℕ}
 use Rattle.lot_sizing.specs.Problem.{Problem, item_count}
 use Rattle.plan_rules.specs.Cells.{Cells, table_of}
 use Rattle.plan_rules.specs.declared.plan.Planned.{Planned}
-use Rattle.built_plans.specs.Made.{IsMade}
+use Rattle.own_plan.specs.Made.{IsMade}
 use Rattle.fixed_setups.specs.declared.limits.TheConstants.{MAX_GRID_CELLS}
 
 -- there is no setup where the greatest number of setups is 0

@@ -3,7 +3,7 @@ ghost use Rattle.std.specs.Prelude.{◌≤◌, ◌<◌, IfOk, IfSome};
 ghost use Rattle.lot_sizing.specs.Problem.{item_count};
 ghost use Rattle.plan_rules.specs.Cells.{Fits};
 ghost use Rattle.plan_rules.specs.Rows.{IfFound};
-ghost use Rattle.built_plans.specs.Made.{IsMade};
+ghost use Rattle.own_plan.specs.Made.{IsMade};
 ghost use Rattle.fixed_setups.specs.Within.{IsCheaper, IsFew};
 
 use crate::limits::MAX_STEP_TIMES;

@@ -1,3 +1,3 @@
 pub mod Copied
 pub mod Improved
-pub use Rattle.built_plans.specs.Made
+pub use Rattle.own_plan.specs.Made

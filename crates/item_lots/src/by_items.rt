@@ -3,7 +3,7 @@ ghost use Rattle.std.specs.Prelude.{◌≡◌, ◌≤◌, IfOk, OnOk};
 ghost use Rattle.lot_sizing.specs.Problem.{item_count};
 ghost use Rattle.plan_rules.specs.Cells.{Fits};
 ghost use Rattle.plan_rules.specs.Rows.{IfFound};
-ghost use Rattle.built_plans.specs.Made.{IsMade};
+ghost use Rattle.own_plan.specs.Made.{IsMade};
 ghost use Rattle.item_lots.specs.Improved.{IsNoDearer};
 
 use crate::copying::copy_grid;

@@ -5,8 +5,8 @@
 //! for whole periods one after the other, are found by a recursion over blocks of periods. `improve_by_items` makes them for
 //! one item after the other, and keeps what is cheaper. `copy_grid` copies the quantities or setups of a plan.
 //!
-//! Family: search. It stands on `plan_rules`, which judges what comes out, and on `built_plans`, by whose definitions a
-//! plan is a feasible one; `first_plans` and `fixed_setups` stand on it.
+//! Family: plugins. It stands on `plan_rules`, which judges what comes out, on `own_plan`, by whose definitions a plan is a
+//! feasible one, and on `built_plans`, which says what must be made of an item; `first_plans` and `fixed_setups` stand on it.
 #![tactic(auto)]
 
 mod by_items;

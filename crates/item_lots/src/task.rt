@@ -2,7 +2,7 @@
 ghost use Rattle.std.specs.Prelude.{◌≡◌, ◌≤◌};
 ghost use Rattle.lot_sizing.specs.Problem.{item_count, resource_count};
 ghost use Rattle.plan_rules.specs.Cells.{Fits};
-ghost use Rattle.built_plans.specs.Made.{IsMade};
+ghost use Rattle.own_plan.specs.Made.{IsMade};
 
 use built_plans::net_demands;
 use lot_model::Instance;

@@ -18,7 +18,7 @@ use Rattle.split_trees.specs.Ranges.{whole_ranges}
 use Rattle.acceptance.specs.Accepts.{GoesWith, IsTrueOf}
 use Rattle.cert_checker.specs.Checks.{ComesWith, IsGoodCertificate, plan_given}
 use Rattle.stream_check.specs.Streams.{too_many}
-use Rattle.first_plans.specs.OwnPeriod.{HasOwnPeriod}
+use Rattle.own_plan.specs.OwnPeriod.{HasOwnPeriod}
 use Rattle.branching.specs.declared.found.Found.{Found}
 use Rattle.branching.specs.declared.found.RootSays.TheVariants as at_root
 use Rattle.branch_and_cut.specs.Search.{GoesTogether, IsDecided, IsGoodPlan, KeepsOwn, UsesRoot, cost_of}

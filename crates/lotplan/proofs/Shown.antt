@@ -13,7 +13,7 @@ use Rattle.cert_lines.specs.declared.parts.Claim.TheVariants.{Optimal, Infeasibl
 use Rattle.split_trees.specs.Ranges.{WithTotals}
 use Rattle.acceptance.specs.Accepts.{IsTrueOf}
 use Rattle.cert_checker.specs.Checks.{plan_given}
-use Rattle.first_plans.specs.OwnPeriod.{HasOwnPeriod}
+use Rattle.own_plan.specs.OwnPeriod.{HasOwnPeriod}
 use Rattle.branch_and_bound.specs.Ranges.{digits}
 use Rattle.branch_and_bound.specs.Whole.{whole_height}
 use Rattle.branch_and_bound.proofs.Halves.{digits-half, digits-zero}

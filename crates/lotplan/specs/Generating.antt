@@ -3,7 +3,7 @@ use Rattle.std.specs.Prelude.{◌≡◌, ℕ, true, List, IsTrue, Option, Some, 
 use Rattle.lot_io.specs.Outside.{Files, OnlyWrites, Printed, Rose, Shelved}
 use Rattle.instance_reader.specs.Document.{document_of}
 use Rattle.instance_reader.specs.Model.{BytesMean}
-use Rattle.first_plans.specs.OwnPeriod.{HasOwnPeriod}
+use Rattle.own_plan.specs.OwnPeriod.{HasOwnPeriod}
 use Rattle.report.specs.Generated.{generated, generated_table}
 use Rattle.command_line.specs.Words.{Request, generating}
 use Rattle.lotplan.specs.Writing.{StartsOnly, unwritten_line, written_line}

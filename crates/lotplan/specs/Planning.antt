@@ -16,7 +16,7 @@ use Rattle.certificate.specs.Limits.{IsTextOf}
 use Rattle.certificate.specs.Shapes.{shape_of}
 use Rattle.split_trees.specs.Ranges.{WithTotals}
 use Rattle.stream_check.specs.Streams.{OfBytes}
-use Rattle.first_plans.specs.OwnPeriod.{HasOwnPeriod, IsOwnPeriod}
+use Rattle.own_plan.specs.OwnPeriod.{HasOwnPeriod, IsOwnPeriod}
 use Rattle.branching.specs.declared.found.Found.{Found}
 use Rattle.branching.specs.declared.found.RootSays.{RootSays}
 use Rattle.branching.specs.declared.found.RootSays.TheVariants as at_root

@@ -32,6 +32,7 @@ use crate::said::Said;
 use crate::status::Status;
 use command_line::{Command, Reading, commands_are_allowed, read_words};
 use lot_io::{Shelf, Sink};
+use search_plugins::{Heuristic, Proposer, Watch};
 use std::alloc::{AllocError, Global};
 
 /// Does what the words ask for, prints a line, or three of a plan, and gives the number of the status.
@@ -45,7 +46,15 @@ use std::alloc::{AllocError, Global};
 ///
 /// What is said of counts holds over every shelf and sink, the machine's own too; what is said of
 /// contents holds where they are told.
-pub fn run<S: Shelf, K: Sink>(alloc: Global, words: &[String], shelf: &mut S, out: &mut K) -> u8
+pub fn run<S: Shelf, K: Sink, P: Proposer, H: Heuristic<P::Hint>, W: Watch>(
+    alloc: Global,
+    proposer: &P,
+    heuristic: &H,
+    watch: &mut W,
+    words: &[String],
+    shelf: &mut S,
+    out: &mut K,
+) -> u8
     // After `plan` with status `DONE` the plan file holds a best plan, the certificate file one that is accepted
     // with it and proves that no plan costs less, and the lines have the certificate's number of nodes and
     // the plan's cost.
@@ -178,7 +187,7 @@ pub fn run<S: Shelf, K: Sink>(alloc: Global, words: &[String], shelf: &mut S, ou
 {
     commands_are_allowed();
     statuses_are_one();
-    let said = said(alloc, words, shelf);
+    let said = said(alloc, proposer, heuristic, watch, words, shelf);
     end_with(&said, out)
 }
 
@@ -211,7 +220,14 @@ fn end_with<K: Sink>(said: &Result<Said, AllocError>, out: &mut K) -> u8
 }
 
 // What is said of the words.
-fn said<S: Shelf>(alloc: Global, words: &[String], shelf: &mut S) -> Result<Said, AllocError>
+fn said<S: Shelf, P: Proposer, H: Heuristic<P::Hint>, W: Watch>(
+    alloc: Global,
+    proposer: &P,
+    heuristic: &H,
+    watch: &mut W,
+    words: &[String],
+    shelf: &mut S,
+) -> Result<Said, AllocError>
     ensures said { IfOk result (SaysFor (command_of (map string_bytes words.now)) (S.shown shelf.old) (S.shown shelf.new)) }
     ensures refused { command_of (map string_bytes words.now) ≡ None → AreTaken (map string_bytes words.now) → IfOk result (IsSaid refused_line NoCommand) }
     ensures memory { OnErr result (Leaves (command_of (map string_bytes words.now)) (S.shown shelf.old) (S.shown shelf.new)) }
@@ -219,7 +235,7 @@ fn said<S: Shelf>(alloc: Global, words: &[String], shelf: &mut S) -> Result<Said
 {
     commands_are_allowed();
     match read_words(alloc, words) {
-        Ok(Reading::Command(command)) => said_of(alloc, command, shelf),
+        Ok(Reading::Command(command)) => said_of(alloc, proposer, heuristic, watch, command, shelf),
         Ok(Reading::Help(text)) => Ok(Said::of(text, Status::Done)),
         Ok(Reading::Refused(text)) => Ok(Said::of(text, Status::NoCommand)),
         Err(_) => Err(AllocError),
@@ -227,7 +243,14 @@ fn said<S: Shelf>(alloc: Global, words: &[String], shelf: &mut S) -> Result<Said
 }
 
 // What is said of a command.
-fn said_of<S: Shelf>(alloc: Global, command: Command<'_>, shelf: &mut S) -> Result<Said, AllocError>
+fn said_of<S: Shelf, P: Proposer, H: Heuristic<P::Hint>, W: Watch>(
+    alloc: Global,
+    proposer: &P,
+    heuristic: &H,
+    watch: &mut W,
+    command: Command<'_>,
+    shelf: &mut S,
+) -> Result<Said, AllocError>
     requires { IsAllowed (request_by command) }
     ensures said { IfOk result (SaysFor (Some (request_by command.entry)) (S.shown shelf.old) (S.shown shelf.new)) }
     ensures memory { OnErr result (Leaves (Some (request_by command.entry)) (S.shown shelf.old) (S.shown shelf.new)) }
@@ -237,6 +260,9 @@ fn said_of<S: Shelf>(alloc: Global, command: Command<'_>, shelf: &mut S) -> Resu
         Command::Name => Said::new(alloc, "lotplan 1\n", Status::Done),
         Command::Plan { names, budget } => plan_files(
             alloc,
+            proposer,
+            heuristic,
+            watch,
             names.model,
             names.plan,
             names.certificate,
@@ -254,7 +280,7 @@ fn said_of<S: Shelf>(alloc: Global, command: Command<'_>, shelf: &mut S) -> Resu
             periods,
             model,
         } => generate_file(alloc, seed, items, periods, model, shelf),
-        Command::Demo(seed) => show_plans(alloc, seed),
+        Command::Demo(seed) => show_plans(alloc, proposer, heuristic, watch, seed),
         Command::Upgrade(names) => upgrade_files(alloc, names.model, names.upgraded, shelf),
         Command::Bound(model) => bound_files(alloc, model, shelf),
     }

@@ -1,12 +1,15 @@
-//! The program: `main` gives `lotplan::run` the words of the command line, the machine's files and standard output, and ends
-//! with its status.
+//! The program: `main` gives `lotplan::run` what proposes leaves and plans, the words of the command line, the machine's files
+//! and standard output, and ends with its status. No other crate but of tests names `Prices` and `Plans`; nobody watches.
 //!
-//! Family: commands. It stands on `lotplan` for what is done, and on `lot_io` for files and output; nothing stands on it.
+//! Family: commands. It stands on `lotplan` for what is done, on `price_plugin` and `plan_plugin` for what proposes, and on
+//! `lot_io` for files and output; nothing stands on it.
 #![tactic(auto)]
 
 use lot_io::{DiskShelf, StdSink};
 use lotplan::status::NO_MEMORY;
 use lotplan::{refuse_words, run};
+use plan_plugin::Plans;
+use price_plugin::Prices;
 use std::io::ErrorKind;
 use std::process::ExitCode;
 use std::{env, io};
@@ -20,7 +23,15 @@ fn main(rt: HostRuntime) -> ExitCode {
         Ok(args) => match args.skip(1).collect::<Vec<String>>(alloc) {
             Ok(words) => {
                 let mut shelf = DiskShelf::new(&rt);
-                run(alloc, words.as_slice(), &mut shelf, &mut out)
+                run(
+                    alloc,
+                    &Prices,
+                    &Plans,
+                    &mut (),
+                    words.as_slice(),
+                    &mut shelf,
+                    &mut out,
+                )
             }
             Err(_) => NO_MEMORY,
         },

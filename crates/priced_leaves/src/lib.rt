@@ -1,7 +1,7 @@
 //! Strong proposals for leaves, from prices of capacity and of stock.
 //!
-//! Family: search. It stands on `price_rounds`, which finds the prices, on `path_setups` for what a path says of setups, and
-//! on `cert_lines`, whose cuts and parts it makes; `known_plans`, `node_splits` and `branch_and_cut` stand on it.
+//! Family: plugins. It stands on `price_rounds`, which finds the prices, on `path_setups` for what a path says of setups, and
+//! on `cert_lines`, whose cuts and parts it makes; `node_splits` and `price_plugin` stand on it.
 //!
 //! With a price for time and a price for stock each item is planned by itself, and what the items then cost, less what the
 //! time is worth, bounds the cost of every plan (Lagrangean relaxation; Trigeiro, Thomas and McClain 1989). A block cut of

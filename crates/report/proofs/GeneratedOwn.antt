@@ -10,7 +10,7 @@ use Rattle.lot_sizing.specs.Problem.{EachItem, IsPlain, Problem, Resource, capac
 use Rattle.lot_sizing.specs.Plan.{Each, EachCell, IsBalanced, IsWithinCapacity, Plan, Table, backlog_after, stock_after, used_up}
 use Rattle.lot_sizing.proofs.Lots.{arriving_now, no_bound}
 use Rattle.lot_sizing.proofs.Sums.{sum_to-bound, sum_to-same, sum_to_at}
-use Rattle.built_plans.specs.OwnPeriod.{HasOwnPeriod, IsOwnLot, one_if_some}
+use Rattle.own_plan.specs.OwnPeriod.{HasOwnPeriod, IsOwnLot, one_if_some}
 use Rattle.report.specs.Draws.{is_first, most_demand}
 use Rattle.report.specs.Generated.{has_next}
 use Rattle.report.proofs.GeneratedBill.{either, into_previous, one_if, one_if_most, zero_times}

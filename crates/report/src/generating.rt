@@ -2,7 +2,7 @@
 ghost use Rattle.std.specs.Prelude.{◌≡◌, ◌↔◌, true, Some, Ok, Err, IfOk, OnOk};
 ghost use Rattle.instance_reader.specs.Document.{document_of};
 ghost use Rattle.instance_reader.specs.Model.{BytesMean};
-ghost use Rattle.built_plans.specs.OwnPeriod.{HasOwnPeriod};
+ghost use Rattle.own_plan.specs.OwnPeriod.{HasOwnPeriod};
 ghost use Rattle.report.specs.Generated.{IsModelSize, generated, generated_table};
 
 use crate::generating_tables::model;

@@ -5,7 +5,7 @@
 //!
 //! `generate` gives the text of a model whose numbers are drawn from a seed.
 //!
-//! Family: commands. It stands on `plan_rules`, `instance_reader` and `built_plans`, by whose definitions the text is a
+//! Family: commands. It stands on `plan_rules`, `instance_reader` and `own_plan`, by whose definitions the text is a
 //! valid model with a feasible plan; `lotplan` stands on it.
 #![tactic(auto)]
 

@@ -10,7 +10,7 @@
 //! setups.
 //!
 //! Family: search. It stands on `branch_and_bound`, whose nodes have such lists, on `plan_rules` for plans and grids, on
-//! `split_trees` and `acceptance`, by whose ranges certificates are judged, and on the columns of `lin_rows`; `known_plans`,
+//! `split_trees` and `acceptance`, by whose ranges certificates are judged, and on the columns of `lin_rows`; `incumbent`,
 //! `node_splits` and `branch_and_cut` stand on it.
 #![tactic(auto)]
 

@@ -5,6 +5,9 @@ use cert_checker::check;
 use certificate::{Claim, is_writable};
 use fixtures::{Item, MADE, Resource, instance};
 use lot_model::Instance;
+use plan_plugin::Plans;
+use price_plugin::Prices;
+use search_plugins::{Heuristic, Nothing, Proposer, Watch};
 use std::alloc::Global;
 use std::test::Fail;
 
@@ -27,7 +30,43 @@ fn alone(alloc: Global, periods: u32, demand: &[i64]) -> Result<Instance, Fail> 
     instance(alloc, periods, &[], &[only])
 }
 
-// What is found of one item on a resource of this capacity, once the checker accepts it.
+// Counts the nodes of which it is told.
+#[derive(Debug, Drop)]
+struct Count {
+    nodes: u64,
+}
+
+impl Watch for Count {
+    fn node(&mut self, _depth: usize, _says: Option<u128>, _best: Option<u128>) {
+        self.nodes = self.nodes.wrapping_add(1);
+    }
+}
+
+// What is found by these plugins of one item on a resource of this capacity, once the checker accepts it, and of how many nodes
+// a watcher is told.
+fn found_by<P: Proposer, H: Heuristic<P::Hint>>(
+    alloc: Global,
+    proposer: &P,
+    heuristic: &H,
+    periods: u32,
+    demand: &[i64],
+    capacity: i64,
+    budget: u64,
+) -> Result<(Found, u64), Fail>
+    requires { 1 ≤ budget }
+{
+    let instance = model(alloc, periods, demand, capacity)?;
+    let mut count = Count { nodes: 0 };
+    let found = search_all(
+        alloc, proposer, heuristic, &mut count, &instance, budget, None,
+    )?;
+    if check(alloc, &instance, &found.certificate, found.plan.as_ref()).is_err() {
+        return Err("not accepted".into());
+    }
+    Ok((found, count.nodes))
+}
+
+// What is found where nothing is proposed.
 fn found(
     alloc: Global,
     periods: u32,
@@ -37,11 +76,7 @@ fn found(
 ) -> Result<Found, Fail>
     requires { 1 ≤ budget }
 {
-    let instance = model(alloc, periods, demand, capacity)?;
-    let found = search_all(alloc, &instance, budget, None)?;
-    if check(alloc, &instance, &found.certificate, found.plan.as_ref()).is_err() {
-        return Err("not accepted".into());
-    }
+    let (found, _) = found_by(alloc, &Nothing, &Nothing, periods, demand, capacity, budget)?;
     Ok(found)
 }
 
@@ -78,6 +113,17 @@ fn a_best_plan_is_found(rt: HostRuntime) -> Result<(), Fail> {
     Ok(())
 }
 
+// With prices and plans the same plan is best, and each node of the tree is told once.
+#[test]
+fn a_best_plan_is_found_by_prices(rt: HostRuntime) -> Result<(), Fail> {
+    let alloc = rt.alloc();
+    let (found, nodes) = found_by(alloc, &Prices, &Plans, 2, &[2, 8], 6, 1_000)?;
+    let claim = found.certificate.claim;
+    assert_eq!(rt; (claim, made(&found)?), (Claim::Optimal(23), (5, 5)));
+    assert_eq!(rt; nodes, found.nodes);
+    Ok(())
+}
+
 // With a capacity of 9 no plan makes 10 units in one period.
 #[test]
 fn that_there_is_no_plan_is_found(rt: HostRuntime) -> Result<(), Fail> {
@@ -92,7 +138,7 @@ fn that_there_is_no_plan_is_found(rt: HostRuntime) -> Result<(), Fail> {
 // What is claimed of one item without a resource, what the root says, and the nodes of the search.
 fn said_alone(alloc: Global, demand: &[i64]) -> Result<(Claim, RootSays, u64), Fail> {
     let instance = alone(alloc, 2, demand)?;
-    let found = search_all(alloc, &instance, 1, None)?;
+    let found = search_all(alloc, &Nothing, &Nothing, (), &instance, 1, None)?;
     Ok((found.certificate.claim, found.root, found.nodes))
 }
 
@@ -124,7 +170,8 @@ fn between(alloc: Global, instance: &Instance, low: u64, high: u64) -> Result<Fo
     if !ranges.are_of(instance) {
         return Err("no ranges of the instance".into());
     }
-    Ok(search(alloc, instance, ranges, 1_000, None)?)
+    let found = search(alloc, &Nothing, &Nothing, (), instance, ranges, 1_000, None)?;
+    Ok(found)
 }
 
 // A demand of 2 and of 8, on a resource of 11 or by itself.
@@ -139,7 +186,7 @@ fn two_lots(alloc: Global, is_shared: bool) -> Result<Instance, Fail> {
 // The claim of a search over all ranges, and how much its plan makes in each period.
 fn best_of_all(alloc: Global, is_shared: bool) -> Result<(Claim, (u64, u64)), Fail> {
     let instance = two_lots(alloc, is_shared)?;
-    let found = search_all(alloc, &instance, 1_000, None)?;
+    let found = search_all(alloc, &Nothing, &Nothing, (), &instance, 1_000, None)?;
     let quantities = made(&found)?;
     Ok((found.certificate.claim, quantities))
 }

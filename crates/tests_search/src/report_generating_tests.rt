@@ -1,7 +1,7 @@
 use echelon::single_of;
-use first_plans::own_period_plan;
 use instance_reader::read_instance;
 use lot_model::{Instance, is_uncoupled};
+use own_plan::own_period_plan;
 use report::{GenFault, generate, parts_add_up};
 use std::alloc::{AllocError, Global};
 use std::test::Fail;

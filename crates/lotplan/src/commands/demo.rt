@@ -2,7 +2,7 @@
 ghost use Rattle.std.specs.Prelude.{◌≡◌, ◌≤◌, Ok, IfOk};
 ghost use Rattle.lot_sizing.specs.Problem.{Problem};
 ghost use Rattle.instance_reader.specs.Model.{BytesMean};
-ghost use Rattle.first_plans.specs.OwnPeriod.{HasOwnPeriod};
+ghost use Rattle.own_plan.specs.OwnPeriod.{HasOwnPeriod};
 ghost use Rattle.report.specs.Generated.{IsModelSize, generated};
 ghost use Rattle.lotplan.specs.Planning.{plan_meant};
 ghost use Rattle.lotplan.specs.Showing.{DemoSays, IsShown};
@@ -13,6 +13,7 @@ use crate::status::Status;
 use instance_reader::{ReadModelFault, read_instance};
 use lot_model::{Instance, an_instance_breaks_no_rule};
 use report::{GenFault, generate};
+use search_plugins::{Heuristic, Proposer, Watch};
 use std::alloc::{AllocError, Global};
 
 /// How many items the uncoupled model has.
@@ -65,8 +66,11 @@ fn generated_instance(
 }
 
 // What `plan` answers of an instance that has a feasible own-period plan, once it is written.
-fn plan_shown(
+fn plan_shown<P: Proposer, H: Heuristic<P::Hint>, W: Watch>(
     alloc: Global,
+    proposer: &P,
+    heuristic: &H,
+    watch: &mut W,
     instance: &Instance,
     budget: u64,
 ) -> Result<PlanAnswer<'static>, AllocError>
@@ -75,13 +79,16 @@ fn plan_shown(
     ensures { IfOk result (λ answer. IsShown instance.now budget (plan_meant answer)) }
 {
     an_instance_breaks_no_rule(instance);
-    let found = found_of(alloc, instance, budget)?;
+    let found = found_of(alloc, proposer, heuristic, watch, instance, budget)?;
     Ok(answer_of(instance, &found))
 }
 
 // What `plan` answers of the model of a seed, of so many items and periods.
-fn plan_generated(
+fn plan_generated<P: Proposer, H: Heuristic<P::Hint>, W: Watch>(
     alloc: Global,
+    proposer: &P,
+    heuristic: &H,
+    watch: &mut W,
     seed: u64,
     items: u32,
     periods: u32,
@@ -93,18 +100,37 @@ fn plan_generated(
     ensures { IfOk result (λ answer. IsShown (generated seed items periods coupled) budget (plan_meant answer)) }
 {
     let instance = generated_instance(alloc, seed, items, periods, coupled)?;
-    plan_shown(alloc, &instance, budget)
+    plan_shown(alloc, proposer, heuristic, watch, &instance, budget)
 }
 
 /// Plans two models of a seed: one of `FREE_ITEMS` items and `FREE_PERIODS` periods that isn't coupled, and then a coupled
 /// one of `COUPLED_ITEMS` items and `COUPLED_PERIODS` periods. No file is read or written. Gives the lines that `plan`
 /// prints of each, after a line that names it.
-pub fn show_plans(alloc: Global, seed: u64) -> Result<Said, AllocError>
+pub fn show_plans<P: Proposer, H: Heuristic<P::Hint>, W: Watch>(
+    alloc: Global,
+    proposer: &P,
+    heuristic: &H,
+    watch: &mut W,
+    seed: u64,
+) -> Result<Said, AllocError>
     ensures { IfOk result (DemoSays seed) }
 {
-    let free = plan_generated(alloc, seed, FREE_ITEMS, FREE_PERIODS, false, FREE_BUDGET)?;
+    let free = plan_generated(
+        alloc,
+        proposer,
+        heuristic,
+        watch,
+        seed,
+        FREE_ITEMS,
+        FREE_PERIODS,
+        false,
+        FREE_BUDGET,
+    )?;
     let coupled = plan_generated(
         alloc,
+        proposer,
+        heuristic,
+        watch,
         seed,
         COUPLED_ITEMS,
         COUPLED_PERIODS,

@@ -19,6 +19,7 @@ use lot_io::{Shelf, write_file};
 use lot_model::Instance;
 use plan_file::write_plan;
 use plan_rules::{Plan, judge};
+use search_plugins::{Heuristic, Proposer, Watch};
 use std::alloc::{AllocError, Global};
 
 /// What `plan` answers.
@@ -217,16 +218,27 @@ fn write_found<S: Shelf>(
 }
 
 /// What the search finds of an instance with a budget of nodes.
-pub fn found_of(alloc: Global, instance: &Instance, budget: u64) -> Result<Found, AllocError>
+pub fn found_of<P: Proposer, H: Heuristic<P::Hint>, W: Watch>(
+    alloc: Global,
+    proposer: &P,
+    heuristic: &H,
+    watch: &mut W,
+    instance: &Instance,
+    budget: u64,
+) -> Result<Found, AllocError>
     requires { 1 ≤ budget }
     ensures { IfOk result (IsFound instance.now budget) }
 {
-    search_all(alloc, instance, budget, None)
+    let found = search_all(alloc, proposer, heuristic, watch, instance, budget, None)?;
+    Ok(found)
 }
 
 // Plans an instance, and writes the plan that was found, where there is one, and the certificate of what is claimed.
-fn plan_instance<S: Shelf>(
+fn plan_instance<S: Shelf, P: Proposer, H: Heuristic<P::Hint>, W: Watch>(
     alloc: Global,
+    proposer: &P,
+    heuristic: &H,
+    watch: &mut W,
     instance: &Instance,
     budget: u64,
     plan: &str,
@@ -239,14 +251,17 @@ fn plan_instance<S: Shelf>(
     ensures memory { OnErr result (S.shown shelf.new ≡ S.shown shelf.old) }
     ensures given { (S.shown shelf.new).given ≡ (S.shown shelf.old).given }
 {
-    let found = found_of(alloc, instance, budget)?;
+    let found = found_of(alloc, proposer, heuristic, watch, instance, budget)?;
     write_found(alloc, instance, budget, &found, plan, certificate, shelf)
 }
 
 /// Plans the model in a file with a budget of nodes, and writes the plan that was found and the certificate of what is
 /// claimed to two others.
-pub fn plan_files<S: Shelf>(
+pub fn plan_files<S: Shelf, P: Proposer, H: Heuristic<P::Hint>, W: Watch>(
     alloc: Global,
+    proposer: &P,
+    heuristic: &H,
+    watch: &mut W,
     model: &str,
     plan: &str,
     certificate: &str,
@@ -260,7 +275,17 @@ pub fn plan_files<S: Shelf>(
     ensures given { (S.shown shelf.new).given ≤ (S.shown shelf.old).given + (file_limit + piece_size) }
 {
     match read_model(alloc, model, shelf) {
-        Ok(instance) => plan_instance(alloc, &instance, budget, plan, certificate, shelf),
+        Ok(instance) => plan_instance(
+            alloc,
+            proposer,
+            heuristic,
+            watch,
+            &instance,
+            budget,
+            plan,
+            certificate,
+            shelf,
+        ),
         Err(Stop::Answered(why)) => PlanAnswer::NoInput(why).answer_line(alloc),
         Err(Stop::Memory) => Err(AllocError),
     }

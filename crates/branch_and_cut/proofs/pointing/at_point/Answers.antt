@@ -6,7 +6,7 @@ use Rattle.acceptance.specs.Says.{HasNone, IsLeastCost}
 use Rattle.branch_and_bound.specs.Costs.{IsBelow}
 use Rattle.search_ranges.specs.Nodes.{least_make, least_setup}
 use Rattle.branch_and_cut.proofs.Points.{after_kept, known_kept, not_below, point_better, point_kept}
-use Rattle.known_plans.specs.Kept.{cost_kept}
+use Rattle.incumbent.specs.Kept.{cost_kept}
 use Rattle.branch_and_cut.specs.Knowing.{ranges_in}
 use Rattle.branch_and_cut.proofs.pointing.at_point.Goals as goal
 

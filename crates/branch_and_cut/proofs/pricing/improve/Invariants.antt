@@ -1,5 +1,5 @@
-use Rattle.known_plans.specs.Kept.{IsNoWorseBest}
+use Rattle.incumbent.specs.Kept.{IsNoWorseBest}
 use Rattle.branch_and_cut.proofs.pricing.improve.Given as goal
 
 abbrev pub invariant-loop-time : goal.invariant-loop-time
-invariant-loop-time l = IsNoWorseBest l.model.instance.now l.model.ranges.now l.best l.initial.best
+invariant-loop-time g l = IsNoWorseBest l.guided.model.instance.now l.guided.model.ranges.now l.best l.initial.best

@@ -3,7 +3,7 @@ use Rattle.branch_and_cut.proofs.Points.{after_kept}
 use Rattle.branch_and_cut.proofs.pricing.leaf_of.Goals as goal
 
 pub returns-in-None-clause-more : goal.returns-in-None-clause-more
-returns-in-None-clause-more c = record {
+returns-in-None-clause-more ghosts c = record {
   known = c.requires.reached.known;
   after = after_kept c.args.known.now _ refl;
   best = refl;

@@ -3,21 +3,21 @@ use Rattle.branch_and_cut.proofs.Answering.{all_alone, alone_within, fits_alone,
 use Rattle.branch_and_cut.proofs.searching.alone.Goals as goal
 
 pub plan_uncoupled-requires : goal.plan_uncoupled-requires
-plan_uncoupled-requires c = c.requires.start.root.uncoupled.0 c.requires.uncoupled
+plan_uncoupled-requires ghosts c = c.requires.start.root.uncoupled.0 c.requires.uncoupled
 
 pub lies_within-requires-clause-plan : goal.lies_within-requires-clause-plan
-lies_within-requires-clause-plan c =
+lies_within-requires-clause-plan ghosts c =
     let m = c.args.instance.now in
     let found = c.in_ok-found.found in
     let (total, weight, totals, weights) = c.requires.start.root.figures in
     fits_alone m found.plan (plan_alone m total weight found totals weights c.in_ok-found.ensures.proved c.in_ok-found.ensures.decided)
 
 pub returns-then-lies_within : goal.returns-then-lies_within
-returns-then-lies_within c =
+returns-then-lies_within ghosts c =
     alone_within c.args.instance.now (given_ranges c.args.ranges.now) c.args.budget c.args.first c.in_ok-found.found c.args.said c.args.apart c.requires.start.room c.requires.start.good c.requires.start.root c.requires.uncoupled c.requires.apart c.apart_is_one.ensures c.in_ok-found.ensures.proved c.in_ok-found.ensures.decided (c.lies_within.ensures.0 c.if-lies_within.true)
 
 pub searched-requires-clause-coupled : goal.searched-requires-clause-coupled
-searched-requires-clause-coupled c = λ all same.
+searched-requires-clause-coupled ghosts c = λ all same.
     let m = c.args.instance.now in
     let ranges = given_ranges c.args.ranges.now in
     let found = c.in_ok-found.found in

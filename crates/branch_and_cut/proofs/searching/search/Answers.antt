@@ -4,7 +4,7 @@ use Rattle.cert_lines.specs.Shapes.{cut_shape}
 use Rattle.branch_and_cut.proofs.searching.search.Goals as goal
 
 pub answer-requires-clause-start : goal.answer-requires-clause-start
-answer-requires-clause-start c = record {
+answer-requires-clause-start ghosts c = record {
   room = c.requires.budget;
   given = c.requires.ranges;
   good = c.requires.first;
@@ -18,7 +18,7 @@ answer-requires-clause-start c = record {
 }
 
 pub answer-requires-clause-apart : goal.answer-requires-clause-apart
-answer-requires-clause-apart c = record {
+answer-requires-clause-apart ghosts c = record {
   amount = c.in_ok-apart.ensures.amount;
   floor = c.in_ok-apart.ensures.floor;
   small = c.in_ok-apart.ensures.small;

@@ -5,12 +5,12 @@ use Rattle.branch_and_cut.proofs.Answering.{ended_on, searched_ok}
 use Rattle.branch_and_cut.proofs.searching.searched.Goals as goal
 
 pub search-requires-clause-state : goal.search-requires-clause-state
-search-requires-clause-state c =
+search-requires-clause-state g c =
     let begins = c.in_ok-begun.ensures.begins c.version_of-version.result c.version_of-version.ensures.known in
     record { given = c.requires.start.given; begun = begins.begun; cuts = begins.cuts; best = c.in_ok-best.ensures.made; sums = c.in_ok-sums.ensures; explosion = c.in_ok-explosion.ensures }
 
 pub finish-requires-clause-searched : goal.finish-requires-clause-searched
-finish-requires-clause-searched c =
+finish-requires-clause-searched g c =
     let found = c.in_ok-found.ensures in (
       c.args.budget,
       c.in_ok-list.list.items,
@@ -31,19 +31,17 @@ finish-requires-clause-searched c =
     )
 
 pub returns : goal.returns
-returns c =
+returns ghosts c =
     let g : Model = record {
       instance = c.args.instance;
       ranges = c.args.ranges;
       explosion = c.in_ok-explosion.explosion;
-      pricing = c.in_ok-pricing.pricing;
-      tries = c.tries_branches-tries.result;
       version = c.version_of-version.result;
       root = c.args.said.says;
       least = c.in_ok-begun.begun.least;
       first = c.in_ok-begun.begun.first;
     } in
-    let k = c.search.new.state in
+    let k = c.search.new.state.known in
     let rs = c.in_ok-list.list.items in
     let found = c.in_ok-found.ensures in
     let is : IsSearched g k c.args.budget rs c.in_ok-found.found = record {

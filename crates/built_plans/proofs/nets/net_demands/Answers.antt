@@ -4,7 +4,7 @@ use Rattle.lot_sizing.specs.Net.{needed_to, net_in}
 use Rattle.echelon.specs.Views.{HasEach}
 use Rattle.echelon.proofs.Nets.{each_more}
 use Rattle.plan_rules.specs.Cells.{table_of}
-use Rattle.built_plans.specs.OwnPeriod.{asked_with}
+use Rattle.own_plan.specs.OwnPeriod.{asked_with}
 use Rattle.built_plans.proofs.NetDemands.{asked_so_far, needed_so_far}
 use Rattle.built_plans.proofs.nets.net_demands.Goals as goal
 

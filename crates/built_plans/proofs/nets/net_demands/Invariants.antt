@@ -7,7 +7,7 @@ use Rattle.lot_sizing.specs.Net.{needed_to, net_in}
 use Rattle.echelon.specs.Views.{HasEach}
 use Rattle.plan_rules.specs.Cells.{table_of}
 use Rattle.plan_rules.specs.Held.{most_used_up}
-use Rattle.built_plans.specs.OwnPeriod.{asked_with}
+use Rattle.own_plan.specs.OwnPeriod.{asked_with}
 use Rattle.built_plans.proofs.nets.net_demands.Given as goal
 
 abbrev pub invariant-loop-period : goal.invariant-loop-period

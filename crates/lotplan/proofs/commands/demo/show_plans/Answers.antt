@@ -4,7 +4,7 @@ use Rattle.lotplan.proofs.Drawn.{coupled_short, free_alone}
 use Rattle.lotplan.proofs.commands.demo.show_plans.Goals as goal
 
 pub returns : goal.returns
-returns c =
+returns ghosts c =
     let seed = c.args.seed in
     let free = plan_meant c.in_ok-free.free in
     let coupled = plan_meant c.in_ok-coupled.coupled in

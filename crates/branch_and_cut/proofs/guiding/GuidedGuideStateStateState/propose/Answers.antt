@@ -1,0 +1,11 @@
+use Rattle.branch_and_cut.proofs.Evidence.{then_on}
+use Rattle.branch_and_cut.proofs.guiding.GuidedGuideStateStateState.propose.Goals as goal
+
+pub returns-clause-state : goal.returns-clause-state
+returns-clause-state ghosts c = then_on c.watched_leaf.result _ _ (λ more. more.known) c.watched_leaf.ensures.more
+
+pub returns-clause-grows : goal.returns-clause-grows
+returns-clause-grows ghosts c = then_on c.watched_leaf.result _ _ (λ more. more.after) c.watched_leaf.ensures.more
+
+pub returns-clause-kept : goal.returns-clause-kept
+returns-clause-kept ghosts c = then_on c.watched_leaf.result _ _ (λ more. more.kept) c.watched_leaf.ensures.more

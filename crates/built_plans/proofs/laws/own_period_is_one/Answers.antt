@@ -1,5 +1,0 @@
-use Rattle.built_plans.proofs.Own.{own_is_one}
-use Rattle.built_plans.proofs.laws.own_period_is_one.Goals as goal
-
-pub returns : goal.returns
-returns c = own_is_one

@@ -1,6 +1,0 @@
-use Rattle.lot_sizing.specs.Problem.{entry}
-use Rattle.built_plans.specs.Rows.{AreOwnRows}
-use Rattle.built_plans.proofs.own_period.fill_rank.Given as goal
-
-abbrev pub invariant-loop-item : goal.invariant-loop-item
-invariant-loop-item l = AreOwnRows l.instance (entry l.ranks) l.rank l.item l.make l.setup

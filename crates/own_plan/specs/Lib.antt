@@ -1,0 +1,3 @@
+pub mod OwnPeriod
+pub mod Made
+pub mod Rows

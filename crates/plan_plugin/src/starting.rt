@@ -1,0 +1,67 @@
+// Plans before the first node, of those that are made without a search and by programs.
+ghost use Rattle.std.specs.Prelude.{OnOk};
+ghost use Rattle.plan_rules.specs.Rows.{IfFound};
+ghost use Rattle.incumbent.specs.Kept.{IsBestSoFar, IsMadeWithin, IsNoWorseBest};
+ghost use Rattle.search_ranges.specs.Within.{HaveShape, given_ranges};
+
+use crate::programs::{look, walk_at_start};
+use first_plans::candidates;
+use incumbent::keep_within;
+use lot_model::Instance;
+use plan_rules::Planned;
+use search_ranges::Ranges;
+use std::alloc::{AllocError, Global};
+
+// The best plan within the ranges of those that are made without a search, the later ones of the list first.
+fn best_candidate(
+    alloc: Global,
+    instance: &Instance,
+    ranges: &Ranges,
+) -> Result<Option<Planned>, AllocError>
+    requires { HaveShape instance.now ranges.now }
+    ensures { IfFound result (IsMadeWithin instance.now (given_ranges ranges.now)) }
+{
+    let mut best = None;
+    let mut list = candidates(alloc, instance)?;
+    while let Some(made) = list.pop() {
+        keep_within(instance, ranges, &mut best, Some(made));
+    }
+    Ok(best)
+}
+
+// Keeps the best of those plans. Of plans that cost the same it is kept rather than the one before.
+fn keep_candidate(
+    alloc: Global,
+    instance: &Instance,
+    ranges: &Ranges,
+    best: &mut Option<Planned>,
+) -> Result<(), AllocError>
+    requires { IsBestSoFar instance.now ranges.now best.old }
+    ensures { OnOk result (IsNoWorseBest instance.now ranges.now best.new best.old) }
+{
+    let found = best_candidate(alloc, instance, ranges)?;
+    let before = best.take();
+    *best = found;
+    keep_within(instance, ranges, best, before);
+    Ok(())
+}
+
+/// Plans before the first node: those that are made without a search, where there is none one by the program with all setups or
+/// by a plunge, and a walk from the best one. The best plan, with its cost in money, is kept, of those that lie within the
+/// ranges.
+///
+/// The ranges have a number for each item and period of the instance, and the best plan so far lies within them. The error is
+/// that memory ran out; it takes memory for the plans and for a tableau.
+pub(crate) fn try_at_start(
+    alloc: Global,
+    instance: &Instance,
+    ranges: &Ranges,
+    best: &mut Option<Planned>,
+) -> Result<(), AllocError>
+    requires { IsBestSoFar instance.now ranges.now best.old }
+    ensures { OnOk result (IsNoWorseBest instance.now ranges.now best.new best.old) }
+{
+    keep_candidate(alloc, instance, ranges, best)?;
+    look(alloc, instance, ranges, best)?;
+    walk_at_start(alloc, instance, ranges, best)
+}

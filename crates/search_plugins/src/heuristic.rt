@@ -1,0 +1,62 @@
+// What proposes plans.
+ghost use Rattle.std.specs.Prelude.{◌≡◌, OnOk, length};
+ghost use Rattle.search_ranges.specs.Nodes.{choice_count};
+ghost use Rattle.incumbent.specs.Kept.{IsBestSoFar, IsNoWorseBest};
+
+use branch_and_bound::Range;
+use lot_model::Instance;
+use plan_rules::Planned;
+use search_ranges::Ranges;
+use std::alloc::{AllocError, Global};
+
+/// What proposes plans, by hints of type `T`. It may better the best plan, by plans that were made within the ranges alone:
+/// `incumbent::keep_within` is such a step.
+///
+/// The ranges have a number for each item and period of the instance, and the best plan so far lies within them, with its cost
+/// in money. An error is that memory ran out; the search then ends with the same error.
+pub trait Heuristic<T> {
+    /// What is remembered from node to node.
+    type State: Drop;
+
+    /// The state before the first plan.
+    fn begin(&self, alloc: Global, instance: &Instance) -> Result<Self::State, AllocError>;
+
+    /// Plans before the first node, beside the plan that was given and the own-period plan.
+    fn at_start(
+        &self,
+        alloc: Global,
+        instance: &Instance,
+        ranges: &Ranges,
+        state: &mut Self::State,
+        best: &mut Option<Planned>,
+    ) -> Result<(), AllocError>
+        requires { IsBestSoFar instance.now ranges.now best.old }
+        ensures { OnOk result (IsNoWorseBest instance.now ranges.now best.new best.old) };
+
+    /// Plans after some work at a node, by what the proposer tells of it.
+    fn by_hint(
+        &self,
+        alloc: Global,
+        instance: &Instance,
+        ranges: &Ranges,
+        hint: &T,
+        state: &mut Self::State,
+        best: &mut Option<Planned>,
+    ) -> Result<(), AllocError>
+        requires { IsBestSoFar instance.now ranges.now best.old }
+        ensures { OnOk result (IsNoWorseBest instance.now ranges.now best.new best.old) };
+
+    /// Plans at a node whose setups are all chosen. `left` has what its path leaves: a range for each quantity and each setup.
+    fn at_node(
+        &self,
+        alloc: Global,
+        instance: &Instance,
+        ranges: &Ranges,
+        left: &[Range],
+        state: &mut Self::State,
+        best: &mut Option<Planned>,
+    ) -> Result<(), AllocError>
+        requires size { length left.now ≡ choice_count instance.now }
+        requires best { IsBestSoFar instance.now ranges.now best.old }
+        ensures { OnOk result (IsNoWorseBest instance.now ranges.now best.new best.old) };
+}

@@ -1,0 +1,133 @@
+// What proposes nothing.
+use crate::heuristic::Heuristic;
+use crate::proposer::{Progress, Proposed, Proposer};
+use branch_and_bound::{Node, Range};
+use lot_model::Instance;
+use plan_rules::Planned;
+use search_ranges::Ranges;
+use std::alloc::{AllocError, Global};
+
+/// What proposes no leaf, no place to branch on and no plan. A search with it has the root's leaf and the plans at nodes where
+/// all is chosen.
+#[derive(Clone, Copy, Debug)]
+pub struct Nothing;
+
+impl Proposer for Nothing {
+    type State = ();
+
+    type Work = ();
+
+    type Hint = ();
+
+    fn begin(&self, _alloc: Global, _instance: &Instance) -> Result<(), AllocError> {
+        Ok(())
+    }
+
+    fn open(
+        &self,
+        _alloc: Global,
+        _instance: &Instance,
+        _node: &Node,
+        _above: Option<usize>,
+        _state: &mut (),
+    ) -> Result<(), AllocError> {
+        Ok(())
+    }
+
+    fn times(&self, _node: &Node) -> u32 {
+        0
+    }
+
+    fn improve(
+        &self,
+        _alloc: Global,
+        _instance: &Instance,
+        _node: &Node,
+        _cost: Option<u128>,
+        _state: &(),
+        _work: &mut (),
+    ) -> Result<Progress, AllocError> {
+        Ok(Progress::Done)
+    }
+
+    fn hint<'a>(&self, work: &'a ()) -> &'a () {
+        work
+    }
+
+    fn leaf(
+        &self,
+        _alloc: Global,
+        _instance: &Instance,
+        _state: &(),
+        _work: &(),
+        _says: Option<u128>,
+        _first_cut: u32,
+    ) -> Result<Option<Proposed>, AllocError> {
+        Ok(None)
+    }
+
+    fn close(
+        &self,
+        _alloc: Global,
+        _instance: &Instance,
+        _node: &Node,
+        _cost: Option<u128>,
+        _work: (),
+        _state: &mut (),
+    ) -> Result<Option<usize>, AllocError> {
+        Ok(None)
+    }
+
+    fn branch(
+        &self,
+        _instance: &Instance,
+        _ranges: &[Range],
+        _note: Option<usize>,
+        _state: &(),
+    ) -> Option<usize> {
+        None
+    }
+}
+
+impl<T> Heuristic<T> for Nothing {
+    type State = ();
+
+    fn begin(&self, _alloc: Global, _instance: &Instance) -> Result<(), AllocError> {
+        Ok(())
+    }
+
+    fn at_start(
+        &self,
+        _alloc: Global,
+        _instance: &Instance,
+        _ranges: &Ranges,
+        _state: &mut (),
+        _best: &mut Option<Planned>,
+    ) -> Result<(), AllocError> {
+        Ok(())
+    }
+
+    fn by_hint(
+        &self,
+        _alloc: Global,
+        _instance: &Instance,
+        _ranges: &Ranges,
+        _hint: &T,
+        _state: &mut (),
+        _best: &mut Option<Planned>,
+    ) -> Result<(), AllocError> {
+        Ok(())
+    }
+
+    fn at_node(
+        &self,
+        _alloc: Global,
+        _instance: &Instance,
+        _ranges: &Ranges,
+        _left: &[Range],
+        _state: &mut (),
+        _best: &mut Option<Planned>,
+    ) -> Result<(), AllocError> {
+        Ok(())
+    }
+}
