@@ -188,11 +188,13 @@ fn add_copies(alloc: Global, bytes: &mut Vec<u8>, keys: Keys) -> Result<(), Faul
 // Adds a text with a number in the place of each `#`.
 fn add_copy(alloc: Global, bytes: &mut Vec<u8>, text: &str, number: u64) -> Result<(), Fault> {
     let digits = format!(in alloc; "{number}")?;
-    let mut between: &[u8] = &[];
+    let mut first = true;
     for piece in text.split('#') {
-        bytes.extend_from_slice(between)?;
+        if !first {
+            bytes.extend_from_slice(digits.as_bytes())?;
+        }
         bytes.extend_from_slice(piece.as_bytes())?;
-        between = digits.as_bytes();
+        first = false;
     }
     Ok(())
 }
