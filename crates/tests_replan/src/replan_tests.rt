@@ -1,5 +1,5 @@
-use fixtures::{instance_of, plain_item, resource, steady_item, usage};
-use lot_model::{DraftItem, Instance};
+use fixtures::{Item, MADE, PLAIN, Resource, instance};
+use lot_model::Instance;
 use lot_sizing::limits::MAX_PERIODS;
 use plan_rules::Grid;
 use replan::{Rest, rest};
@@ -39,10 +39,15 @@ fn told(alloc: Global, instance: &Instance, made: u64, first: u32) -> Result<Str
 
 // One item of two periods on a resource with six time units in each.
 fn tight(alloc: Global) -> Result<Instance, Fail> {
-    let mut item = plain_item(alloc, "A", &[2, 8], &[0, 0], &[10, 10], &[1, 1])?;
-    item.uses = vec![in alloc; usage(alloc, "mill", 1, 1)?]?;
-    let resources = vec![in alloc; resource(alloc, "mill", &[6, 6])?]?;
-    instance_of(alloc, 2, resources, vec![in alloc; item]?)
+    let mill = Resource {
+        name: "mill",
+        capacity: &[6],
+    };
+    let item = Item {
+        uses: &[("mill", 1, 1)],
+        ..MADE
+    };
+    instance(alloc, 2, &[mill], &[item])
 }
 
 #[test]
@@ -68,17 +73,20 @@ fn starts_leave_a_rest(rt: HostRuntime) -> Result<(), Fail> {
     Ok(())
 }
 
-// An item of two periods that may be late.
-fn late_item(alloc: Global, demand: &[i64]) -> Result<DraftItem, AllocError> {
-    let mut item = plain_item(alloc, "A", demand, &[1, 1], &[10, 10], &[1, 1])?;
-    item.backlog_cost = Some([2i64, 3].as_slice().to_vec(alloc)?);
-    Ok(item)
-}
-
-// What comes of the first period of a model of this item.
-fn told_of(alloc: Global, item: DraftItem, made: u64) -> Result<String, Fail> {
-    let instance = instance_of(alloc, 2, Vec::new(alloc), vec![in alloc; item]?)?;
-    Ok(told(alloc, &instance, made, 1)?)
+// What comes of the first period of a model of an item that may be late, which asks for so much and then for 4, where so much
+// is made.
+fn told_of(alloc: Global, asked: i64, made: u64) -> Result<String, Fail> {
+    let demand = [asked, 4];
+    let item = Item {
+        demand: &demand,
+        unit_cost: &[1],
+        setup_cost: &[10],
+        hold_cost: &[1],
+        backlog_cost: Some(&[2, 3]),
+        ..PLAIN
+    };
+    let late = instance(alloc, 2, &[], &[item])?;
+    Ok(told(alloc, &late, made, 1)?)
 }
 
 #[test]
@@ -95,21 +103,31 @@ fn what_is_owed_is_asked_for_first(rt: HostRuntime) -> Result<(), Fail> {
         (0, u64::MAX, "M5 item 1 opening"),
         (1_000_000_000, 0, "M5 item 1 demand period 1"),
     ] {
-        let item = late_item(alloc, &[asked, 4])?;
-        let text = told_of(alloc, item, made)?;
+        let text = told_of(alloc, asked, made)?;
         assert_eq!(rt; text.as_str(), want);
     }
     Ok(())
 }
 
+// An item that is asked for one in each period, at 2 a unit, 3 a setup and 4 a unit in stock.
+const STEADY: Item<'static> = Item {
+    demand: &[1],
+    unit_cost: &[2],
+    setup_cost: &[3],
+    hold_cost: &[4],
+    ..PLAIN
+};
+
 #[test]
 fn the_first_lead_is_told(rt: HostRuntime) -> Result<(), Fail> {
     let alloc = rt.alloc();
-    let mut item = steady_item(alloc, "B", 2, [1, 0, 0, 0])?;
-    item.lead = 1;
-    let items = vec![in alloc; steady_item(alloc, "A", 2, [1, 0, 0, 0])?, item]?;
-    let instance = instance_of(alloc, 2, Vec::new(alloc), items)?;
-    let text = told(alloc, &instance, 1, 1)?;
+    let later = Item {
+        name: "B",
+        lead: 1,
+        ..STEADY
+    };
+    let two = instance(alloc, 2, &[], &[STEADY, later])?;
+    let text = told(alloc, &two, 1, 1)?;
     assert_eq!(rt; text.as_str(), "lead item 2");
     Ok(())
 }
@@ -117,9 +135,8 @@ fn the_first_lead_is_told(rt: HostRuntime) -> Result<(), Fail> {
 #[test]
 fn a_long_start_is_kept(rt: HostRuntime) -> Result<(), Fail> {
     let alloc = rt.alloc();
-    let items = vec![in alloc; steady_item(alloc, "A", MAX_PERIODS as usize, [1, 2, 3, 4])?]?;
-    let instance = instance_of(alloc, MAX_PERIODS as i64, Vec::new(alloc), items)?;
-    let text = told(alloc, &instance, 1, MAX_PERIODS - 1)?;
+    let long = instance(alloc, MAX_PERIODS, &[], &[STEADY])?;
+    let text = told(alloc, &long, 1, MAX_PERIODS - 1)?;
     assert_eq!(rt;
         text.as_str(),
         "spent 595 periods 1 opening 0 demand 1 to 1 time 0"
