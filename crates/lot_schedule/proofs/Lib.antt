@@ -1,0 +1,15 @@
+pub mod Terms
+pub mod Pairs
+pub mod Schedules
+pub mod Laid
+pub mod Blocks
+pub mod Finished
+pub mod Rowwise
+pub mod Capacities
+pub mod Checked
+pub mod Fields
+pub mod Readback
+pub mod Meanings
+pub mod Gathered
+pub mod Rowed
+pub mod Findings

@@ -1,0 +1,30 @@
+-- What records mean is one thing, and what is found of slots is one thing.
+use Rattle.std.specs.Prelude.{◌≡◌, ◌≢◌, List}
+use Rattle.lot_sizing.specs.Problem.{Problem}
+use Rattle.lot_sizing.specs.Plan.{Plan}
+use Rattle.lot_model.specs.Views.{IsInstance}
+use Rattle.plan_file.specs.Records.{Record}
+use Rattle.lot_schedule.specs.Slots.{IsSchedule}
+use Rattle.lot_schedule.specs.Records.{AreRowsOf}
+use Rattle.lot_schedule.specs.Faults.{IsSlotBroken, IsSlotFault}
+use Rattle.lot_schedule.specs.declared.slot.Slot.{Slot}
+use Rattle.lot_schedule.specs.declared.broken.SlotBroken.{SlotBroken}
+use Rattle.lot_schedule.specs.declared.fault.SlotFault.{SlotFault}
+use Rattle.lot_schedule.specs.declared.fault.SlotFault.TheVariants.{Memory}
+
+-- one list of slots, or one fault where memory isn't the cause
+pub record MeanOneThing (m : Problem) (rs : List Record) : Type 0 where
+  pub one_list : (xs ys : List Slot) → AreRowsOf m rs xs → AreRowsOf m rs ys → xs ≡ ys
+  pub list_or_fault : (xs : List Slot) (f : SlotFault) → AreRowsOf m rs xs → IsSlotFault m rs f → f ≡ Memory
+  pub one_fault : (f g : SlotFault) → f ≢ Memory → g ≢ Memory → IsSlotFault m rs f → IsSlotFault m rs g → f ≡ g
+
+abbrev pub RecordsMeanOneThing : Type 0
+RecordsMeanOneThing = (m : Problem) (rs : List Record) → IsInstance m → MeanOneThing m rs
+
+-- a schedule, or one fault
+pub record AreOneThing (m : Problem) (p : Plan) (xs : List Slot) : Type 0 where
+  pub schedule_or_broken : (b : SlotBroken) → IsSchedule m p xs → IsSlotBroken m p xs b → ⊥
+  pub one_broken : (a b : SlotBroken) → IsSlotBroken m p xs a → IsSlotBroken m p xs b → a ≡ b
+
+abbrev pub SlotsAreOneThing : Type 0
+SlotsAreOneThing = (m : Problem) (p : Plan) (xs : List Slot) → AreOneThing m p xs
