@@ -20,14 +20,12 @@ fn model(alloc: Global, periods: u32, demand: &[i64], capacity: i64) -> Result<I
     instance(alloc, periods, &[machine], &[Item { demand, ..MADE }])
 }
 
-// One item without a resource.
+// An item without a resource.
+const ALONE: Item<'static> = Item { uses: &[], ..MADE };
+
+// That item with this demand.
 fn alone(alloc: Global, periods: u32, demand: &[i64]) -> Result<Instance, Fail> {
-    let only = Item {
-        demand,
-        uses: &[],
-        ..MADE
-    };
-    instance(alloc, periods, &[], &[only])
+    instance(alloc, periods, &[], &[Item { demand, ..ALONE }])
 }
 
 // Counts the nodes of which it is told.

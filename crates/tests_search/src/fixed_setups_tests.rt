@@ -86,14 +86,16 @@ fn a_walk_leaves_a_setup_out(rt: HostRuntime) -> Result<(), Fail> {
     Ok(())
 }
 
+// An item without a resource that is asked for one in each period.
+const STEADY: Item<'static> = Item {
+    demand: &[1],
+    uses: &[],
+    ..MADE
+};
+
 // Four items over 101 periods.
 fn large(alloc: Global) -> Result<Instance, Fail> {
-    let item = Item {
-        demand: &[1],
-        uses: &[],
-        ..MADE
-    };
-    instance_alike(alloc, 101, &[], 4, &item)
+    instance_alike(alloc, 101, &[], 4, &STEADY)
 }
 
 // Four items over 101 periods are more than 400, and the own-period plan is one.

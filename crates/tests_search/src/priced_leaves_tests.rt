@@ -53,9 +53,9 @@ const THIRD: Item<'static> = Item {
     ..MADE
 };
 
-// The chain of A, B and C.
-fn chain(alloc: Global, first: Item, last: Item) -> Result<Instance, Fail> {
-    instance(alloc, 4, &[machine(&[22])], &[first, SECOND, last])
+// The chain of these items.
+fn chain(alloc: Global, items: &[Item]) -> Result<Instance, Fail> {
+    instance(alloc, 4, &[machine(&[22])], items)
 }
 
 // Whether the checker takes the text of a certificate.
@@ -307,12 +307,8 @@ fn rounds_end_at_the_cost_of_a_plan(rt: HostRuntime) -> Result<(), Fail> {
 
 // Whether the leaf of rounds at the root of a chain says what they claim, and one more; and whether the leaves at both sides of
 // the first setup do.
-fn leaves_say(
-    alloc: Global,
-    first: Item,
-    last: Item,
-) -> Result<((bool, bool), (bool, bool)), Fail> {
-    let instance = chain(alloc, first, last)?;
+fn leaves_say(alloc: Global, items: &[Item]) -> Result<((bool, bool), (bool, bool)), Fail> {
+    let instance = chain(alloc, items)?;
     let (_, at_root, more) = claimed(alloc, &instance, 25)?;
     let at_sides = split_says(alloc, &instance, 25, 0)?;
     let more_there = split_says(alloc, &instance, 25, 1)?;
@@ -323,7 +319,7 @@ const SAY_NO_MORE: ((bool, bool), (bool, bool)) = ((true, false), (true, false))
 
 #[test]
 fn leaves_say_what_rounds_claim(rt: HostRuntime) -> Result<(), Fail> {
-    let found = leaves_say(rt.alloc(), FIRST, THIRD)?;
+    let found = leaves_say(rt.alloc(), &[FIRST, SECOND, THIRD])?;
     assert_eq!(rt; found, SAY_NO_MORE);
     Ok(())
 }
@@ -336,7 +332,7 @@ fn leaves_say_what_rounds_claim_with_end_stocks(rt: HostRuntime) -> Result<(), F
         end_max: Some(6),
         ..FIRST
     };
-    let found = leaves_say(rt.alloc(), loose, THIRD)?;
+    let found = leaves_say(rt.alloc(), &[loose, SECOND, THIRD])?;
     assert_eq!(rt; found, SAY_NO_MORE);
     Ok(())
 }
@@ -347,7 +343,7 @@ fn leaves_say_what_rounds_claim_with_backlogs(rt: HostRuntime) -> Result<(), Fai
         backlog_cost: Some(&[6]),
         ..FIRST
     };
-    let found = leaves_say(rt.alloc(), late, THIRD)?;
+    let found = leaves_say(rt.alloc(), &[late, SECOND, THIRD])?;
     assert_eq!(rt; found, SAY_NO_MORE);
     Ok(())
 }
@@ -355,7 +351,7 @@ fn leaves_say_what_rounds_claim_with_backlogs(rt: HostRuntime) -> Result<(), Fai
 #[test]
 fn leaves_say_what_rounds_claim_with_a_lead_time(rt: HostRuntime) -> Result<(), Fail> {
     let slow = Item { lead: 1, ..THIRD };
-    let found = leaves_say(rt.alloc(), FIRST, slow)?;
+    let found = leaves_say(rt.alloc(), &[FIRST, SECOND, slow])?;
     assert_eq!(rt; found, SAY_NO_MORE);
     Ok(())
 }

@@ -142,10 +142,12 @@ fn a_large_program_is_skipped(rt: HostRuntime) -> Result<(), Fail> {
     Ok(())
 }
 
-// One item that takes no time on the machine.
+// An item that takes no time on the machine.
+const ALONE: Item<'static> = Item { uses: &[], ..MADE };
+
+// That item, beside the machine.
 fn by_itself(alloc: Global) -> Result<Instance, Fail> {
-    let only = Item { uses: &[], ..MADE };
-    instance(alloc, 2, &[MACHINE], &[only])
+    instance(alloc, 2, &[MACHINE], &[ALONE])
 }
 
 #[test]
