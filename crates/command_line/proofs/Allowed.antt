@@ -11,7 +11,7 @@ use Rattle.command_line.specs.Laws.{CommandsAreAllowed}
 use Rattle.lot_sizing.specs.declared.limits.TheConstants.{MAX_ITEMS}
 use Rattle.instance_reader.specs.declared.versions.TheConstants.{FIRST_VERSION_PERIODS}
 use Rattle.command_line.specs.declared.requests.TheConstants.{LARGEST_BUDGET, USUAL_BUDGET}
-use Rattle.command_line.specs.Words.{AreApart, Request, IsAllowed, are_file_names, are_two_names, request_by_matches, request_if, request_in, bounding, bounding_from, budget_from, checking, checking_from, command_of, demonstrating, demonstrating_from, generated, generating, generating_from, helping, is_budget, is_file_name, is_help, is_number, is_seed, judging, judging_from, largest_seed, planned, planning, planning_from, reporting, reporting_from, unless_refused, upgrading, upgrading_from, version}
+use Rattle.command_line.specs.Words.{AreApart, Request, IsAllowed, are_file_names, are_two_names, request_by_matches, request_if, request_in, bounding, bounding_from, budget_from, checking, checking_from, command_of, demonstrating, demonstrating_from, generated, generating, generating_from, is_budget, is_file_name, is_number, is_seed, judging, judging_from, largest_seed, planned, planning, planning_from, reporting, reporting_from, unless_refused, upgrading, upgrading_from, version}
 
 -- the parts of a test that came out true
 pub first_true : (a b : Bool) → (a && b) ≡ true → a ≡ true
@@ -156,7 +156,7 @@ fine_matches (Some s) = fine_in s.0 s.1
 
 fine_unless : (ks : Kinds) (o : Option Request) → Fine o → Fine (unless_refused ks o)
 fine_unless [] o fine = fine
-fine_unless (k ∷ ks) o fine = fine_if (is_help k) helping (λ is. tt)
+fine_unless (k ∷ ks) o fine = fine_none
 
 pub commands_are_allowed : CommandsAreAllowed
 unfolding command_of

@@ -1,4 +1,3 @@
-pub mod Alike
 pub mod Matched
 pub mod Allowed
 pub mod Numbers

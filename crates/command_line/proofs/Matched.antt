@@ -1,5 +1,5 @@
 -- What the matches of the declared command line say of the command.
-use Rattle.std.proofs.Common.{Result, Ok, Err, IfOk, ◌≡◌, ◌≢◌, ◌∙◌, true, List, [], ◌∷◌, Option, Some, None, Box, option_map, refl, sym, subst, ap, ap₂, inl, inr}
+use Rattle.std.proofs.Common.{◌≡◌, ◌≢◌, ◌∙◌, true, List, [], ◌∷◌, Option, Some, None, Box, option_map, refl, sym, subst, ap, ap₂, inl, inr}
 use Rattle.std.proofs.lemmas.Option.{none-some, same_Some}
 use Rattle.std.specs.Box.{box_value}
 use Rattle.clap.specs.Words.{App, HasKind, HasMatchesOf, Kinds, Row, Text, fault_of, is_simple, is_simple_and_free, kind_of, subcommand_of, subcommand_rows, subcommand_rows_of}
@@ -10,12 +10,7 @@ use Rattle.clap.specs.declared.parser.matches.SubCommand.{SubCommand}
 use Rattle.clap.specs.declared.parser.matches.ArgMatches.TheViews.{out-SubCommand}
 use Rattle.clap.proofs.OnLiterals.{clap_on_literals}
 use Rattle.command_line.specs.Grammar.{planner_app}
-use Rattle.std.specs.declared.alloc.AllocError.{AllocError}
-use Rattle.command_line.specs.Meant.{IsRefusedText, read_as}
-use Rattle.command_line.specs.Words.{Request, AreTaken, request_by_matches, request_if, command_of, helping, is_help, unless_refused}
-use Rattle.command_line.specs.declared.commands.Reading.{Reading}
-use Rattle.command_line.specs.declared.commands.Reading.TheVariants as reading
-use Rattle.command_line.proofs.Alike.{Alike, alike_among, alike_faults}
+use Rattle.command_line.specs.Words.{Request, AreTaken, request_by_matches, command_of, unless_refused}
 
 is_planner_simple : is_simple planner_app ≡ true
 unfolding clap_on_literals
@@ -51,34 +46,25 @@ failed : (a : App) (words : List Text) (e : Error) → a ≡ planner_app → (is
     → HasKind (fault_of planner_app words) e
 failed a words e same kinds = subst (λ b. HasKind (fault_of b words) e) same (kinds (ap is_simple_and_free same ∙ is_planner_free))
 
-stopped_by : (ks : Kinds) (e : Error) (answer : Option Request) → Alike ks → HasKind ks e → kind_of e ≢ OutOfMemory
-    → request_if (is_help (kind_of e)) helping ≡ unless_refused ks answer
-stopped_by [] e answer alike kind other = elim kind [ inl memory ↦ absurd (other memory) | inr none ↦ absurd none ]
-stopped_by (k ∷ ks) e answer alike kind other = elim kind [
-  | inl memory ↦ absurd (other memory)
-  | inr among ↦ ap (λ help. request_if help helping) (sym (alike_among (kind_of e) k ks alike among))
-]
+stopped_by : (ks : Kinds) (e : Error) (answer : Option Request) → HasKind ks e → kind_of e ≢ OutOfMemory → None ≡ unless_refused ks answer
+stopped_by [] e answer kind other = elim kind [ inl memory ↦ absurd (other memory) | inr none ↦ absurd none ]
+stopped_by (k ∷ ks) e answer kind other = refl
 
--- the kind of the error tells what is asked for
+-- they are no command
 pub stopped : (a : App) (words : List Text) (e : Error) → a ≡ planner_app → (is_simple_and_free a ≡ true → HasKind (fault_of a words) e) → kind_of e ≢ OutOfMemory
-    → request_if (is_help (kind_of e)) helping ≡ command_of words
+    → None ≡ command_of words
 unfolding command_of
-stopped a words e same kinds other = stopped_by (fault_of planner_app words) e _ (alike_faults words) (failed a words e same kinds) other
+stopped a words e same kinds other = stopped_by (fault_of planner_app words) e _ (failed a words e same kinds) other
 
 no_kind : (ks : Kinds) (e : Error) → HasKind ks e → kind_of e ≢ OutOfMemory → ks ≡ [] → ⊥
 no_kind [] e kind other none = elim kind [ inl memory ↦ other memory | inr never ↦ never ]
 no_kind (k ∷ ks) e kind other none = absurd (cc none)
 
-of_untaken : (words : List Text) (r : Reading) → (fault_of planner_app words ≡ [] → ⊥) → IsRefusedText words r
+-- they aren't taken
+pub untaken : (a : App) (words : List Text) (e : Error) → a ≡ planner_app → (is_simple_and_free a ≡ true → HasKind (fault_of a words) e) → kind_of e ≢ OutOfMemory
+    → AreTaken words → ⊥
 unfolding AreTaken
-of_untaken words (reading.Refused text) never = λ is. absurd (never is)
-of_untaken words (reading.Command c) never = tt
-of_untaken words (reading.Help text) never = tt
-
--- nothing is said of the text where a step of the parse refuses the words
-pub any_text : (a : App) (words : List Text) (e : Error) (r : Reading) → a ≡ planner_app → (is_simple_and_free a ≡ true → HasKind (fault_of a words) e) → kind_of e ≢ OutOfMemory
-    → IsRefusedText words r
-any_text a words e r same kinds other = of_untaken words r (no_kind (fault_of planner_app words) e (failed a words e same kinds) other)
+untaken a words e same kinds other = no_kind (fault_of planner_app words) e (failed a words e same kinds) other
 
 -- ---- the subcommand of matches
 
@@ -93,15 +79,3 @@ pub no_rows : {Z : Type 0} (o : Option (Box SubCommand Z)) → None ≡ option_m
     → request_by_matches (subcommand_rows o) ≡ request_by_matches None
 no_rows None h = refl
 no_rows (Some x) h = absurd (none-some _ h)
-
--- ---- answers to words that a step of the parse stopped at
-
-pub answered : (a : App) (words : List Text) (e : Error) (r : Result Reading AllocError) → a ≡ planner_app → (is_simple_and_free a ≡ true → HasKind (fault_of a words) e)
-    → IfOk r (λ x. read_as x ≡ request_if (is_help (kind_of e)) helping) → IfOk r (λ _. kind_of e ≢ OutOfMemory) → IfOk r (λ x. read_as x ≡ command_of words)
-answered a words e (Ok x) same kinds help other = help ∙ stopped a words e same kinds other
-answered a words e (Err x) same kinds help other = tt
-
-pub refused : (a : App) (words : List Text) (e : Error) (r : Result Reading AllocError) → a ≡ planner_app → (is_simple_and_free a ≡ true → HasKind (fault_of a words) e)
-    → IfOk r (λ _. kind_of e ≢ OutOfMemory) → IfOk r (IsRefusedText words)
-refused a words e (Ok x) same kinds other = any_text a words e x same kinds other
-refused a words e (Err x) same kinds other = tt

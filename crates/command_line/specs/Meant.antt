@@ -1,6 +1,6 @@
 -- What the program's own values stand for.
 use Rattle.std.specs.Prelude.{◌≡◌, ⊤, ℕ, List, Option, Some, None, codes}
-use Rattle.command_line.specs.Words.{Request, AreTaken, version, helping, planning, judging, checking, reporting, generating, demonstrating, upgrading, bounding}
+use Rattle.command_line.specs.Words.{Request, AreTaken, version, planning, judging, checking, reporting, generating, demonstrating, upgrading, bounding}
 use Rattle.command_line.specs.declared.commands.Command.{Command}
 use Rattle.command_line.specs.declared.commands.Command.TheVariants as command
 use Rattle.command_line.specs.declared.commands.Reading.{Reading}
@@ -21,10 +21,9 @@ request_by (command.Demo seed) = demonstrating seed
 -- what the words were read as
 abbrev pub read_as : Reading → Option Request
 read_as (reading.Command c) = Some (request_by c)
-read_as (reading.Help text) = Some helping
-read_as (reading.Refused text) = None
+read_as (reading.Text text) = None
 
 -- words that the parse takes are refused by this line, for their names and numbers
 abbrev pub IsRefusedText : List (List ℕ) → Reading → Type 0
-IsRefusedText words (reading.Refused text) = AreTaken words → text.bytes.items ≡ codes "refused words\n"
-IsRefusedText words _ = ⊤
+IsRefusedText words (reading.Text text) = AreTaken words → text.bytes.items ≡ codes "refused words\n"
+IsRefusedText words (reading.Command c) = ⊤

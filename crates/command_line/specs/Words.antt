@@ -4,8 +4,6 @@ use Rattle.std.specs.Int.{is_in_range}
 use Rattle.std.specs.Str.{bytes_eq}
 use Rattle.std.specs.Str.Parse.{digits_value}
 use Rattle.clap.specs.Words.{Kinds, Row, fault_of, first_of, subcommand_of}
-use Rattle.clap.specs.declared.error.kind.ErrorKind.{ErrorKind}
-use Rattle.clap.specs.declared.error.kind.ErrorKind.TheVariants.{DisplayHelp, DisplayVersion}
 use Rattle.lot_sizing.specs.declared.limits.TheConstants.{MAX_ITEMS}
 use Rattle.instance_reader.specs.declared.versions.TheConstants.{FIRST_VERSION_PERIODS}
 use Rattle.command_line.specs.declared.requests.TheConstants.{LARGEST_BUDGET, USUAL_BUDGET}
@@ -14,8 +12,6 @@ use Rattle.command_line.specs.Grammar.{planner_app}
 pub data Request : Type 0 where
   -- the program's name
   version : Request
-  -- help, or the version, of the program or of a command
-  helping : Request
   -- to plan a model file, with the names of the model file, the plan file and the certificate file, and the most nodes that the certificate's tree may have
   planning : List ℕ → List ℕ → List ℕ → ℕ → Request
   -- to judge a plan file, with the names of the model file and the plan file
@@ -133,15 +129,10 @@ abbrev pub request_by_matches : Option (List ℕ × List Row) → Option Request
 request_by_matches None = Some version
 request_by_matches (Some s) = request_in s.0 s.1
 
-abbrev pub is_help : ErrorKind → Bool
-is_help DisplayHelp = true
-is_help DisplayVersion = true
-is_help _ = false
-
--- a call for help is one; other words that a step of the parse refuses ask for nothing
+-- words that a step of the parse refuses ask for nothing, calls for help and for the version too
 abbrev pub unless_refused : Kinds → Option Request → Option Request
 unless_refused [] answer = answer
-unless_refused (k ∷ ks) answer = request_if (is_help k) helping
+unless_refused (k ∷ ks) answer = None
 
 -- the command that the matches of the words give
 unfoldable pub command_of : List (List ℕ) → Option Request

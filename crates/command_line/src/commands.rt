@@ -71,8 +71,7 @@ pub struct UpgradeNames<'a> {
 pub enum Reading<'a> {
     /// A command.
     Command(Command<'a>),
-    /// A call for help or for the version, with the text that answers it.
-    Help(String),
-    /// No command, with the text that says why.
-    Refused(String),
+    /// No command, with the text that is printed instead: `clap`'s own of help, of the version, or of why it refuses
+    /// the words, and `refused words` and a line feed where it takes them.
+    Text(String),
 }

@@ -14,21 +14,37 @@ const ABOUT: &str = "Plans lots and setups at the least cost, with a certificate
 
 Names of files are distinct and don't begin with `-`. With no words it prints its name and version.";
 
-const EXAMPLE: &str = "Example: lotplan plan model.toml plan.csv plan.cert";
+const ENDS: &str = "Ends with
+  0   what was asked for is done, and the printed line is proved
+  1   no plan exists
+  2   undecided
+  3   the file is no plan or no certificate, or breaks a rule
+  4   the words are no command; a call for help or for the version, as this, is none
+  5   the model is refused
+  6   a file is absent
+  7   a file could not be read
+  8   a file could not be written
+  9   the lines could not be printed
+  10  out of memory
+  11  a file is too long
+
+Example: lotplan plan model.toml plan.csv plan.cert";
 
 const PLAN: &str = "Plans a model at the least cost, or proves that it has no plan";
 
 const PLAN_PRINTS: &str =
     "Prints the root's line, `nodes N`, and then `optimal N`, `infeasible`, `undecided B plan N` or
 `undecided B`, where B is a bound of the cost of every plan and N the cost of the plan that was
-written.
+written. Ends with 0 where it is optimal, with 1 where there is no plan, and with 2 where it is
+undecided; `lotplan --help` has the other statuses.
 
 Example: lotplan plan model.toml plan.csv plan.cert --nodes 500";
 
 const JUDGE: &str = "Judges a plan by the rules of its model";
 
 const JUDGE_PRINTS: &str =
-    "Prints `feasible N` with the cost of the plan, or the first rule that it breaks.
+    "Prints `feasible N` with the cost of the plan, or the first rule that it breaks. Ends with 0 or
+with 3; `lotplan --help` has the other statuses.
 
 Example: lotplan judge model.toml plan.csv";
 
@@ -36,6 +52,7 @@ const CHECK: &str = "Checks a certificate";
 
 const CHECK_PRINTS: &str =
     "Prints `accepted optimal N`, `accepted infeasible` or `accepted bound N`, or the first fault.
+Ends with 0 or, at a fault, with 3; `lotplan --help` has the other statuses.
 
 Example: lotplan check model.toml plan.csv plan.cert";
 
@@ -43,32 +60,39 @@ const REPORT: &str = "Judges a plan and sums it up";
 
 const REPORT_PRINTS: &str =
     "Prints one line of JSON: costs, quantities made and setups by item, time used by resource and
-period. Of a plan that breaks a rule it prints that rule.
+period. Of a plan that breaks a rule it prints that rule. Ends with 0 or with 3; `lotplan --help`
+has the other statuses.
 
 Example: lotplan report model.toml plan.csv";
 
 const GENERATE: &str = "Writes a model that is drawn from a number";
 
-const GENERATE_PRINTS: &str = "Prints `written M`.
+const GENERATE_PRINTS: &str =
+    "Prints `written M`. Ends with 0; `lotplan --help` has the other statuses.
 
 Example: lotplan gen 7 12 24 model.toml";
 
 const DEMO: &str = "Plans two models that are drawn from a number, without any file";
 
 const DEMO_PRINTS: &str =
-    "Prints `free` and `coupled`, each with the three lines that `plan` prints.
+    "Prints `free` and `coupled`, each with the three lines that `plan` prints. Ends with 0;
+`lotplan --help` has the other statuses.
 
 Example: lotplan demo 7";
 
 const UPGRADE: &str = "Writes a model of version 1 anew in the newest version";
 
-const UPGRADE_PRINTS: &str = "Prints `written M2`.
+const UPGRADE_PRINTS: &str =
+    "Prints `written M2`. Ends with 0; `lotplan --help` has the other statuses.
 
 Example: lotplan upgrade old.toml new.toml";
 
 const BOUND: &str = "Bounds the cost of all plans of a model from below";
 
-const BOUND_PRINTS: &str = "Prints `bound N` by the linear relaxation without cuts.
+const BOUND_PRINTS: &str =
+    "Prints `bound N` by the linear relaxation without cuts and ends with 0, or prints `empty` and ends
+with 1 where that has no point, so that there is no plan, or `skipped` or `passed` and ends with 2
+where it is too large or its numbers are; `lotplan --help` has the other statuses.
 
 Example: lotplan bound model.toml";
 
@@ -387,7 +411,7 @@ fn base<'a>(alloc: Global) -> Result<Command<'a>, AllocError>
         .disable_help_subcommand(true)
         .version(VERSION)
         .about(ABOUT)
-        .after_help(EXAMPLE)
+        .after_help(ENDS)
         .bin_name("lotplan")
 }
 

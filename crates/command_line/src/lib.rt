@@ -4,7 +4,7 @@
 //! among them, and on `lot_sizing` and `instance_reader` for the limits of a model that is drawn;
 //! `lotplan` stands on it.
 //!
-//! `read_words` gives the command that the words are, a text of help, or why they are refused.
+//! `read_words` gives the command that the words are, or the text that is printed where they are none.
 #![tactic(auto)]
 
 mod commands;

@@ -1,9 +1,9 @@
 // The command that words are.
-ghost use Rattle.std.specs.Prelude.{◌≡◌, ◌≢◌, IfOk, codes, map, option_map, string_bytes};
+ghost use Rattle.std.specs.Prelude.{◌≡◌, ◌≢◌, IfOk, map, option_map, string_bytes};
 ghost use Rattle.clap.specs.Words.{first_of, found_of, kind_of, rows_of, subcommand_rows_of};
 ghost use Rattle.clap.specs.declared.error.kind.ErrorKind.TheVariants.{OutOfMemory};
 ghost use Rattle.command_line.specs.Meant.{IsRefusedText, request_by, read_as};
-ghost use Rattle.command_line.specs.Words.{request_by_matches, request_if, request_in, command_of, helping, is_help};
+ghost use Rattle.command_line.specs.Words.{request_by_matches, request_in, command_of};
 
 use crate::commands::{Command, Reading};
 use crate::grammar::planner;
@@ -13,13 +13,13 @@ use clap::error::{Error, ErrorKind};
 use std::alloc::{AllocError, Global};
 
 /// What the words after the program's name are: the command that `clap`'s matches of them give, if its names and
-/// numbers are in order, a call for help, or else no command.
+/// numbers are in order, or else no command, as a call for help or for the version.
 ///
 /// Names of files aren't empty, don't begin with `-`, and no two of a command are the same. Numbers are decimal
 /// digits with no sign and no 0 before others: a seed is below 2^64, items are 1 to `MAX_ITEMS`, periods 1
 /// to `FIRST_VERSION_PERIODS`, and the nodes of `--nodes` 1 to `LARGEST_BUDGET`; without that option they are
-/// `USUAL_BUDGET`. The text of help and of words that `clap` refuses is its own; words that it takes, and whose
-/// names or numbers aren't in order, are refused by `refused words` and a line feed.
+/// `USUAL_BUDGET`. The text of help, of the version and of words that `clap` refuses is its own; words that it takes,
+/// and whose names or numbers aren't in order, are refused by `refused words` and a line feed.
 ///
 /// `Err` comes where memory runs out. The cost grows with the length of the words.
 pub fn read_words<'a>(alloc: Global, words: &'a [String]) -> Result<Reading<'a>, AllocError>
@@ -30,9 +30,9 @@ pub fn read_words<'a>(alloc: Global, words: &'a [String]) -> Result<Reading<'a>,
     match program.try_get_matches_from(words) {
         Ok(matches) => match command_in(&matches) {
             Some(command) => Ok(Reading::Command(command)),
-            None => Ok(Reading::Refused("refused words\n".to_string(alloc)?)),
+            None => Ok(Reading::Text("refused words\n".to_string(alloc)?)),
         },
-        Err(error) => answer_to(alloc, &error),
+        Err(error) => Ok(Reading::Text(text_of_error(alloc, &error)?)),
     }
 }
 
@@ -46,16 +46,13 @@ fn command_in<'a>(matches: &ArgMatches<'a>) -> Option<Command<'a>>
     }
 }
 
-// The answer to words that a step of the parse stopped at.
-fn answer_to<'a>(alloc: Global, error: &Error) -> Result<Reading<'a>, AllocError>
-    ensures help { IfOk result (λ r. read_as r ≡ request_if (is_help (kind_of error.now)) helping) }
-    ensures memory { IfOk result (λ _. kind_of error.now ≢ OutOfMemory) }
+// The text that is printed where a step of the parse stopped at the words: of help, of the version, or of why.
+fn text_of_error(alloc: Global, error: &Error) -> Result<String, AllocError>
+    ensures { IfOk result (λ _. kind_of error.now ≢ OutOfMemory) }
 {
-    let text = error.to_string(alloc)?;
     match error.kind() {
         ErrorKind::OutOfMemory => Err(AllocError),
-        ErrorKind::DisplayHelp | ErrorKind::DisplayVersion => Ok(Reading::Help(text)),
-        _ => Ok(Reading::Refused(text)),
+        _ => error.to_string(alloc),
     }
 }
 

@@ -1,7 +1,7 @@
 use Rattle.std.proofs.Common.{◌∙◌, sym, ap, map, option_map, string_bytes}
 use Rattle.clap.specs.Words.{app_of}
 use Rattle.command_line.specs.Meant.{request_by}
-use Rattle.command_line.proofs.Matched.{answered, given, refused}
+use Rattle.command_line.proofs.Matched.{given, stopped, untaken}
 use Rattle.command_line.proofs.reader.read_words.Goals as goal
 
 pub returns-in-Some-clause-means : goal.returns-in-Some-clause-means
@@ -17,9 +17,9 @@ returns-in-Ok-clause-means c =
 pub returns-clause-means : goal.returns-clause-means
 returns-clause-means c =
     let words = map string_bytes c.args.words.now in
-    answered (app_of c.in_ok-program.program) words c.in-Err.error c.answer_to.result c.in_ok-program.ensures c.in-Err.ensures.kinds c.answer_to.ensures.help c.answer_to.ensures.memory
+    stopped (app_of c.in_ok-program.program) words c.in-Err.error c.in_ok-program.ensures c.in-Err.ensures.kinds c.in_ok-text_of_error-in-Err.ensures
 
 pub returns-clause-refused : goal.returns-clause-refused
 returns-clause-refused c =
     let words = map string_bytes c.args.words.now in
-    refused (app_of c.in_ok-program.program) words c.in-Err.error c.answer_to.result c.in_ok-program.ensures c.in-Err.ensures.kinds c.answer_to.ensures.memory
+    λ taken. absurd (untaken (app_of c.in_ok-program.program) words c.in-Err.error c.in_ok-program.ensures c.in-Err.ensures.kinds c.in_ok-text_of_error-in-Err.ensures taken)
