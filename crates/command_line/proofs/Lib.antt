@@ -1,3 +1,4 @@
+pub mod Rows
 pub mod Matched
 pub mod Allowed
 pub mod Numbers

@@ -13,6 +13,7 @@ mod grammar;
 mod laws;
 mod reader;
 mod requests;
+mod table;
 
 pub use commands::{Command, Names, Reading, TwoNames, UpgradeNames};
 pub use laws::{commands_are_allowed, plain_words_keep_their_meaning};

@@ -1,0 +1,161 @@
+// The table of the program's commands: adding one is a row here, a row of `specs/Grammar`, and its request.
+
+// An argument that is known by its place: what usage and matches call it, and what it is.
+#[derive(Clone, Copy)]
+pub(crate) struct Argument {
+    pub(crate) id: &'static str,
+    pub(crate) help: &'static str,
+}
+
+// A command: its name, what it does, what it prints and ends with, and its arguments in order.
+#[derive(Clone, Copy)]
+pub(crate) struct Row {
+    pub(crate) name: &'static str,
+    pub(crate) about: &'static str,
+    pub(crate) prints: &'static str,
+    pub(crate) arguments: &'static [Argument],
+    // Whether it has the option `--nodes` too.
+    pub(crate) has_nodes: bool,
+}
+
+const MODEL_READ: Argument = Argument {
+    id: "M",
+    help: "The model file, which is read",
+};
+
+const MODEL_WRITTEN: Argument = Argument {
+    id: "M",
+    help: "The model file, which is written",
+};
+
+const MODEL_UPGRADED: Argument = Argument {
+    id: "M2",
+    help: "The model file, which is written",
+};
+
+const PLAN_READ: Argument = Argument {
+    id: "P",
+    help: "The plan file, which is read",
+};
+
+const PLAN_WRITTEN: Argument = Argument {
+    id: "P",
+    help: "The plan file, which is written",
+};
+
+const PLAN_CLAIMED: Argument = Argument {
+    id: "P",
+    help: "The plan file, which is read where an optimal cost is claimed",
+};
+
+const CERTIFICATE_READ: Argument = Argument {
+    id: "C",
+    help: "The certificate file, which is read",
+};
+
+const CERTIFICATE_WRITTEN: Argument = Argument {
+    id: "C",
+    help: "The certificate file, which is written",
+};
+
+const SEED: Argument = Argument {
+    id: "N",
+    help: "The number that is drawn from, below 2^64",
+};
+
+// The limits in the texts of help are literals, as `MAX_ITEMS` and `FIRST_VERSION_PERIODS` have them.
+const ITEMS: Argument = Argument {
+    id: "ITEMS",
+    help: "How many items, 1 to 40",
+};
+
+const PERIODS: Argument = Argument {
+    id: "PERIODS",
+    help: "How many periods, 1 to 60",
+};
+
+// The commands, in the order in which help lists them.
+pub(crate) const COMMANDS: [Row; 8] = [
+    Row {
+        name: "plan",
+        about: "Plans a model at the least cost, or proves that it has no plan",
+        prints: "Prints the root's line, `nodes N`, and then `optimal N`, `infeasible`, `undecided B plan N` or
+`undecided B`, where B is a bound of the cost of every plan and N the cost of the plan that was
+written. Ends with 0 where it is optimal, with 1 where there is no plan, and with 2 where it is
+undecided; `lotplan --help` has the other statuses.
+
+Example: lotplan plan model.toml plan.csv plan.cert --nodes 500",
+        arguments: &[MODEL_READ, PLAN_WRITTEN, CERTIFICATE_WRITTEN],
+        has_nodes: true,
+    },
+    Row {
+        name: "judge",
+        about: "Judges a plan by the rules of its model",
+        prints: "Prints `feasible N` with the cost of the plan, or the first rule that it breaks. Ends with 0 or
+with 3; `lotplan --help` has the other statuses.
+
+Example: lotplan judge model.toml plan.csv",
+        arguments: &[MODEL_READ, PLAN_READ],
+        has_nodes: false,
+    },
+    Row {
+        name: "check",
+        about: "Checks a certificate",
+        prints: "Prints `accepted optimal N`, `accepted infeasible` or `accepted bound N`, or the first fault.
+Ends with 0 or, at a fault, with 3; `lotplan --help` has the other statuses.
+
+Example: lotplan check model.toml plan.csv plan.cert",
+        arguments: &[MODEL_READ, PLAN_CLAIMED, CERTIFICATE_READ],
+        has_nodes: false,
+    },
+    Row {
+        name: "report",
+        about: "Judges a plan and sums it up",
+        prints: "Prints one line of JSON: costs, quantities made and setups by item, time used by resource and
+period. Of a plan that breaks a rule it prints that rule. Ends with 0 or with 3; `lotplan --help`
+has the other statuses.
+
+Example: lotplan report model.toml plan.csv",
+        arguments: &[MODEL_READ, PLAN_READ],
+        has_nodes: false,
+    },
+    Row {
+        name: "gen",
+        about: "Writes a model that is drawn from a number",
+        prints: "Prints `written M`. Ends with 0; `lotplan --help` has the other statuses.
+
+Example: lotplan gen 7 12 24 model.toml",
+        arguments: &[SEED, ITEMS, PERIODS, MODEL_WRITTEN],
+        has_nodes: false,
+    },
+    Row {
+        name: "demo",
+        about: "Plans two models that are drawn from a number, without any file",
+        prints: "Prints `free` and `coupled`, each with the three lines that `plan` prints. Ends with 0;
+`lotplan --help` has the other statuses.
+
+Example: lotplan demo 7",
+        arguments: &[SEED],
+        has_nodes: false,
+    },
+    Row {
+        name: "upgrade",
+        about: "Writes a model of version 1 anew in the newest version",
+        prints: "Prints `written M2`. Ends with 0; `lotplan --help` has the other statuses.
+
+Example: lotplan upgrade old.toml new.toml",
+        arguments: &[MODEL_READ, MODEL_UPGRADED],
+        has_nodes: false,
+    },
+    Row {
+        name: "bound",
+        about: "Bounds the cost of all plans of a model from below",
+        prints: "Prints `bound N` by the linear relaxation without cuts and ends with 0, or prints `empty` and ends
+with 1 where that has no point, so that there is no plan, or `skipped` or `passed` and ends with 2
+where it is too large or its numbers are; `lotplan --help` has the other statuses.
+
+Example: lotplan bound model.toml",
+        arguments: &[MODEL_READ],
+        has_nodes: false,
+    },
+];
