@@ -11,7 +11,7 @@ use Rattle.command_line.specs.Laws.{CommandsAreAllowed}
 use Rattle.lot_sizing.specs.declared.limits.TheConstants.{MAX_ITEMS}
 use Rattle.instance_reader.specs.declared.versions.TheConstants.{FIRST_VERSION_PERIODS}
 use Rattle.command_line.specs.declared.requests.TheConstants.{LARGEST_BUDGET, USUAL_BUDGET}
-use Rattle.command_line.specs.Words.{AreApart, Request, IsAllowed, are_file_names, are_two_names, request_by_matches, request_if, request_in, bounding, bounding_from, budget_from, checking, checking_from, command_of, demonstrating, demonstrating_from, generated, generating, generating_from, is_budget, is_file_name, is_number, is_seed, judging, judging_from, largest_seed, planned, planning, planning_from, reporting, reporting_from, unless_refused, upgrading, upgrading_from, version}
+use Rattle.command_line.specs.Words.{AreApart, Request, IsAllowed, are_file_names, are_two_names, request_by_matches, request_if, request_in, bounding, bounding_from, budget_from, checking, checking_from, command_of, demonstrating, demonstrating_from, generated, generating, generating_from, is_budget, is_file_name, is_number, is_seed, judging, judging_from, largest_seed, pegging, pegging_from, planned, planning, planning_from, reporting, reporting_from, schedule_checking, schedule_checking_from, scheduling, scheduling_from, unless_refused, upgrading, upgrading_from, version}
 
 -- the parts of a test that came out true
 pub first_true : (a b : Bool) → (a && b) ≡ true → a ≡ true
@@ -139,6 +139,24 @@ fine_bounding : (m : Option (List ℕ)) → Fine (bounding_from m)
 fine_bounding None = fine_none
 fine_bounding (Some m) = fine_if (is_file_name m) (bounding m) (λ is. tt)
 
+fine_scheduling : (m p s : Option (List ℕ)) → Fine (scheduling_from m p s)
+fine_scheduling None p s = fine_none
+fine_scheduling (Some m) None s = fine_none
+fine_scheduling (Some m) (Some p) None = fine_none
+fine_scheduling (Some m) (Some p) (Some s) = fine_if (are_file_names m p s) (scheduling m p s) (are_apart m p s)
+
+fine_schedule_checking : (m p s : Option (List ℕ)) → Fine (schedule_checking_from m p s)
+fine_schedule_checking None p s = fine_none
+fine_schedule_checking (Some m) None s = fine_none
+fine_schedule_checking (Some m) (Some p) None = fine_none
+fine_schedule_checking (Some m) (Some p) (Some s) = fine_if (are_file_names m p s) (schedule_checking m p s) (are_apart m p s)
+
+fine_pegging : (m p q : Option (List ℕ)) → Fine (pegging_from m p q)
+fine_pegging None p q = fine_none
+fine_pegging (Some m) None q = fine_none
+fine_pegging (Some m) (Some p) None = fine_none
+fine_pegging (Some m) (Some p) (Some q) = fine_if (are_file_names m p q) (pegging m p q) (are_apart m p q)
+
 fine_in : (name : List ℕ) (rows : List Row) → Fine (request_in name rows)
 fine_in name rows =
     fine_either (bytes_eq name (codes "plan")) _ _ (fine_planning (first_of (codes "M") rows) (first_of (codes "P") rows) (first_of (codes "C") rows) (first_of (codes "nodes") rows))
@@ -148,7 +166,10 @@ fine_in name rows =
     (fine_either (bytes_eq name (codes "gen")) _ _ (fine_generating (first_of (codes "N") rows) (first_of (codes "ITEMS") rows) (first_of (codes "PERIODS") rows) (first_of (codes "M") rows))
     (fine_either (bytes_eq name (codes "demo")) _ _ (fine_demonstrating (first_of (codes "N") rows))
     (fine_either (bytes_eq name (codes "upgrade")) _ _ (fine_upgrading (first_of (codes "M") rows) (first_of (codes "M2") rows))
-    (fine_either (bytes_eq name (codes "bound")) _ _ (fine_bounding (first_of (codes "M") rows)) fine_none)))))))
+    (fine_either (bytes_eq name (codes "bound")) _ _ (fine_bounding (first_of (codes "M") rows))
+    (fine_either (bytes_eq name (codes "schedule")) _ _ (fine_scheduling (first_of (codes "M") rows) (first_of (codes "P") rows) (first_of (codes "S") rows))
+    (fine_either (bytes_eq name (codes "schedcheck")) _ _ (fine_schedule_checking (first_of (codes "M") rows) (first_of (codes "P") rows) (first_of (codes "S") rows))
+    (fine_either (bytes_eq name (codes "peg")) _ _ (fine_pegging (first_of (codes "M") rows) (first_of (codes "P") rows) (first_of (codes "Q") rows)) fine_none))))))))))
 
 fine_matches : (s : Option (List ℕ × List Row)) → Fine (request_by_matches s)
 fine_matches None = fine_some version tt

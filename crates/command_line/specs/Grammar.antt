@@ -30,6 +30,9 @@ subcommands =
     ∷ subcommand (codes "demo") (codes "N" ∷ []) false
     ∷ subcommand (codes "upgrade") (codes "M" ∷ codes "M2" ∷ []) false
     ∷ subcommand (codes "bound") (codes "M" ∷ []) false
+    ∷ subcommand (codes "schedule") (codes "M" ∷ codes "P" ∷ codes "S" ∷ []) false
+    ∷ subcommand (codes "schedcheck") (codes "M" ∷ codes "P" ∷ codes "S" ∷ []) false
+    ∷ subcommand (codes "peg") (codes "M" ∷ codes "P" ∷ codes "Q" ∷ []) false
     ∷ []
 
 -- the program, whose words come without its own name, with a version and no subcommand `help`

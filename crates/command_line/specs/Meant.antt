@@ -1,6 +1,6 @@
 -- What the program's own values stand for.
 use Rattle.std.specs.Prelude.{◌≡◌, ⊤, ℕ, List, Option, Some, None, codes}
-use Rattle.command_line.specs.Words.{Request, AreTaken, version, planning, judging, checking, reporting, generating, demonstrating, upgrading, bounding}
+use Rattle.command_line.specs.Words.{Request, AreTaken, version, planning, judging, checking, reporting, generating, demonstrating, upgrading, bounding, scheduling, schedule_checking, pegging}
 use Rattle.command_line.specs.declared.commands.Command.{Command}
 use Rattle.command_line.specs.declared.commands.Command.TheVariants as command
 use Rattle.command_line.specs.declared.commands.Reading.{Reading}
@@ -17,6 +17,9 @@ request_by (command.Bound model) = bounding model.now
 request_by (command.Report names) = reporting names.model.now names.plan.now
 request_by (command.Generate seed items periods model) = generating seed items periods model.now
 request_by (command.Demo seed) = demonstrating seed
+request_by (command.Schedule names) = scheduling names.model.now names.plan.now names.schedule.now
+request_by (command.CheckSchedule names) = schedule_checking names.model.now names.plan.now names.schedule.now
+request_by (command.Peg names) = pegging names.model.now names.plan.now names.pegs.now
 
 -- what the words were read as
 abbrev pub read_as : Reading → Option Request

@@ -1,4 +1,4 @@
--- The plain lists of words that are commands, one form for each.
+-- The plain lists of words that are commands, one form for each of the first eight.
 use Rattle.std.specs.Prelude.{ℕ, ◌&&◌, List, [], ◌∷◌, Option, Some, None, if◌then◌else◌, codes}
 use Rattle.std.specs.Str.{bytes_eq}
 use Rattle.std.specs.Str.Parse.{digits_value}

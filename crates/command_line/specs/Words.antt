@@ -28,6 +28,12 @@ pub data Request : Type 0 where
   upgrading : List ℕ → List ℕ → Request
   -- to bound the cost of plans of the model in this file
   bounding : List ℕ → Request
+  -- to lay the lots of a plan as times on each resource, with the names of the model file, the plan file and the new file
+  scheduling : List ℕ → List ℕ → List ℕ → Request
+  -- to check such times, with the names of the model file, the plan file and the file of times
+  schedule_checking : List ℕ → List ℕ → List ℕ → Request
+  -- to say which supply serves which need, with the names of the model file, the plan file and the new file
+  pegging : List ℕ → List ℕ → List ℕ → Request
 
 -- ---- names and numbers
 
@@ -109,6 +115,18 @@ abbrev pub bounding_from : Option (List ℕ) → Option Request
 bounding_from (Some m) = request_if (is_file_name m) (bounding m)
 bounding_from _ = None
 
+abbrev pub scheduling_from : Option (List ℕ) → Option (List ℕ) → Option (List ℕ) → Option Request
+scheduling_from (Some m) (Some p) (Some s) = request_if (are_file_names m p s) (scheduling m p s)
+scheduling_from _ _ _ = None
+
+abbrev pub schedule_checking_from : Option (List ℕ) → Option (List ℕ) → Option (List ℕ) → Option Request
+schedule_checking_from (Some m) (Some p) (Some s) = request_if (are_file_names m p s) (schedule_checking m p s)
+schedule_checking_from _ _ _ = None
+
+abbrev pub pegging_from : Option (List ℕ) → Option (List ℕ) → Option (List ℕ) → Option Request
+pegging_from (Some m) (Some p) (Some q) = request_if (are_file_names m p q) (pegging m p q)
+pegging_from _ _ _ = None
+
 -- ---- what the matches ask for
 
 -- what a subcommand of this name asks for, by the texts of its arguments
@@ -122,6 +140,9 @@ request_in name rows =
     else if bytes_eq name (codes "demo") then demonstrating_from (first_of (codes "N") rows)
     else if bytes_eq name (codes "upgrade") then upgrading_from (first_of (codes "M") rows) (first_of (codes "M2") rows)
     else if bytes_eq name (codes "bound") then bounding_from (first_of (codes "M") rows)
+    else if bytes_eq name (codes "schedule") then scheduling_from (first_of (codes "M") rows) (first_of (codes "P") rows) (first_of (codes "S") rows)
+    else if bytes_eq name (codes "schedcheck") then schedule_checking_from (first_of (codes "M") rows) (first_of (codes "P") rows) (first_of (codes "S") rows)
+    else if bytes_eq name (codes "peg") then pegging_from (first_of (codes "M") rows) (first_of (codes "P") rows) (first_of (codes "Q") rows)
     else None
 
 -- words with no subcommand are the program's name
@@ -172,4 +193,7 @@ IsAllowed (reporting m p) = m ≢ p
 IsAllowed (generating seed items periods m) = IsGenerated seed items periods
 IsAllowed (demonstrating seed) = seed ≤ largest_seed
 IsAllowed (upgrading m n) = m ≢ n
+IsAllowed (scheduling m p s) = AreApart m p s
+IsAllowed (schedule_checking m p s) = AreApart m p s
+IsAllowed (pegging m p q) = AreApart m p q
 IsAllowed _ = ⊤

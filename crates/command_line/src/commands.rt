@@ -35,6 +35,12 @@ pub enum Command<'a> {
     },
     /// To plan two models that are made from this number.
     Demo(u64),
+    /// To lay the lots of a plan as times on each resource.
+    Schedule(ScheduleNames<'a>),
+    /// To check such times.
+    CheckSchedule(ScheduleNames<'a>),
+    /// To say which supply serves which need.
+    Peg(PegNames<'a>),
 }
 
 /// The names of the files of a plan or of a check, no two of them the same.
@@ -64,6 +70,28 @@ pub struct UpgradeNames<'a> {
     pub model: &'a str,
     /// The new file, which is written.
     pub upgraded: &'a str,
+}
+
+/// The names of the files of times, no two of them the same.
+#[derive(Clone, Copy, Debug, PartialEq, Eq)]
+pub struct ScheduleNames<'a> {
+    /// The model file, which is read.
+    pub model: &'a str,
+    /// The plan file, which is read.
+    pub plan: &'a str,
+    /// The file of times, which is written, or read by a check.
+    pub schedule: &'a str,
+}
+
+/// The names of the files of pegs, no two of them the same.
+#[derive(Clone, Copy, Debug, PartialEq, Eq)]
+pub struct PegNames<'a> {
+    /// The model file, which is read.
+    pub model: &'a str,
+    /// The plan file, which is read.
+    pub plan: &'a str,
+    /// The file of pegs, which is written.
+    pub pegs: &'a str,
 }
 
 /// What words were read as.

@@ -18,7 +18,7 @@ const ENDS: &str = "Ends with
   0   what was asked for is done, and the printed line is proved
   1   no plan exists
   2   undecided
-  3   the file is no plan or no certificate, or breaks a rule
+  3   the file is no plan, no certificate or no schedule, or breaks a rule
   4   the words are no command; a call for help or for the version, as this, is none
   5   the model is refused
   6   a file is absent

@@ -1,9 +1,9 @@
 // The command that words are.
-ghost use Rattle.std.specs.Prelude.{◌≡◌, ◌≢◌, IfOk, map, option_map, string_bytes};
+ghost use Rattle.std.specs.Prelude.{◌≡◌, ◌≢◌, IfOk, codes, map, option_map, string_bytes};
 ghost use Rattle.clap.specs.Words.{first_of, found_of, kind_of, rows_of, subcommand_rows_of};
 ghost use Rattle.clap.specs.declared.error.kind.ErrorKind.TheVariants.{OutOfMemory};
 ghost use Rattle.command_line.specs.Meant.{IsRefusedText, request_by, read_as};
-ghost use Rattle.command_line.specs.Words.{request_by_matches, request_in, command_of};
+ghost use Rattle.command_line.specs.Words.{command_of, request_by_matches, request_in};
 
 use crate::commands::{Command, Reading};
 use crate::grammar::planner;
@@ -17,9 +17,10 @@ use std::alloc::{AllocError, Global};
 ///
 /// Names of files aren't empty, don't begin with `-`, and no two of a command are the same. Numbers are decimal
 /// digits with no sign and no 0 before others: a seed is below 2^64, items are 1 to `MAX_ITEMS`, periods 1
-/// to `FIRST_VERSION_PERIODS`, and the nodes of `--nodes` 1 to `LARGEST_BUDGET`; without that option they are
-/// `USUAL_BUDGET`. The text of help, of the version and of words that `clap` refuses is its own; words that it takes,
-/// and whose names or numbers aren't in order, are refused by `refused words` and a line feed.
+/// to `FIRST_VERSION_PERIODS`, the periods of a start below 2^32, and the nodes of `--nodes` 1 to `LARGEST_BUDGET`;
+/// without that option they are `USUAL_BUDGET`. The text of help, of the version and of words that `clap` refuses is
+/// its own; words that it takes, and whose names or numbers aren't in order, are refused by `refused words` and a
+/// line feed.
 ///
 /// `Err` comes where memory runs out. The cost grows with the length of the words.
 pub fn read_words<'a>(alloc: Global, words: &'a [String]) -> Result<Reading<'a>, AllocError>
@@ -90,6 +91,21 @@ fn request_in<'a>(name: &str, given: &ArgMatches<'a>) -> Option<Command<'a>>
         "demo" => requests::demo(text_of(given, "N")),
         "upgrade" => requests::upgrade(text_of(given, "M"), text_of(given, "M2")),
         "bound" => requests::bound(text_of(given, "M")),
+        "schedule" => requests::schedule(
+            text_of(given, "M"),
+            text_of(given, "P"),
+            text_of(given, "S"),
+        ),
+        "schedcheck" => requests::check_schedule(
+            text_of(given, "M"),
+            text_of(given, "P"),
+            text_of(given, "S"),
+        ),
+        "peg" => requests::peg(
+            text_of(given, "M"),
+            text_of(given, "P"),
+            text_of(given, "Q"),
+        ),
         _ => None,
     }
 }

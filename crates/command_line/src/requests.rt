@@ -1,9 +1,9 @@
 // The commands that the texts of arguments give, where the names and numbers are in order.
 ghost use Rattle.std.specs.Prelude.{◌≡◌, option_map};
 ghost use Rattle.command_line.specs.Meant.{request_by};
-ghost use Rattle.command_line.specs.Words.{bounding_from, budget_from, checking_from, demonstrating_from, generated, generating_from, judging_from, planning_from, reporting_from, upgrading_from};
+ghost use Rattle.command_line.specs.Words.{bounding_from, budget_from, checking_from, demonstrating_from, generated, generating_from, judging_from, pegging_from, planning_from, reporting_from, schedule_checking_from, scheduling_from, upgrading_from};
 
-use crate::commands::{Command, Names, TwoNames, UpgradeNames};
+use crate::commands::{Command, Names, PegNames, ScheduleNames, TwoNames, UpgradeNames};
 use crate::conditions::{are_file_names, are_two_names, is_file_name, read_number};
 use instance_reader::FIRST_VERSION_PERIODS;
 use lot_sizing::limits::MAX_ITEMS;
@@ -151,6 +151,59 @@ pub(crate) fn bound<'a>(model: Option<&'a str>) -> Option<Command<'a>>
 {
     match model {
         Some(model) if is_file_name(model) => Some(Command::Bound(model)),
+        _ => None,
+    }
+}
+
+pub(crate) fn schedule<'a>(
+    model: Option<&'a str>,
+    plan: Option<&'a str>,
+    schedule: Option<&'a str>,
+) -> Option<Command<'a>>
+    ensures { option_map request_by result ≡ scheduling_from (option_map (λ s. s.now) model.entry) (option_map (λ s. s.now) plan.entry) (option_map (λ s. s.now) schedule.entry) }
+{
+    match (model, plan, schedule) {
+        (Some(model), Some(plan), Some(schedule)) if are_file_names(model, plan, schedule) => {
+            Some(Command::Schedule(ScheduleNames {
+                model,
+                plan,
+                schedule,
+            }))
+        }
+        _ => None,
+    }
+}
+
+pub(crate) fn check_schedule<'a>(
+    model: Option<&'a str>,
+    plan: Option<&'a str>,
+    schedule: Option<&'a str>,
+) -> Option<Command<'a>>
+    ensures { option_map request_by result ≡ schedule_checking_from (option_map (λ s. s.now) model.entry) (option_map (λ s. s.now) plan.entry) (option_map (λ s. s.now) schedule.entry) }
+{
+    match (model, plan, schedule) {
+        (Some(model), Some(plan), Some(schedule)) if are_file_names(model, plan, schedule) => {
+            Some(Command::CheckSchedule(ScheduleNames {
+                model,
+                plan,
+                schedule,
+            }))
+        }
+        _ => None,
+    }
+}
+
+pub(crate) fn peg<'a>(
+    model: Option<&'a str>,
+    plan: Option<&'a str>,
+    pegs: Option<&'a str>,
+) -> Option<Command<'a>>
+    ensures { option_map request_by result ≡ pegging_from (option_map (λ s. s.now) model.entry) (option_map (λ s. s.now) plan.entry) (option_map (λ s. s.now) pegs.entry) }
+{
+    match (model, plan, pegs) {
+        (Some(model), Some(plan), Some(pegs)) if are_file_names(model, plan, pegs) => {
+            Some(Command::Peg(PegNames { model, plan, pegs }))
+        }
         _ => None,
     }
 }

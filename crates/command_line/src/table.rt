@@ -74,8 +74,23 @@ const PERIODS: Argument = Argument {
     help: "How many periods, 1 to 60",
 };
 
+const SCHEDULE_READ: Argument = Argument {
+    id: "S",
+    help: "The schedule file, which is read",
+};
+
+const SCHEDULE_WRITTEN: Argument = Argument {
+    id: "S",
+    help: "The schedule file, which is written",
+};
+
+const PEGS_WRITTEN: Argument = Argument {
+    id: "Q",
+    help: "The file of pegs, which is written",
+};
+
 // The commands, in the order in which help lists them.
-pub(crate) const COMMANDS: [Row; 8] = [
+pub(crate) const COMMANDS: [Row; 11] = [
     Row {
         name: "plan",
         about: "Plans a model at the least cost, or proves that it has no plan",
@@ -156,6 +171,41 @@ where it is too large or its numbers are; `lotplan --help` has the other statuse
 
 Example: lotplan bound model.toml",
         arguments: &[MODEL_READ],
+        has_nodes: false,
+    },
+    Row {
+        name: "schedule",
+        about: "Lays the lots of a plan as times on each resource, one after the other",
+        prints: "Prints `scheduled N` with the number of slots, or the first rule that the plan breaks. A line of
+the schedule file is a slot: resource, period, item, start, end. Ends with 0 or with 3;
+`lotplan --help` has the other statuses.
+
+Example: lotplan schedule model.toml plan.csv slots.csv",
+        arguments: &[MODEL_READ, PLAN_READ, SCHEDULE_WRITTEN],
+        has_nodes: false,
+    },
+    Row {
+        name: "schedcheck",
+        about: "Checks times on each resource against the lots of a plan",
+        prints: "Prints `accepted schedule`, or the first fault: `slot header`, `slot row N`, `rejected slot 1 row N`
+of a slot that has no lot or is there twice, `2` of one that doesn't last as long as its lot, `3` of
+one that ends too late, `4` of one that overlaps an earlier one, or `rejected slot 5 resource K
+period T item I` of a lot that has none. Of a plan that breaks a rule it prints that rule. Ends with
+0 or, at a fault, with 3; `lotplan --help` has the other statuses.
+
+Example: lotplan schedcheck model.toml plan.csv slots.csv",
+        arguments: &[MODEL_READ, PLAN_READ, SCHEDULE_READ],
+        has_nodes: false,
+    },
+    Row {
+        name: "peg",
+        about: "Says which supply of a plan serves which need, first in first out",
+        prints: "Prints `pegged N` with the number of pegs, or the first rule that the plan breaks. A line of the
+file of pegs is a peg: item, from, to, quantity, where a supply is `opening` or `lot T` and a need
+`demand T`, `use NAME T` or `end`. Ends with 0 or with 3; `lotplan --help` has the other statuses.
+
+Example: lotplan peg model.toml plan.csv pegs.csv",
+        arguments: &[MODEL_READ, PLAN_READ, PEGS_WRITTEN],
         has_nodes: false,
     },
 ];
