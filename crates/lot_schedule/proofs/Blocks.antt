@@ -1,11 +1,13 @@
 -- The slots of one resource and period after those of all earlier ones.
-use Rattle.std.proofs.Common.{◌≡◌, ◌≤◌, ◌<◌, ◌+◌, ◌-◌, ◌*◌, ◌∙◌, ◌⊎◌, ⊎_elim, inl, inr, ℕ, false, List, ◌++◌, length, sym, ap, subst, arith}
+use Rattle.std.proofs.Common.{◌≡◌, ◌≤◌, ◌<◌, ◌+◌, ◌-◌, ◌*◌, ◌∙◌, ◌⊎◌, ⊎_elim, inl, inr, ℕ, false, List, ◌++◌, length, min, sym, ap, subst, arith}
 use Rattle.std.specs.Prelude.{◌==◌, if◌then◌else◌}
 use Rattle.std.proofs.lemmas.Bool.{and_left, and_right, cases_lt, ne_eqb}
 use Rattle.std.proofs.lemmas.List.{get_or-append-add, get_or_append_left, length-append}
 use Rattle.std.proofs.lemmas.List.Sums.{sum_by-append}
-use Rattle.lot_sizing.specs.Problem.{Problem, capacity, item_count, resource_count}
+use Rattle.std.proofs.Math.Nat.{min-eq_left}
+use Rattle.lot_sizing.specs.Problem.{IsWithinLimits, Problem, capacity, item_count, resource_count}
 use Rattle.lot_sizing.specs.Plan.{Plan}
+use Rattle.lot_sizing.specs.declared.limits.TheConstants.{MAX_ITEMS, MAX_PERIODS, MAX_RESOURCES}
 use Rattle.plan_rules.specs.Order.{HoldsBefore, IsBefore}
 use Rattle.lot_schedule.specs.Slots.{HasAll, HasSlot, IsOf, IsSlot, length_of, no_slot, slot_at, slot_length}
 use Rattle.lot_schedule.specs.Orders.{is_at, sum_of_ends}
@@ -14,7 +16,7 @@ use Rattle.lot_schedule.specs.declared.lots.Lot.{Lot}
 use Rattle.lot_schedule.specs.declared.slot.Slot.{Slot}
 use Rattle.lot_schedule.proofs.Terms.{none_passes}
 use Rattle.lot_schedule.proofs.Schedules.{length_is}
-use Rattle.lot_schedule.proofs.Laid.{has_lot, laid_at, laid_end, laid_ends, laid_order, laid_size, lots_pairs}
+use Rattle.lot_schedule.proofs.Laid.{has_lot, laid_at, laid_end, laid_ends, laid_order, laid_size, lots_few, lots_pairs}
 
 -- a resource and period, with the lots that are laid there
 pub record IsThere (m : Problem) (p : Plan) (k t : ℕ) (ls : List Lot) : Type 0 where
@@ -24,6 +26,7 @@ pub record IsThere (m : Problem) (p : Plan) (k t : ℕ) (ls : List Lot) : Type 0
   pub period_high : t ≤ m.periods
   pub lots : AreLotsOf m p k t ls
   pub room : total_of ls ≤ capacity m k t
+  pub limits : IsWithinLimits m
 
 -- ---- places before and after the joint of two lists
 pub record IsLeft (xs ys : List Slot) (n : ℕ) : Type 0 where
@@ -195,6 +198,12 @@ join_ends m p xs k t ls so_far here j u low high u_low u_high before =
     subst (λ r. 2 * sum_of_ends (xs ++ laid k t 0 ls) r u ≡ pair_sum (item_count m) (length_of m p r u)) (sym now.0) (subst (λ v. 2 * sum_of_ends (xs ++ laid k t 0 ls) k v ≡ pair_sum (item_count m) (length_of m p k v)) (sym now.1) here_ends))
     (before_next j u k t before)
 
+join_few : (m : Problem) (p : Plan) (xs : List Slot) (k t : ℕ) (ls : List Lot) → IsLaidBefore m p xs k t → IsThere m p k t ls → length (xs ++ laid k t 0 ls) ≤ MAX_ITEMS * MAX_PERIODS * min (k - 1) MAX_RESOURCES + MAX_ITEMS * min (t + 1 - 1) MAX_PERIODS
+join_few m p xs k t ls so_far here =
+    let now : min (t - 1) MAX_PERIODS ≡ t - 1 = min-eq_left (omega (arith, here.period_high, here.limits.periods)) in
+    let next : min (t + 1 - 1) MAX_PERIODS ≡ t + 1 - 1 = min-eq_left (omega (arith, here.period_high, here.limits.periods)) in
+    omega (arith, length-append xs (laid k t 0 ls), laid_size k t 0 ls, lots_few m p k t (item_count m) ls here.lots.lots, here.limits.items, so_far.few, now, next, here.period_low)
+
 pub join : (m : Problem) (p : Plan) (xs : List Slot) (k t : ℕ) (ls : List Lot) → IsLaidBefore m p xs k t → IsThere m p k t ls → IsLaidBefore m p (xs ++ laid k t 0 ls) k (t + 1)
 join m p xs k t ls so_far here = record {
   slots = join_slots m p xs k t ls so_far here;
@@ -202,4 +211,5 @@ join m p xs k t ls so_far here = record {
   order = join_order m p xs k t ls so_far here;
   all = join_all m p xs k t ls so_far here;
   ends = join_ends m p xs k t ls so_far here;
+  few = join_few m p xs k t ls so_far here;
 }

@@ -1,7 +1,9 @@
 -- The slots of all resources are a schedule, in order, with the least sums of ends.
-use Rattle.std.proofs.Common.{◌≡◌, ◌≤◌, ◌<◌, ◌+◌, ⊎_elim, inl, inr, ℕ, List, [], subst, arith}
+use Rattle.std.proofs.Common.{◌≡◌, ◌≤◌, ◌<◌, ◌+◌, ◌-◌, ◌*◌, ⊎_elim, inl, inr, ℕ, List, [], length, min, subst, arith}
+use Rattle.std.proofs.Math.Nat.{min-eq_left, min-le_left, min-le_right}
 use Rattle.std.proofs.lemmas.Bool.{cases_lt}
-use Rattle.lot_sizing.specs.Problem.{Problem, resource_count}
+use Rattle.lot_sizing.specs.Problem.{IsWithinLimits, Problem, resource_count}
+use Rattle.lot_sizing.specs.declared.limits.TheConstants.{MAX_ITEMS, MAX_PERIODS, MAX_RESOURCES}
 use Rattle.lot_sizing.specs.Plan.{Plan}
 use Rattle.plan_rules.specs.Order.{HoldsBefore, IsBefore}
 use Rattle.lot_schedule.specs.Slots.{AreApart, AreOfOneLot, AreTogether, IsSchedule, IsSlot, length_of, slot_at, slot_length}
@@ -21,6 +23,7 @@ begun m p = record {
   order = λ n o less there. absurd (omega (arith, there));
   all = none_before (resource_count m) m.periods _;
   ends = none_before (resource_count m) m.periods _;
+  few = omega arith;
 }
 
 -- after the last period the next resource begins
@@ -31,13 +34,20 @@ next_row j u k t T u_high past before u_low =
 row_done : (a b k t : ℕ) → IsBefore a b k t → IsBefore a b (k + 1) 1
 row_done a b k t before = ⊎_elim (λ row. inl (omega (arith, row))) (λ same. inl (omega (arith, same.0))) before
 
-pub next_resource : (m : Problem) (p : Plan) (xs : List Slot) (k t : ℕ) → IsLaidBefore m p xs k t → m.periods < t → IsLaidBefore m p xs (k + 1) 1
-next_resource m p xs k t so_far past = record {
+next_few : (m : Problem) (p : Plan) (xs : List Slot) (k t : ℕ) → IsWithinLimits m → 1 ≤ k → k ≤ resource_count m → IsLaidBefore m p xs k t → length xs ≤ MAX_ITEMS * MAX_PERIODS * min (k + 1 - 1) MAX_RESOURCES + MAX_ITEMS * min (1 - 1) MAX_PERIODS
+next_few m p xs k t limits low high so_far =
+    let now : min (k - 1) MAX_RESOURCES ≡ k - 1 = min-eq_left (omega (arith, high, limits.resources)) in
+    let next : min (k + 1 - 1) MAX_RESOURCES ≡ k + 1 - 1 = min-eq_left (omega (arith, high, limits.resources)) in
+    omega (arith, so_far.few, now, next, low, min-le_right (t - 1) MAX_PERIODS)
+
+pub next_resource : (m : Problem) (p : Plan) (xs : List Slot) (k t : ℕ) → IsWithinLimits m → 1 ≤ k → k ≤ resource_count m → IsLaidBefore m p xs k t → m.periods < t → IsLaidBefore m p xs (k + 1) 1
+next_resource m p xs k t limits low high so_far past = record {
   slots = so_far.slots;
   before = λ n less. row_done (slot_at xs n).resource (slot_at xs n).period k t (so_far.before n less);
   order = so_far.order;
-  all = λ j u low high u_low u_high before. so_far.all j u low high u_low u_high (next_row j u k t m.periods u_high past before u_low);
-  ends = λ j u low high u_low u_high before. so_far.ends j u low high u_low u_high (next_row j u k t m.periods u_high past before u_low);
+  all = λ j u j_low j_high u_low u_high before. so_far.all j u j_low j_high u_low u_high (next_row j u k t m.periods u_high past before u_low);
+  ends = λ j u j_low j_high u_low u_high before. so_far.ends j u j_low j_high u_low u_high (next_row j u k t m.periods u_high past before u_low);
+  few = next_few m p xs k t limits low high so_far;
 }
 
 -- what follows another slot
@@ -84,6 +94,9 @@ ties_by_item m p xs k all n o less there together same =
     (λ before. absurd (not_before (slot_at xs n) (slot_at xs o) together before))
     (λ after. ⊎_elim (λ shorter. absurd (omega (arith, shorter, same))) (λ tie. tie.1) after.2)
     (all.order n o less there)
+
+pub few_slots : (m : Problem) (p : Plan) (xs : List Slot) (k : ℕ) → IsLaidBefore m p xs k 1 → length xs ≤ MAX_ITEMS * MAX_PERIODS * MAX_RESOURCES
+few_slots m p xs k all = omega (arith, all.few, min-le_right (k - 1) MAX_RESOURCES, min-le_left (1 - 1) MAX_PERIODS)
 
 pub has_least_ends : (m : Problem) (p : Plan) (xs : List Slot) (k : ℕ) → IsLaidBefore m p xs k 1 → resource_count m < k → HasLeastEnds m p xs
 has_least_ends m p xs k all past ys other j u low high u_low u_high =

@@ -7,7 +7,7 @@ use Rattle.std.proofs.lemmas.List.Sums.{sum_by-cons}
 use Rattle.lot_sizing.specs.Problem.{Problem}
 use Rattle.lot_sizing.specs.Plan.{Plan}
 use Rattle.lot_sizing.specs.Sums.{sum_to}
-use Rattle.lot_sizing.proofs.Sums.{sum_to-same, sum_to-zero}
+use Rattle.lot_sizing.proofs.Sums.{sum_to-bound, sum_to-same, sum_to-zero}
 use Rattle.lot_schedule.specs.Slots.{length_of, slot_at}
 use Rattle.lot_schedule.specs.Orders.{is_at, sum_of_ends}
 use Rattle.lot_schedule.specs.Lots.{AreLots, laid, lot_at, no_lot, of_lot, pair_sum, total_of}
@@ -96,6 +96,21 @@ lots_pairs m p k t last ls all =
     let empty = λ (i : ℕ) (none : f i ≡ 0). sum_to-same last (λ j. min (f i) (f j)) (λ j. 0) (λ j low high. omega (arith, none)) ∙ sum_to-zero last in
     let outer = all.sums (λ a. sum_by (λ b. min a.length b.length) ls) ∙ sum_to-same last (of_lot m p k t (λ a. sum_by (λ b. min a.length b.length) ls)) (λ i. sum_to last (λ j. min (f i) (f j))) (λ i low high. of_lot_is m p k t (λ a. sum_by (λ b. min a.length b.length) ls) i (sum_to last (λ j. min (f i) (f j))) (λ takes. inner i) (λ none. empty i none)) in
     omega (arith, outer, lots_total m p k t last ls all)
+
+-- there are no more than items
+one_at_most : (m : Problem) (p : Plan) (k t j : ℕ) → of_lot m p k t (λ a. 1) j ≤ 1
+one_at_most m p k t j =
+    ⊎_elim
+    (λ takes. let yes : nat_lt 0 (length_of m p k t j) ≡ true = lt-ltb 0 (length_of m p k t j) takes in rw yes (omega arith))
+    (λ no. let none = le-ltb 0 (length_of m p k t j) no in rw none (omega arith))
+    (cases_lt 0 (length_of m p k t j))
+
+count_is : (ls : List Lot) → sum_by (λ (a : Lot). 1) ls ≡ length ls
+count_is [] = refl
+count_is (lot ∷ rest) = omega (arith, sum_by-cons (λ (a : Lot). 1) lot rest, count_is rest)
+
+pub lots_few : (m : Problem) (p : Plan) (k t last : ℕ) (ls : List Lot) → AreLots m p k t last ls → length ls ≤ last
+lots_few m p k t last ls all = omega (arith, count_is ls, all.sums (λ a. 1), sum_to-bound last 1 (of_lot m p k t (λ a. 1)) (λ j low high. one_at_most m p k t j))
 
 -- how often a lot is an item's
 of_this : (m : Problem) (p : Plan) (k t i j : ℕ) → 0 < length_of m p k t i → of_lot m p k t (λ a. if i == a.item then 1 else 0) j ≡ (if i == j then 1 else 0)

@@ -9,6 +9,7 @@ pub mod Capacities
 pub mod Checked
 pub mod Fields
 pub mod Readback
+pub mod Sizes
 pub mod Meanings
 pub mod Gathered
 pub mod Rowed

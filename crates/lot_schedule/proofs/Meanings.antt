@@ -3,14 +3,13 @@ use Rattle.std.proofs.Common.{◌≡◌, ◌≢◌, ◌≤◌, ◌<◌, ◌+◌,
 use Rattle.std.proofs.lemmas.Bool.{cases_order}
 use Rattle.std.proofs.lemmas.List.{ext_get_or}
 use Rattle.lot_sizing.specs.Problem.{Problem, item_at, resource_at}
-use Rattle.lot_model.specs.Views.{IsInstance}
 use Rattle.plan_file.specs.Records.{Record, record_at}
 use Rattle.lot_schedule.specs.Slots.{no_slot, slot_at}
 use Rattle.lot_schedule.specs.Records.{AreRowsOf, IsRowOf}
 use Rattle.lot_schedule.specs.Faults.{IsSlotFault}
 use Rattle.lot_schedule.specs.declared.fault.SlotFault.{SlotFault}
 use Rattle.lot_schedule.specs.declared.fault.SlotFault.TheVariants.{Header, Memory, Row}
-use Rattle.lot_schedule.specs.Laws.{RecordsMeanOneThing}
+use Rattle.lot_schedule.specs.Laws.{AreNamed, RecordsMeanOneThing}
 use Rattle.lot_schedule.specs.declared.slot.Slot.{Slot}
 use Rattle.lot_schedule.proofs.Fields.{has_fields, number_same}
 
@@ -30,7 +29,7 @@ one_name n name own i j i_low i_high j_low j_high same =
     (λ other. ⊎_elim (λ less. absurd (own i j i_low less j_high same)) (λ more. absurd (own j i j_low more i_high (sym same))) other)
     (cases_order i j)
 
-one_slot : (m : Problem) (r : Record) (a b : Slot) → IsInstance m → IsRowOf m a r → IsRowOf m b r → a ≡ b
+one_slot : (m : Problem) (r : Record) (a b : Slot) → AreNamed m → IsRowOf m a r → IsRowOf m b r → a ≡ b
 one_slot m r a b is x y =
     let p = has_fields m a r x.row in
     let q = has_fields m b r y.row in
@@ -41,7 +40,7 @@ one_slot m r a b is x y =
     (number_same a.start b.start x.start y.start (sym p.start ∙ q.start))
     (number_same a.end b.end x.end y.end (sym p.end ∙ q.end))
 
-one_list : (m : Problem) (rs : List Record) → IsInstance m → (xs ys : List Slot) → AreRowsOf m rs xs → AreRowsOf m rs ys → xs ≡ ys
+one_list : (m : Problem) (rs : List Record) → AreNamed m → (xs ys : List Slot) → AreRowsOf m rs xs → AreRowsOf m rs ys → xs ≡ ys
 one_list m rs is xs ys x y =
     ext_get_or no_slot xs ys (omega (arith, x.count, y.count)) (λ n less. one_slot m _ (slot_at xs n) (slot_at ys n) is (x.each n less) (y.each n (omega (arith, less, x.count, y.count))))
 

@@ -1,8 +1,8 @@
 -- What records mean is one thing, and what is found of slots is one thing.
 use Rattle.std.specs.Prelude.{◌≡◌, ◌≢◌, List}
-use Rattle.lot_sizing.specs.Problem.{Problem}
+use Rattle.lot_sizing.specs.Problem.{IsWithinLimits, Problem}
 use Rattle.lot_sizing.specs.Plan.{Plan}
-use Rattle.lot_model.specs.Views.{IsInstance}
+use Rattle.lot_model.specs.Valid.{HaveOwnNames, HaveOwnResourceNames}
 use Rattle.plan_file.specs.Records.{Record}
 use Rattle.lot_schedule.specs.Slots.{IsSchedule}
 use Rattle.lot_schedule.specs.Records.{AreRowsOf}
@@ -12,6 +12,12 @@ use Rattle.lot_schedule.specs.declared.broken.SlotBroken.{SlotBroken}
 use Rattle.lot_schedule.specs.declared.fault.SlotFault.{SlotFault}
 use Rattle.lot_schedule.specs.declared.fault.SlotFault.TheVariants.{Memory}
 
+-- a problem within the limits, whose items and resources are known by their names, as those of an instance are
+pub record AreNamed (m : Problem) : Type 0 where
+  pub limits : IsWithinLimits m
+  pub names : HaveOwnNames m
+  pub resource_names : HaveOwnResourceNames m
+
 -- one list of slots, or one fault where memory isn't the cause
 pub record MeanOneThing (m : Problem) (rs : List Record) : Type 0 where
   pub one_list : (xs ys : List Slot) → AreRowsOf m rs xs → AreRowsOf m rs ys → xs ≡ ys
@@ -19,7 +25,7 @@ pub record MeanOneThing (m : Problem) (rs : List Record) : Type 0 where
   pub one_fault : (f g : SlotFault) → f ≢ Memory → g ≢ Memory → IsSlotFault m rs f → IsSlotFault m rs g → f ≡ g
 
 abbrev pub RecordsMeanOneThing : Type 0
-RecordsMeanOneThing = (m : Problem) (rs : List Record) → IsInstance m → MeanOneThing m rs
+RecordsMeanOneThing = (m : Problem) (rs : List Record) → AreNamed m → MeanOneThing m rs
 
 -- a schedule, or one fault
 pub record AreOneThing (m : Problem) (p : Plan) (xs : List Slot) : Type 0 where

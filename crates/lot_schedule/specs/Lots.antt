@@ -1,9 +1,10 @@
 -- The lots of a resource in a period, and the slots that are laid for them.
-use Rattle.std.specs.Prelude.{◌≡◌, ◌⊎◌, ℕ, ◌+◌, ◌*◌, ◌<◌, ◌≤◌, List, [], ◌∷◌, length, slice_index_or, if◌then◌else◌, nat_lt, min}
+use Rattle.std.specs.Prelude.{◌≡◌, ◌⊎◌, ℕ, ◌+◌, ◌-◌, ◌*◌, ◌<◌, ◌≤◌, List, [], ◌∷◌, length, slice_index_or, if◌then◌else◌, nat_lt, min}
 use Rattle.std.specs.List.{sum_by}
 use Rattle.lot_sizing.specs.Problem.{Problem, item_count, resource_count}
 use Rattle.lot_sizing.specs.Plan.{Plan}
 use Rattle.lot_sizing.specs.Sums.{sum_to}
+use Rattle.lot_sizing.specs.declared.limits.TheConstants.{MAX_ITEMS, MAX_PERIODS, MAX_RESOURCES}
 use Rattle.plan_rules.specs.Order.{HoldsBefore, IsBefore}
 use Rattle.lot_schedule.specs.Slots.{AreTogether, HasAll, IsSlot, length_of, slot_at, slot_length}
 use Rattle.lot_schedule.specs.Orders.{sum_of_ends}
@@ -70,3 +71,4 @@ pub record IsLaidBefore (m : Problem) (p : Plan) (xs : List Slot) (k t : ℕ) : 
   pub order : (n o : ℕ) → n < o → o < length xs → Follows m p (slot_at xs n) (slot_at xs o)
   pub all : HoldsBefore (resource_count m) m.periods (HasAll m p xs) k t
   pub ends : HoldsBefore (resource_count m) m.periods (λ j u. 2 * sum_of_ends xs j u ≡ pair_sum (item_count m) (length_of m p j u)) k t
+  pub few : length xs ≤ MAX_ITEMS * MAX_PERIODS * min (k - 1) MAX_RESOURCES + MAX_ITEMS * min (t - 1) MAX_PERIODS

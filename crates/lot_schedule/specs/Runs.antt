@@ -14,10 +14,11 @@ use Rattle.lot_schedule.specs.declared.checking.Run.{Run}
 abbrev pub NoneBefore : List Slot → ℕ → ℕ → Type 0
 NoneBefore xs first n = (o : ℕ) → o < first → AreTogether (slot_at xs o) (slot_at xs n) → ⊥
 
--- the run of the last of so many slots: while they stand in order, none of its resource and period is before it
+-- the run of the last of so many slots: while they stand in one of the two orders, none of its resource and period is before it
 pub record IsRun (xs : List Slot) (run : Run) (n : ℕ) : Type 0 where
-  pub whole : run.ordered ≡ false → run.first ≡ 0
-  pub ordered : run.ordered ≡ true → (o : ℕ) → o + 1 < n → IsBefore (slot_at xs o).resource (slot_at xs o).period (slot_at xs (n - 1)).resource (slot_at xs (n - 1)).period ⊎ AreTogether (slot_at xs o) (slot_at xs (n - 1))
+  pub whole : run.by_resource ≡ false → run.by_period ≡ false → run.first ≡ 0
+  pub by_resource : run.by_resource ≡ true → (o : ℕ) → o + 1 < n → IsBefore (slot_at xs o).resource (slot_at xs o).period (slot_at xs (n - 1)).resource (slot_at xs (n - 1)).period ⊎ AreTogether (slot_at xs o) (slot_at xs (n - 1))
+  pub by_period : run.by_period ≡ true → (o : ℕ) → o + 1 < n → IsBefore (slot_at xs o).period (slot_at xs o).resource (slot_at xs (n - 1)).period (slot_at xs (n - 1)).resource ⊎ AreTogether (slot_at xs o) (slot_at xs (n - 1))
   pub first : 1 ≤ n → NoneBefore xs run.first (n - 1)
   pub fresh : n ≡ 0 → run.first ≡ 0
 

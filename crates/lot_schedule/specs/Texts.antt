@@ -1,7 +1,8 @@
 -- The text of a schedule file, and of what is wrong with one.
-use Rattle.std.specs.Prelude.{ℕ, List, ◌++◌, codes, decimal}
+use Rattle.std.specs.Prelude.{ℕ, ◌*◌, List, ◌++◌, codes, decimal}
 use Rattle.std.specs.List.{flat_map}
 use Rattle.lot_sizing.specs.Problem.{Problem, item_at, resource_at}
+use Rattle.lot_sizing.specs.declared.limits.TheConstants.{MAX_ITEMS, MAX_PERIODS, MAX_RESOURCES}
 use Rattle.lot_schedule.specs.declared.slot.Slot.{Slot}
 use Rattle.lot_schedule.specs.declared.broken.SlotBroken.{SlotBroken}
 use Rattle.lot_schedule.specs.declared.broken.SlotBroken.TheVariants as broken
@@ -11,6 +12,10 @@ use Rattle.lot_schedule.specs.declared.fault.SlotFault.TheVariants as fault
 -- the line of a slot
 abbrev pub slot_text : Problem → Slot → List ℕ
 slot_text m s = (resource_at m s.resource).name ++ (codes "," ++ (decimal s.period ++ (codes "," ++ ((item_at m s.item).name ++ (codes "," ++ (decimal s.start ++ (codes "," ++ (decimal s.end ++ codes "\n"))))))))
+
+-- a schedule has at most so many slots: one for each item on each resource in each period
+abbrev pub most_slots : ℕ
+most_slots = MAX_ITEMS * MAX_PERIODS * MAX_RESOURCES
 
 -- a schedule file: the header, and a line for each slot (CSV as in RFC 4180, with line feeds)
 abbrev pub schedule_text : Problem → List Slot → List ℕ

@@ -1,9 +1,9 @@
 // Whether slots are a schedule.
-ghost use Rattle.std.specs.Prelude.{◌<◌, ◌+◌, length, IfErr, OnErr, OnOk, IsTrue, ◌↔◌};
+ghost use Rattle.std.specs.Prelude.{◌<◌, ◌≤◌, ◌+◌, ◌-◌, length, IfErr, OnErr, OnOk, IsTrue, ◌↔◌};
 ghost use Rattle.lot_sizing.specs.Plan.{IsFeasible};
 ghost use Rattle.plan_rules.specs.Held.{AllFit, plan_of};
 ghost use Rattle.plan_rules.specs.Order.{IsBefore};
-ghost use Rattle.lot_schedule.specs.Slots.{AllExist, AreOfOneLot, AreTogether, IsSchedule};
+ghost use Rattle.lot_schedule.specs.Slots.{AllExist, AreOfOneLot, AreTogether, IsSchedule, slot_at};
 ghost use Rattle.lot_schedule.specs.Faults.{AreGoodBefore, IsBadSlot, IsFirstBad, IsGood, IsListedBefore, IsSlotBroken, OverlapsEarlier};
 ghost use Rattle.lot_schedule.specs.Runs.{IsRun, NoneBefore};
 
@@ -34,12 +34,40 @@ fn is_earlier(one: Slot, other: Slot) -> bool
     one.resource < other.resource || (one.resource == other.resource && one.period < other.period)
 }
 
+// Whether its period and resource do, by the period first.
+fn is_sooner(one: Slot, other: Slot) -> bool
+    ensures { IsTrue result ↔ IsBefore one.period one.resource other.period other.resource }
+{
+    one.period < other.period || (one.period == other.period && one.resource < other.resource)
+}
+
 // Where the slots of one resource and period begin, as far as they were looked at: no earlier slot is of these. As
-// long as slots stand in order of resource and period it is where these begin, and afterwards the first place.
+// long as slots stand in order of resource and period, or of period and resource, it is where these begin, and
+// afterwards the first place.
 #[derive(Clone, Copy, Debug, Drop)]
 struct Run {
     first: usize,
-    ordered: bool,
+    by_resource: bool,
+    by_period: bool,
+}
+
+// The run of the slot at this place, which is of another resource or period than the slot before it.
+fn new_run(slots: &[Slot], run: Run, place: usize) -> Run
+    requires some { 1 ≤ place }
+    requires place { place < length slots.now }
+    requires run { IsRun slots.now run place }
+    requires apart { AreTogether (slot_at slots.now (place - 1)) (slot_at slots.now place) → ⊥ }
+    ensures { IsRun slots.now result (place + 1) }
+{
+    let (last, slot) = (slots[place - 1], slots[place]);
+    let by_resource = run.by_resource && is_earlier(last, slot);
+    let by_period = run.by_period && is_sooner(last, slot);
+    let first = if by_resource || by_period { place } else { 0 };
+    Run {
+        first,
+        by_resource,
+        by_period,
+    }
 }
 
 // The run of the slot at this place, after that of the slot before it.
@@ -51,23 +79,10 @@ fn next_run(slots: &[Slot], run: Run, place: usize) -> Run
     if place == 0 {
         return run;
     }
-    if !run.ordered {
+    if are_together(slots[place - 1], slots[place]) {
         return run;
     }
-    let (last, slot) = (slots[place - 1], slots[place]);
-    if are_together(last, slot) {
-        return run;
-    }
-    if is_earlier(last, slot) {
-        return Run {
-            first: place,
-            ordered: true,
-        };
-    }
-    Run {
-        first: 0,
-        ordered: false,
-    }
+    new_run(slots, run, place)
 }
 
 // Whether the lot of a slot has an earlier one. Only those from this place on can be of its resource and period.
@@ -149,7 +164,8 @@ fn check_slots(instance: &Instance, plan: &Plan, slots: &[Slot]) -> Result<(), S
 {
     let mut run = Run {
         first: 0,
-        ordered: true,
+        by_resource: true,
+        by_period: true,
     };
     for place in 0..slots.len() {
         run = next_run(slots, run, place);
@@ -163,7 +179,8 @@ fn check_slots(instance: &Instance, plan: &Plan, slots: &[Slot]) -> Result<(), S
 /// has none.
 ///
 /// It takes no memory. It takes time in the number of slots times that of the items where slots stand in order of
-/// resource and period, as `schedule` gives them, and in the square of the number of slots at most.
+/// resource and period, as `schedule` gives them, or of period and resource, and in the square of the number of slots
+/// at most.
 pub fn check_schedule(instance: &Instance, plan: &Plan, slots: &[Slot]) -> Result<(), SlotBroken>
     requires fits { AllFit instance.now plan.now }
     requires feasible { IsFeasible instance.now (plan_of plan.now) }

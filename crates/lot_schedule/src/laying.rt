@@ -1,11 +1,12 @@
 // The schedule of a plan.
-ghost use Rattle.std.specs.Prelude.{◌≡◌, ◌≤◌, ◌<◌, ◌+◌, ◌^◌, ◌++◌, IfOk, OnOk};
+ghost use Rattle.std.specs.Prelude.{◌≡◌, ◌≤◌, ◌<◌, ◌+◌, ◌^◌, ◌++◌, length, IfOk, OnOk};
 ghost use Rattle.lot_sizing.specs.Problem.{resource_count};
 ghost use Rattle.lot_sizing.specs.Plan.{IsFeasible};
 ghost use Rattle.plan_rules.specs.Held.{AllFit, plan_of};
 ghost use Rattle.lot_schedule.specs.Slots.{AllExist, IsSchedule};
 ghost use Rattle.lot_schedule.specs.Orders.{HasLeastEnds, IsInOrder, TiesAreByItem};
 ghost use Rattle.lot_schedule.specs.Lots.{IsLaidBefore, laid, total_of};
+ghost use Rattle.lot_schedule.specs.Texts.{most_slots};
 
 use crate::Slot;
 use crate::lots::{Lot, lots};
@@ -91,6 +92,7 @@ pub fn schedule(alloc: Global, instance: &Instance, plan: &Plan) -> Result<Vec<S
     ensures order { IfOk result (λ slots. IsInOrder slots.items) }
     ensures least { IfOk result (λ slots. HasLeastEnds instance.now (plan_of plan.now) slots.items) }
     ensures ties { IfOk result (λ slots. TiesAreByItem instance.now (plan_of plan.now) slots.items) }
+    ensures few { IfOk result (λ slots. length slots.items ≤ most_slots) }
 {
     let mut slots = Vec::new(alloc);
     for resource in 1..instance.resources() + 1 {

@@ -1,16 +1,17 @@
 // The text of a schedule file.
-ghost use Rattle.std.specs.Prelude.{◌≡◌, ◌++◌, ℕ, List, IfOk, OnOk, map};
+ghost use Rattle.std.specs.Prelude.{◌≡◌, ◌≤◌, ◌++◌, ℕ, List, length, IfOk, OnOk, map};
 ghost use Rattle.csv.specs.Writing.{default_writer, row_text};
 ghost use Rattle.plan_file.specs.Records.{records_of};
+ghost use Rattle.plan_file.specs.declared.limits.TheConstants.{MAX_FILE};
 ghost use Rattle.lot_schedule.specs.Slots.{AllExist, Exists};
 ghost use Rattle.lot_schedule.specs.Records.{AreRowsOf, header, row_of};
-ghost use Rattle.lot_schedule.specs.Texts.{schedule_text};
+ghost use Rattle.lot_schedule.specs.Texts.{most_slots, schedule_text};
 ghost use Rattle.lot_schedule.specs.Written.{HasWritten, IsLine};
 
 use crate::Slot;
 use csv::Writer;
 use itoa::Buffer;
-use lot_model::Instance;
+use lot_model::{Instance, an_instance_breaks_no_rule};
 use std::alloc::{AllocError, Global};
 
 // Writes a record. Over bytes in memory the writer fails for want of it alone.
@@ -57,7 +58,8 @@ fn add_header(text: &mut Writer<Vec<u8>>) -> Result<(), AllocError>
 }
 
 /// The text of slots: the header, and a line for each, with the names of its resource and item. Read again, it is
-/// these slots. The error is that memory ran out.
+/// these slots. Of as many slots as a schedule may have it is no longer than a file that is read. The error is that
+/// memory ran out.
 pub fn write_schedule(
     alloc: Global,
     instance: &Instance,
@@ -66,7 +68,9 @@ pub fn write_schedule(
     requires { AllExist instance.now slots.now }
     ensures text { IfOk result (λ bytes. bytes.items ≡ schedule_text instance.now slots.now) }
     ensures read { IfOk result (λ bytes. AreRowsOf instance.now (records_of bytes.items) slots.now) }
+    ensures short { IfOk result (λ bytes. length slots.now ≤ most_slots → length bytes.items ≤ MAX_FILE) }
 {
+    an_instance_breaks_no_rule(instance);
     let mut text = Writer::from_writer(Vec::new(alloc));
     add_header(&mut text)?;
     for slot in slots {

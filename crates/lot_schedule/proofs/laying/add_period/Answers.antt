@@ -24,6 +24,6 @@ returns c =
     let old = c.args.slots.now.items in
     let ls = c.in_ok-lots.lots.items in
     let room : total_of ls ≤ capacity m k t = omega (arith, lots_total m p k t (item_count m) ls c.in_ok-lots.ensures.lots.lots, lots_fit m p k t c.requires.feasible c.requires.resource_low c.requires.resource_high c.requires.low c.requires.high) in
-    let here : IsThere m p k t ls = record { resource_low = c.requires.resource_low; resource_high = c.requires.resource_high; period_low = c.requires.low; period_high = c.requires.high; lots = c.in_ok-lots.ensures.lots; room = room } in
+    let here : IsThere m p k t ls = record { resource_low = c.requires.resource_low; resource_high = c.requires.resource_high; period_low = c.requires.low; period_high = c.requires.high; lots = c.in_ok-lots.ensures.lots; room = room; limits = c.in_ok-lots.ensures.instance.limits } in
     let e : c.lay.new.slots.items ≡ old ++ laid k t 0 ls = c.in_ok-lay.ensures ∙ ap (λ x. old ++ laid k t 0 x) c.deref.ensures.value in
     subst (λ xs. IsLaidBefore m p xs k (t + 1)) (sym e) (join m p old k t ls c.requires.earlier here)

@@ -1,10 +1,12 @@
-use Rattle.std.proofs.Common.{◌≡◌, ◌∙◌, [], append-nil, arith, below_more, refl, subst, sym}
+use Rattle.std.proofs.Common.{◌≡◌, ◌≤◌, ◌∙◌, [], append-nil, arith, below_more, length, refl, subst, sym}
 use Rattle.csv.specs.Writing.{default_writer, row_text}
 use Rattle.lot_schedule.specs.Slots.{slot_at}
 use Rattle.lot_schedule.specs.Records.{AreRowsOf, header}
 use Rattle.lot_schedule.specs.Texts.{schedule_text}
 use Rattle.lot_schedule.specs.Written.{HasWritten, IsLine}
 use Rattle.plan_file.specs.Records.{records_of}
+use Rattle.plan_file.specs.declared.limits.TheConstants.{MAX_FILE}
+use Rattle.lot_schedule.proofs.Sizes.{text_short}
 use Rattle.lot_schedule.proofs.Readback.{AllLines, rows_more, rows_whole, text_is, text_read}
 use Rattle.lot_schedule.proofs.writing.write_schedule.Goals as goal
 
@@ -45,3 +47,11 @@ returns-in-Ok-clause-read c =
     let lines : AllLines m xs = λ n less. c.loop-slot.invariant.lines n (omega (arith, less, c.loop-slot-test.false)) in
     let text : c.in-Ok.bytes.items ≡ schedule_text m xs = c.in-Ok.ensures.ok ∙ c.loop-slot.invariant.text.text ∙ rows_whole m xs c.loop-slot.slot-index c.loop-slot-test.false ∙ text_is m xs lines in
     subst (λ bytes. AreRowsOf m (records_of bytes) xs) (sym text) (text_read m xs c.requires lines)
+
+pub returns-in-Ok-clause-short : goal.returns-in-Ok-clause-short
+returns-in-Ok-clause-short c = λ few.
+    let m = c.args.instance.now in
+    let xs = c.args.slots.now in
+    let lines : AllLines m xs = λ n less. c.loop-slot.invariant.lines n (omega (arith, less, c.loop-slot-test.false)) in
+    let text : c.in-Ok.bytes.items ≡ schedule_text m xs = c.in-Ok.ensures.ok ∙ c.loop-slot.invariant.text.text ∙ rows_whole m xs c.loop-slot.slot-index c.loop-slot-test.false ∙ text_is m xs lines in
+    subst (λ bytes. length bytes ≤ MAX_FILE) (sym text) (text_short m xs c.an_instance_breaks_no_rule.ensures.limits c.requires lines few)
