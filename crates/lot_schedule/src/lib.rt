@@ -31,6 +31,3 @@ pub use laying::schedule;
 pub use reading::read_schedule;
 pub use slot::Slot;
 pub use writing::write_schedule;
-
-#[cfg(test)]
-mod tests;

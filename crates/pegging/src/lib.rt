@@ -13,8 +13,6 @@
 mod amounts;
 mod listing;
 mod pegs;
-#[cfg(test)]
-mod tests;
 mod walking;
 mod writing;
 
