@@ -14,3 +14,7 @@ pub mod Meanings
 pub mod Gathered
 pub mod Rowed
 pub mod Findings
+pub mod Searching
+pub mod Readings
+pub mod Verdicts
+pub mod Alike

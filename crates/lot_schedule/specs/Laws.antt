@@ -1,10 +1,11 @@
--- What records mean is one thing, and what is found of slots is one thing.
-use Rattle.std.specs.Prelude.{◌≡◌, ◌≢◌, List}
+-- What records mean and what is found of slots is one thing, and schedules go by quantities and setups.
+use Rattle.std.specs.Prelude.{◌≡◌, ◌≢◌, ◌⊎◌, List}
 use Rattle.lot_sizing.specs.Problem.{IsWithinLimits, Problem}
 use Rattle.lot_sizing.specs.Plan.{Plan}
+use Rattle.lot_sizing.specs.Least.{HasChoice}
 use Rattle.lot_model.specs.Valid.{HaveOwnNames, HaveOwnResourceNames}
 use Rattle.plan_file.specs.Records.{Record}
-use Rattle.lot_schedule.specs.Slots.{IsSchedule}
+use Rattle.lot_schedule.specs.Slots.{AllExist, IsSchedule}
 use Rattle.lot_schedule.specs.Records.{AreRowsOf}
 use Rattle.lot_schedule.specs.Faults.{IsSlotBroken, IsSlotFault}
 use Rattle.lot_schedule.specs.declared.slot.Slot.{Slot}
@@ -34,3 +35,15 @@ pub record AreOneThing (m : Problem) (p : Plan) (xs : List Slot) : Type 0 where
 
 abbrev pub SlotsAreOneThing : Type 0
 SlotsAreOneThing = (m : Problem) (p : Plan) (xs : List Slot) → AreOneThing m p xs
+
+-- records are the rows of slots, or have a fault that isn't out of memory
+abbrev pub RecordsMeanSlots : Type 0
+RecordsMeanSlots = (m : Problem) (rs : List Record) → ((xs : List Slot) × AreRowsOf m rs xs) ⊎ ((f : SlotFault) × (f ≢ Memory) × IsSlotFault m rs f)
+
+-- slots whose resources, periods and items exist are a schedule, or they aren't and something is wrong with them first
+abbrev pub SlotsAreJudged : Type 0
+SlotsAreJudged = (m : Problem) (p : Plan) (xs : List Slot) → AllExist m xs → IsSchedule m p xs ⊎ ((IsSchedule m p xs → ⊥) × (b : SlotBroken) × IsSlotBroken m p xs b)
+
+-- a schedule of a plan is one of each plan with the same quantities and setups
+abbrev pub SamePlansSameSchedules : Type 0
+SamePlansSameSchedules = (m : Problem) (p q : Plan) (xs : List Slot) → HasChoice m q.make q.setup p → IsSchedule m p xs → IsSchedule m q xs

@@ -26,7 +26,10 @@ mod writing;
 pub use broken::SlotBroken;
 pub use checking::check_schedule;
 pub use fault::SlotFault;
-pub use laws::{records_mean_one_thing, slots_are_one_thing};
+pub use laws::{
+    records_mean_one_thing, records_mean_slots, same_plans_same_schedules, slots_are_judged,
+    slots_are_one_thing,
+};
 pub use laying::schedule;
 pub use reading::read_schedule;
 pub use slot::Slot;
