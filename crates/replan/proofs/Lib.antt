@@ -3,3 +3,4 @@ pub mod Growing
 pub mod Drafts
 pub mod ReadBack
 pub mod Resting
+pub mod Telling

@@ -2,3 +2,4 @@ pub mod Capped
 pub mod Answers
 pub mod Laws
 pub mod Texts
+pub mod Whole
