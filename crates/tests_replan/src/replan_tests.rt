@@ -1,12 +1,31 @@
+ghost use Rattle.std.specs.Prelude.{◌≤◌, IfOk};
+ghost use Rattle.plan_rules.specs.Held.{AllFit};
+
+use branching::Found;
+use certificate::Claim;
 use fixtures::{Item, MADE, PLAIN, Resource, instance};
 use lot_model::Instance;
 use lot_sizing::limits::MAX_PERIODS;
-use plan_rules::Grid;
-use replan::{Rest, rest};
+use plan_rules::{Grid, Plan};
+use replan::{Replanned, Rest, replan, rest, total};
+use search_plugins::Nothing;
 use std::alloc::{AllocError, Global};
 use std::test::Fail;
 
-// What was spent, and the rest: its periods, and of its first item and resource the opening stock, the first and the last
+// A plan that makes so much of each item in each period, with a setup. Its stocks and backlogs are none, whatever is made.
+fn plan_making(alloc: Global, instance: &Instance, made: u64) -> Result<Plan, AllocError>
+    ensures { IfOk result (AllFit instance.now) }
+{
+    let (items, periods) = (instance.items(), instance.periods());
+    Ok(Plan {
+        make: Grid::filled(alloc, items, periods, made)?,
+        setup: Grid::filled(alloc, items, periods, 1)?,
+        stock: Grid::filled(alloc, items, periods, 0)?,
+        backlog: Grid::filled(alloc, items, periods, 0)?,
+    })
+}
+
+// What was spent, and the rest: its periods, and of its last item and first resource the opening stock, the first and the last
 // demand, and the first time.
 fn described(alloc: Global, found: &Rest) -> Result<String, AllocError> {
     let later = &found.instance;
@@ -28,54 +47,114 @@ fn described(alloc: Global, found: &Rest) -> Result<String, AllocError> {
 
 // What comes of a start that makes so much of each item in each period, with a setup.
 fn told(alloc: Global, instance: &Instance, made: u64, first: u32) -> Result<String, AllocError> {
-    let make = Grid::filled(alloc, instance.items(), instance.periods(), made)?;
-    let setup = Grid::filled(alloc, instance.items(), instance.periods(), 1)?;
-    match rest(alloc, instance, &make, &setup, first) {
+    let plan = plan_making(alloc, instance, made)?;
+    match rest(alloc, instance, &plan.make, &plan.setup, first) {
         Ok(Some(found)) => described(alloc, &found),
         Ok(None) => String::from_str(alloc, "none"),
         Err(fault) => fault.to_string(alloc),
     }
 }
 
-// One item of two periods on a resource with six time units in each.
-fn tight(alloc: Global) -> Result<Instance, Fail> {
+// What is claimed of the later periods, and of the whole.
+fn claimed(alloc: Global, found: &Found, whole: Option<u128>) -> Result<String, AllocError> {
+    let whole = whole.unwrap_or(0);
+    match found.certificate.claim {
+        Claim::Optimal(cost) => format!(in alloc; "optimal {cost} total {whole}"),
+        Claim::Infeasible => String::from_str(alloc, "infeasible"),
+        Claim::Bound(bound) => format!(in alloc; "bound {bound} total {whole}"),
+    }
+}
+
+// What is found after such a start with so many nodes, where nothing is proposed.
+fn planned(
+    alloc: Global,
+    instance: &Instance,
+    made: u64,
+    first: u32,
+    budget: u64,
+) -> Result<String, AllocError>
+    requires { 1 ≤ budget }
+{
+    let plan = plan_making(alloc, instance, made)?;
+    match replan(
+        alloc,
+        &Nothing,
+        &Nothing,
+        (),
+        instance,
+        &plan,
+        first,
+        budget,
+    ) {
+        Ok(Replanned::Planned { rest, found }) => claimed(alloc, &found, total(&rest, &found)),
+        Ok(Replanned::NoStart) => String::from_str(alloc, "no start"),
+        Err(fault) => fault.to_string(alloc),
+    }
+}
+
+// One item on a resource with six time units in each period.
+fn tight(alloc: Global, periods: u32, demand: &[i64]) -> Result<Instance, Fail> {
     let mill = Resource {
         name: "mill",
         capacity: &[6],
     };
     let item = Item {
+        demand,
         uses: &[("mill", 1, 1)],
         ..MADE
     };
-    instance(alloc, 2, &[mill], &[item])
+    instance(alloc, periods, &[mill], &[item])
 }
 
 #[test]
 fn starts_leave_a_rest(rt: HostRuntime) -> Result<(), Fail> {
     let alloc = rt.alloc();
-    let instance = tight(alloc)?;
-    for (made, first, want) in [
+    let instance = tight(alloc, 2, &[2, 8])?;
+    for (made, first, left, found) in [
         (
             5u64,
             1u32,
             "spent 13 periods 1 opening 3 demand 8 to 8 time 6",
+            "optimal 10 total 23",
         ),
-        (2, 1, "spent 10 periods 1 opening 0 demand 8 to 8 time 6"),
-        (1, 1, "none"),
-        (6, 1, "none"),
-        (5, 0, "spent 0 periods 2 opening 0 demand 2 to 8 time 6"),
-        (5, 2, "first"),
-        (5, u32::MAX, "first"),
+        (
+            2,
+            1,
+            "spent 10 periods 1 opening 0 demand 8 to 8 time 6",
+            "infeasible",
+        ),
+        (1, 1, "none", "no start"),
+        (6, 1, "none", "no start"),
+        (
+            5,
+            0,
+            "spent 0 periods 2 opening 0 demand 2 to 8 time 6",
+            "optimal 23 total 23",
+        ),
+        (5, 2, "first", "first"),
+        (5, u32::MAX, "first", "first"),
     ] {
-        let text = told(alloc, &instance, made, first)?;
-        assert_eq!(rt; text.as_str(), want);
+        assert_eq!(rt; told(alloc, &instance, made, first)?.as_str(), left);
+        assert_eq!(rt;
+            planned(alloc, &instance, made, first, 1_000)?.as_str(),
+            found
+        );
     }
     Ok(())
 }
 
-// What comes of the first period of a model of an item that may be late, which asks for so much and then for 4, where so much
-// is made.
-fn told_of(alloc: Global, asked: i64, made: u64) -> Result<String, Fail> {
+// A setup without a lot is kept, and one node leaves open what the two later periods cost: the root closes to 20.
+#[test]
+fn a_bound_goes_on(rt: HostRuntime) -> Result<(), Fail> {
+    let alloc = rt.alloc();
+    let instance = tight(alloc, 3, &[0, 2, 8])?;
+    let text = planned(alloc, &instance, 0, 1, 1)?;
+    assert_eq!(rt; text.as_str(), "bound 20 total 30");
+    Ok(())
+}
+
+// A model of an item that may be late, which is asked for so much and then for 4.
+fn late(alloc: Global, asked: i64) -> Result<Instance, Fail> {
     let demand = [asked, 4];
     let item = Item {
         demand: &demand,
@@ -85,26 +164,38 @@ fn told_of(alloc: Global, asked: i64, made: u64) -> Result<String, Fail> {
         backlog_cost: Some(&[2, 3]),
         ..PLAIN
     };
-    let late = instance(alloc, 2, &[], &[item])?;
-    Ok(told(alloc, &late, made, 1)?)
+    instance(alloc, 2, &[], &[item])
 }
 
+// Where 4 are left they serve the second period. What is past the limit is refused, though the plan may be feasible.
 #[test]
 fn what_is_owed_is_asked_for_first(rt: HostRuntime) -> Result<(), Fail> {
     let alloc = rt.alloc();
-    for (asked, made, want) in [
+    for (asked, made, left, found) in [
         (
             5i64,
             2u64,
             "spent 18 periods 1 opening 0 demand 7 to 7 time 0",
+            "optimal 17 total 35",
         ),
-        (5, 9, "spent 23 periods 1 opening 4 demand 4 to 4 time 0"),
-        (0, 1_000_000_001, "M5 item 1 opening"),
-        (0, u64::MAX, "M5 item 1 opening"),
-        (1_000_000_000, 0, "M5 item 1 demand period 1"),
+        (
+            5,
+            9,
+            "spent 23 periods 1 opening 4 demand 4 to 4 time 0",
+            "optimal 0 total 23",
+        ),
+        (0, 1_000_000_001, "M5 item 1 opening", "M5 item 1 opening"),
+        (0, u64::MAX, "M5 item 1 opening", "M5 item 1 opening"),
+        (
+            1_000_000_000,
+            0,
+            "M5 item 1 demand period 1",
+            "M5 item 1 demand period 1",
+        ),
     ] {
-        let text = told_of(alloc, asked, made)?;
-        assert_eq!(rt; text.as_str(), want);
+        let instance = late(alloc, asked)?;
+        assert_eq!(rt; told(alloc, &instance, made, 1)?.as_str(), left);
+        assert_eq!(rt; planned(alloc, &instance, made, 1, 1)?.as_str(), found);
     }
     Ok(())
 }
@@ -127,8 +218,8 @@ fn the_first_lead_is_told(rt: HostRuntime) -> Result<(), Fail> {
         ..STEADY
     };
     let two = instance(alloc, 2, &[], &[STEADY, later])?;
-    let text = told(alloc, &two, 1, 1)?;
-    assert_eq!(rt; text.as_str(), "lead item 2");
+    assert_eq!(rt; told(alloc, &two, 1, 1)?.as_str(), "lead item 2");
+    assert_eq!(rt; planned(alloc, &two, 1, 1, 1)?.as_str(), "lead item 2");
     Ok(())
 }
 
@@ -136,10 +227,14 @@ fn the_first_lead_is_told(rt: HostRuntime) -> Result<(), Fail> {
 fn a_long_start_is_kept(rt: HostRuntime) -> Result<(), Fail> {
     let alloc = rt.alloc();
     let long = instance(alloc, MAX_PERIODS, &[], &[STEADY])?;
-    let text = told(alloc, &long, 1, MAX_PERIODS - 1)?;
+    let first = MAX_PERIODS - 1;
     assert_eq!(rt;
-        text.as_str(),
+        told(alloc, &long, 1, first)?.as_str(),
         "spent 595 periods 1 opening 0 demand 1 to 1 time 0"
+    );
+    assert_eq!(rt;
+        planned(alloc, &long, 1, first, 1)?.as_str(),
+        "optimal 5 total 600"
     );
     Ok(())
 }
