@@ -1,5 +1,5 @@
 -- What `check` leaves, by its answer.
-use Rattle.std.proofs.Common.{◌≡◌, ◌≢◌, ◌∙◌, ⊎_elim, ℕ, List, Option, Some, None, IsTrue, inl, inr, refl, sym, subst, arith}
+use Rattle.std.proofs.Common.{◌≡◌, ◌≢◌, ◌∙◌, ⊎_elim, ℕ, List, Option, Some, None, IsTrue, inl, inr, refl, sym, ap, subst, arith}
 use Rattle.std.specs.Prelude.{Result, Ok, Err, IfOk}
 use Rattle.std.specs.declared.alloc.AllocError.{AllocError}
 use Rattle.lot_io.specs.Outside.{Files, OnlyReads, Printed, Shelved}
@@ -19,15 +19,18 @@ use Rattle.stream_check.specs.declared.fault.StreamFault.{StreamFault}
 use Rattle.stream_check.specs.declared.fault.StreamFault.TheVariants as stream
 use Rattle.stream_check.specs.Streams.{IsStreamFault, IsTooLong, OfBytes, OfCertificate, never_refused}
 use Rattle.lotplan.specs.declared.said.Said.{Said}
-use Rattle.command_line.specs.Words.{checking}
+use Rattle.lot_io.proofs.Frames.{reads_on}
 use Rattle.lotplan.specs.Status.{code_of}
 use Rattle.lotplan.specs.Reading.{FileExplains, HoldsProblem, ModelExplains, OfFile, ReadAnswer, refused, missing, unread, too_long, read_line, read_status, AreNoPlan, HoldsPlan}
 use Rattle.lotplan.specs.Proving.{HoldsCertificate, IsGiven}
-use Rattle.lotplan.specs.Checking.{CheckAnswer, accepted, no_certificate, no_plan, rejected, no_input, check_line, check_status, Accepts, AllAre, AsksForPlan, CertificateExplains, CheckCallsFor, CheckExplains, CheckSays, ClaimCallsFor, FindsRefused, GivenCallsFor, GivenExplains, IsOptimal, IsRefusal, PlanStops, PlannedCallsFor, PlannedExplains, ProofCallsFor, ProofExplains, ProofIs, ProofStops}
+use Rattle.lotplan.specs.Checking.{check_meaning, CheckAnswer, accepted, no_certificate, no_plan, rejected, no_input, check_line, check_status, Accepts, AllAre, AsksForPlan, CertificateExplains, CheckCallsFor, CheckExplains, CheckSays, ClaimCallsFor, FindsRefused, GivenCallsFor, GivenExplains, IsOptimal, IsRefusal, PlanStops, PlannedCallsFor, PlannedExplains, ProofCallsFor, ProofExplains, ProofIs, ProofStops}
 use Rattle.lotplan.specs.Saying.{Gains, IsSaid}
 use Rattle.lotplan.specs.Run.{HadNoFault}
-use Rattle.lotplan.specs.declared.status.TheConstants.{DONE, NO_PLAN, UNDECIDED, FAULTY, NO_COMMAND, UNWRITTEN}
-use Rattle.lotplan.proofs.Outputs.{IsAnswerNumber, read_number}
+use Rattle.lotplan.specs.declared.status.Status.{Status}
+use Rattle.lotplan.specs.declared.status.TheConstants.{DONE, FAULTY, NO_COMMAND}
+use Rattle.lotplan.proofs.CheckCalls.{check_call, check_some}
+use Rattle.lotplan.proofs.Kept.{IsCommand, read_after}
+use Rattle.lotplan.proofs.Outputs.{IsAnswerNumber, IsCommandNumber, answered, read_number}
 use Rattle.lotplan.proofs.Readings.{IsReading, SomeStop, reading, stops_after}
 
 -- ---- from a fault of the certificate file to the answer
@@ -199,13 +202,13 @@ check_after m p c problem old mid new (no_plan fault) holds reads x = λ t. (pro
 check_after m p c problem old mid new (rejected line w) holds reads x = λ t. (problem, holds t, subst (λ (f : Files). ProofIs f p c problem (rejected line w)) reads.files (x (told_before reads t)))
 check_after m p c problem old mid new (no_input w) holds reads x = inr (problem, holds, proof_after p c old mid new w reads x)
 
-pub says_checked : (m p c : List ℕ) (problem : Problem) (old mid new : Shelved) (answer : CheckAnswer) (r : Result Said AllocError) → (IsTrue old.told → HoldsProblem old.file m problem) → OnlyReads old mid → ProofExplains problem p c mid new answer → IfOk r (IsSaid (check_line answer) (check_status answer)) → IfOk r (CheckSays m p c old new)
-says_checked m p c problem old mid new answer (Ok said) holds reads x says = (answer, check_after m p c problem old mid new answer holds reads x, says)
-says_checked m p c problem old mid new answer (Err e) holds reads x says = tt
+pub says_checked : (m p c : List ℕ) (problem : Problem) (old mid new : Shelved) (answer : CheckAnswer) (r : Result Said AllocError) → (IsTrue old.told → HoldsProblem old.file m problem) → OnlyReads old mid → ProofExplains problem p c mid new answer → OnlyReads mid new → IfOk r (IsSaid (check_line answer) (check_status answer)) → IfOk r (CheckSays m p c old new)
+says_checked m p c problem old mid new answer (Ok said) holds reads x more says = answered CheckAnswer (λ a. CheckExplains m p c old new a × OnlyReads old new) check_line check_status answer said (check_after m p c problem old mid new answer holds reads x, reads_on reads more) says
+says_checked m p c problem old mid new answer (Err e) holds reads x more says = tt
 
-pub says_stop : (m p c : List ℕ) (old new : Shelved) (w : ReadAnswer) (r : Result Said AllocError) → ModelExplains m old new w → IfOk r (IsSaid (read_line w) (read_status w)) → IfOk r (CheckSays m p c old new)
-says_stop m p c old new w (Ok said) x says = (no_input w, inl x, says)
-says_stop m p c old new w (Err e) x says = tt
+pub says_stop : (m p c : List ℕ) (old new : Shelved) (w : ReadAnswer) (r : Result Said AllocError) → ModelExplains m old new w → OnlyReads old new → IfOk r (IsSaid (read_line w) (read_status w)) → IfOk r (CheckSays m p c old new)
+says_stop m p c old new w (Ok said) x reads says = answered CheckAnswer (λ a. CheckExplains m p c old new a × OnlyReads old new) check_line check_status (no_input w) said (inl x, reads) says
+says_stop m p c old new w (Err e) x reads says = tt
 
 -- ---- what each number says
 pub accepts_at : (m p c : List ℕ) (code : ℕ) (old new : Shelved) (out_old out_new : Printed) (answer : CheckAnswer) → CheckExplains m p c old new answer → code ≡ code_of (check_status answer) → Gains (check_line answer) out_old out_new → code ≡ DONE → IsTrue old.told → Accepts old.file m p c out_old out_new
@@ -215,28 +218,12 @@ accepts_at m p c code old new out_old out_new (no_plan fault) x is line none t =
 accepts_at m p c code old new out_old out_new (rejected at w) x is line none t = absurd (omega (arith, is, none))
 accepts_at m p c code old new out_old out_new (no_input w) x is line none t = absurd (omega (arith, (reading w code is).low, none))
 
-pub refused_at : (m p c : List ℕ) (code : ℕ) (old new : Shelved) (out_old out_new : Printed) (answer : CheckAnswer) → CheckExplains m p c old new answer → code ≡ code_of (check_status answer) → Gains (check_line answer) out_old out_new → code ≡ FAULTY → IsTrue old.told → FindsRefused (Some (checking m p c)) old.file out_old out_new
+pub refused_at : (m p c : List ℕ) (code : ℕ) (old new : Shelved) (out_old out_new : Printed) (answer : CheckAnswer) → CheckExplains m p c old new answer → code ≡ code_of (check_status answer) → Gains (check_line answer) out_old out_new → code ≡ FAULTY → IsTrue old.told → FindsRefused old.file m p c out_old out_new
 refused_at m p c code old new out_old out_new (accepted claim) x is line three t = absurd (omega (arith, is, three))
-refused_at m p c code old new out_old out_new (no_certificate fault) x is line three t = record { model_file = m; plan_file = p; certificate_file = c; words = record { is = refl }; answer = no_certificate fault; fault = tt; holds = x t; line = line }
-refused_at m p c code old new out_old out_new (no_plan fault) x is line three t = record { model_file = m; plan_file = p; certificate_file = c; words = record { is = refl }; answer = no_plan fault; fault = tt; holds = x t; line = line }
-refused_at m p c code old new out_old out_new (rejected at w) x is line three t = record { model_file = m; plan_file = p; certificate_file = c; words = record { is = refl }; answer = rejected at w; fault = tt; holds = x t; line = line }
+refused_at m p c code old new out_old out_new (no_certificate fault) x is line three t = record { answer = no_certificate fault; fault = tt; holds = x t; line = line }
+refused_at m p c code old new out_old out_new (no_plan fault) x is line three t = record { answer = no_plan fault; fault = tt; holds = x t; line = line }
+refused_at m p c code old new out_old out_new (rejected at w) x is line three t = record { answer = rejected at w; fault = tt; holds = x t; line = line }
 refused_at m p c code old new out_old out_new (no_input w) x is line three t = absurd (omega (arith, (reading w code is).low, three))
-
--- `check` has no other number
-pub record IsChecking (code : ℕ) : Type 0 where
-  pub no_plan : code ≡ NO_PLAN → ⊥
-  pub undecided : code ≡ UNDECIDED → ⊥
-  pub no_command : code ≡ NO_COMMAND → ⊥
-  pub unwritten : code ≡ UNWRITTEN → ⊥
-
-pub numbers : (answer : CheckAnswer) (code : ℕ) → code ≡ code_of (check_status answer) → IsChecking code
-numbers (accepted claim) code is = record { no_plan = λ e. omega (arith, is, e); undecided = λ e. omega (arith, is, e); no_command = λ e. omega (arith, is, e); unwritten = λ e. omega (arith, is, e) }
-numbers (no_certificate fault) code is = record { no_plan = λ e. omega (arith, is, e); undecided = λ e. omega (arith, is, e); no_command = λ e. omega (arith, is, e); unwritten = λ e. omega (arith, is, e) }
-numbers (no_plan fault) code is = record { no_plan = λ e. omega (arith, is, e); undecided = λ e. omega (arith, is, e); no_command = λ e. omega (arith, is, e); unwritten = λ e. omega (arith, is, e) }
-numbers (rejected at w) code is = record { no_plan = λ e. omega (arith, is, e); undecided = λ e. omega (arith, is, e); no_command = λ e. omega (arith, is, e); unwritten = λ e. omega (arith, is, e) }
-numbers (no_input w) code is =
-    let r = reading w code is in
-    record { no_plan = λ e. omega (arith, r.low, e); undecided = λ e. omega (arith, r.low, e); no_command = λ e. omega (arith, r.low, e); unwritten = r.other }
 
 -- ---- what the three files call for
 module _ (m p c : List ℕ) (code : ℕ) (old : Shelved) where
@@ -325,16 +312,30 @@ module _ (m p c : List ℕ) (code : ℕ) (old : Shelved) where
         x
 
 -- ---- files that give nothing to go on with, and the number of an answer
-pub stop_at : (m p c : List ℕ) (code : ℕ) (old new : Shelved) (out_old out_new : Printed) (answer : CheckAnswer) → CheckExplains m p c old new answer → code ≡ code_of (check_status answer) → Gains (check_line answer) out_old out_new → IsReading code → SomeStop (Some (checking m p c)) code old new out_old out_new
-stop_at m p c code old new out_old out_new (accepted claim) x is line r = absurd (omega (arith, is, r.low))
-stop_at m p c code old new out_old out_new (no_certificate fault) x is line r = absurd (omega (arith, is, r.low))
-stop_at m p c code old new out_old out_new (no_plan fault) x is line r = absurd (omega (arith, is, r.low))
-stop_at m p c code old new out_old out_new (rejected at w) x is line r = absurd (omega (arith, is, r.low))
-stop_at m p c code old new out_old out_new (no_input w) x is line r = (w, record { cause = x; line = line }, is)
+stop_at : (m p c : List ℕ) (old new : Shelved) (line : List ℕ) (status : Status) (answer : CheckAnswer) → CheckExplains m p c old new answer → line ≡ check_line answer → status ≡ check_status answer → IsReading (code_of status) → SomeStop (check_meaning m p c) old new line status
+stop_at m p c old new line status (accepted claim) x says ends r = absurd (omega (arith, ap code_of ends, r.low))
+stop_at m p c old new line status (no_certificate fault) x says ends r = absurd (omega (arith, ap code_of ends, r.low))
+stop_at m p c old new line status (no_plan fault) x says ends r = absurd (omega (arith, ap code_of ends, r.low))
+stop_at m p c old new line status (rejected at w) x says ends r = absurd (omega (arith, ap code_of ends, r.low))
+stop_at m p c old new line status (no_input w) x says ends r = record { why = w; cause = x; says = says; ends = ends }
 
-pub answer_number : (answer : CheckAnswer) → IsAnswerNumber (code_of (check_status answer))
-answer_number (accepted claim) = record { unprinted = λ e. omega (arith, e); no_memory = λ e. omega (arith, e) }
-answer_number (no_certificate fault) = record { unprinted = λ e. omega (arith, e); no_memory = λ e. omega (arith, e) }
-answer_number (no_plan fault) = record { unprinted = λ e. omega (arith, e); no_memory = λ e. omega (arith, e) }
-answer_number (rejected at w) = record { unprinted = λ e. omega (arith, e); no_memory = λ e. omega (arith, e) }
+answer_number : (answer : CheckAnswer) → IsCommandNumber (code_of (check_status answer))
+answer_number (accepted claim) = record { answers = record { unprinted = λ e. omega (arith, e); no_memory = λ e. omega (arith, e) }; command = λ e. omega (arith, e) }
+answer_number (no_certificate fault) = record { answers = record { unprinted = λ e. omega (arith, e); no_memory = λ e. omega (arith, e) }; command = λ e. omega (arith, e) }
+answer_number (no_plan fault) = record { answers = record { unprinted = λ e. omega (arith, e); no_memory = λ e. omega (arith, e) }; command = λ e. omega (arith, e) }
+answer_number (rejected at w) = record { answers = record { unprinted = λ e. omega (arith, e); no_memory = λ e. omega (arith, e) }; command = λ e. omega (arith, e) }
 answer_number (no_input w) = read_number w
+
+-- ---- the command
+pub check_kept : (m p c : List ℕ) → IsCommand (check_meaning m p c)
+check_kept m p c = record {
+  kept = record {
+    after = λ old new line status d. read_after (check_meaning m p c) old new line status refl (λ e. absurd (cc e)) d.why.1
+        (subst (λ s. IsAnswerNumber (code_of s)) (sym d.ends) (answer_number d.answer).answers)
+        (λ r. stop_at m p c old new line status d.answer d.why.0 d.says d.ends r)
+        (λ out_old out_new fine t. called_at m p c (code_of status) old new out_old out_new fine t d.answer d.why.0 (ap code_of d.ends));
+    one = λ laws file s t a b. inl (check_call laws (file m) (file p) (file c) s t a b);
+    some = λ by file. check_some by (file m) (file p) (file c);
+  };
+  command = λ old new line status d. subst (λ s. code_of s ≢ NO_COMMAND) (sym d.ends) (answer_number d.answer).command;
+}

@@ -1,5 +1,5 @@
 -- What was found and written proves what is answered.
-use Rattle.std.proofs.Common.{◌≡◌, ◌≢◌, ◌∙◌, ◌≤◌, ◌<◌, ⊎_elim, inl, inr, ℕ, List, length, Option, Some, None, IsTrue, refl, sym, subst, arith}
+use Rattle.std.proofs.Common.{◌≡◌, ◌≢◌, ◌∙◌, ◌≤◌, ◌<◌, ⊎_elim, inl, inr, ℕ, List, [], ◌∷◌, length, Option, Some, None, IsTrue, refl, sym, subst, arith}
 use Rattle.std.specs.Prelude.{IfSome}
 use Rattle.lot_sizing.specs.Problem.{IsUncoupled, Problem}
 use Rattle.lot_sizing.specs.Plan as terms
@@ -25,8 +25,8 @@ use Rattle.branch_and_cut.specs.Search.{GoesTogether, IsDecided, IsGoodPlan, Kee
 use Rattle.lotplan.specs.declared.said.Said.{Said}
 use Rattle.lotplan.specs.Proving.{IsGiven}
 use Rattle.lotplan.specs.Finding.{IsFound, PlanCosts}
-use Rattle.lotplan.specs.Writing.{StartsOnly}
-use Rattle.lotplan.specs.Planning.{PlanAnswer, unwritten, plan_line, plan_status, IsAnswerTo, IsUnwritten, IsWritten, ShowsFound, StartsBoth, WriteExplains, WriteSays, WritesAndSays, WritesFeasible, WritesPlan, WritesProof}
+use Rattle.lotplan.specs.Writing.{IsUnwritten, IsWritten, StartsAmong}
+use Rattle.lotplan.specs.Planning.{PlanAnswer, unwritten, plan_line, plan_status, IsAnswerTo, ShowsFound, WriteExplains, WriteSays, WritesFeasible, WritesPlan, WritesProof}
 use Rattle.lotplan.specs.Reading.{file_limit}
 use Rattle.lotplan.specs.Saying.{IsSaid}
 
@@ -34,10 +34,10 @@ use Rattle.lotplan.specs.Saying.{IsSaid}
 grew_twice : (a b c : ℕ) → GrewBy 1 a b → GrewBy 1 b c → GrewBy 2 a c
 grew_twice a b c x y = (omega (arith, x.0, x.1, y.0, y.1), omega (arith, x.1, y.1))
 
-starts_both : (p c : List ℕ) (old mid new : Shelved) → StartsOnly p old mid → StartsOnly c mid new → StartsBoth p c old new
+starts_both : (p c : List ℕ) (old mid new : Shelved) → StartsAmong (p ∷ []) 1 old mid → StartsAmong (c ∷ []) 1 mid new → StartsAmong (p ∷ c ∷ []) 2 old new
 starts_both p c old mid new first second = record {
   told = second.told ∙ first.told;
-  others = λ t other from_plan from_certificate. second.others (subst IsTrue (sym first.told) t) other from_certificate ∙ first.others t other from_plan;
+  others = λ t other apart. second.others (subst IsTrue (sym first.told) t) other apart.1 ∙ first.others t other (apart.0, tt);
   starts = grew_twice old.starts mid.starts new.starts first.starts second.starts;
 }
 
@@ -132,7 +132,7 @@ module _ (m : Problem) (budget : ℕ) (found : Found) (is_found : IsFound m budg
       λ t. record {
         impossible = given_none Infeasible is;
         proof = proves new.file Infeasible None is (w.written t) refl (given_none Infeasible is) certified_none;
-        kept = w.touches.others t p apart;
+        kept = w.touches.others t p (apart, tt);
         shows = shows new.file Infeasible None is costs_none (w.written t);
       },
       w.touches,
@@ -142,7 +142,7 @@ module _ (m : Problem) (budget : ℕ) (found : Found) (is_found : IsFound m budg
         floor = given_none (BoundOf bound) is;
         own = no_own;
         proof = proves new.file (BoundOf bound) None is (w.written t) refl (given_none (BoundOf bound) is) certified_none;
-        kept = w.touches.others t p apart;
+        kept = w.touches.others t p (apart, tt);
         shows = shows new.file (BoundOf bound) None is costs_none (w.written t);
       },
       w.touches,
@@ -156,13 +156,13 @@ module _ (m : Problem) (budget : ℕ) (found : Found) (is_found : IsFound m budg
     unproved_at : IsUnwritten c old new → WriteExplains m budget p c old new (unwritten c)
     unproved_at w = (w.failed, inr (inr (refl, λ t. record { own = no_own; impossible = none_alone found.certificate.claim refl }, w.touches)))
 
-    pub says_proved : (answer : PlanAnswer) (written lost said : Said) → IsAnswerTo m found.certificate.claim found.plan found.root found.nodes answer → IsSaid (plan_line answer) (plan_status answer) written → IsSaid (plan_line (unwritten c)) (plan_status (unwritten c)) lost → WritesAndSays c bytes written lost old new said → WriteSays m budget p c old new said
-    says_proved answer written lost said answers says says_lost done =
+    pub says_proved : (answer : PlanAnswer) (said : Said) → IsAnswerTo m found.certificate.claim found.plan found.root found.nodes answer → IsSaid (plan_line answer) (plan_status answer) said → IsWritten c bytes old new → WriteSays m budget p c old new said
+    says_proved answer said answers says w =
         let answers_none = subst (λ g. IsAnswerTo m found.certificate.claim g found.root found.nodes answer) none answers in
-        ⊎_elim
-        (λ x. (answer, proved_at found.certificate.claim refl answer answers_none x.1, subst (IsSaid (plan_line answer) (plan_status answer)) (sym x.0) says))
-        (λ x. (unwritten c, unproved_at x.1, subst (IsSaid (plan_line (unwritten c)) (plan_status (unwritten c))) (sym x.0) says_lost))
-        done
+        (answer, proved_at found.certificate.claim refl answer answers_none w, says)
+
+    pub says_unproved : (said : Said) → IsSaid (plan_line (unwritten c)) (plan_status (unwritten c)) said → IsUnwritten c old new → WriteSays m budget p c old new said
+    says_unproved said says w = (unwritten c, unproved_at w, says)
 
   -- ---- where there is one, and its text
   module _ (plan : Plan) (is_plan : found.plan ≡ Some plan) (records : List ℕ) (are : records ≡ plan_text m (plan_of plan)) (read : IsPlanOf m (records_of records) (plan_of plan)) (few : length records ≤ file_limit) where
@@ -195,16 +195,19 @@ module _ (m : Problem) (budget : ℕ) (found : Found) (is_found : IsFound m budg
       written = writes_plan after written;
     }
 
-    pub unplanned_at : (old new : Shelved) → IsUnwritten p old new → WriteExplains m budget p c old new (unwritten p)
+    unplanned_at : (old new : Shelved) → IsUnwritten p old new → WriteExplains m budget p c old new (unwritten p)
     unplanned_at old new w = (w.failed, inl (refl, λ t. record { chosen = plan_of plan; feasible = good.feasible; best = best_alone found.certificate.claim refl }, w.touches))
+
+    pub says_unplanned : (old new : Shelved) (said : Said) → IsSaid (plan_line (unwritten p)) (plan_status (unwritten p)) said → IsUnwritten p old new → WriteSays m budget p c old new said
+    says_unplanned old new said says w = (unwritten p, unplanned_at old new w, says)
 
     -- the plan file was written before the certificate file
     module _ (old mid new : Shelved) (first : IsWritten p records old mid) where
       told_between : IsTrue old.told → IsTrue mid.told
       told_between t = subst IsTrue (sym first.touches.told) t
 
-      plan_stays : StartsOnly c mid new → IsTrue old.told → new.file p ≡ Some records
-      plan_stays touches t = touches.others (told_between t) p apart ∙ first.written t
+      plan_stays : StartsAmong (c ∷ []) 1 mid new → IsTrue old.told → new.file p ≡ Some records
+      plan_stays touches t = touches.others (told_between t) p (apart, tt) ∙ first.written t
 
       planned_at : (claim : Claim) → found.certificate.claim ≡ claim → (answer : PlanAnswer) → IsAnswerTo m claim (Some plan) found.root found.nodes answer → IsWritten c bytes mid new → WriteExplains m budget p c old new answer
       planned_at (Optimal amount) is answer answers w = subst (WriteExplains m budget p c old new) (sym answers) (
@@ -239,10 +242,10 @@ module _ (m : Problem) (budget : ℕ) (found : Found) (is_found : IsFound m budg
       uncertified_at w =
           (omega (arith, w.failed, first.fine), inr (inl (refl, λ t. (cost_of m plan, writes_feasible new.file (plan_stays w.touches t)), starts_both p c old mid new first.touches w.touches)))
 
-      pub says_planned : (answer : PlanAnswer) (written lost said : Said) → IsAnswerTo m found.certificate.claim found.plan found.root found.nodes answer → IsSaid (plan_line answer) (plan_status answer) written → IsSaid (plan_line (unwritten c)) (plan_status (unwritten c)) lost → WritesAndSays c bytes written lost mid new said → WriteSays m budget p c old new said
-      says_planned answer written lost said answers says says_lost done =
+      pub says_planned : (answer : PlanAnswer) (said : Said) → IsAnswerTo m found.certificate.claim found.plan found.root found.nodes answer → IsSaid (plan_line answer) (plan_status answer) said → IsWritten c bytes mid new → WriteSays m budget p c old new said
+      says_planned answer said answers says w =
           let answers_some = subst (λ g. IsAnswerTo m found.certificate.claim g found.root found.nodes answer) is_plan answers in
-          ⊎_elim
-          (λ x. (answer, planned_at found.certificate.claim refl answer answers_some x.1, subst (IsSaid (plan_line answer) (plan_status answer)) (sym x.0) says))
-          (λ x. (unwritten c, uncertified_at x.1, subst (IsSaid (plan_line (unwritten c)) (plan_status (unwritten c))) (sym x.0) says_lost))
-          done
+          (answer, planned_at found.certificate.claim refl answer answers_some w, says)
+
+      pub says_uncertified : (said : Said) → IsSaid (plan_line (unwritten c)) (plan_status (unwritten c)) said → IsUnwritten c mid new → WriteSays m budget p c old new said
+      says_uncertified said says w = (unwritten c, uncertified_at w, says)

@@ -1,12 +1,12 @@
 -- What the reading of files leaves, and why it stops.
-use Rattle.std.proofs.Common.{◌≡◌, ◌≢◌, ◌≤◌, ℕ, List, IsTrue, Option, None, refl, sym, subst, arith}
-use Rattle.lot_io.specs.Outside.{Files, OnlyReads, Printed, Shelved}
-use Rattle.command_line.specs.Words.{Request}
-use Rattle.lotplan.specs.Run.{Stops}
+use Rattle.std.proofs.Common.{◌≡◌, ◌≢◌, ◌≤◌, ℕ, List, IsTrue, None, refl, sym, subst, arith}
+use Rattle.lot_io.specs.Outside.{Files, OnlyReads, Shelved}
+use Rattle.lotplan.specs.Meaning.{Meaning}
 use Rattle.lotplan.specs.Status.{code_of}
-use Rattle.lotplan.specs.Reading.{FileExplains, FirstExplains, IsTooLong, ModelExplains, ReadAnswer, refused, missing, unread, too_long, read_status, ExplainsStop, read_meant}
+use Rattle.lotplan.specs.Reading.{FileExplains, FirstExplains, IsTooLong, ModelExplains, ReadAnswer, refused, missing, unread, too_long, read_line, read_status, ExplainsStop, read_meant}
 use Rattle.lotplan.specs.declared.model_file.Stop.{Stop}
 use Rattle.lotplan.specs.declared.model_file.Stop.TheVariants.{Answered, Memory}
+use Rattle.lotplan.specs.declared.status.Status.{Status}
 use Rattle.lotplan.specs.declared.status.TheConstants.{REFUSED, UNWRITTEN, TOO_LONG}
 
 -- what shows the same was only read
@@ -63,6 +63,9 @@ reading (missing file) code is = record { low = omega (arith, is); high = omega 
 reading (unread file) code is = record { low = omega (arith, is); high = omega (arith, is); other = λ e. omega (arith, is, e) }
 reading (too_long file) code is = record { low = omega (arith, is); high = omega (arith, is); other = λ e. omega (arith, is, e) }
 
--- the files that are asked for gave nothing to go on with, and the number says which stop it was
-abbrev pub SomeStop : Option Request → ℕ → Shelved → Shelved → Printed → Printed → Type 0
-SomeStop request code old new out_old out_new = (why : ReadAnswer) × Stops request old new out_old out_new why × (code ≡ code_of (read_status why))
+-- the files that are asked for gave nothing to go on with, for some cause, which the line and the status name
+pub record SomeStop (means : Meaning) (old new : Shelved) (line : List ℕ) (status : Status) : Type 0 where
+  pub why : ReadAnswer
+  pub cause : means.stops old new why
+  pub says : line ≡ read_line why
+  pub ends : status ≡ read_status why

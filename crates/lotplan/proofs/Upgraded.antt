@@ -1,5 +1,5 @@
 -- What `upgrade` leaves, by its answer.
-use Rattle.std.proofs.Common.{◌≡◌, ◌≢◌, ◌∙◌, ⊎_elim, ℕ, List, Option, Some, IsTrue, inl, inr, refl, sym, ap, subst, arith}
+use Rattle.std.proofs.Common.{◌≡◌, ◌≢◌, ◌∙◌, ⊎_elim, ℕ, List, [], ◌∷◌, Option, Some, IsTrue, inl, inr, refl, sym, ap, subst, arith}
 use Rattle.std.specs.Prelude.{Bool, true, false, if◌then◌else◌, ℤ, pos, Result, Ok, Err, IfOk}
 use Rattle.std.specs.declared.alloc.AllocError.{AllocError}
 use Rattle.lot_io.specs.Outside.{GrewBy, OnlyReads, Printed, Shelved}
@@ -19,14 +19,17 @@ use Rattle.lotplan.specs.declared.said.Said.{Said}
 use Rattle.lotplan.specs.Status.{code_of}
 use Rattle.lotplan.specs.Reading.{FirstExplains, HoldsFirst, HoldsProblem, ReadAnswer, refused, missing, unread, too_long, read_line, read_status}
 use Rattle.lotplan.specs.Writing.{StartsAtMost, unwritten_line, written_line}
-use Rattle.lotplan.specs.Upgrading.{UpgradeAnswer, written, unwritten, no_input, upgrade_line, upgrade_status, FailsToUpgrade, RewriteExplains, RewriteSays, UpgradeCallsFor, UpgradeExplains, UpgradeSays, Upgrades}
+use Rattle.lotplan.specs.Upgrading.{UpgradeAnswer, written, unwritten, no_input, upgrade_line, upgrade_status, FailsToUpgrade, RewriteExplains, RewriteSays, UpgradeCallsFor, UpgradeExplains, UpgradeSays, Upgrades, upgrade_meaning}
 use Rattle.lotplan.specs.Saying.{Gains, IsSaid}
-use Rattle.command_line.specs.Words.{upgrading}
 use Rattle.lotplan.specs.Run.{HadNoFault}
-use Rattle.lotplan.specs.declared.status.TheConstants.{DONE, NO_PLAN, UNDECIDED, FAULTY, NO_COMMAND, UNWRITTEN}
-use Rattle.lotplan.proofs.Outputs.{IsAnswerNumber, read_number}
+use Rattle.lotplan.specs.declared.status.Status.{Status}
+use Rattle.lotplan.specs.declared.status.TheConstants.{DONE, NO_COMMAND, UNWRITTEN}
+use Rattle.lotplan.proofs.Kept.{IsCommand}
+use Rattle.lotplan.proofs.Outputs.{IsAnswerNumber, IsCommandNumber, answered, read_number}
 use Rattle.lotplan.proofs.Readings.{IsReading, SomeStop, reading}
-use Rattle.lotplan.proofs.Writings.{reads_at_most, starts_after, starts_at_most}
+use Rattle.lotplan.proofs.UpgradeCalls.{upgrade_some}
+use Rattle.lotplan.proofs.UpgradeCalls.{upgrade_call as upgrade_call_one}
+use Rattle.lotplan.proofs.Writings.{one_at_most, reads_at_most, starts_after}
 
 -- ---- a model of the first version is a model
 first_only : (x : ℤ) (b : Bool) (next : ℕ → Read RawModel) (m : RawModel) → is_from (pos 1) (pos 1) x ≡ b → then_read (if b then Ok (natural x) else Err (fault_at code.Version place.Root key.Version)) next ≡ Ok m → then_read (version_in 2 x) next ≡ Ok m
@@ -56,52 +59,34 @@ upgrade_after : (m n : List ℕ) (problem : Problem) (old mid new : Shelved) (an
 upgrade_after m n problem old mid new (written file) holds reads x = (
   x.0,
   λ t. record { problem = problem; first = holds t; holds = holds_model m old problem (holds t); writes = x.1 (subst IsTrue (sym reads.told) t) },
-  starts_after n old mid new reads x.2,
+  starts_after (n ∷ []) 1 old mid new reads x.2,
 )
 upgrade_after m n problem old mid new (unwritten file) holds reads x =
-    (x.0, λ t. (problem, holds t), omega (arith, x.1, reads.write_faults), starts_after n old mid new reads x.2)
+    (x.0, λ t. (problem, holds t), omega (arith, x.1, reads.write_faults), starts_after (n ∷ []) 1 old mid new reads x.2)
 upgrade_after m n problem old mid new (no_input why) holds reads x = absurd x
 
 pub says_upgraded : (m n : List ℕ) (problem : Problem) (old mid new : Shelved) (r : Result Said AllocError) → (IsTrue old.told → HoldsFirst old.file m problem) → OnlyReads old mid → IfOk r (RewriteSays problem n mid new) → IfOk r (UpgradeSays m n old new)
-says_upgraded m n problem old mid new (Ok said) holds reads (answer, x, says) = (answer, upgrade_after m n problem old mid new answer holds reads x, says)
+says_upgraded m n problem old mid new (Ok said) holds reads (answer, x, says) = answered UpgradeAnswer (UpgradeExplains m n old new) upgrade_line upgrade_status answer said (upgrade_after m n problem old mid new answer holds reads x) says
 says_upgraded m n problem old mid new (Err e) holds reads some = tt
 
 pub says_stop : (m n : List ℕ) (old new : Shelved) (why : ReadAnswer) (r : Result Said AllocError) → FirstExplains m old new why → OnlyReads old new → IfOk r (IsSaid (read_line why) (read_status why)) → IfOk r (UpgradeSays m n old new)
-says_stop m n old new why (Ok said) x reads says = (no_input why, (x, reads), says)
+says_stop m n old new why (Ok said) x reads says = answered UpgradeAnswer (UpgradeExplains m n old new) upgrade_line upgrade_status (no_input why) said (x, reads) says
 says_stop m n old new why (Err e) x reads says = tt
 
 -- ---- what each number says
-pub upgraded_at : (m n : List ℕ) (code : ℕ) (old new : Shelved) (out_old out_new : Printed) (answer : UpgradeAnswer) → UpgradeExplains m n old new answer → code ≡ code_of (upgrade_status answer) → Gains (upgrade_line answer) out_old out_new → code ≡ DONE → (IsTrue old.told → Upgrades old.file new.file m n out_old out_new) × GrewBy 1 old.starts new.starts
-upgraded_at m n code old new out_old out_new (written file) x is line none =
-    (λ t. record { holds = x.1 t; line = subst (λ f. Gains (written_line f) out_old out_new) x.0 line }, x.2.starts)
-upgraded_at m n code old new out_old out_new (unwritten file) x is line none = absurd (omega (arith, is, none))
-upgraded_at m n code old new out_old out_new (no_input why) x is line none = absurd (omega (arith, (reading why code is).low, none))
+pub upgraded_at : (m n : List ℕ) (code : ℕ) (old new : Shelved) (out_old out_new : Printed) (answer : UpgradeAnswer) → UpgradeExplains m n old new answer → code ≡ code_of (upgrade_status answer) → Gains (upgrade_line answer) out_old out_new → code ≡ DONE → IsTrue old.told → Upgrades old.file new.file m n out_old out_new
+upgraded_at m n code old new out_old out_new (written file) x is line none t = record { holds = x.1 t; line = subst (λ f. Gains (written_line f) out_old out_new) x.0 line }
+upgraded_at m n code old new out_old out_new (unwritten file) x is line none t = absurd (omega (arith, is, none))
+upgraded_at m n code old new out_old out_new (no_input why) x is line none t = absurd (omega (arith, (reading why code is).low, none))
 
-pub unwritten_at : (m n : List ℕ) (code : ℕ) (old new : Shelved) (out_old out_new : Printed) (answer : UpgradeAnswer) → UpgradeExplains m n old new answer → code ≡ code_of (upgrade_status answer) → Gains (upgrade_line answer) out_old out_new → code ≡ UNWRITTEN → FailsToUpgrade (Some (upgrading m n)) old new out_old out_new
+pub unwritten_at : (m n : List ℕ) (code : ℕ) (old new : Shelved) (out_old out_new : Printed) (answer : UpgradeAnswer) → UpgradeExplains m n old new answer → code ≡ code_of (upgrade_status answer) → Gains (upgrade_line answer) out_old out_new → code ≡ UNWRITTEN → FailsToUpgrade old new m n out_old out_new
 unwritten_at m n code old new out_old out_new (written file) x is line eight = absurd (omega (arith, is, eight))
 unwritten_at m n code old new out_old out_new (unwritten file) x is line eight = record {
-  model_file = m;
-  new_file = n;
-  words = refl;
   holds = x.1;
   failed = x.2;
   line = subst (λ f. Gains (unwritten_line f) out_old out_new) x.0 line;
 }
 unwritten_at m n code old new out_old out_new (no_input why) x is line eight = absurd ((reading why code is).other eight)
-
--- `upgrade` has no other number
-pub record IsUpgrading (code : ℕ) : Type 0 where
-  pub no_plan : code ≡ NO_PLAN → ⊥
-  pub undecided : code ≡ UNDECIDED → ⊥
-  pub faulty : code ≡ FAULTY → ⊥
-  pub no_command : code ≡ NO_COMMAND → ⊥
-
-pub numbers : (answer : UpgradeAnswer) (code : ℕ) → code ≡ code_of (upgrade_status answer) → IsUpgrading code
-numbers (written file) code is = record { no_plan = λ e. omega (arith, is, e); undecided = λ e. omega (arith, is, e); faulty = λ e. omega (arith, is, e); no_command = λ e. omega (arith, is, e) }
-numbers (unwritten file) code is = record { no_plan = λ e. omega (arith, is, e); undecided = λ e. omega (arith, is, e); faulty = λ e. omega (arith, is, e); no_command = λ e. omega (arith, is, e) }
-numbers (no_input why) code is =
-    let r = reading why code is in
-    record { no_plan = λ e. omega (arith, r.low, e); undecided = λ e. omega (arith, r.low, e); faulty = λ e. omega (arith, r.low, e); no_command = λ e. omega (arith, r.low, e) }
 
 -- ---- what is written
 pub quiet_at : (m n : List ℕ) (code : ℕ) (old new : Shelved) (answer : UpgradeAnswer) → UpgradeExplains m n old new answer → code ≡ code_of (upgrade_status answer) → code ≢ DONE → code ≢ UNWRITTEN → OnlyReads old new
@@ -109,10 +94,15 @@ quiet_at m n code old new (written file) x is some other = absurd (some is)
 quiet_at m n code old new (unwritten file) x is some other = absurd (other is)
 quiet_at m n code old new (no_input why) x is some other = x.1
 
-pub others_at : (m n : List ℕ) (old new : Shelved) (answer : UpgradeAnswer) → UpgradeExplains m n old new answer → StartsAtMost n old new × (new.told ≡ old.told)
-others_at m n old new (written file) x = (starts_at_most n old new x.2, x.2.told)
-others_at m n old new (unwritten file) x = (starts_at_most n old new x.3, x.3.told)
-others_at m n old new (no_input why) x = (reads_at_most n old new x.1, x.1.told)
+wrote_at : (m n : List ℕ) (code : ℕ) (old new : Shelved) (answer : UpgradeAnswer) → UpgradeExplains m n old new answer → code ≡ code_of (upgrade_status answer) → code ≡ DONE → GrewBy 1 old.starts new.starts
+wrote_at m n code old new (written file) x is none = x.2.starts
+wrote_at m n code old new (unwritten file) x is none = absurd (omega (arith, is, none))
+wrote_at m n code old new (no_input why) x is none = absurd (omega (arith, (reading why code is).low, none))
+
+others_at : (m n : List ℕ) (old new : Shelved) (answer : UpgradeAnswer) → UpgradeExplains m n old new answer → StartsAtMost (n ∷ []) old new × (new.told ≡ old.told)
+others_at m n old new (written file) x = (one_at_most n old new x.2, x.2.told)
+others_at m n old new (unwritten file) x = (one_at_most n old new x.3, x.3.told)
+others_at m n old new (no_input why) x = (reads_at_most (n ∷ []) old new x.1, x.1.told)
 
 -- ---- what the model file calls for
 upgrade_call : (found : Option (List ℕ)) (bytes : List ℕ) (code : ℕ) → found ≡ Some bytes → UpgradeCallsFor (Some bytes) code → UpgradeCallsFor found code
@@ -137,12 +127,33 @@ called_at m n code old new out_old out_new fine t (unwritten file) x is = absurd
 called_at m n code old new out_old out_new fine t (no_input why) x is = stop_called m code old new out_old out_new fine t why x.0 is
 
 -- ---- files that give nothing to go on with, and the number of an answer
-pub stop_at : (m n : List ℕ) (code : ℕ) (old new : Shelved) (out_old out_new : Printed) (answer : UpgradeAnswer) → UpgradeExplains m n old new answer → code ≡ code_of (upgrade_status answer) → Gains (upgrade_line answer) out_old out_new → IsReading code → SomeStop (Some (upgrading m n)) code old new out_old out_new
-stop_at m n code old new out_old out_new (written file) x is line r = absurd (omega (arith, is, r.low))
-stop_at m n code old new out_old out_new (unwritten file) x is line r = absurd (r.other is)
-stop_at m n code old new out_old out_new (no_input why) x is line r = (why, record { cause = x.0; line = line }, is)
+stop_at : (m n : List ℕ) (old new : Shelved) (line : List ℕ) (status : Status) (answer : UpgradeAnswer) → UpgradeExplains m n old new answer → line ≡ upgrade_line answer → status ≡ upgrade_status answer → IsReading (code_of status) → SomeStop (upgrade_meaning m n) old new line status
+stop_at m n old new line status (written file) x says ends r = absurd (omega (arith, ap code_of ends, r.low))
+stop_at m n old new line status (unwritten file) x says ends r = absurd (r.other (ap code_of ends))
+stop_at m n old new line status (no_input why) x says ends r = record { why = why; cause = x.0; says = says; ends = ends }
 
-pub answer_number : (answer : UpgradeAnswer) → IsAnswerNumber (code_of (upgrade_status answer))
-answer_number (written file) = record { unprinted = λ e. omega (arith, e); no_memory = λ e. omega (arith, e) }
-answer_number (unwritten file) = record { unprinted = λ e. omega (arith, e); no_memory = λ e. omega (arith, e) }
+answer_number : (answer : UpgradeAnswer) → IsCommandNumber (code_of (upgrade_status answer))
+answer_number (written file) = record { answers = record { unprinted = λ e. omega (arith, e); no_memory = λ e. omega (arith, e) }; command = λ e. omega (arith, e) }
+answer_number (unwritten file) = record { answers = record { unprinted = λ e. omega (arith, e); no_memory = λ e. omega (arith, e) }; command = λ e. omega (arith, e) }
 answer_number (no_input why) = read_number why
+
+-- ---- the command
+pub upgrade_kept : (m n : List ℕ) → IsCommand (upgrade_meaning m n)
+upgrade_kept m n = record {
+  kept = record {
+    after = λ old new line status d. record {
+      number = subst (λ s. IsAnswerNumber (code_of s)) (sym d.ends) (answer_number d.answer).answers;
+      quiet = λ some one two other. quiet_at m n (code_of status) old new d.answer d.why (ap code_of d.ends) some other;
+      writes = (others_at m n old new d.answer d.why).0;
+      tells = (others_at m n old new d.answer d.why).1;
+      wrote = λ none. wrote_at m n (code_of status) old new d.answer d.why (ap code_of d.ends) none;
+      reads = λ e. absurd (cc e);
+      idle = λ e. absurd (cc e);
+      stops = λ r. stop_at m n old new line status d.answer d.why d.says d.ends r;
+      calls = λ out_old out_new fine t. called_at m n (code_of status) old new out_old out_new fine t d.answer d.why (ap code_of d.ends);
+    };
+    one = λ laws file s t a b. inl (upgrade_call_one (file m) s t a b);
+    some = λ by file. upgrade_some by (file m);
+  };
+  command = λ old new line status d. subst (λ s. code_of s ≢ NO_COMMAND) (sym d.ends) (answer_number d.answer).command;
+}

@@ -1,17 +1,17 @@
 -- What `bound` answers, and why.
-use Rattle.std.specs.Prelude.{◌≡◌, ◌⊎◌, ◌<◌, ◌≤◌, ℕ, List, ◌++◌, length, codes, decimal, IsTrue, Option, Some, None, Ok, Err, ⊤}
+use Rattle.std.specs.Prelude.{◌≡◌, ◌⊎◌, ◌<◌, ◌≤◌, ℕ, List, [], ◌∷◌, ◌++◌, length, codes, decimal, IsTrue, Option, Some, None, Ok, Err, ⊤}
 use Rattle.lot_sizing.specs.Problem.{Problem}
 use Rattle.lot_sizing.specs.Best.{IsFloor, IsImpossible}
-use Rattle.lot_io.specs.Outside.{Files, Printed, Shelved}
+use Rattle.lot_io.specs.Outside.{Files, OnlyReads, Printed, Shelved}
 use Rattle.lot_draft.specs.declared.fault.ModelFault.{ModelFault}
 use Rattle.instance_reader.specs.Model.{BytesMean}
 use Rattle.tableau.specs.declared.outcome.Outcome.TheVariants as outcome
 use Rattle.tableau.specs.Program.{Program}
 use Rattle.tableau.specs.Stepwise.{IsEndOf}
 use Rattle.base_bound.specs.Bounds.{HasFewCells, HasManyCells, HasNoBasePoint, IsBaseBound, IsBaseProgram}
-use Rattle.command_line.specs.Words.{Request, bounding}
 use Rattle.lotplan.specs.Reading.{read_meant, ModelExplains, OfModel, ReadAnswer, file_limit, read_line, read_status}
-use Rattle.lotplan.specs.Saying.{Gains, IsSaid}
+use Rattle.lotplan.specs.Meaning.{Meaning}
+use Rattle.lotplan.specs.Saying.{Answered, Gains}
 use Rattle.lotplan.specs.declared.commands.bound.BoundAnswer.{BoundAnswer as HeldAnswer}
 use Rattle.lotplan.specs.declared.commands.bound.BoundAnswer.TheVariants as held
 use Rattle.lotplan.specs.declared.said.Said.{Said}
@@ -97,9 +97,12 @@ BoundExplains m old new skipped = IsTrue old.told → ModelIsBounded old.file m 
 BoundExplains m old new passed = IsTrue old.told → ModelIsBounded old.file m passed
 BoundExplains m old new (no_input why) = ModelExplains m old new why
 
--- what is said is an answer that has its cause
+-- what bounding the model in this file does: an answer that has its cause, and nothing is written
+abbrev pub BoundDoes : List ℕ → Shelved → Shelved → List ℕ → Status → Type 0
+BoundDoes m old new = Answered BoundAnswer (λ answer. BoundExplains m old new answer × OnlyReads old new) bound_line bound_status
+
 abbrev pub BoundIsSaid : List ℕ → Shelved → Shelved → Said → Type 0
-BoundIsSaid m old new said = (answer : BoundAnswer) × BoundExplains m old new answer × IsSaid (bound_line answer) (bound_status answer) said
+BoundIsSaid m old new said = BoundDoes m old new said.line.items said.status
 
 -- ---- the status that the model file calls for, faults and out of memory aside
 -- for a problem `DONE` where it has a base bound, `NO_PLAN` where no point meets the base rows, `UNDECIDED` where the tableau is too large, or a number of the run doesn't fit
@@ -127,10 +130,8 @@ pub record FindsBound (before : Files) (model_file : List ℕ) (out_old out_new 
   pub holds : ModelIsBounded before model_file (bound least)
   pub line : Gains (bound_line (bound least)) out_old out_new
 
--- they ask to bound one without a point, and the line says so
-pub record FindsNoPoint (request : Option Request) (before : Files) (out_old out_new : Printed) : Type 0 where
-  pub model_file : List ℕ
-  pub words : request ≡ Some (bounding model_file)
+-- it means one without a point, and the line says so
+pub record FindsNoPoint (before : Files) (model_file : List ℕ) (out_old out_new : Printed) : Type 0 where
   pub holds : ModelIsBounded before model_file empty
   pub line : Gains (bound_line empty) out_old out_new
 
@@ -142,11 +143,21 @@ LeavesBoundOpen skipped = ⊤
 LeavesBoundOpen passed = ⊤
 LeavesBoundOpen (no_input why) = ⊥
 
--- they ask to bound one whose tableau is too large, or whose run comes to a number that doesn't fit, and the line says which
-pub record FindsNoBound (request : Option Request) (before : Files) (out_old out_new : Printed) : Type 0 where
-  pub model_file : List ℕ
-  pub words : request ≡ Some (bounding model_file)
+-- it means one whose tableau is too large, or whose run comes to a number that doesn't fit, and the line says which
+pub record FindsNoBound (before : Files) (model_file : List ℕ) (out_old out_new : Printed) : Type 0 where
   pub answer : BoundAnswer
   pub undecided : LeavesBoundOpen answer
   pub holds : ModelIsBounded before model_file answer
   pub line : Gains (bound_line answer) out_old out_new
+
+-- ---- the command
+abbrev pub bound_meaning : List ℕ → Meaning
+bound_meaning m = record {
+  does = BoundDoes m;
+  reads = m ∷ [];
+  passes = [];
+  writes = [];
+  stops = ModelExplains m;
+  calls_for = λ file. BoundCallsFor (file m);
+  may_be_left = λ file. MayPass (file m);
+}

@@ -1,7 +1,7 @@
 -- What `check` answers, and why.
-use Rattle.std.specs.Prelude.{◌≡◌, ◌≢◌, ◌⊎◌, ◌<◌, ◌≤◌, ◌-◌, ℕ, List, ◌++◌, length, codes, decimal, IsTrue, Option, Some, None, Ok, Err, ⊤}
+use Rattle.std.specs.Prelude.{◌≡◌, ◌≢◌, ◌⊎◌, ◌<◌, ◌≤◌, ◌-◌, ℕ, List, [], ◌∷◌, ◌++◌, length, codes, decimal, IsTrue, Option, Some, None, Ok, Err, ⊤}
 use Rattle.lot_sizing.specs.Problem.{Problem}
-use Rattle.lot_io.specs.Outside.{Files, Printed, Rose, RoseBy, Shelved}
+use Rattle.lot_io.specs.Outside.{Files, OnlyReads, Printed, Rose, RoseBy, Shelved}
 use Rattle.lot_draft.specs.declared.fault.ModelFault.{ModelFault}
 use Rattle.instance_reader.specs.Model.{BytesMean}
 use Rattle.plan_rules.specs.declared.plan.Plan.{Plan}
@@ -25,10 +25,10 @@ use Rattle.cert_checker.specs.Checks.{IsCertified, IsCheckFault, plan_given}
 use Rattle.stream_check.specs.declared.fault.StreamFault.{StreamFault}
 use Rattle.stream_check.specs.declared.fault.StreamFault.TheVariants as stream
 use Rattle.stream_check.specs.Streams.{IsTooLong, OfBytes, OfCertificate, too_many}
-use Rattle.command_line.specs.Words.{Request, checking}
 use Rattle.lotplan.specs.Proving.{HoldsCertificate, HoldsProof}
 use Rattle.lotplan.specs.Reading.{HoldsPlan, read_meant, FileExplains, HoldsProblem, ModelExplains, OfFile, OfModel, ReadAnswer, refused, missing, unread, too_long, file_limit, no_plan_line, read_line, read_status, AreNoPlan}
-use Rattle.lotplan.specs.Saying.{Gains, IsSaid}
+use Rattle.lotplan.specs.Meaning.{Meaning}
+use Rattle.lotplan.specs.Saying.{Answered, Gains}
 use Rattle.lotplan.specs.declared.commands.check.CheckAnswer.{CheckAnswer as HeldAnswer}
 use Rattle.lotplan.specs.declared.commands.check.CheckAnswer.TheVariants as held
 use Rattle.lotplan.specs.declared.said.Said.{Said}
@@ -195,9 +195,12 @@ CheckExplains m p c old new (no_plan fault) = IsTrue old.told → AllAre old.fil
 CheckExplains m p c old new (rejected line w) = IsTrue old.told → AllAre old.file m p c (rejected line w)
 CheckExplains m p c old new (no_input w) = CheckStops m p c old new w
 
--- what is said is an answer that has its cause
+-- what checking these files does: an answer that has its cause, and nothing is written
+abbrev pub CheckDoes : List ℕ → List ℕ → List ℕ → Shelved → Shelved → List ℕ → Status → Type 0
+CheckDoes m p c old new = Answered CheckAnswer (λ answer. CheckExplains m p c old new answer × OnlyReads old new) check_line check_status
+
 abbrev pub CheckSays : List ℕ → List ℕ → List ℕ → Shelved → Shelved → Said → Type 0
-CheckSays m p c old new said = (answer : CheckAnswer) × CheckExplains m p c old new answer × IsSaid (check_line answer) (check_status answer) said
+CheckSays m p c old new said = CheckDoes m p c old new said.line.items said.status
 
 -- ---- the status that the three files call for, faults and out of memory aside
 -- for a certificate with the plan that goes with it `DONE` where it is accepted, and `FAULTY` where it is refused
@@ -237,10 +240,6 @@ CheckCallsFor (Some bytes) plan certificate status =
     × (((fault : ModelFault) × BytesMean bytes (Err fault) × (status ≡ REFUSED)) ⊎ ((problem : Problem) × BytesMean bytes (Ok problem) × ProofCallsFor problem plan certificate status)))
 
 -- ---- what each status says
--- the words ask to check a certificate file
-pub record IsChecked (request : Option Request) (model_file plan_file certificate_file : List ℕ) : Type 0 where
-  pub is : request ≡ Some (checking model_file plan_file certificate_file)
-
 -- the certificate is accepted, its claim is true, and the line has it
 pub record Accepts (before : Files) (model_file plan_file certificate_file : List ℕ) (out_old out_new : Printed) : Type 0 where
   pub claim : Claim
@@ -255,13 +254,26 @@ IsRefused (no_plan fault) = ⊤
 IsRefused (rejected line w) = ⊤
 IsRefused (no_input w) = ⊥
 
--- they ask to check a certificate file that holds no certificate or a refused one, or whose plan file holds no plan, and the line names the first fault
-pub record FindsRefused (request : Option Request) (before : Files) (out_old out_new : Printed) : Type 0 where
-  pub model_file : List ℕ
-  pub plan_file : List ℕ
-  pub certificate_file : List ℕ
-  pub words : IsChecked request model_file plan_file certificate_file
+-- the certificate file holds no certificate or a refused one, or the plan file holds no plan, and the line names the first fault
+pub record FindsRefused (before : Files) (model_file plan_file certificate_file : List ℕ) (out_old out_new : Printed) : Type 0 where
   pub answer : CheckAnswer
   pub fault : IsRefused answer
   pub holds : AllAre before model_file plan_file certificate_file answer
   pub line : Gains (check_line answer) out_old out_new
+
+-- ---- the command
+abbrev pub check_meaning : List ℕ → List ℕ → List ℕ → Meaning
+check_meaning m p c = record {
+  does = CheckDoes m p c;
+  reads = m ∷ p ∷ [];
+  passes = c ∷ [];
+  writes = [];
+  stops = CheckStops m p c;
+  calls_for = λ file. CheckCallsFor (file m) (file p) (file c);
+  may_be_left = λ file. ⊥;
+}
+
+-- `check` of these files calls for `DONE`, and for no other status
+pub record CallsForDone (after : Files) (model_file plan_file certificate_file : List ℕ) : Type 0 where
+  pub done : CheckCallsFor (after model_file) (after plan_file) (after certificate_file) DONE
+  pub alone : (status : ℕ) → CheckCallsFor (after model_file) (after plan_file) (after certificate_file) status → status ≡ DONE

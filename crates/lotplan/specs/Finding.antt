@@ -5,12 +5,13 @@ use Rattle.plan_rules.specs.declared.plan.Plan.{Plan}
 use Rattle.branching.specs.Found.{IsProved}
 use Rattle.branching.specs.declared.found.Found.{Found}
 use Rattle.branching.specs.declared.found.RootSays.TheVariants as at_root
-use Rattle.branch_and_cut.specs.Search.{DecidesSmall, GoesTogether, HasEvidence, IfBound, IsGoodPlan, IsNoLessThanApart, IsSaidAtRoot, IsUndecided, KeepsOwn, UsesRoot, WithRows, cost_of}
+use Rattle.branch_and_cut.specs.Search.{DecidesSmall, GoesTogether, HasEvidence, IfBound, IsGoodPlan, IsNoLessThanApart, IsSaidAtRoot, IsUndecided, IsVersionOf, KeepsOwn, UsesRoot, WithRows, cost_of}
 
 -- what holds of what is found with a budget of nodes
 pub record IsFound (problem : Problem) (budget : ℕ) (found : Found) : Type 0 where
-  -- the certificate has a text, is accepted, and its claim is true; its tree has the nodes that are told, no more than the budget
+  -- the certificate has a text, of the first version where the problem is plain and else of the newest; it is accepted, and its claim is true; its tree has the nodes that are told, no more than the budget
   pub proved : IsProved problem found
+  pub version : IsVersionOf problem found.certificate.version
   pub within : found.nodes ≤ budget
   -- the plan is feasible, goes with the claim, and costs no more than a feasible own-period plan
   pub plan : IfSome found.plan (IsGoodPlan problem)

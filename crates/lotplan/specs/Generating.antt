@@ -1,13 +1,14 @@
 -- What `gen` answers, why, and what it leaves.
-use Rattle.std.specs.Prelude.{◌≡◌, ℕ, true, List, IsTrue, Option, Some, Ok}
+use Rattle.std.specs.Prelude.{◌≡◌, ℕ, true, List, [], ◌∷◌, IsTrue, Some, Ok}
 use Rattle.lot_io.specs.Outside.{Files, OnlyWrites, Printed, Rose, Shelved}
 use Rattle.instance_reader.specs.Document.{document_of}
 use Rattle.instance_reader.specs.Model.{BytesMean}
 use Rattle.own_plan.specs.OwnPeriod.{HasOwnPeriod}
 use Rattle.report.specs.Generated.{generated, generated_table}
-use Rattle.command_line.specs.Words.{Request, generating}
-use Rattle.lotplan.specs.Writing.{StartsOnly, unwritten_line, written_line}
-use Rattle.lotplan.specs.Saying.{Gains, IsSaid}
+use Rattle.lotplan.specs.Writing.{StartsAmong, unwritten_line, written_line}
+use Rattle.lotplan.specs.Meaning.{Meaning}
+use Rattle.lotplan.specs.Saying.{Answered, Gains}
+use Rattle.lotplan.specs.declared.status.TheConstants.{DONE}
 use Rattle.lotplan.specs.declared.commands.generate.GenerateAnswer.{GenerateAnswer as HeldAnswer}
 use Rattle.lotplan.specs.declared.commands.generate.GenerateAnswer.TheVariants as held
 use Rattle.lotplan.specs.declared.said.Said.{Said}
@@ -50,14 +51,16 @@ pub record WritesGenerated (after : Files) (seed items periods : ℕ) (model_fil
 -- why the generating of a model ends in this answer, and what it leaves
 abbrev pub GenerateExplains : (seed items periods : ℕ) → List ℕ → Shelved → Shelved → GenerateAnswer → Type 0
 GenerateExplains seed items periods m old new (written file) =
-    (file ≡ m) × (IsTrue old.told → WritesGenerated new.file seed items periods m) × StartsOnly m old new × OnlyWrites m old new
+    (file ≡ m) × (IsTrue old.told → WritesGenerated new.file seed items periods m) × StartsAmong (m ∷ []) 1 old new × OnlyWrites m old new
 GenerateExplains seed items periods m old new (unwritten file) =
-    (file ≡ m) × Rose old.write_faults new.write_faults × StartsOnly m old new × OnlyWrites m old new
+    (file ≡ m) × Rose old.write_faults new.write_faults × StartsAmong (m ∷ []) 1 old new × OnlyWrites m old new
 
--- what is said is an answer that has its cause
+-- what the generating of a model does: an answer that has its cause
+abbrev pub GenerateDoes : (seed items periods : ℕ) → List ℕ → Shelved → Shelved → List ℕ → Status → Type 0
+GenerateDoes seed items periods m old new = Answered GenerateAnswer (GenerateExplains seed items periods m old new) generate_line generate_status
+
 abbrev pub GenerateSays : (seed items periods : ℕ) → List ℕ → Shelved → Shelved → Said → Type 0
-GenerateSays seed items periods m old new said =
-    (answer : GenerateAnswer) × GenerateExplains seed items periods m old new answer × IsSaid (generate_line answer) (generate_status answer) said
+GenerateSays seed items periods m old new said = GenerateDoes seed items periods m old new said.line.items said.status
 
 -- ---- what each status says
 -- the model file holds the generated model, and the line names it
@@ -65,12 +68,19 @@ pub record Generates (after : Files) (seed items periods : ℕ) (model_file : Li
   pub holds : WritesGenerated after seed items periods model_file
   pub line : Gains (written_line model_file) out_old out_new
 
--- they ask to generate a model, its file could not be written, and the line names it
-pub record FailsToGenerate (request : Option Request) (old new : Shelved) (out_old out_new : Printed) : Type 0 where
-  pub seed : ℕ
-  pub items : ℕ
-  pub periods : ℕ
-  pub model_file : List ℕ
-  pub words : request ≡ Some (generating seed items periods model_file)
+-- the model file could not be written, and the line names it
+pub record FailsToGenerate (old new : Shelved) (model_file : List ℕ) (out_old out_new : Printed) : Type 0 where
   pub failed : Rose old.write_faults new.write_faults
   pub line : Gains (unwritten_line model_file) out_old out_new
+
+-- ---- the command, which calls for `DONE` whatever files there are
+abbrev pub generate_meaning : (seed items periods : ℕ) → List ℕ → Meaning
+generate_meaning seed items periods m = record {
+  does = GenerateDoes seed items periods m;
+  reads = [];
+  passes = [];
+  writes = m ∷ [];
+  stops = λ old new why. ⊥;
+  calls_for = λ file status. status ≡ DONE;
+  may_be_left = λ file. ⊥;
+}

@@ -1,20 +1,24 @@
 -- What `judge` answers, and why.
-use Rattle.std.specs.Prelude.{◌≡◌, ◌⊎◌, ◌<◌, ◌≤◌, ℕ, List, ◌++◌, length, codes, decimal, IsTrue, Option, Some, None, Ok, Err, ⊤}
+use Rattle.std.specs.Prelude.{◌≡◌, ◌⊎◌, ◌<◌, ◌≤◌, ℕ, List, [], ◌∷◌, ◌++◌, length, codes, decimal, IsTrue, Option, Some, None, Ok, Err, ⊤}
 use Rattle.lot_sizing.specs.Problem.{Problem}
 use Rattle.lot_sizing.specs.Plan.{IsFeasible, Plan, cost}
-use Rattle.lot_io.specs.Outside.{Files, Printed, Shelved}
+use Rattle.lot_io.specs.Outside.{Files, OnlyReads, Printed, Shelved}
 use Rattle.lot_draft.specs.declared.fault.ModelFault.{ModelFault}
 use Rattle.instance_reader.specs.Model.{BytesMean}
 use Rattle.plan_rules.specs.Broken.{IsBroken}
 use Rattle.plan_rules.specs.Texts.{broken_text}
+use Rattle.plan_rules.specs.Held.{AllFit, plan_of}
 use Rattle.plan_rules.specs.declared.broken.Broken.{Broken}
+use Rattle.plan_rules.specs.declared.plan.Plan.{Plan as Grids}
 use Rattle.plan_file.specs.Records.{IsPlanOf, records_of}
 use Rattle.plan_file.specs.declared.fault.PlanFault.{PlanFault}
-use Rattle.command_line.specs.Words.{Request, judging, reporting}
-use Rattle.lotplan.specs.Reading.{AreNoPlan, FilesStop, read_meant, FileExplains, OfFile, OfModel, ReadAnswer, file_limit, no_plan_line, read_line, read_status}
-use Rattle.lotplan.specs.Saying.{Gains, IsSaid}
+use Rattle.lotplan.specs.Reading.{AreNoPlan, FilesStop, HoldsPlan, HoldsProblem, read_meant, FileExplains, OfFile, OfModel, ReadAnswer, file_limit, no_plan_line, read_line, read_status}
+use Rattle.lotplan.specs.Meaning.{Meaning}
+use Rattle.lotplan.specs.Saying.{Answered, Gains}
 use Rattle.lotplan.specs.declared.commands.judge.JudgeAnswer.{JudgeAnswer as HeldAnswer}
 use Rattle.lotplan.specs.declared.commands.judge.JudgeAnswer.TheVariants as held
+use Rattle.lotplan.specs.declared.commands.judge.NotFeasible.{NotFeasible}
+use Rattle.lotplan.specs.declared.commands.judge.NotFeasible.TheVariants as stop
 use Rattle.lotplan.specs.declared.said.Said.{Said}
 use Rattle.lotplan.specs.declared.status.TheConstants.{DONE, FAULTY, REFUSED, MISSING, TOO_LONG}
 use Rattle.lotplan.specs.declared.status.Status.{Status}
@@ -65,13 +69,6 @@ pub record AreBroken (problem : Problem) (bytes : List ℕ) (rule : Broken) : Ty
   pub infeasible : IsFeasible problem plan → ⊥
   pub breaks : IsBroken problem plan rule
 
--- what judging a plan ends in
-abbrev pub IsJudgement : Problem → Plan → JudgeAnswer → Type 0
-IsJudgement problem plan (feasible amount) = IsFeasible problem plan × (amount ≡ cost problem plan)
-IsJudgement problem plan (no_plan fault) = ⊥
-IsJudgement problem plan (broken rule) = (IsFeasible problem plan → ⊥) × IsBroken problem plan rule
-IsJudgement problem plan (no_input why) = ⊥
-
 -- what the bytes of a plan file are, where it holds some
 abbrev pub BytesAre : Problem → JudgeAnswer → List ℕ → Type 0
 BytesAre problem (feasible amount) bytes = AreFeasible problem bytes amount
@@ -97,12 +94,52 @@ JudgeExplains m p old new (no_plan fault) = IsTrue old.told → FilesAre old.fil
 JudgeExplains m p old new (broken rule) = IsTrue old.told → FilesAre old.file m p (broken rule)
 JudgeExplains m p old new (no_input why) = FilesStop m p old new why
 
--- what is said is an answer that has its cause
-abbrev pub PlanFileSays : Problem → List ℕ → Shelved → Shelved → Said → Type 0
-PlanFileSays problem p old new said = (answer : JudgeAnswer) × PlanFileExplains problem p old new answer × IsSaid (judge_line answer) (judge_status answer) said
+-- ---- where a command goes on with a feasible plan
+-- grids hold a feasible plan of a problem, which costs this
+pub record HoldFeasible (problem : Problem) (grids : Grids) (amount : ℕ) : Type 0 where
+  pub fits : AllFit problem grids
+  pub feasible : IsFeasible problem (plan_of grids)
+  pub costs : amount ≡ cost problem (plan_of grids)
+
+-- the model file means the problem, and the plan file holds this plan of it
+pub record HoldsBoth (before : Files) (model_file plan_file : List ℕ) (problem : Problem) (grids : Grids) : Type 0 where
+  pub model : HoldsProblem before model_file problem
+  pub plan : HoldsPlan before plan_file problem grids
+
+-- bytes hold a feasible plan, of which this holds
+pub record AreFeasiblePlan (problem : Problem) (bytes : List ℕ) (P : Plan → Type 0) : Type 0 where
+  pub plan : Plan
+  pub is : IsPlanOf problem (records_of bytes) plan
+  pub feasible : IsFeasible problem plan
+  pub holds : P plan
+
+-- the model file means a problem, the plan file holds a feasible plan of it, and this holds of both
+abbrev pub OfFeasible : Files → (model_file plan_file : List ℕ) → (Problem → Plan → Type 0) → Type 0
+OfFeasible before m p P = OfModel before m (λ problem. OfFile before p (λ bytes. AreFeasiblePlan problem bytes (P problem)))
+
+-- nothing more is said of them
+abbrev pub AnyPlan : Problem → Plan → Type 0
+AnyPlan problem plan = ⊤
+
+-- `judge` finds no feasible plan
+abbrev pub FindsNone : JudgeAnswer → Type 0
+FindsNone (feasible amount) = ⊥
+FindsNone (no_plan fault) = ⊤
+FindsNone (broken rule) = ⊤
+FindsNone (no_input why) = ⊤
+
+-- it answers so, and the answer has its cause; out of memory needs none
+abbrev pub ExplainsNone : (JudgeAnswer → Type 0) → NotFeasible → Type 0
+ExplainsNone P (stop.Judged answer) = FindsNone (judge_meant answer) × P (judge_meant answer)
+ExplainsNone P stop.Memory = ⊤
+
+-- ---- what is done
+-- what judging these files does: an answer that has its cause, and nothing is written
+abbrev pub JudgeDoes : List ℕ → List ℕ → Shelved → Shelved → List ℕ → Status → Type 0
+JudgeDoes m p old new = Answered JudgeAnswer (λ answer. JudgeExplains m p old new answer × OnlyReads old new) judge_line judge_status
 
 abbrev pub JudgeSays : List ℕ → List ℕ → Shelved → Shelved → Said → Type 0
-JudgeSays m p old new said = (answer : JudgeAnswer) × JudgeExplains m p old new answer × IsSaid (judge_line answer) (judge_status answer) said
+JudgeSays m p old new said = JudgeDoes m p old new said.line.items said.status
 
 -- ---- the status that the two files call for, faults and out of memory aside
 -- for a plan file of a problem `MISSING` where it is absent, `TOO_LONG` where it is too long, `DONE` where it holds a feasible plan, and else `FAULTY`
@@ -123,11 +160,7 @@ JudgeCallsFor (Some bytes) plan status =
     × (((fault : ModelFault) × BytesMean bytes (Err fault) × (status ≡ REFUSED)) ⊎ ((problem : Problem) × BytesMean bytes (Ok problem) × PlanCallsFor problem plan status)))
 
 -- ---- what each status says
--- the words ask to judge a plan file, or to report on it
-pub record IsJudged (request : Option Request) (model_file plan_file : List ℕ) : Type 0 where
-  pub is : (request ≡ Some (judging model_file plan_file)) ⊎ (request ≡ Some (reporting model_file plan_file))
-
--- they ask to judge a plan that is feasible, and the line has its cost
+-- the plan file holds a feasible plan, and the line has its cost
 pub record FindsFeasible (before : Files) (model_file plan_file : List ℕ) (out_old out_new : Printed) : Type 0 where
   pub amount : ℕ
   pub holds : FilesAre before model_file plan_file (feasible amount)
@@ -140,12 +173,21 @@ IsFault (no_plan fault) = ⊤
 IsFault (broken rule) = ⊤
 IsFault (no_input why) = ⊥
 
--- they ask to judge a plan file, or to report on it, that holds no plan, or one that breaks a rule, and the line names the first fault
-pub record FindsFault (request : Option Request) (before : Files) (out_old out_new : Printed) : Type 0 where
-  pub model_file : List ℕ
-  pub plan_file : List ℕ
-  pub words : IsJudged request model_file plan_file
+-- the plan file holds no plan, or one that breaks a rule, and the line names the first fault
+pub record FindsFault (before : Files) (model_file plan_file : List ℕ) (out_old out_new : Printed) : Type 0 where
   pub answer : JudgeAnswer
   pub fault : IsFault answer
   pub holds : FilesAre before model_file plan_file answer
   pub line : Gains (judge_line answer) out_old out_new
+
+-- ---- the command
+abbrev pub judge_meaning : List ℕ → List ℕ → Meaning
+judge_meaning m p = record {
+  does = JudgeDoes m p;
+  reads = m ∷ p ∷ [];
+  passes = [];
+  writes = [];
+  stops = FilesStop m p;
+  calls_for = λ file. JudgeCallsFor (file m) (file p);
+  may_be_left = λ file. ⊥;
+}

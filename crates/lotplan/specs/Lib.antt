@@ -4,6 +4,7 @@ pub mod Reading
 pub mod Proving
 pub mod Writing
 pub mod Finding
+pub mod Meaning
 pub mod Planning
 pub mod Judging
 pub mod Checking

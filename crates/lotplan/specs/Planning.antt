@@ -1,10 +1,10 @@
 -- What `plan` answers, why, and what it leaves.
-use Rattle.std.specs.Prelude.{◌≡◌, ◌≢◌, ◌⊎◌, ◌<◌, ◌≤◌, ◌+◌, ℕ, List, ◌++◌, length, codes, decimal, IsTrue, Option, Some, None, Ok, Err}
+use Rattle.std.specs.Prelude.{◌≡◌, ◌⊎◌, ◌<◌, ◌≤◌, ℕ, List, [], ◌∷◌, ◌++◌, length, codes, decimal, IsTrue, Option, Some, None, Ok, Err}
 use Rattle.lot_sizing.specs.Problem.{IsUncoupled, Problem}
 use Rattle.lot_sizing.specs.Plan.{IsFeasible, Plan, cost}
 use Rattle.lot_sizing.specs.Best.{IsBest, IsFloor, IsImpossible}
 use Rattle.lot_sizing.specs.Texts.{optimal_line, plan_text}
-use Rattle.lot_io.specs.Outside.{Files, GrewBy, OnlyReads, Printed, Rose, Shelved}
+use Rattle.lot_io.specs.Outside.{Files, OnlyReads, Printed, Rose, Shelved}
 use Rattle.lot_draft.specs.declared.fault.ModelFault.{ModelFault}
 use Rattle.instance_reader.specs.Model.{BytesMean}
 use Rattle.plan_rules.specs.declared.plan.Plan.{Plan as Grids}
@@ -21,12 +21,12 @@ use Rattle.branching.specs.declared.found.Found.{Found}
 use Rattle.branching.specs.declared.found.RootSays.{RootSays}
 use Rattle.branching.specs.declared.found.RootSays.TheVariants as at_root
 use Rattle.branch_and_cut.specs.Search.{HasBudgetForAll, cost_of}
-use Rattle.command_line.specs.Words.{Request, planning}
-use Rattle.lotplan.specs.Writing.{StartsOnly, unwritten_line}
+use Rattle.lotplan.specs.Writing.{StartsAmong, unwritten_line}
 use Rattle.lotplan.specs.Reading.{read_meant, ModelExplains, OfModel, ReadAnswer, file_limit, read_line, read_status}
 use Rattle.lotplan.specs.Proving.{HoldsProof}
 use Rattle.lotplan.specs.Finding.{IsFound, PlanCosts}
-use Rattle.lotplan.specs.Saying.{Gains, IsSaid}
+use Rattle.lotplan.specs.Meaning.{Meaning}
+use Rattle.lotplan.specs.Saying.{Answered, Gains, IsSaid}
 use Rattle.lotplan.specs.declared.commands.plan.PlanAnswer.{PlanAnswer as HeldAnswer}
 use Rattle.lotplan.specs.declared.commands.plan.PlanAnswer.TheVariants as held
 use Rattle.lotplan.specs.declared.said.Said.{Said}
@@ -191,49 +191,23 @@ pub record HasNone (problem : Problem) : Type 0 where
   pub impossible : IsUncoupled problem → IsImpossible problem
 
 -- ---- what is written
--- all files but those of these two names are the same
-abbrev pub SameBesides : List ℕ → List ℕ → Files → Files → Type 0
-SameBesides plan_file certificate_file old new = (other : List ℕ) → other ≢ plan_file → other ≢ certificate_file → new other ≡ old other
-
--- two starts were made; where told, all files but those of these two names stay
-pub record StartsBoth (plan_file certificate_file : List ℕ) (old new : Shelved) : Type 0 where
-  pub told : new.told ≡ old.told
-  pub others : IsTrue old.told → SameBesides plan_file certificate_file old.file new.file
-  pub starts : GrewBy 2 old.starts new.starts
-
--- no write failed, and one start was made; where told, the file has these bytes, and all others stay
-pub record IsWritten (name bytes : List ℕ) (old new : Shelved) : Type 0 where
-  pub written : IsTrue old.told → new.file name ≡ Some bytes
-  pub fine : new.write_faults ≡ old.write_faults
-  pub touches : StartsOnly name old new
-
--- a write failed, and one start was made; where told, all files but the one of this name stay
-pub record IsUnwritten (name : List ℕ) (old new : Shelved) : Type 0 where
-  pub failed : Rose old.write_faults new.write_faults
-  pub touches : StartsOnly name old new
-
--- it was written, and the first of these is said; or it could not be, and the second is
-abbrev pub WritesAndSays : (name bytes : List ℕ) → (first second : Said) → Shelved → Shelved → Said → Type 0
-WritesAndSays name bytes first second old new said =
-    ((said ≡ first) × IsWritten name bytes old new) ⊎ ((said ≡ second) × IsUnwritten name old new)
-
 -- which file could not be written, what holds `Of` the problem, and what is left: the plan file of one with a plan, before the certificate file is touched; the certificate file, after the plan file holds a plan; or the certificate file of one of which no plan was found
 abbrev pub FailsAt : ((Problem → Type 0) → Type 0) → (plan_file certificate_file : List ℕ) → Shelved → Shelved → (file : List ℕ) → Type 0
 FailsAt Of p c old new file =
-    ((file ≡ p) × Of HasPlan × StartsOnly p old new)
-    ⊎ (((file ≡ c) × Of (λ problem. (amount : ℕ) × WritesFeasible new.file problem p amount) × StartsBoth p c old new)
-    ⊎ ((file ≡ c) × Of HasNone × StartsOnly c old new))
+    ((file ≡ p) × Of HasPlan × StartsAmong (p ∷ []) 1 old new)
+    ⊎ (((file ≡ c) × Of (λ problem. (amount : ℕ) × WritesFeasible new.file problem p amount) × StartsAmong (p ∷ c ∷ []) 2 old new)
+    ⊎ ((file ≡ c) × Of HasNone × StartsAmong (c ∷ []) 1 old new))
 
 -- why planning a problem with a budget of nodes ends in this answer, and what it leaves
 abbrev pub WriteExplains : Problem → ℕ → List ℕ → List ℕ → Shelved → Shelved → PlanAnswer → Type 0
 WriteExplains problem budget p c old new (optimal says nodes amount) =
-    (IsTrue old.told → WritesOptimal new.file problem p c budget says nodes amount) × StartsBoth p c old new
+    (IsTrue old.told → WritesOptimal new.file problem p c budget says nodes amount) × StartsAmong (p ∷ c ∷ []) 2 old new
 WriteExplains problem budget p c old new (infeasible says nodes) =
-    (IsTrue old.told → WritesInfeasible old.file new.file problem p c budget says nodes) × StartsOnly c old new
+    (IsTrue old.told → WritesInfeasible old.file new.file problem p c budget says nodes) × StartsAmong (c ∷ []) 1 old new
 WriteExplains problem budget p c old new (between says nodes bound amount) =
-    (IsTrue old.told → WritesBetween new.file problem p c budget says nodes bound amount) × StartsBoth p c old new
+    (IsTrue old.told → WritesBetween new.file problem p c budget says nodes bound amount) × StartsAmong (p ∷ c ∷ []) 2 old new
 WriteExplains problem budget p c old new (above says nodes bound) =
-    (IsTrue old.told → WritesAbove old.file new.file problem p c budget says nodes bound) × StartsOnly c old new
+    (IsTrue old.told → WritesAbove old.file new.file problem p c budget says nodes bound) × StartsAmong (c ∷ []) 1 old new
 WriteExplains problem budget p c old new (unwritten file) =
     Rose old.write_faults new.write_faults × FailsAt (λ P. IsTrue old.told → P problem) p c old new file
 WriteExplains problem budget p c old new (no_input why) = ⊥
@@ -241,13 +215,13 @@ WriteExplains problem budget p c old new (no_input why) = ⊥
 -- why planning these files ends in this answer, and what it leaves
 abbrev pub PlanExplains : List ℕ → List ℕ → List ℕ → ℕ → Shelved → Shelved → PlanAnswer → Type 0
 PlanExplains m p c budget old new (optimal says nodes amount) =
-    (IsTrue old.told → OfModel old.file m (λ problem. WritesOptimal new.file problem p c budget says nodes amount)) × StartsBoth p c old new
+    (IsTrue old.told → OfModel old.file m (λ problem. WritesOptimal new.file problem p c budget says nodes amount)) × StartsAmong (p ∷ c ∷ []) 2 old new
 PlanExplains m p c budget old new (infeasible says nodes) =
-    (IsTrue old.told → OfModel old.file m (λ problem. WritesInfeasible old.file new.file problem p c budget says nodes)) × StartsOnly c old new
+    (IsTrue old.told → OfModel old.file m (λ problem. WritesInfeasible old.file new.file problem p c budget says nodes)) × StartsAmong (c ∷ []) 1 old new
 PlanExplains m p c budget old new (between says nodes bound amount) =
-    (IsTrue old.told → OfModel old.file m (λ problem. WritesBetween new.file problem p c budget says nodes bound amount)) × StartsBoth p c old new
+    (IsTrue old.told → OfModel old.file m (λ problem. WritesBetween new.file problem p c budget says nodes bound amount)) × StartsAmong (p ∷ c ∷ []) 2 old new
 PlanExplains m p c budget old new (above says nodes bound) =
-    (IsTrue old.told → OfModel old.file m (λ problem. WritesAbove old.file new.file problem p c budget says nodes bound)) × StartsOnly c old new
+    (IsTrue old.told → OfModel old.file m (λ problem. WritesAbove old.file new.file problem p c budget says nodes bound)) × StartsAmong (c ∷ []) 1 old new
 PlanExplains m p c budget old new (unwritten file) =
     Rose old.write_faults new.write_faults × FailsAt (λ P. IsTrue old.told → OfModel old.file m P) p c old new file
 PlanExplains m p c budget old new (no_input why) = ModelExplains m old new why × OnlyReads old new
@@ -256,8 +230,12 @@ PlanExplains m p c budget old new (no_input why) = ModelExplains m old new why �
 abbrev pub WriteSays : Problem → ℕ → List ℕ → List ℕ → Shelved → Shelved → Said → Type 0
 WriteSays problem budget p c old new said = (answer : PlanAnswer) × WriteExplains problem budget p c old new answer × IsSaid (plan_line answer) (plan_status answer) said
 
+-- what planning these files does: an answer that has its cause
+abbrev pub PlanDoes : List ℕ → List ℕ → List ℕ → ℕ → Shelved → Shelved → List ℕ → Status → Type 0
+PlanDoes m p c budget old new = Answered PlanAnswer (PlanExplains m p c budget old new) plan_line plan_status
+
 abbrev pub PlanSays : List ℕ → List ℕ → List ℕ → ℕ → Shelved → Shelved → Said → Type 0
-PlanSays m p c budget old new said = (answer : PlanAnswer) × PlanExplains m p c budget old new answer × IsSaid (plan_line answer) (plan_status answer) said
+PlanSays m p c budget old new said = PlanDoes m p c budget old new said.line.items said.status
 
 -- ---- the status that the model file calls for, faults and out of memory aside
 -- the search may leave the problem open: it is coupled, and the budget isn't enough for all choices
@@ -285,10 +263,6 @@ MayLeave None budget = ⊥
 MayLeave (Some bytes) budget = (problem : Problem) × BytesMean bytes (Ok problem) × MayBeLeft problem budget
 
 -- ---- what each status says
--- the words ask to plan a model file with a budget of nodes
-pub record AsksToPlan (request : Option Request) (model_file plan_file certificate_file : List ℕ) (budget : ℕ) : Type 0 where
-  pub is : request ≡ Some (planning model_file plan_file certificate_file budget)
-
 -- the plan file holds a best plan of the problem in the model file, the certificate file proves that it is, and the lines have its cost
 pub record PlansBest (before after : Files) (model_file plan_file certificate_file : List ℕ) (budget : ℕ) (out_old out_new : Printed) : Type 0 where
   pub says : RootSays
@@ -297,13 +271,8 @@ pub record PlansBest (before after : Files) (model_file plan_file certificate_fi
   pub holds : OfModel before model_file (λ problem. WritesOptimal after problem plan_file certificate_file budget says nodes amount)
   pub lines : Gains (three_lines says nodes (optimal_line amount)) out_old out_new
 
--- they ask to plan one of whose problem no plan is feasible, the certificate file proves it, and the lines say so
-pub record FindsNoPlan (request : Option Request) (before after : Files) (out_old out_new : Printed) : Type 0 where
-  pub model_file : List ℕ
-  pub plan_file : List ℕ
-  pub certificate_file : List ℕ
-  pub budget : ℕ
-  pub words : AsksToPlan request model_file plan_file certificate_file budget
+-- no plan of the problem in the model file is feasible, the certificate file proves it, and the lines say so
+pub record FindsNoPlan (before after : Files) (model_file plan_file certificate_file : List ℕ) (budget : ℕ) (out_old out_new : Printed) : Type 0 where
   pub says : RootSays
   pub nodes : ℕ
   pub holds : OfModel before model_file (λ problem. WritesInfeasible before after problem plan_file certificate_file budget says nodes)
@@ -318,30 +287,27 @@ IsLeftOpen before after problem p c budget (above says nodes bound) = WritesAbov
 IsLeftOpen before after problem p c budget (unwritten file) = ⊥
 IsLeftOpen before after problem p c budget (no_input why) = ⊥
 
--- they ask to plan one whose best cost was left open, the certificate file proves the bound, and the lines say so
-pub record LeavesOpen (request : Option Request) (before after : Files) (out_old out_new : Printed) : Type 0 where
-  pub model_file : List ℕ
-  pub plan_file : List ℕ
-  pub certificate_file : List ℕ
-  pub budget : ℕ
-  pub words : AsksToPlan request model_file plan_file certificate_file budget
+-- the best cost of the problem in the model file was left open, the certificate file proves the bound, and the lines say so
+pub record LeavesOpen (before after : Files) (model_file plan_file certificate_file : List ℕ) (budget : ℕ) (out_old out_new : Printed) : Type 0 where
   pub answer : PlanAnswer
   pub holds : OfModel before model_file (λ problem. IsLeftOpen before after problem plan_file certificate_file budget answer)
   pub lines : Gains (plan_line answer) out_old out_new
 
--- they ask to plan a model, the plan file or the certificate file could not be written, and the line names it
-pub record FailsToWrite (request : Option Request) (old new : Shelved) (out_old out_new : Printed) : Type 0 where
-  pub model_file : List ℕ
-  pub plan_file : List ℕ
-  pub certificate_file : List ℕ
-  pub budget : ℕ
-  pub words : AsksToPlan request model_file plan_file certificate_file budget
+-- the plan file or the certificate file could not be written, and the line names it
+pub record FailsToWrite (old new : Shelved) (model_file plan_file certificate_file : List ℕ) (out_old out_new : Printed) : Type 0 where
   pub file : List ℕ
   pub failed : Rose old.write_faults new.write_faults
   pub left : FailsAt (λ P. IsTrue old.told → OfModel old.file model_file P) plan_file certificate_file old new file
   pub line : Gains (unwritten_line file) out_old out_new
 
--- two starts were made at most; where told, all files but those of these two names stay
-pub record StartsAtMostBoth (plan_file certificate_file : List ℕ) (old new : Shelved) : Type 0 where
-  pub others : IsTrue old.told → SameBesides plan_file certificate_file old.file new.file
-  pub starts : new.starts ≤ old.starts + 2
+-- ---- the command
+abbrev pub plan_meaning : List ℕ → List ℕ → List ℕ → ℕ → Meaning
+plan_meaning m p c budget = record {
+  does = PlanDoes m p c budget;
+  reads = m ∷ [];
+  passes = [];
+  writes = p ∷ c ∷ [];
+  stops = ModelExplains m;
+  calls_for = λ file. FileCallsFor (file m) budget;
+  may_be_left = λ file. MayLeave (file m) budget;
+}

@@ -26,3 +26,10 @@ Prints text ending code old new =
 abbrev pub Ends : Result Said AllocError → ℕ → Printed → Printed → Type 0
 Ends (Ok said) code old new = Prints said.line.items said.status code old new
 Ends (Err e) code old new = (code ≡ code_of NoMemory) × (new ≡ old)
+
+-- an answer has its cause, and gives this line, or these lines, and this status
+pub record Answered (A : Type 0) (Why : A → Type 0) (line_of : A → List ℕ) (status_of : A → Status) (line : List ℕ) (status : Status) : Type 0 where
+  pub answer : A
+  pub why : Why answer
+  pub says : line ≡ line_of answer
+  pub ends : status ≡ status_of answer

@@ -1,18 +1,21 @@
 -- What `demo` prints: what `plan` prints of two generated models.
-use Rattle.std.specs.Prelude.{◌≡◌, ◌<◌, ◌≤◌, ◌+◌, ◌*◌, ℕ, true, false, List, ◌++◌, codes, ⊤}
+use Rattle.std.specs.Prelude.{◌≡◌, ◌<◌, ◌≤◌, ◌+◌, ◌*◌, ℕ, true, false, List, [], ◌++◌, codes, ⊤}
 use Rattle.lot_sizing.specs.Problem.{IsUncoupled, Problem, item_count}
 use Rattle.lot_sizing.specs.Plan.{IsFeasible, Plan, cost}
 use Rattle.lot_sizing.specs.Best.{IsBest, IsFloor}
-use Rattle.lot_io.specs.Outside.{Printed}
+use Rattle.lot_io.specs.Outside.{Printed, Shelved}
 use Rattle.cert_lines.specs.declared.limits.TheConstants.{MAX_BRANCHES}
 use Rattle.branching.specs.declared.found.Found.{Found}
 use Rattle.branching.specs.declared.found.RootSays.TheVariants as at_root
 use Rattle.report.specs.Generated.{generated}
 use Rattle.lotplan.specs.Finding.{IsFound}
 use Rattle.lotplan.specs.Planning.{IsAnswerTo, IsWithinOwn, PlanAnswer, above, between, infeasible, optimal, plan_line, no_input, unwritten}
-use Rattle.lotplan.specs.Saying.{Gains, IsSaid}
+use Rattle.lotplan.specs.Meaning.{Meaning}
+use Rattle.lotplan.specs.Saying.{Gains}
 use Rattle.lotplan.specs.declared.commands.demo.TheConstants.{COUPLED_BUDGET, COUPLED_ITEMS, COUPLED_PERIODS, FREE_BUDGET, FREE_ITEMS, FREE_PERIODS}
 use Rattle.lotplan.specs.declared.said.Said.{Said}
+use Rattle.lotplan.specs.declared.status.TheConstants.{DONE}
+use Rattle.lotplan.specs.declared.status.Status.{Status}
 use Rattle.lotplan.specs.declared.status.Status.TheVariants.{Done}
 
 -- ---- the two models of a seed, and the most nodes that the tree of a certificate of each may have
@@ -97,11 +100,29 @@ pub record ShowsBoth (seed : ℕ) (text : List ℕ) : Type 0 where
   pub spent : IsSpent coupled_budget coupled
   pub lines : text ≡ two_groups free coupled
 
-abbrev pub DemoSays : ℕ → Said → Type 0
-DemoSays seed said = (text : List ℕ) × ShowsBoth seed text × IsSaid text Done said
-
 -- ---- what `DONE` says
 pub record Shows (seed : ℕ) (out_old out_new : Printed) : Type 0 where
   pub text : List ℕ
   pub shows : ShowsBoth seed text
   pub line : Gains text out_old out_new
+
+-- ---- the command
+-- it touches no file, and the lines are these
+pub record DemoDoes (seed : ℕ) (old new : Shelved) (line : List ℕ) (status : Status) : Type 0 where
+  pub same : new ≡ old
+  pub shows : ShowsBoth seed line
+  pub ends : status ≡ Done
+
+abbrev pub DemoSays : ℕ → Said → Type 0
+DemoSays seed said = (files : Shelved) → DemoDoes seed files files said.line.items said.status
+
+abbrev pub demo_meaning : ℕ → Meaning
+demo_meaning seed = record {
+  does = DemoDoes seed;
+  reads = [];
+  passes = [];
+  writes = [];
+  stops = λ old new why. ⊥;
+  calls_for = λ file status. status ≡ DONE;
+  may_be_left = λ file. ⊥;
+}

@@ -1,14 +1,14 @@
 -- What `upgrade` answers, why, and what it leaves.
-use Rattle.std.specs.Prelude.{◌≡◌, ◌⊎◌, ◌<◌, ◌≤◌, ℕ, List, length, IsTrue, Option, Some, None, Ok, Err}
+use Rattle.std.specs.Prelude.{◌≡◌, ◌⊎◌, ◌<◌, ◌≤◌, ℕ, List, [], ◌∷◌, length, IsTrue, Option, Some, None, Ok, Err}
 use Rattle.lot_sizing.specs.Problem.{Problem}
 use Rattle.lot_io.specs.Outside.{Files, OnlyReads, Printed, Rose, Shelved}
 use Rattle.lot_draft.specs.declared.fault.ModelFault.{ModelFault}
 use Rattle.instance_reader.specs.Model.{BytesMean, FirstVersionMeans}
 use Rattle.instance_reader.specs.Written.{IsModelText}
-use Rattle.command_line.specs.Words.{Request, upgrading}
 use Rattle.lotplan.specs.Reading.{read_meant, FirstExplains, HoldsFirst, HoldsProblem, ReadAnswer, file_limit, read_line, read_status}
-use Rattle.lotplan.specs.Writing.{StartsOnly, unwritten_line, written_line}
-use Rattle.lotplan.specs.Saying.{Gains, IsSaid}
+use Rattle.lotplan.specs.Writing.{StartsAmong, unwritten_line, written_line}
+use Rattle.lotplan.specs.Meaning.{Meaning}
+use Rattle.lotplan.specs.Saying.{Answered, Gains, IsSaid}
 use Rattle.lotplan.specs.declared.commands.upgrade.UpgradeAnswer.{UpgradeAnswer as HeldAnswer}
 use Rattle.lotplan.specs.declared.commands.upgrade.UpgradeAnswer.TheVariants as held
 use Rattle.lotplan.specs.declared.said.Said.{Said}
@@ -62,22 +62,26 @@ HoldsSomeFirst before model_file = (problem : Problem) × HoldsFirst before mode
 
 -- why the writing of a problem ends in this answer, and what it leaves
 abbrev pub RewriteExplains : Problem → List ℕ → Shelved → Shelved → UpgradeAnswer → Type 0
-RewriteExplains problem n old new (written file) = (file ≡ n) × (IsTrue old.told → WritesModel new.file problem n) × StartsOnly n old new
-RewriteExplains problem n old new (unwritten file) = (file ≡ n) × Rose old.write_faults new.write_faults × StartsOnly n old new
+RewriteExplains problem n old new (written file) = (file ≡ n) × (IsTrue old.told → WritesModel new.file problem n) × StartsAmong (n ∷ []) 1 old new
+RewriteExplains problem n old new (unwritten file) = (file ≡ n) × Rose old.write_faults new.write_faults × StartsAmong (n ∷ []) 1 old new
 RewriteExplains problem n old new (no_input why) = ⊥
 
 -- why the upgrade of these files ends in this answer, and what it leaves
 abbrev pub UpgradeExplains : List ℕ → List ℕ → Shelved → Shelved → UpgradeAnswer → Type 0
-UpgradeExplains m n old new (written file) = (file ≡ n) × (IsTrue old.told → HoldsUpgrade old.file new.file m n) × StartsOnly n old new
-UpgradeExplains m n old new (unwritten file) = (file ≡ n) × (IsTrue old.told → HoldsSomeFirst old.file m) × Rose old.write_faults new.write_faults × StartsOnly n old new
+UpgradeExplains m n old new (written file) = (file ≡ n) × (IsTrue old.told → HoldsUpgrade old.file new.file m n) × StartsAmong (n ∷ []) 1 old new
+UpgradeExplains m n old new (unwritten file) = (file ≡ n) × (IsTrue old.told → HoldsSomeFirst old.file m) × Rose old.write_faults new.write_faults × StartsAmong (n ∷ []) 1 old new
 UpgradeExplains m n old new (no_input why) = FirstExplains m old new why × OnlyReads old new
 
 -- what is said is an answer that has its cause
 abbrev pub RewriteSays : Problem → List ℕ → Shelved → Shelved → Said → Type 0
 RewriteSays problem n old new said = (answer : UpgradeAnswer) × RewriteExplains problem n old new answer × IsSaid (upgrade_line answer) (upgrade_status answer) said
 
+-- what the upgrade of these files does: an answer that has its cause
+abbrev pub UpgradeDoes : List ℕ → List ℕ → Shelved → Shelved → List ℕ → Status → Type 0
+UpgradeDoes m n old new = Answered UpgradeAnswer (UpgradeExplains m n old new) upgrade_line upgrade_status
+
 abbrev pub UpgradeSays : List ℕ → List ℕ → Shelved → Shelved → Said → Type 0
-UpgradeSays m n old new said = (answer : UpgradeAnswer) × UpgradeExplains m n old new answer × IsSaid (upgrade_line answer) (upgrade_status answer) said
+UpgradeSays m n old new said = UpgradeDoes m n old new said.line.items said.status
 
 -- ---- the status that the model file calls for, faults and out of memory aside
 -- `DONE` for a model of the first version, `REFUSED` for one that is refused as such, `MISSING` where it is absent, `TOO_LONG` where it is too long
@@ -94,11 +98,20 @@ pub record Upgrades (before after : Files) (model_file new_file : List ℕ) (out
   pub holds : HoldsUpgrade before after model_file new_file
   pub line : Gains (written_line new_file) out_old out_new
 
--- they ask to upgrade a model of the first version, the new file could not be written, and the line names it
-pub record FailsToUpgrade (request : Option Request) (old new : Shelved) (out_old out_new : Printed) : Type 0 where
-  pub model_file : List ℕ
-  pub new_file : List ℕ
-  pub words : request ≡ Some (upgrading model_file new_file)
+-- the model file is one of the first version, the new file could not be written, and the line names it
+pub record FailsToUpgrade (old new : Shelved) (model_file new_file : List ℕ) (out_old out_new : Printed) : Type 0 where
   pub holds : IsTrue old.told → HoldsSomeFirst old.file model_file
   pub failed : Rose old.write_faults new.write_faults
   pub line : Gains (unwritten_line new_file) out_old out_new
+
+-- ---- the command
+abbrev pub upgrade_meaning : List ℕ → List ℕ → Meaning
+upgrade_meaning m n = record {
+  does = UpgradeDoes m n;
+  reads = m ∷ [];
+  passes = [];
+  writes = n ∷ [];
+  stops = FirstExplains m;
+  calls_for = λ file. UpgradeCallsFor (file m);
+  may_be_left = λ file. ⊥;
+}

@@ -1,6 +1,7 @@
--- How a file is written, and the lines that name it.
-use Rattle.std.specs.Prelude.{◌≡◌, ◌≤◌, ◌+◌, ℕ, List, ◌++◌, codes, IsTrue}
-use Rattle.lot_io.specs.Outside.{GrewBy, SameElsewhere, Shelved}
+-- How files are written, and the lines that name them.
+use Rattle.std.specs.Prelude.{◌≡◌, ◌≢◌, ◌≤◌, ◌+◌, ℕ, zero, suc, List, [], ◌∷◌, ◌++◌, length, codes, IsTrue, Some, ⊤}
+use Rattle.lot_io.specs.Outside.{Files, GrewBy, Rose, Shelved}
+use Rattle.lotplan.specs.declared.writing.Output.{Output}
 
 -- it was written, or could not be
 abbrev pub written_line : List ℕ → List ℕ
@@ -9,13 +10,48 @@ written_line file = codes "written " ++ (file ++ codes "\n")
 abbrev pub unwritten_line : List ℕ → List ℕ
 unwritten_line file = codes "refused write " ++ (file ++ codes "\n")
 
--- one start was made; where told, all files but the one of this name stay
-pub record StartsOnly (name : List ℕ) (old new : Shelved) : Type 0 where
-  pub told : new.told ≡ old.told
-  pub others : IsTrue old.told → SameElsewhere name old.file new.file
-  pub starts : GrewBy 1 old.starts new.starts
+-- a name is none of these
+abbrev pub IsNoneOf : List (List ℕ) → List ℕ → Type 0
+IsNoneOf [] other = ⊤
+IsNoneOf (name ∷ names) other = (other ≢ name) × IsNoneOf names other
 
--- one start was made at most; where told, all files but the one of this name stay
-pub record StartsAtMost (name : List ℕ) (old new : Shelved) : Type 0 where
-  pub others : IsTrue old.told → SameElsewhere name old.file new.file
-  pub starts : new.starts ≤ old.starts + 1
+-- all files but those of these names are the same
+abbrev pub SameBesides : List (List ℕ) → Files → Files → Type 0
+SameBesides names old new = (other : List ℕ) → IsNoneOf names other → new other ≡ old other
+
+-- so many starts were made; where told, all files but those of these names stay
+pub record StartsAmong (names : List (List ℕ)) (count : ℕ) (old new : Shelved) : Type 0 where
+  pub told : new.told ≡ old.told
+  pub others : IsTrue old.told → SameBesides names old.file new.file
+  pub starts : GrewBy count old.starts new.starts
+
+-- at most one start a name was made; where told, all files but those of these names stay
+pub record StartsAtMost (names : List (List ℕ)) (old new : Shelved) : Type 0 where
+  pub others : IsTrue old.told → SameBesides names old.file new.file
+  pub starts : new.starts ≤ old.starts + length names
+
+-- no write failed, and one start was made; where told, the file has these bytes, and all others stay
+pub record IsWritten (name bytes : List ℕ) (old new : Shelved) : Type 0 where
+  pub written : IsTrue old.told → new.file name ≡ Some bytes
+  pub fine : new.write_faults ≡ old.write_faults
+  pub touches : StartsAmong (name ∷ []) 1 old new
+
+-- a write failed, and one start was made; where told, all files but the one of this name stay
+pub record IsUnwritten (name : List ℕ) (old new : Shelved) : Type 0 where
+  pub failed : Rose old.write_faults new.write_faults
+  pub touches : StartsAmong (name ∷ []) 1 old new
+
+-- a name and bytes
+abbrev pub output_of : Output → List ℕ × List ℕ
+output_of output = (output.name.now, output.bytes.now)
+
+-- files were written one after the other
+abbrev pub WritesAll : List (List ℕ × List ℕ) → Shelved → Shelved → Type 0
+WritesAll [] old new = new ≡ old
+WritesAll (output ∷ outputs) old new = (mid : Shelved) × IsWritten output.0 output.1 old mid × WritesAll outputs mid new
+
+-- those before a place were, the one at the place could not be, and none after it was started
+abbrev pub StopsAt : ℕ → List (List ℕ × List ℕ) → Shelved → Shelved → Type 0
+StopsAt place [] old new = ⊥
+StopsAt zero (output ∷ outputs) old new = IsUnwritten output.0 old new
+StopsAt (suc place) (output ∷ outputs) old new = (mid : Shelved) × IsWritten output.0 output.1 old mid × StopsAt place outputs mid new

@@ -1,5 +1,5 @@
 // The top call.
-ghost use Rattle.std.specs.Prelude.{◌≡◌, ◌≢◌, ◌⊎◌, ◌≤◌, ◌+◌, ℕ, List, IsTrue, Some, None, map, string_bytes, IfOk, OnErr};
+ghost use Rattle.std.specs.Prelude.{◌≡◌, ◌≢◌, ◌⊎◌, ◌≤◌, ◌+◌, ℕ, List, [], ◌∷◌, length, IsTrue, Some, None, map, string_bytes, IfOk, OnErr};
 ghost use Rattle.lot_draft.specs.declared.fault.ModelFault.{ModelFault};
 ghost use Rattle.lot_io.specs.Outside.{GrewBy, OnlyReads, OnlyWrites, Rose};
 ghost use Rattle.command_line.specs.Meant.{request_by};
@@ -8,16 +8,16 @@ ghost use Rattle.lotplan.specs.Saying.{Ends, IsSaid, Prints};
 ghost use Rattle.lotplan.specs.declared.status.TheConstants.{DONE, NO_PLAN, UNDECIDED, FAULTY, NO_COMMAND, REFUSED, MISSING, UNREAD, UNWRITTEN, UNPRINTED, NO_MEMORY, TOO_LONG};
 ghost use Rattle.lotplan.specs.declared.status.Status.TheVariants.{NoCommand};
 ghost use Rattle.lotplan.specs.Reading.{missing, refused, too_long, unread};
-ghost use Rattle.lotplan.specs.Writing.{StartsAtMost, StartsOnly};
-ghost use Rattle.lotplan.specs.Planning.{PlansBest, StartsAtMostBoth, StartsBoth};
-ghost use Rattle.lotplan.specs.Judging.{FindsFeasible};
-ghost use Rattle.lotplan.specs.Checking.{Accepts};
-ghost use Rattle.lotplan.specs.Upgrading.{Upgrades};
-ghost use Rattle.lotplan.specs.Bounding.{FindsBound};
+ghost use Rattle.lotplan.specs.Writing.{StartsAmong, StartsAtMost};
+ghost use Rattle.lotplan.specs.Planning.{FailsToWrite, FindsNoPlan, LeavesOpen, PlansBest};
+ghost use Rattle.lotplan.specs.Judging.{FindsFault, FindsFeasible};
+ghost use Rattle.lotplan.specs.Checking.{Accepts, CallsForDone, FindsRefused};
+ghost use Rattle.lotplan.specs.Upgrading.{FailsToUpgrade, Upgrades};
+ghost use Rattle.lotplan.specs.Bounding.{FindsBound, FindsNoBound, FindsNoPoint};
 ghost use Rattle.lotplan.specs.Reporting.{SumsUp};
-ghost use Rattle.lotplan.specs.Generating.{Generates};
+ghost use Rattle.lotplan.specs.Generating.{FailsToGenerate, Generates};
 ghost use Rattle.lotplan.specs.Showing.{Shows};
-ghost use Rattle.lotplan.specs.Run.{CallFor, CallsForDone, CannotWrite, HadNoFault, IsFaulty, IsIdle, IsInfeasible, IsNoCommand, IsProgramRun, Leaves, LeavesUndecided, SaysFor, Stops, most_given, refused_line};
+ghost use Rattle.lotplan.specs.Run.{CallFor, EndsAs, HadNoFault, IsIdle, IsNoCommand, IsProgramRun, Leaves, SaysFor, Stops, most_given, reads_of, refused_line, writes_of};
 
 use crate::commands::bound::bound_files;
 use crate::commands::check::check_files;
@@ -35,13 +35,14 @@ use lot_io::{Shelf, Sink};
 use search_plugins::{Heuristic, Proposer, Watch};
 use std::alloc::{AllocError, Global};
 
-/// Does what the words ask for, prints a line, or three of a plan, and gives the number of the status.
+/// Does what the words ask for, prints a line, or several of a plan, and gives the number of the status.
 ///
 /// `words` are those after the program's name: none for the program's name and version,
 /// `plan MODEL PLAN CERTIFICATE` with or without `--nodes N`, `judge MODEL PLAN`, `check MODEL PLAN CERTIFICATE`,
-/// `report MODEL PLAN`, `gen SEED ITEMS PERIODS MODEL`, `demo SEED`, `upgrade MODEL NEW`, `bound MODEL`, or a call for
-/// help. N is the most nodes that the certificate's tree may have, from 1 to `LARGEST_BUDGET`, and
-/// else `USUAL_BUDGET`. The numbers, and what each means, stand in `status.rt`. All memory is taken before the first write.
+/// `report MODEL PLAN`, `gen SEED ITEMS PERIODS MODEL`, `demo SEED`, `upgrade MODEL NEW` or `bound MODEL`. All others are no
+/// command, a call for help or for the version among them: its text is printed, and nothing is done. N is the most nodes
+/// that the certificate's tree may have, from 1 to `LARGEST_BUDGET`, and else `USUAL_BUDGET`. The numbers, and what each
+/// means, stand in `status.rt`; `DONE` is always a claim. All memory is taken before the first write.
 /// `plan` writes the plan file before the certificate file, and where it found no plan the certificate file alone.
 ///
 /// What is said of counts holds over every shelf and sink, the machine's own too; what is said of
@@ -55,11 +56,15 @@ pub fn run<S: Shelf, K: Sink, P: Proposer, H: Heuristic<P::Hint>, W: Watch>(
     shelf: &mut S,
     out: &mut K,
 ) -> u8
+    // Whatever the words ask for: where memory sufficed and printing didn't fail, the command did what it means, the line
+    // that says so was printed, and nothing else, and the number is that of its status.
+    ensures ended { result ≢ NO_MEMORY → result ≢ UNPRINTED
+        → EndsAs (command_of (map string_bytes words.now)) result (S.shown shelf.old) (S.shown shelf.new) (K.shown out.old) (K.shown out.new) }
+
     // After `plan` with status `DONE` the plan file holds a best plan, the certificate file one that is accepted
     // with it and proves that no plan costs less, and the lines have the certificate's number of nodes and
     // the plan's cost.
-    ensures optimal { (m p c : List ℕ) (n : ℕ) → command_of (map string_bytes words.now) ≡ Some (planning m p c n) → result ≡ DONE
-        → IsTrue (S.shown shelf.old).told
+    ensures optimal { (m p c : List ℕ) (n : ℕ) → command_of (map string_bytes words.now) ≡ Some (planning m p c n) → result ≡ DONE → IsTrue (S.shown shelf.old).told
         → PlansBest (S.shown shelf.old).file (S.shown shelf.new).file m p c n (K.shown out.old) (K.shown out.new) }
 
     // After `plan` with status `DONE`, `NO_PLAN` or `UNDECIDED`, `check` calls for `DONE` on the files that it left.
@@ -67,59 +72,78 @@ pub fn run<S: Shelf, K: Sink, P: Proposer, H: Heuristic<P::Hint>, W: Watch>(
         → (result ≡ DONE) ⊎ ((result ≡ NO_PLAN) ⊎ (result ≡ UNDECIDED)) → IsTrue (S.shown shelf.old).told
         → CallsForDone (S.shown shelf.new).file m p c }
 
-    // After `judge` with status `DONE` the plan file holds a feasible plan, and the line has its cost.
-    ensures judged { (m p : List ℕ) → command_of (map string_bytes words.now) ≡ Some (judging m p) → result ≡ DONE
-        → IsTrue (S.shown shelf.old).told
+    // On `NO_PLAN` there is none; the certificate file proves it, and the plan file is as it was. On `UNDECIDED` the
+    // certificate file proves the bound, and the plan file holds a plan that costs more, or is as it was. On `UNWRITTEN`
+    // the line names the file that could not be written.
+    ensures plan_infeasible { (m p c : List ℕ) (n : ℕ) → command_of (map string_bytes words.now) ≡ Some (planning m p c n) → result ≡ NO_PLAN → IsTrue (S.shown shelf.old).told
+        → FindsNoPlan (S.shown shelf.old).file (S.shown shelf.new).file m p c n (K.shown out.old) (K.shown out.new) }
+    ensures plan_undecided { (m p c : List ℕ) (n : ℕ) → command_of (map string_bytes words.now) ≡ Some (planning m p c n) → result ≡ UNDECIDED → IsTrue (S.shown shelf.old).told
+        → LeavesOpen (S.shown shelf.old).file (S.shown shelf.new).file m p c n (K.shown out.old) (K.shown out.new) }
+    ensures plan_unwritten { (m p c : List ℕ) (n : ℕ) → command_of (map string_bytes words.now) ≡ Some (planning m p c n) → result ≡ UNWRITTEN
+        → FailsToWrite (S.shown shelf.old) (S.shown shelf.new) m p c (K.shown out.old) (K.shown out.new) }
+    ensures wrote_certificate { (m p c : List ℕ) (n : ℕ) → command_of (map string_bytes words.now) ≡ Some (planning m p c n) → result ≡ NO_PLAN
+        → StartsAmong (c ∷ []) 1 (S.shown shelf.old) (S.shown shelf.new) }
+    ensures wrote_some { (m p c : List ℕ) (n : ℕ) → command_of (map string_bytes words.now) ≡ Some (planning m p c n) → result ≡ UNDECIDED
+        → StartsAmong (p ∷ c ∷ []) 2 (S.shown shelf.old) (S.shown shelf.new) ⊎ StartsAmong (c ∷ []) 1 (S.shown shelf.old) (S.shown shelf.new) }
+
+    // After `judge` with status `DONE` the plan file holds a feasible plan, and the line has its cost; with `FAULTY` it
+    // holds none, or one that breaks a rule, and the line names the first fault.
+    ensures judged { (m p : List ℕ) → command_of (map string_bytes words.now) ≡ Some (judging m p) → result ≡ DONE → IsTrue (S.shown shelf.old).told
         → FindsFeasible (S.shown shelf.old).file m p (K.shown out.old) (K.shown out.new) }
+    ensures judge_faulty { (m p : List ℕ) → command_of (map string_bytes words.now) ≡ Some (judging m p) → result ≡ FAULTY → IsTrue (S.shown shelf.old).told
+        → FindsFault (S.shown shelf.old).file m p (K.shown out.old) (K.shown out.new) }
 
     // After `check` with status `DONE` the certificate is accepted, and the claim on the line is true of the
     // problem, whoever wrote the file: the plan file's plan is best and costs what is claimed, no plan
-    // is feasible, or none costs less than is claimed.
-    ensures checked { (m p c : List ℕ) → command_of (map string_bytes words.now) ≡ Some (checking m p c) → result ≡ DONE
-        → IsTrue (S.shown shelf.old).told
+    // is feasible, or none costs less than is claimed. With `FAULTY` the line names the first fault.
+    ensures checked { (m p c : List ℕ) → command_of (map string_bytes words.now) ≡ Some (checking m p c) → result ≡ DONE → IsTrue (S.shown shelf.old).told
         → Accepts (S.shown shelf.old).file m p c (K.shown out.old) (K.shown out.new) }
+    ensures check_faulty { (m p c : List ℕ) → command_of (map string_bytes words.now) ≡ Some (checking m p c) → result ≡ FAULTY → IsTrue (S.shown shelf.old).told
+        → FindsRefused (S.shown shelf.old).file m p c (K.shown out.old) (K.shown out.new) }
+
+    // After `report` with status `DONE` the plan file holds a feasible plan, and the line is its summary; with `FAULTY` the
+    // line is what `judge` says.
+    ensures summed { (m p : List ℕ) → command_of (map string_bytes words.now) ≡ Some (reporting m p) → result ≡ DONE → IsTrue (S.shown shelf.old).told
+        → SumsUp (S.shown shelf.old).file m p (K.shown out.old) (K.shown out.new) }
+    ensures report_faulty { (m p : List ℕ) → command_of (map string_bytes words.now) ≡ Some (reporting m p) → result ≡ FAULTY → IsTrue (S.shown shelf.old).told
+        → FindsFault (S.shown shelf.old).file m p (K.shown out.old) (K.shown out.new) }
 
     // After `upgrade` with status `DONE` the new file means the problem of the model file.
-    ensures upgraded { (m n : List ℕ) → command_of (map string_bytes words.now) ≡ Some (upgrading m n) → result ≡ DONE
-        → IsTrue (S.shown shelf.old).told
+    ensures upgraded { (m n : List ℕ) → command_of (map string_bytes words.now) ≡ Some (upgrading m n) → result ≡ DONE → IsTrue (S.shown shelf.old).told
         → Upgrades (S.shown shelf.old).file (S.shown shelf.new).file m n (K.shown out.old) (K.shown out.new) }
-
-    // After `report` with status `DONE` the plan file holds a feasible plan, and the line is its summary.
-    ensures summed { (m p : List ℕ) → command_of (map string_bytes words.now) ≡ Some (reporting m p) → result ≡ DONE
-        → IsTrue (S.shown shelf.old).told
-        → SumsUp (S.shown shelf.old).file m p (K.shown out.old) (K.shown out.new) }
+    ensures upgrade_unwritten { (m n : List ℕ) → command_of (map string_bytes words.now) ≡ Some (upgrading m n) → result ≡ UNWRITTEN
+        → FailsToUpgrade (S.shown shelf.old) (S.shown shelf.new) m n (K.shown out.old) (K.shown out.new) }
 
     // After `gen` with status `DONE` the model file holds the coupled model of the seed, which means a problem with a
-    // feasible plan.
-    ensures generated { (seed items periods : ℕ) (m : List ℕ)
-        → command_of (map string_bytes words.now) ≡ Some (generating seed items periods m) → result ≡ DONE
-        → IsTrue (S.shown shelf.old).told
+    // feasible plan. No file is read.
+    ensures generated { (seed items periods : ℕ) (m : List ℕ) → command_of (map string_bytes words.now) ≡ Some (generating seed items periods m) → result ≡ DONE → IsTrue (S.shown shelf.old).told
         → Generates (S.shown shelf.new).file seed items periods m (K.shown out.old) (K.shown out.new) }
+    ensures generate_unwritten { (seed items periods : ℕ) (m : List ℕ) → command_of (map string_bytes words.now) ≡ Some (generating seed items periods m) → result ≡ UNWRITTEN
+        → FailsToGenerate (S.shown shelf.old) (S.shown shelf.new) m (K.shown out.old) (K.shown out.new) }
+    ensures generate_only_writes { (seed items periods : ℕ) (m : List ℕ) → command_of (map string_bytes words.now) ≡ Some (generating seed items periods m)
+        → OnlyWrites m (S.shown shelf.old) (S.shown shelf.new) }
 
     // After `demo` with status `DONE` the lines are those that `plan` prints of what was found of two models of the seed,
     // and what they say is so.
     ensures showed { (seed : ℕ) → command_of (map string_bytes words.now) ≡ Some (demonstrating seed) → result ≡ DONE
         → Shows seed (K.shown out.old) (K.shown out.new) }
 
-    // After `bound` with status `DONE` the number on the line is the base bound of the problem, and no plan costs less.
-    ensures bounded { (m : List ℕ) → command_of (map string_bytes words.now) ≡ Some (bounding m) → result ≡ DONE
-        → IsTrue (S.shown shelf.old).told
+    // After `bound` with status `DONE` the number on the line is the base bound of the problem, and no plan costs less;
+    // with `NO_PLAN` no point meets the base rows, so that no plan is feasible; with `UNDECIDED` the tableau is too large, or
+    // a number of the run doesn't fit.
+    ensures bounded { (m : List ℕ) → command_of (map string_bytes words.now) ≡ Some (bounding m) → result ≡ DONE → IsTrue (S.shown shelf.old).told
         → FindsBound (S.shown shelf.old).file m (K.shown out.old) (K.shown out.new) }
+    ensures bound_infeasible { (m : List ℕ) → command_of (map string_bytes words.now) ≡ Some (bounding m) → result ≡ NO_PLAN → IsTrue (S.shown shelf.old).told
+        → FindsNoPoint (S.shown shelf.old).file m (K.shown out.old) (K.shown out.new) }
+    ensures bound_undecided { (m : List ℕ) → command_of (map string_bytes words.now) ≡ Some (bounding m) → result ≡ UNDECIDED → IsTrue (S.shown shelf.old).told
+        → FindsNoBound (S.shown shelf.old).file m (K.shown out.old) (K.shown out.new) }
 
     // Without a fault the status is `NO_MEMORY`, or exactly what the words and the files call for.
     ensures called_for { IsTrue (S.shown shelf.old).told
         → HadNoFault (S.shown shelf.old) (S.shown shelf.new) (K.shown out.old) (K.shown out.new)
         → (result ≡ NO_MEMORY) ⊎ CallFor (command_of (map string_bytes words.now)) (S.shown shelf.old).file result }
 
-    // The cause of each other status, and its lines. On `NO_PLAN` there is none; after `plan` the certificate file
-    // proves it, and the plan file is as it was. On `UNDECIDED` after `plan` the certificate file proves the bound, and the
-    // plan file holds a plan that costs more, or is as it was.
-    ensures infeasible { result ≡ NO_PLAN → IsTrue (S.shown shelf.old).told
-        → IsInfeasible (command_of (map string_bytes words.now)) (S.shown shelf.old).file (S.shown shelf.new).file (K.shown out.old) (K.shown out.new) }
-    ensures undecided { result ≡ UNDECIDED → IsTrue (S.shown shelf.old).told
-        → LeavesUndecided (command_of (map string_bytes words.now)) (S.shown shelf.old).file (S.shown shelf.new).file (K.shown out.old) (K.shown out.new) }
-    ensures faulty { result ≡ FAULTY → IsTrue (S.shown shelf.old).told
-        → IsFaulty (command_of (map string_bytes words.now)) (S.shown shelf.old).file (K.shown out.old) (K.shown out.new) }
+    // The cause of each status that any command may have, and its line.
     ensures no_command { result ≡ NO_COMMAND → IsNoCommand (command_of (map string_bytes words.now)) (K.shown out.old) (K.shown out.new) }
     ensures refused_words { command_of (map string_bytes words.now) ≡ None → AreTaken (map string_bytes words.now)
         → (result ≡ NO_MEMORY) ⊎ Prints refused_line NoCommand result (K.shown out.old) (K.shown out.new) }
@@ -129,49 +153,20 @@ pub fn run<S: Shelf, K: Sink, P: Proposer, H: Heuristic<P::Hint>, W: Watch>(
         (S.shown shelf.old) (S.shown shelf.new) (K.shown out.old) (K.shown out.new) (missing file) }
     ensures unread { result ≡ UNREAD → (file : List ℕ) × Stops (command_of (map string_bytes words.now))
         (S.shown shelf.old) (S.shown shelf.new) (K.shown out.old) (K.shown out.new) (unread file) }
-    ensures unwritten { result ≡ UNWRITTEN → CannotWrite (command_of (map string_bytes words.now))
-        (S.shown shelf.old) (S.shown shelf.new) (K.shown out.old) (K.shown out.new) }
     ensures unprinted { result ≡ UNPRINTED → Rose (K.shown out.old).faults (K.shown out.new).faults }
     ensures too_long { result ≡ TOO_LONG → (file : List ℕ) × Stops (command_of (map string_bytes words.now))
         (S.shown shelf.old) (S.shown shelf.new) (K.shown out.old) (K.shown out.new) (too_long file) }
 
-    // What is written: nothing on a status but those that `quiet` names, and by `plan`, `upgrade` and `gen` alone; never
-    // another file.
+    // What is written: nothing on a status but those that `quiet` names; never another file than the command's own; on
+    // `DONE` each of these once; and by a command that has none nothing at all.
     ensures quiet { result ≢ DONE → result ≢ NO_PLAN → result ≢ UNDECIDED → result ≢ UNWRITTEN → result ≢ UNPRINTED
         → OnlyReads (S.shown shelf.old) (S.shown shelf.new) }
-    ensures wrote { (m p c : List ℕ) (n : ℕ) → command_of (map string_bytes words.now) ≡ Some (planning m p c n) → result ≡ DONE
-        → GrewBy 2 (S.shown shelf.old).starts (S.shown shelf.new).starts }
-    ensures wrote_certificate { (m p c : List ℕ) (n : ℕ) → command_of (map string_bytes words.now) ≡ Some (planning m p c n) → result ≡ NO_PLAN
-        → StartsOnly c (S.shown shelf.old) (S.shown shelf.new) }
-    ensures wrote_some { (m p c : List ℕ) (n : ℕ) → command_of (map string_bytes words.now) ≡ Some (planning m p c n) → result ≡ UNDECIDED
-        → StartsBoth p c (S.shown shelf.old) (S.shown shelf.new) ⊎ StartsOnly c (S.shown shelf.old) (S.shown shelf.new) }
-    ensures others { (m p c : List ℕ) (n : ℕ) → command_of (map string_bytes words.now) ≡ Some (planning m p c n)
-        → StartsAtMostBoth p c (S.shown shelf.old) (S.shown shelf.new) }
-    ensures rewrote { (m n : List ℕ) → command_of (map string_bytes words.now) ≡ Some (upgrading m n) → result ≡ DONE
-        → GrewBy 1 (S.shown shelf.old).starts (S.shown shelf.new).starts }
-    ensures upgrade_others { (m n : List ℕ) → command_of (map string_bytes words.now) ≡ Some (upgrading m n)
-        → StartsAtMost n (S.shown shelf.old) (S.shown shelf.new) }
-    ensures wrote_generated { (seed items periods : ℕ) (m : List ℕ)
-        → command_of (map string_bytes words.now) ≡ Some (generating seed items periods m) → result ≡ DONE
-        → GrewBy 1 (S.shown shelf.old).starts (S.shown shelf.new).starts }
-    ensures generate_others { (seed items periods : ℕ) (m : List ℕ)
-        → command_of (map string_bytes words.now) ≡ Some (generating seed items periods m)
-        → StartsAtMost m (S.shown shelf.old) (S.shown shelf.new) }
-    ensures generate_only_writes { (seed items periods : ℕ) (m : List ℕ)
-        → command_of (map string_bytes words.now) ≡ Some (generating seed items periods m)
-        → OnlyWrites m (S.shown shelf.old) (S.shown shelf.new) }
-    ensures judge_only_reads { (m p : List ℕ) → command_of (map string_bytes words.now) ≡ Some (judging m p)
-        → OnlyReads (S.shown shelf.old) (S.shown shelf.new) }
-    ensures check_only_reads { (m p c : List ℕ) → command_of (map string_bytes words.now) ≡ Some (checking m p c)
-        → OnlyReads (S.shown shelf.old) (S.shown shelf.new) }
-    ensures report_only_reads { (m p : List ℕ) → command_of (map string_bytes words.now) ≡ Some (reporting m p)
-        → OnlyReads (S.shown shelf.old) (S.shown shelf.new) }
-    ensures bound_only_reads { (m : List ℕ) → command_of (map string_bytes words.now) ≡ Some (bounding m)
-        → OnlyReads (S.shown shelf.old) (S.shown shelf.new) }
+    ensures writes { StartsAtMost (writes_of (command_of (map string_bytes words.now))) (S.shown shelf.old) (S.shown shelf.new) }
+    ensures wrote { result ≡ DONE → GrewBy (length (writes_of (command_of (map string_bytes words.now)))) (S.shown shelf.old).starts (S.shown shelf.new).starts }
+    ensures only_reads { writes_of (command_of (map string_bytes words.now)) ≡ [] → OnlyReads (S.shown shelf.old) (S.shown shelf.new) }
 
-    // What is read: nothing for words that are no command, for the version and help, and by `demo`; no file by `gen`; at
-    // most as much as one file within the limit by `plan`, `upgrade` and `bound`, and as two by `judge`, `report` and
-    // `check`, and by `check` three times a certificate file besides.
+    // What is read: nothing for words that are no command, for the version, and by `demo`; no file by `gen`; of each file
+    // that a command reads at most as much as of one within the limit, and by `check` three times a certificate file.
     ensures idle { IsIdle (command_of (map string_bytes words.now)) → S.shown shelf.new ≡ S.shown shelf.old }
     ensures given { (S.shown shelf.new).given ≤ (S.shown shelf.old).given + most_given (command_of (map string_bytes words.now)) }
     ensures told { (S.shown shelf.new).told ≡ (S.shown shelf.old).told }
@@ -230,14 +225,13 @@ fn said<S: Shelf, P: Proposer, H: Heuristic<P::Hint>, W: Watch>(
 ) -> Result<Said, AllocError>
     ensures said { IfOk result (SaysFor (command_of (map string_bytes words.now)) (S.shown shelf.old) (S.shown shelf.new)) }
     ensures refused { command_of (map string_bytes words.now) ≡ None → AreTaken (map string_bytes words.now) → IfOk result (IsSaid refused_line NoCommand) }
-    ensures memory { OnErr result (Leaves (command_of (map string_bytes words.now)) (S.shown shelf.old) (S.shown shelf.new)) }
+    ensures memory { OnErr result (Leaves (reads_of (command_of (map string_bytes words.now))) (S.shown shelf.old) (S.shown shelf.new)) }
     ensures given { (S.shown shelf.new).given ≤ (S.shown shelf.old).given + most_given (command_of (map string_bytes words.now)) }
 {
     commands_are_allowed();
     match read_words(alloc, words) {
         Ok(Reading::Command(command)) => said_of(alloc, proposer, heuristic, watch, command, shelf),
-        Ok(Reading::Help(text)) => Ok(Said::of(text, Status::Done)),
-        Ok(Reading::Refused(text)) => Ok(Said::of(text, Status::NoCommand)),
+        Ok(Reading::Text(text)) => Ok(Said::of(text, Status::NoCommand)),
         Err(_) => Err(AllocError),
     }
 }
@@ -253,7 +247,7 @@ fn said_of<S: Shelf, P: Proposer, H: Heuristic<P::Hint>, W: Watch>(
 ) -> Result<Said, AllocError>
     requires { IsAllowed (request_by command) }
     ensures said { IfOk result (SaysFor (Some (request_by command.entry)) (S.shown shelf.old) (S.shown shelf.new)) }
-    ensures memory { OnErr result (Leaves (Some (request_by command.entry)) (S.shown shelf.old) (S.shown shelf.new)) }
+    ensures memory { OnErr result (Leaves (reads_of (Some (request_by command.entry))) (S.shown shelf.old) (S.shown shelf.new)) }
     ensures given { (S.shown shelf.new).given ≤ (S.shown shelf.old).given + most_given (Some (request_by command.entry)) }
 {
     match command {

@@ -1,9 +1,8 @@
 // `judge`: judges the plan in a file, by the model in another.
-ghost use Rattle.std.specs.Prelude.{◌≡◌, ◌≤◌, ◌+◌, ◌*◌, string_bytes, IfOk};
+ghost use Rattle.std.specs.Prelude.{◌≡◌, ◌≤◌, ◌+◌, ◌*◌, string_bytes, IsTrue, IfOk, IfErr};
 ghost use Rattle.lot_io.specs.Outside.{OnlyReads, piece_size};
-ghost use Rattle.plan_rules.specs.Held.{AllFit, plan_of};
-ghost use Rattle.lotplan.specs.Judging.{IsJudgement, JudgeSays, PlanFileSays, judge_line, judge_meant, judge_status};
-ghost use Rattle.lotplan.specs.Reading.{file_limit};
+ghost use Rattle.lotplan.specs.Judging.{ExplainsNone, HoldFeasible, HoldsBoth, JudgeExplains, JudgeSays, PlanFileExplains, judge_line, judge_meant, judge_status};
+ghost use Rattle.lotplan.specs.Reading.{HoldsPlan, file_limit};
 ghost use Rattle.lotplan.specs.Saying.{IsSaid};
 
 use crate::model_file::{PlanStop, ReadAnswer, Stop, no_plan_line, read_model, read_plan_file};
@@ -60,33 +59,81 @@ impl JudgeAnswer<'_> {
     }
 }
 
-// Judges a plan.
-fn judge_given(instance: &Instance, given: &Plan) -> JudgeAnswer<'static>
-    requires { AllFit instance.now given.now }
-    ensures { IsJudgement instance.now (plan_of given.now) (judge_meant result) }
-{
-    match judge(instance, given) {
-        Ok(cost) => JudgeAnswer::Feasible(cost),
-        Err(rule) => JudgeAnswer::Broken(rule),
-    }
+/// A plan that is feasible, and what it costs.
+#[derive(Drop)]
+struct JudgedPlan {
+    pub plan: Plan,
+    pub cost: u128,
 }
 
-// Judges the plan in a file.
-fn judge_plan<S: Shelf>(
+/// A model, a feasible plan of it, and what the plan costs.
+#[derive(Drop)]
+pub struct FeasiblePlan {
+    pub instance: Instance,
+    pub plan: Plan,
+    pub cost: u128,
+}
+
+/// Why files hold no feasible plan.
+#[derive(Clone, Copy, Debug, PartialEq, Eq)]
+pub enum NotFeasible<'a> {
+    /// What `judge` answers.
+    Judged(JudgeAnswer<'a>),
+    /// Memory ran out.
+    Memory,
+}
+
+// The plan in a file, where it is feasible.
+fn read_judged<'a, S: Shelf>(
     alloc: Global,
     instance: &Instance,
-    plan: &str,
+    plan: &'a str,
     shelf: &mut S,
-) -> Result<Said, AllocError>
-    ensures said { IfOk result (PlanFileSays instance.now plan.now (S.shown shelf.old) (S.shown shelf.new)) }
+) -> Result<JudgedPlan, NotFeasible<'a>>
+    ensures plan { IfOk result (λ read. IsTrue (S.shown shelf.old).told → HoldsPlan (S.shown shelf.old).file plan.entry.now instance.now read.plan) }
+    ensures feasible { IfOk result (λ read. HoldFeasible instance.now read.plan read.cost) }
+    ensures stop { IfErr result (ExplainsNone (PlanFileExplains instance.now plan.entry.now (S.shown shelf.old) (S.shown shelf.new))) }
     ensures reads { OnlyReads (S.shown shelf.old) (S.shown shelf.new) }
     ensures given { (S.shown shelf.new).given ≤ (S.shown shelf.old).given + (file_limit + piece_size) }
 {
-    match read_plan_file(alloc, instance, plan, shelf) {
-        Ok(given) => judge_given(instance, &given).answer_line(alloc),
-        Err(PlanStop::NoPlan(fault)) => JudgeAnswer::NoPlan(fault).answer_line(alloc),
-        Err(PlanStop::Answered(why)) => JudgeAnswer::NoInput(why).answer_line(alloc),
-        Err(PlanStop::Memory) => Err(AllocError),
+    let given = match read_plan_file(alloc, instance, plan, shelf) {
+        Ok(given) => given,
+        Err(PlanStop::NoPlan(fault)) => return Err(NotFeasible::Judged(JudgeAnswer::NoPlan(fault))),
+        Err(PlanStop::Answered(why)) => return Err(NotFeasible::Judged(JudgeAnswer::NoInput(why))),
+        Err(PlanStop::Memory) => return Err(NotFeasible::Memory),
+    };
+    match judge(instance, &given) {
+        Ok(cost) => Ok(JudgedPlan { plan: given, cost }),
+        Err(rule) => Err(NotFeasible::Judged(JudgeAnswer::Broken(rule))),
+    }
+}
+
+/// The model in a file, and the plan in another where it is feasible.
+pub fn read_feasible<'a, S: Shelf>(
+    alloc: Global,
+    model: &'a str,
+    plan: &'a str,
+    shelf: &mut S,
+) -> Result<FeasiblePlan, NotFeasible<'a>>
+    ensures holds { IfOk result (λ read. IsTrue (S.shown shelf.old).told
+        → HoldsBoth (S.shown shelf.old).file model.entry.now plan.entry.now read.instance read.plan) }
+    ensures feasible { IfOk result (λ read. HoldFeasible read.instance read.plan read.cost) }
+    ensures stop { IfErr result (ExplainsNone (JudgeExplains model.entry.now plan.entry.now (S.shown shelf.old) (S.shown shelf.new))) }
+    ensures reads { OnlyReads (S.shown shelf.old) (S.shown shelf.new) }
+    ensures given { (S.shown shelf.new).given ≤ (S.shown shelf.old).given + 2 * (file_limit + piece_size) }
+{
+    let instance = match read_model(alloc, model, shelf) {
+        Ok(instance) => instance,
+        Err(Stop::Answered(why)) => return Err(NotFeasible::Judged(JudgeAnswer::NoInput(why))),
+        Err(Stop::Memory) => return Err(NotFeasible::Memory),
+    };
+    match read_judged(alloc, &instance, plan, shelf) {
+        Ok(read) => Ok(FeasiblePlan {
+            instance,
+            plan: read.plan,
+            cost: read.cost,
+        }),
+        Err(stop) => Err(stop),
     }
 }
 
@@ -101,9 +148,9 @@ pub fn judge_files<S: Shelf>(
     ensures reads { OnlyReads (S.shown shelf.old) (S.shown shelf.new) }
     ensures given { (S.shown shelf.new).given ≤ (S.shown shelf.old).given + 2 * (file_limit + piece_size) }
 {
-    match read_model(alloc, model, shelf) {
-        Ok(instance) => judge_plan(alloc, &instance, plan, shelf),
-        Err(Stop::Answered(why)) => JudgeAnswer::NoInput(why).answer_line(alloc),
-        Err(Stop::Memory) => Err(AllocError),
+    match read_feasible(alloc, model, plan, shelf) {
+        Ok(read) => JudgeAnswer::Feasible(read.cost).answer_line(alloc),
+        Err(NotFeasible::Judged(answer)) => answer.answer_line(alloc),
+        Err(NotFeasible::Memory) => Err(AllocError),
     }
 }

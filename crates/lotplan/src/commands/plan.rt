@@ -1,21 +1,21 @@
 // `plan`: plans the model in a file, and writes the plan that was found and the certificate of what is claimed to two
 // others.
-ghost use Rattle.std.specs.Prelude.{◌≡◌, ◌≢◌, ◌≤◌, ◌+◌, string_bytes, IfOk, IfSome, OnErr};
+ghost use Rattle.std.specs.Prelude.{◌≡◌, ◌≢◌, ◌≤◌, ◌+◌, string_bytes, Some, None, IfOk, IfSome, OnErr};
 ghost use Rattle.lot_io.specs.Outside.{OnlyReads, piece_size};
 ghost use Rattle.branch_and_cut.specs.Search.{IsGoodPlan, cost_of};
 ghost use Rattle.lotplan.specs.Finding.{IsFound};
-ghost use Rattle.lotplan.specs.Planning.{IsAnswerTo, PlanSays, WriteSays, WritesAndSays, plan_line, plan_meant, plan_status, root_line};
+ghost use Rattle.lotplan.specs.Planning.{IsAnswerTo, PlanSays, WriteSays, plan_line, plan_meant, plan_status, root_line};
 ghost use Rattle.lotplan.specs.Reading.{file_limit};
 ghost use Rattle.lotplan.specs.Saying.{IsSaid};
 
 use crate::model_file::{ReadAnswer, Stop, read_model};
 use crate::said::Said;
 use crate::status::Status;
-use crate::writing::unwritten_line;
+use crate::writing::{Output, unwritten_line, write_all};
 use branch_and_cut::search_all;
 use branching::{Found, RootSays};
 use certificate::{Claim, write_certificate};
-use lot_io::{Shelf, write_file};
+use lot_io::Shelf;
 use lot_model::Instance;
 use plan_file::write_plan;
 use plan_rules::{Plan, judge};
@@ -166,25 +166,77 @@ pub fn answer_of(instance: &Instance, found: &Found) -> PlanAnswer<'static>
     }
 }
 
-// Writes the certificate file, which is the last, and gives what is said then.
-fn write_last<S: Shelf>(
-    certificate: &str,
-    bytes: &[u8],
-    written: Said,
-    unwritten: Said,
+// Writes the plan that was found, and then the certificate. All memory is taken before the first of the two files is started.
+fn write_both<'a, S: Shelf>(
+    alloc: Global,
+    instance: &Instance,
+    budget: u64,
+    found: &Found,
+    chosen: &Plan,
+    plan: &'a str,
+    certificate: &'a str,
     shelf: &mut S,
-) -> Said
-    ensures said { WritesAndSays certificate.now bytes.now written unwritten (S.shown shelf.old) (S.shown shelf.new) result }
+) -> Result<Said, AllocError>
+    requires found { IsFound instance.now budget found.now }
+    requires chosen { found.now.plan ≡ Some chosen.now }
+    requires apart { plan.now ≢ certificate.now }
+    ensures said { IfOk result (WriteSays instance.now budget plan.now certificate.now (S.shown shelf.old) (S.shown shelf.new)) }
+    ensures memory { OnErr result (S.shown shelf.new ≡ S.shown shelf.old) }
     ensures given { (S.shown shelf.new).given ≡ (S.shown shelf.old).given }
 {
-    match write_file(shelf, certificate, bytes) {
-        Ok(()) => written,
-        Err(_) => unwritten,
+    let bytes = write_plan(alloc, instance, chosen)?;
+    let proof = write_certificate(alloc, &found.certificate)?;
+    let written = answer_of(instance, found).answer_line(alloc)?;
+    let unplanned = PlanAnswer::Unwritten(plan).answer_line(alloc)?;
+    let unproved = PlanAnswer::Unwritten(certificate).answer_line(alloc)?;
+    let outputs = [
+        Output {
+            name: plan,
+            bytes: bytes.as_slice(),
+        },
+        Output {
+            name: certificate,
+            bytes: proof.as_slice(),
+        },
+    ];
+    match write_all(shelf, &outputs) {
+        Ok(()) => Ok(written),
+        Err(0) => Ok(unplanned),
+        Err(_) => Ok(unproved),
+    }
+}
+
+// Writes the certificate alone, where no plan was found.
+fn write_proof<S: Shelf>(
+    alloc: Global,
+    instance: &Instance,
+    budget: u64,
+    found: &Found,
+    plan: &str,
+    certificate: &str,
+    shelf: &mut S,
+) -> Result<Said, AllocError>
+    requires found { IsFound instance.now budget found.now }
+    requires none { found.now.plan ≡ None }
+    requires apart { plan.now ≢ certificate.now }
+    ensures said { IfOk result (WriteSays instance.now budget plan.now certificate.now (S.shown shelf.old) (S.shown shelf.new)) }
+    ensures memory { OnErr result (S.shown shelf.new ≡ S.shown shelf.old) }
+    ensures given { (S.shown shelf.new).given ≡ (S.shown shelf.old).given }
+{
+    let proof = write_certificate(alloc, &found.certificate)?;
+    let written = answer_of(instance, found).answer_line(alloc)?;
+    let unproved = PlanAnswer::Unwritten(certificate).answer_line(alloc)?;
+    let outputs = [Output {
+        name: certificate,
+        bytes: proof.as_slice(),
+    }];
+    match write_all(shelf, &outputs) {
+        Ok(()) => Ok(written),
+        Err(_) => Ok(unproved),
     }
 }
 
 // Writes what was found with a budget of nodes: the plan file, where there is a plan, and then the certificate file.
-// All memory is taken before the first of them is started.
 fn write_found<S: Shelf>(
     alloc: Global,
     instance: &Instance,
@@ -200,20 +252,18 @@ fn write_found<S: Shelf>(
     ensures memory { OnErr result (S.shown shelf.new ≡ S.shown shelf.old) }
     ensures given { (S.shown shelf.new).given ≡ (S.shown shelf.old).given }
 {
-    let proof = write_certificate(alloc, &found.certificate)?;
-    let written = answer_of(instance, found).answer_line(alloc)?;
-    let unproved = PlanAnswer::Unwritten(certificate).answer_line(alloc)?;
-    let chosen = match &found.plan {
-        Some(chosen) => chosen,
-        None => {
-            return Ok(write_last(certificate, proof.as_slice(), written, unproved, shelf));
-        }
-    };
-    let bytes = write_plan(alloc, instance, chosen)?;
-    let unplanned = PlanAnswer::Unwritten(plan).answer_line(alloc)?;
-    match write_file(shelf, plan, bytes.as_slice()) {
-        Ok(()) => Ok(write_last(certificate, proof.as_slice(), written, unproved, shelf)),
-        Err(_) => Ok(unplanned),
+    match &found.plan {
+        Some(chosen) => write_both(
+            alloc,
+            instance,
+            budget,
+            found,
+            chosen,
+            plan,
+            certificate,
+            shelf,
+        ),
+        None => write_proof(alloc, instance, budget, found, plan, certificate, shelf),
     }
 }
 

@@ -1,4 +1,4 @@
-use Rattle.lotplan.proofs.Answered.{call_some}
+use Rattle.lotplan.proofs.Statuses.{call_some}
 use Rattle.lotplan.proofs.laws.statuses_exist.Goals as goal
 
 pub returns : goal.returns

@@ -1,7 +1,7 @@
 use Rattle.std.proofs.Common.{refl, sym, subst, map, string_bytes, IfOk, OnErr}
 use Rattle.command_line.specs.Meant.{request_by}
 use Rattle.command_line.specs.Words.{command_of}
-use Rattle.lotplan.specs.Run.{Leaves, SaysFor}
+use Rattle.lotplan.specs.Run.{Leaves, SaysFor, reads_of}
 use Rattle.lotplan.proofs.Explained.{leaves_same}
 use Rattle.lotplan.proofs.running.said.Goals as goal
 
@@ -18,19 +18,13 @@ returns-in-Ok-Command-clause-said g c =
 pub returns-in-Ok-Command-clause-memory : goal.returns-in-Ok-Command-clause-memory
 returns-in-Ok-Command-clause-memory g c =
     let request = rw (c.in-Ok-Command.field-0-is) at c.in-Ok-Command.ensures.means in
-    subst (λ a. OnErr c.said_of.result (Leaves a (g.S.Shelf.shown c.args.shelf.now) (g.S.Shelf.shown c.said_of.new.shelf))) request c.said_of.ensures.memory
+    subst (λ a. OnErr c.said_of.result (Leaves (reads_of a) (g.S.Shelf.shown c.args.shelf.now) (g.S.Shelf.shown c.said_of.new.shelf))) request c.said_of.ensures.memory
 
-pub returns-in-Ok-Help-clause-said : goal.returns-in-Ok-Help-clause-said
-returns-in-Ok-Help-clause-said g c =
-    let request = rw (c.in-Ok-Help.field-0-is) at c.in-Ok-Help.ensures.means in
+pub returns-in-Ok-Text-clause-said : goal.returns-in-Ok-Text-clause-said
+returns-in-Ok-Text-clause-said g c =
+    let request = rw (c.in-Ok-Text.field-0-is) at c.in-Ok-Text.ensures.means in
     let old = g.S.Shelf.shown c.args.shelf.now in
-    subst (λ a. SaysFor a old old c.of.result) request (refl, string_bytes c.in-Ok-Help.text, c.of.ensures)
-
-pub returns-in-Ok-Refused-clause-said : goal.returns-in-Ok-Refused-clause-said
-returns-in-Ok-Refused-clause-said g c =
-    let request = rw (c.in-Ok-Refused.field-0-is) at c.in-Ok-Refused.ensures.means in
-    let old = g.S.Shelf.shown c.args.shelf.now in
-    subst (λ a. SaysFor a old old c.of-in-Ok-Refused.result) request (refl, string_bytes c.in-Ok-Refused.text, c.of-in-Ok-Refused.ensures)
+    subst (λ a. SaysFor a old old c.of.result) request (record { same = refl; ends = c.of.ensures.status })
 
 pub returns-in-Err-clause-memory : goal.returns-in-Err-clause-memory
-returns-in-Err-clause-memory g c = leaves_same (command_of (map string_bytes c.args.words.now)) (g.S.Shelf.shown c.args.shelf.now)
+returns-in-Err-clause-memory g c = leaves_same (reads_of (command_of (map string_bytes c.args.words.now))) (g.S.Shelf.shown c.args.shelf.now)

@@ -1,16 +1,32 @@
 use Rattle.std.proofs.Common.{refl, sym, subst}
-use Rattle.lotplan.specs.Generating.{IsGenerated, written}
+use Rattle.lotplan.specs.Generating.{IsGenerated, unwritten, written}
 use Rattle.lotplan.proofs.commands.generate.generate_file.Goals as goal
 
 pub returns-in-Ok-clause-said : goal.returns-in-Ok-clause-said
 returns-in-Ok-clause-said g c =
-    let is = subst (λ b. IsGenerated c.args.seed c.args.items c.args.periods b) (sym c.as_slice.ensures.value) c.in_ok-text.ensures in (
-      written c.args.model.now,
-      (
+    let is = subst (λ b. IsGenerated c.args.seed c.args.items c.args.periods b) (sym c.as_slice.ensures.value) c.in_ok-text.ensures in record {
+      answer = written c.args.model.now;
+      why = (
         refl,
         λ t. record { bytes = c.as_slice.result.now; written = c.in-Ok.ensures.written t; is = is },
-        record { told = c.write_file.ensures.writes.told; others = c.write_file.ensures.writes.others; starts = c.write_file.ensures.starts },
+        record { told = c.write_file.ensures.writes.told; others = λ t other apart. c.write_file.ensures.writes.others t other apart.0; starts = c.write_file.ensures.starts },
         c.write_file.ensures.writes,
-      ),
-      c.in_ok-written.ensures,
-    )
+      );
+      says = c.in_ok-written.ensures.line;
+      ends = c.in_ok-written.ensures.status;
+    }
+
+pub returns-clause-said : goal.returns-clause-said
+returns-clause-said g c =
+    let failed = c.in-Err.ensures.failed in
+    record {
+      answer = unwritten c.args.model.now;
+      why = (
+        refl,
+        failed.0,
+        record { told = c.write_file.ensures.writes.told; others = λ t other apart. c.write_file.ensures.writes.others t other apart.0; starts = c.write_file.ensures.starts },
+        c.write_file.ensures.writes,
+      );
+      says = c.in_ok-unwritten.ensures.line;
+      ends = c.in_ok-unwritten.ensures.status;
+    }

@@ -1,6 +1,6 @@
 use Rattle.std.proofs.Common.{refl, sym, subst}
 use Rattle.instance_reader.specs.Written.{IsModelText}
-use Rattle.lotplan.specs.Upgrading.{written}
+use Rattle.lotplan.specs.Upgrading.{unwritten, written}
 use Rattle.lotplan.proofs.commands.upgrade.write_upgraded.Goals as goal
 
 pub returns-in-Ok-clause-said : goal.returns-in-Ok-clause-said
@@ -16,7 +16,19 @@ returns-in-Ok-clause-said g c =
           text = text;
           means = c.texts_mean_it.ensures c.as_slice.result.now text;
         },
-        record { told = c.write_file.ensures.writes.told; others = c.write_file.ensures.writes.others; starts = c.write_file.ensures.starts },
+        record { told = c.write_file.ensures.writes.told; others = λ t other apart. c.write_file.ensures.writes.others t other apart.0; starts = c.write_file.ensures.starts },
       ),
       c.in_ok-written.ensures,
+    )
+
+pub returns-clause-said : goal.returns-clause-said
+returns-clause-said g c =
+    let failed = c.in-Err.ensures.failed in (
+      unwritten c.args.upgraded.now,
+      (
+        refl,
+        failed.0,
+        record { told = c.write_file.ensures.writes.told; others = λ t other apart. c.write_file.ensures.writes.others t other apart.0; starts = c.write_file.ensures.starts },
+      ),
+      c.in_ok-unwritten.ensures,
     )

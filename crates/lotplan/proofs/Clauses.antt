@@ -1,0 +1,181 @@
+-- What a command's number says, in the command's own words.
+use Rattle.std.proofs.Common.{◌≡◌, ◌≢◌, ◌<◌, ◌⊎◌, ⊎_elim, ℕ, List, [], ◌∷◌, Option, Some, IsTrue, inl, inr, refl, subst, arith}
+use Rattle.lot_io.specs.Outside.{OnlyReads, Printed, Shelved}
+use Rattle.command_line.specs.Words.{Request, IsAllowed, planning, judging, checking, reporting, generating, demonstrating, upgrading, bounding}
+use Rattle.lotplan.specs.Writing.{StartsAmong}
+use Rattle.lotplan.specs.Planning.{FailsToWrite, FindsNoPlan, LeavesOpen, PlanAnswer, PlanExplains, PlansBest, plan_line, plan_status}
+use Rattle.lotplan.specs.Judging.{FindsFault, FindsFeasible, JudgeAnswer, JudgeExplains, judge_line, judge_status}
+use Rattle.lotplan.specs.Checking.{Accepts, CallsForDone, CheckAnswer, CheckCallsFor, CheckExplains, FindsRefused, check_line, check_status}
+use Rattle.lotplan.specs.Upgrading.{FailsToUpgrade, UpgradeAnswer, UpgradeExplains, Upgrades, upgrade_line, upgrade_status}
+use Rattle.lotplan.specs.Bounding.{BoundAnswer, BoundExplains, FindsBound, FindsNoBound, FindsNoPoint, bound_line, bound_status}
+use Rattle.lotplan.specs.Reporting.{ReportAnswer, ReportExplains, SumsUp, report_line, report_status}
+use Rattle.lotplan.specs.Generating.{FailsToGenerate, GenerateAnswer, GenerateExplains, Generates, generate_line, generate_status}
+use Rattle.lotplan.specs.Showing.{Shows}
+use Rattle.lotplan.specs.Laws.{StatusesAreOne}
+use Rattle.lotplan.specs.Saying.{Answered, Gains}
+use Rattle.lotplan.specs.Status.{code_of}
+use Rattle.lotplan.specs.Run.{Does, EndsAs, IsProgramRun}
+use Rattle.lotplan.specs.declared.status.Status.{Status}
+use Rattle.lotplan.specs.declared.status.TheConstants.{DONE, NO_PLAN, UNDECIDED, FAULTY, UNWRITTEN, UNPRINTED, NO_MEMORY}
+use Rattle.lotplan.proofs.Explained.{ended}
+use Rattle.lotplan.proofs.Outputs.{line_is, number_is}
+use Rattle.lotplan.proofs.Planned as of_planned
+use Rattle.lotplan.proofs.Planned.{EndsSearch}
+use Rattle.lotplan.proofs.Judged as of_judged
+use Rattle.lotplan.proofs.Checked as of_checked
+use Rattle.lotplan.proofs.Upgraded as of_upgraded
+use Rattle.lotplan.proofs.Bounded as of_bounded
+use Rattle.lotplan.proofs.Reported as of_reported
+use Rattle.lotplan.proofs.Generated as of_generated
+
+module _ (request : Option Request) (code : ℕ) (old new : Shelved) (out_old out_new : Printed) where
+  -- an answer, its cause, its number and its line
+  abbrev Ending : (A : Type 0) → (A → Type 0) → (A → List ℕ) → (A → Status) → Type 0
+  Ending A Why line_of status_of = (answer : A) × Why answer × (code ≡ code_of (status_of answer)) × Gains (line_of answer) out_old out_new
+
+  ending : (A : Type 0) (Why : A → Type 0) (line_of : A → List ℕ) (status_of : A → Status) → ((line : List ℕ) (status : Status) → Does request old new line status → Answered A Why line_of status_of line status) → EndsAs request code old new out_old out_new → Ending A Why line_of status_of
+  ending A Why line_of status_of to e =
+      let d = to e.line e.status e.does in
+      (d.answer, d.why, number_is A Why line_of status_of e.line e.status code d e.number, line_is A Why line_of status_of e.line e.status out_old out_new d e.gains)
+
+  plan_ending : (m p c : List ℕ) (budget : ℕ) → request ≡ Some (planning m p c budget) → EndsAs request code old new out_old out_new → Ending PlanAnswer (PlanExplains m p c budget old new) plan_line plan_status
+  plan_ending m p c budget is e = ending PlanAnswer (PlanExplains m p c budget old new) plan_line plan_status (λ line status d. subst (λ r. Does r old new line status) is d) e
+
+  judge_ending : (m p : List ℕ) → request ≡ Some (judging m p) → EndsAs request code old new out_old out_new → Ending JudgeAnswer (λ answer. JudgeExplains m p old new answer × OnlyReads old new) judge_line judge_status
+  judge_ending m p is e = ending JudgeAnswer (λ answer. JudgeExplains m p old new answer × OnlyReads old new) judge_line judge_status (λ line status d. subst (λ r. Does r old new line status) is d) e
+
+  check_ending : (m p c : List ℕ) → request ≡ Some (checking m p c) → EndsAs request code old new out_old out_new → Ending CheckAnswer (λ answer. CheckExplains m p c old new answer × OnlyReads old new) check_line check_status
+  check_ending m p c is e = ending CheckAnswer (λ answer. CheckExplains m p c old new answer × OnlyReads old new) check_line check_status (λ line status d. subst (λ r. Does r old new line status) is d) e
+
+  report_ending : (m p : List ℕ) → request ≡ Some (reporting m p) → EndsAs request code old new out_old out_new → Ending ReportAnswer (λ answer. ReportExplains m p old new answer × OnlyReads old new) report_line report_status
+  report_ending m p is e = ending ReportAnswer (λ answer. ReportExplains m p old new answer × OnlyReads old new) report_line report_status (λ line status d. subst (λ r. Does r old new line status) is d) e
+
+  generate_ending : (seed items periods : ℕ) (m : List ℕ) → request ≡ Some (generating seed items periods m) → EndsAs request code old new out_old out_new → Ending GenerateAnswer (GenerateExplains seed items periods m old new) generate_line generate_status
+  generate_ending seed items periods m is e = ending GenerateAnswer (GenerateExplains seed items periods m old new) generate_line generate_status (λ line status d. subst (λ r. Does r old new line status) is d) e
+
+  upgrade_ending : (m n : List ℕ) → request ≡ Some (upgrading m n) → EndsAs request code old new out_old out_new → Ending UpgradeAnswer (UpgradeExplains m n old new) upgrade_line upgrade_status
+  upgrade_ending m n is e = ending UpgradeAnswer (UpgradeExplains m n old new) upgrade_line upgrade_status (λ line status d. subst (λ r. Does r old new line status) is d) e
+
+  bound_ending : (m : List ℕ) → request ≡ Some (bounding m) → EndsAs request code old new out_old out_new → Ending BoundAnswer (λ answer. BoundExplains m old new answer × OnlyReads old new) bound_line bound_status
+  bound_ending m is e = ending BoundAnswer (λ answer. BoundExplains m old new answer × OnlyReads old new) bound_line bound_status (λ line status d. subst (λ r. Does r old new line status) is d) e
+
+  module _ (run : IsProgramRun request code old new out_old out_new) where
+    -- ---- `plan`
+    pub optimal : (m p c : List ℕ) (budget : ℕ) → request ≡ Some (planning m p c budget) → code ≡ DONE → IsTrue old.told → PlansBest old.file new.file m p c budget out_old out_new
+    optimal m p c budget is is_code t =
+        let (answer, why, number, line) = plan_ending m p c budget is (ended request code old new out_old out_new run (λ e. omega (arith, e, is_code)) (λ e. omega (arith, e, is_code))) in
+        of_planned.optimal_at m p c budget code old new out_old out_new answer why number line is_code t
+
+    pub plan_infeasible : (m p c : List ℕ) (budget : ℕ) → request ≡ Some (planning m p c budget) → code ≡ NO_PLAN → IsTrue old.told → FindsNoPlan old.file new.file m p c budget out_old out_new
+    plan_infeasible m p c budget is is_code t =
+        let (answer, why, number, line) = plan_ending m p c budget is (ended request code old new out_old out_new run (λ e. omega (arith, e, is_code)) (λ e. omega (arith, e, is_code))) in
+        (of_planned.impossible_at m p c budget code old new out_old out_new answer why number line is_code).0 t
+
+    pub wrote_certificate : (m p c : List ℕ) (budget : ℕ) → request ≡ Some (planning m p c budget) → code ≡ NO_PLAN → StartsAmong (c ∷ []) 1 old new
+    wrote_certificate m p c budget is is_code =
+        let (answer, why, number, line) = plan_ending m p c budget is (ended request code old new out_old out_new run (λ e. omega (arith, e, is_code)) (λ e. omega (arith, e, is_code))) in
+        (of_planned.impossible_at m p c budget code old new out_old out_new answer why number line is_code).1
+
+    pub plan_undecided : (m p c : List ℕ) (budget : ℕ) → request ≡ Some (planning m p c budget) → code ≡ UNDECIDED → IsTrue old.told → LeavesOpen old.file new.file m p c budget out_old out_new
+    plan_undecided m p c budget is is_code t =
+        let (answer, why, number, line) = plan_ending m p c budget is (ended request code old new out_old out_new run (λ e. omega (arith, e, is_code)) (λ e. omega (arith, e, is_code))) in
+        (of_planned.open_at m p c budget code old new out_old out_new answer why number line is_code).0 t
+
+    pub wrote_some : (m p c : List ℕ) (budget : ℕ) → request ≡ Some (planning m p c budget) → code ≡ UNDECIDED → StartsAmong (p ∷ c ∷ []) 2 old new ⊎ StartsAmong (c ∷ []) 1 old new
+    wrote_some m p c budget is is_code =
+        let (answer, why, number, line) = plan_ending m p c budget is (ended request code old new out_old out_new run (λ e. omega (arith, e, is_code)) (λ e. omega (arith, e, is_code))) in
+        (of_planned.open_at m p c budget code old new out_old out_new answer why number line is_code).1
+
+    pub plan_unwritten : (m p c : List ℕ) (budget : ℕ) → request ≡ Some (planning m p c budget) → code ≡ UNWRITTEN → FailsToWrite old new m p c out_old out_new
+    plan_unwritten m p c budget is is_code =
+        let (answer, why, number, line) = plan_ending m p c budget is (ended request code old new out_old out_new run (λ e. omega (arith, e, is_code)) (λ e. omega (arith, e, is_code))) in
+        of_planned.unwritten_at m p c budget code old new out_old out_new answer why number line is_code
+
+    -- ---- `judge`
+    pub judged : (m p : List ℕ) → request ≡ Some (judging m p) → code ≡ DONE → IsTrue old.told → FindsFeasible old.file m p out_old out_new
+    judged m p is is_code t =
+        let (answer, why, number, line) = judge_ending m p is (ended request code old new out_old out_new run (λ e. omega (arith, e, is_code)) (λ e. omega (arith, e, is_code))) in
+        of_judged.feasible_at m p code old new out_old out_new answer why.0 number line is_code t
+
+    pub judge_faulty : (m p : List ℕ) → request ≡ Some (judging m p) → code ≡ FAULTY → IsTrue old.told → FindsFault old.file m p out_old out_new
+    judge_faulty m p is is_code t =
+        let (answer, why, number, line) = judge_ending m p is (ended request code old new out_old out_new run (λ e. omega (arith, e, is_code)) (λ e. omega (arith, e, is_code))) in
+        of_judged.fault_at m p code old new out_old out_new answer why.0 number line is_code t
+
+    -- ---- `check`
+    pub checked : (m p c : List ℕ) → request ≡ Some (checking m p c) → code ≡ DONE → IsTrue old.told → Accepts old.file m p c out_old out_new
+    checked m p c is is_code t =
+        let (answer, why, number, line) = check_ending m p c is (ended request code old new out_old out_new run (λ e. omega (arith, e, is_code)) (λ e. omega (arith, e, is_code))) in
+        of_checked.accepts_at m p c code old new out_old out_new answer why.0 number line is_code t
+
+    pub check_faulty : (m p c : List ℕ) → request ≡ Some (checking m p c) → code ≡ FAULTY → IsTrue old.told → FindsRefused old.file m p c out_old out_new
+    check_faulty m p c is is_code t =
+        let (answer, why, number, line) = check_ending m p c is (ended request code old new out_old out_new run (λ e. omega (arith, e, is_code)) (λ e. omega (arith, e, is_code))) in
+        of_checked.refused_at m p c code old new out_old out_new answer why.0 number line is_code t
+
+    -- ---- `report`
+    pub summed : (m p : List ℕ) → request ≡ Some (reporting m p) → code ≡ DONE → IsTrue old.told → SumsUp old.file m p out_old out_new
+    summed m p is is_code t =
+        let (answer, why, number, line) = report_ending m p is (ended request code old new out_old out_new run (λ e. omega (arith, e, is_code)) (λ e. omega (arith, e, is_code))) in
+        of_reported.summed_at m p code old new out_old out_new answer why.0 number line is_code t
+
+    pub report_faulty : (m p : List ℕ) → request ≡ Some (reporting m p) → code ≡ FAULTY → IsTrue old.told → FindsFault old.file m p out_old out_new
+    report_faulty m p is is_code t =
+        let (answer, why, number, line) = report_ending m p is (ended request code old new out_old out_new run (λ e. omega (arith, e, is_code)) (λ e. omega (arith, e, is_code))) in
+        of_reported.fault_at m p code old new out_old out_new answer why.0 number line is_code t
+
+    -- ---- `gen`
+    pub generated : (seed items periods : ℕ) (m : List ℕ) → request ≡ Some (generating seed items periods m) → code ≡ DONE → IsTrue old.told → Generates new.file seed items periods m out_old out_new
+    generated seed items periods m is is_code t =
+        let (answer, why, number, line) = generate_ending seed items periods m is (ended request code old new out_old out_new run (λ e. omega (arith, e, is_code)) (λ e. omega (arith, e, is_code))) in
+        of_generated.generated_at seed items periods m code old new out_old out_new answer why number line is_code t
+
+    pub generate_unwritten : (seed items periods : ℕ) (m : List ℕ) → request ≡ Some (generating seed items periods m) → code ≡ UNWRITTEN → FailsToGenerate old new m out_old out_new
+    generate_unwritten seed items periods m is is_code =
+        let (answer, why, number, line) = generate_ending seed items periods m is (ended request code old new out_old out_new run (λ e. omega (arith, e, is_code)) (λ e. omega (arith, e, is_code))) in
+        of_generated.unwritten_at seed items periods m code old new out_old out_new answer why number line is_code
+
+    -- ---- `upgrade`
+    pub upgraded : (m n : List ℕ) → request ≡ Some (upgrading m n) → code ≡ DONE → IsTrue old.told → Upgrades old.file new.file m n out_old out_new
+    upgraded m n is is_code t =
+        let (answer, why, number, line) = upgrade_ending m n is (ended request code old new out_old out_new run (λ e. omega (arith, e, is_code)) (λ e. omega (arith, e, is_code))) in
+        of_upgraded.upgraded_at m n code old new out_old out_new answer why number line is_code t
+
+    pub upgrade_unwritten : (m n : List ℕ) → request ≡ Some (upgrading m n) → code ≡ UNWRITTEN → FailsToUpgrade old new m n out_old out_new
+    upgrade_unwritten m n is is_code =
+        let (answer, why, number, line) = upgrade_ending m n is (ended request code old new out_old out_new run (λ e. omega (arith, e, is_code)) (λ e. omega (arith, e, is_code))) in
+        of_upgraded.unwritten_at m n code old new out_old out_new answer why number line is_code
+
+    -- ---- `bound`
+    pub bounded : (m : List ℕ) → request ≡ Some (bounding m) → code ≡ DONE → IsTrue old.told → FindsBound old.file m out_old out_new
+    bounded m is is_code t =
+        let (answer, why, number, line) = bound_ending m is (ended request code old new out_old out_new run (λ e. omega (arith, e, is_code)) (λ e. omega (arith, e, is_code))) in
+        of_bounded.bounded_at m code old new out_old out_new answer why.0 number line is_code t
+
+    pub bound_infeasible : (m : List ℕ) → request ≡ Some (bounding m) → code ≡ NO_PLAN → IsTrue old.told → FindsNoPoint old.file m out_old out_new
+    bound_infeasible m is is_code t =
+        let (answer, why, number, line) = bound_ending m is (ended request code old new out_old out_new run (λ e. omega (arith, e, is_code)) (λ e. omega (arith, e, is_code))) in
+        of_bounded.empty_at m code old new out_old out_new answer why.0 number line is_code t
+
+    pub bound_undecided : (m : List ℕ) → request ≡ Some (bounding m) → code ≡ UNDECIDED → IsTrue old.told → FindsNoBound old.file m out_old out_new
+    bound_undecided m is is_code t =
+        let (answer, why, number, line) = bound_ending m is (ended request code old new out_old out_new run (λ e. omega (arith, e, is_code)) (λ e. omega (arith, e, is_code))) in
+        of_bounded.undecided_at m code old new out_old out_new answer why.0 number line is_code t
+
+    -- ---- `demo`
+    pub showed : (seed : ℕ) → request ≡ Some (demonstrating seed) → code ≡ DONE → Shows seed out_old out_new
+    showed seed is is_code =
+        let e = ended request code old new out_old out_new run (λ e. omega (arith, e, is_code)) (λ e. omega (arith, e, is_code)) in
+        let d = subst (λ r. Does r old new e.line e.status) is e.does in
+        record { text = e.line; shows = d.shows; line = e.gains }
+
+    -- ---- what `check` calls for on what `plan` wrote
+    neither : (other : ℕ) → UNDECIDED < other → EndsSearch code → code ≢ other
+    neither other above done is = ⊎_elim (λ e. omega (arith, above, is, e)) (λ rest. ⊎_elim (λ e. omega (arith, above, is, e)) (λ e. omega (arith, above, is, e)) rest) done
+
+    pub checks : StatusesAreOne → ((a : Request) → request ≡ Some a → IsAllowed a) → (m p c : List ℕ) (budget : ℕ) → request ≡ Some (planning m p c budget) → EndsSearch code → IsTrue old.told → CallsForDone new.file m p c
+    checks one allowed m p c budget is done t =
+        let (answer, why, number, lines) = plan_ending m p c budget is (ended request code old new out_old out_new run (neither NO_MEMORY (omega arith) done) (neither UNPRINTED (omega arith) done)) in
+        let (claim, all) = of_planned.accepted_at m p c budget code old new (allowed (planning m p c budget) is).apart t answer why number done in
+        let calls_for : CheckCallsFor (new.file m) (new.file p) (new.file c) DONE = of_checked.accepted_called m p c DONE new claim all refl in
+        record { done = calls_for; alone = λ status calls. ⊎_elim (λ same. same) (λ may. absurd may.0) (one (Some (checking m p c)) new.file status DONE calls calls_for) }

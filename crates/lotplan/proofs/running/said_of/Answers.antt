@@ -1,0 +1,50 @@
+use Rattle.std.proofs.Common.{Some, refl, sym, subst, IfOk}
+use Rattle.std.proofs.lemmas.Result.{IfOk-weaker}
+use Rattle.command_line.specs.Meant.{request_by}
+use Rattle.command_line.specs.Words.{version, demonstrating}
+use Rattle.lotplan.specs.Run.{SaysFor, version_line}
+use Rattle.lotplan.specs.Saying.{IsSaid}
+use Rattle.lotplan.specs.Showing.{DemoSays}
+use Rattle.lotplan.specs.declared.status.Status.TheVariants.{Done}
+use Rattle.lotplan.proofs.running.said_of.Goals as goal
+
+pub returns-in-Name-clause-said : goal.returns-in-Name-clause-said
+returns-in-Name-clause-said g c =
+    let old = g.S.Shelf.shown c.args.shelf.now in
+    subst (λ k. IfOk c.new.result (SaysFor (Some (request_by k)) old old)) (sym c.in-Name.is)
+    (IfOk-weaker c.new.result (IsSaid version_line Done) (SaysFor (Some version) old old) (λ said is. record { same = refl; says = is.line; ends = is.status }) c.new.ensures)
+
+pub returns-in-Plan-clause-said : goal.returns-in-Plan-clause-said
+returns-in-Plan-clause-said g c =
+    subst (λ k. IfOk c.plan_files.result (SaysFor (Some (request_by k)) (g.S.Shelf.shown c.args.shelf.now) (g.S.Shelf.shown c.plan_files.new.shelf))) (sym c.in-Plan.is) c.plan_files.ensures.said
+
+pub returns-in-Judge-clause-said : goal.returns-in-Judge-clause-said
+returns-in-Judge-clause-said g c =
+    subst (λ k. IfOk c.judge_files.result (SaysFor (Some (request_by k)) (g.S.Shelf.shown c.args.shelf.now) (g.S.Shelf.shown c.judge_files.new.shelf))) (sym c.in-Judge.is) c.judge_files.ensures.said
+
+pub returns-in-Check-clause-said : goal.returns-in-Check-clause-said
+returns-in-Check-clause-said g c =
+    subst (λ k. IfOk c.check_files.result (SaysFor (Some (request_by k)) (g.S.Shelf.shown c.args.shelf.now) (g.S.Shelf.shown c.check_files.new.shelf))) (sym c.in-Check.is) c.check_files.ensures.said
+
+pub returns-in-Report-clause-said : goal.returns-in-Report-clause-said
+returns-in-Report-clause-said g c =
+    subst (λ k. IfOk c.report_files.result (SaysFor (Some (request_by k)) (g.S.Shelf.shown c.args.shelf.now) (g.S.Shelf.shown c.report_files.new.shelf))) (sym c.in-Report.is) c.report_files.ensures.said
+
+pub returns-in-Generate-clause-said : goal.returns-in-Generate-clause-said
+returns-in-Generate-clause-said g c =
+    subst (λ k. IfOk c.generate_file.result (SaysFor (Some (request_by k)) (g.S.Shelf.shown c.args.shelf.now) (g.S.Shelf.shown c.generate_file.new.shelf))) (sym c.in-Generate.is) c.generate_file.ensures.said
+
+pub returns-in-Upgrade-clause-said : goal.returns-in-Upgrade-clause-said
+returns-in-Upgrade-clause-said g c =
+    subst (λ k. IfOk c.upgrade_files.result (SaysFor (Some (request_by k)) (g.S.Shelf.shown c.args.shelf.now) (g.S.Shelf.shown c.upgrade_files.new.shelf))) (sym c.in-Upgrade.is) c.upgrade_files.ensures.said
+
+pub returns-in-Bound-clause-said : goal.returns-in-Bound-clause-said
+returns-in-Bound-clause-said g c =
+    subst (λ k. IfOk c.bound_files.result (SaysFor (Some (request_by k)) (g.S.Shelf.shown c.args.shelf.now) (g.S.Shelf.shown c.bound_files.new.shelf))) (sym c.in-Bound.is) c.bound_files.ensures.said
+
+pub returns-in-Demo-clause-said : goal.returns-in-Demo-clause-said
+returns-in-Demo-clause-said g c =
+    let old = g.S.Shelf.shown c.args.shelf.now in
+    let seed = c.in-Demo.seed in
+    subst (λ k. IfOk c.show_plans.result (SaysFor (Some (request_by k)) old old)) (sym c.in-Demo.is)
+    (IfOk-weaker c.show_plans.result (DemoSays seed) (SaysFor (Some (demonstrating seed)) old old) (λ said says. says old) c.show_plans.ensures)

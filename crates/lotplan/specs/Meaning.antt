@@ -1,0 +1,20 @@
+-- What a command means. Each command has its own meaning in its own file, and `Run` says which words mean which.
+use Rattle.std.specs.Prelude.{ℕ, List}
+use Rattle.lot_io.specs.Outside.{Files, Shelved}
+use Rattle.lotplan.specs.Reading.{ReadAnswer}
+use Rattle.lotplan.specs.declared.status.Status.{Status}
+
+pub record Meaning : Type 1 where
+  -- what a run does: the files before and after, the line or lines, and the status
+  pub does : Shelved → Shelved → List ℕ → Status → Type 0
+  -- the files that are read whole, and those that are read in passes
+  pub reads : List (List ℕ)
+  pub passes : List (List ℕ)
+  -- the files that may be written, in their order
+  pub writes : List (List ℕ)
+  -- why they gave nothing to go on with
+  pub stops : Shelved → Shelved → ReadAnswer → Type 0
+  -- the status that they call for, faults and out of memory aside
+  pub calls_for : Files → ℕ → Type 0
+  -- they may call for `UNDECIDED` beside another status
+  pub may_be_left : Files → Type 0
