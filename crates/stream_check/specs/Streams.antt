@@ -1,6 +1,6 @@
 -- What the file of a certificate holds, and why it may give nothing to go on with.
-use Rattle.std.specs.Prelude.{◌≡◌, ◌≢◌, ◌+◌, ◌<◌, ℕ, List, length, IsTrue, Option, Some, None, Result, Ok, Err, ⊤}
-use Rattle.lot_io.specs.Outside.{Fails, Finds, Misses, Rose, RoseBy, Shelved, piece_size}
+use Rattle.std.specs.Prelude.{◌≡◌, ◌≢◌, ◌+◌, ◌*◌, ◌<◌, ℕ, List, length, IsTrue, Option, Some, None, Result, Ok, Err, ⊤}
+use Rattle.lot_io.specs.Outside.{Fails, Finds, GrewBy, Misses, Rose, RoseBy, Shelved, piece_size}
 use Rattle.certificate.specs.declared.fault.CertTextFault.TheVariants as text
 use Rattle.certificate.specs.Faults.{IsCertTextFault}
 use Rattle.certificate.specs.Limits.{IsTextOf}
@@ -62,15 +62,13 @@ WhenRead (Ok a) P = P
 WhenRead (Err (stream.Text f)) P = P
 WhenRead _ P = ⊤
 
+-- how often two passes were given the whole file where its text decides: twice for an answer, and once for a fault of the text; and a refusal comes only after once
+abbrev pub GaveWhole : {A : Type 0} → Result A StreamFault → Option (List ℕ) → (before now : ℕ) → Type 0
+GaveWhole (Ok a) file before now = OfBytes file (λ bytes. GrewBy (2 * length bytes) before now)
+GaveWhole (Err (stream.Text f)) file before now = OfBytes file (λ bytes. GrewBy (length bytes) before now)
+GaveWhole (Err (stream.Rejected r)) file before now = OfBytes file (λ bytes. RoseBy (length bytes) before now)
+GaveWhole (Err _) file before now = ⊤
+
 -- no certificate is refused where its claim alone is read
 abbrev pub never_refused : ℕ → Why → Type 0
 never_refused at w = ⊥
-
--- bytes are the text of no certificate, for this cause
-abbrev pub IsTextRefused : List ℕ → StreamFault → Type 0
-IsTextRefused bytes stream.Missing = ⊥
-IsTextRefused bytes stream.Failed = ⊥
-IsTextRefused bytes stream.TooLong = ⊥
-IsTextRefused bytes (stream.Text fault) = (fault ≢ text.Memory) × IsCertTextFault bytes fault
-IsTextRefused bytes (stream.Rejected r) = ⊥
-IsTextRefused bytes stream.Memory = ⊤

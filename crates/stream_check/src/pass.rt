@@ -1,12 +1,12 @@
 // One pass over a certificate's file, which checks what it reads.
-ghost use Rattle.std.specs.Prelude.{◌≡◌, ◌∷◌, [], IsTrue, IfOk, OnOk, option_copied, ⊤};
+ghost use Rattle.std.specs.Prelude.{◌≡◌, ◌≤◌, ◌∷◌, [], IsTrue, IfOk, OnOk, length, option_copied, ⊤};
 ghost use Rattle.cert_lines.specs.Limits.{IsVersion};
 ghost use Rattle.cert_lines.specs.Shapes.{EndLine};
 ghost use Rattle.certificate.specs.Limits.{IsTextOf};
 ghost use Rattle.certificate.specs.Shapes.{Shape};
 ghost use Rattle.acceptance.specs.Accepts.{IsTrueOf};
 ghost use Rattle.cert_checker.specs.Checks.{IsGoodCertificate, first_line, plan_given};
-ghost use Rattle.cert_stream.specs.Reader.{IsSound, rest_in};
+ghost use Rattle.cert_stream.specs.Reader.{IsSound, bytes_of, rest_in};
 ghost use Rattle.stream_check.specs.Heads.{AreHeadsOf};
 ghost use Rattle.stream_check.specs.Passes.{Gives, HasLeft, IsStep};
 ghost use Rattle.stream_check.specs.Streams.{IsRefusedWith, never_refused};
@@ -54,6 +54,8 @@ fn read_end<S: Shelf>(
     requires sound { IsSound reader.old }
     requires version { IsVersion text.version }
     ensures awaited { HasLeft text.entry (S.shown shelf.old) reader.old (EndLine ∷ []) → Gives (λ _. ⊤) never_refused result }
+    ensures ends { OnOk result (IsTrue (S.shown shelf.old).told
+        → length (bytes_of (S.shown shelf.old) text.entry.name.now) ≤ reader.new.at) }
     ensures step { IsStep text.entry.name.now (S.shown shelf.old) (S.shown shelf.new) reader.old reader.new result }
 {
     let number = reader.number;
@@ -85,6 +87,8 @@ pub fn check_text<S: Shelf>(
         → IsTextOf (rest_in (S.shown shelf.old) name.now reader.old) c
         → Gives (λ claim. (c.claim ≡ claim) × IsGoodCertificate instance.now c (option_copied plan.entry))
         (IsRefusedWith instance.now (option_copied plan.entry) c) result }
+    ensures ends { OnOk result (IsTrue (S.shown shelf.old).told
+        → length (bytes_of (S.shown shelf.old) name.now) ≤ reader.new.at) }
     ensures step { IsStep name.now (S.shown shelf.old) (S.shown shelf.new) reader.old reader.new result }
 {
     plans_are_within();

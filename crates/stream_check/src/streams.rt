@@ -3,7 +3,7 @@ ghost use Rattle.std.specs.Prelude.{◌≡◌, ◌≤◌, ◌+◌, ◌*◌, IfEr
 ghost use Rattle.lot_io.specs.Outside.{GrewBy, OnlyReads};
 ghost use Rattle.acceptance.specs.Accepts.{IsTrueOf};
 ghost use Rattle.cert_checker.specs.Checks.{IsGoodCertificate, plan_given};
-ghost use Rattle.stream_check.specs.Streams.{CountsOf, IsRefusedWith, IsStreamFault, OfBytes, OfCertificate, WhenRead, never_refused, pass_size};
+ghost use Rattle.stream_check.specs.Streams.{CountsOf, GaveWhole, IsRefusedWith, IsStreamFault, OfBytes, OfCertificate, WhenRead, never_refused, pass_size};
 
 use crate::StreamFault;
 use crate::pass::check_text;
@@ -42,7 +42,9 @@ pub fn read_claim<S: Shelf>(alloc: Global, shelf: &mut S, name: &str) -> Result<
 /// Whatever the file holds, the claim is true of the instance (`claim`): with an optimal cost also the plan is best
 /// and costs it. The refusals come in this order: those of `read_claim`, in a first pass, then `Rejected` exactly as
 /// `check` refuses the certificate, in a second one. The second pass stops at the first refusal, or at a fetch that fails.
-/// Over both passes the shelf's counts of failures go as for `read_claim` (`counts`).
+/// So an answer comes only where the shelf gave twice as many bytes as the file has, a refusal for the text only where it
+/// gave as many, and `Rejected` only where it gave no fewer (`whole`). Over both passes the shelf's counts of failures go
+/// as for `read_claim` (`counts`).
 ///
 /// No tree is kept. It takes memory for the rows of all cuts, the bounds of one path, one cut or leaf with its parts, one
 /// piece of the file and one line; and time in the length of the file, read twice, beside that of `check`.
@@ -60,6 +62,8 @@ pub fn check_stream<S: Shelf>(
     ensures fault { IfErr result (IsStreamFault name.now (S.shown shelf.old) (S.shown shelf.new)
         (λ at w. IsTrue (S.shown shelf.old).told → OfCertificate ((S.shown shelf.old).file name.now)
         (λ c. IsRefusedWith instance.now (option_copied plan.entry) c at w))) }
+    ensures whole { IsTrue (S.shown shelf.old).told
+        → GaveWhole result ((S.shown shelf.old).file name.now) (S.shown shelf.old).given (S.shown shelf.new).given }
     ensures counts { CountsOf result (S.shown shelf.old) (S.shown shelf.new) }
     ensures reads { OnlyReads (S.shown shelf.old) (S.shown shelf.new) }
     ensures given { (S.shown shelf.new).given ≤ (S.shown shelf.old).given + 2 * pass_size }

@@ -6,7 +6,8 @@ use Rattle.split_trees.specs.Ranges.{WithTotals}
 use Rattle.acceptance.specs.Laws.{HoldAtPlans}
 use Rattle.cert_checker.specs.Checks.{IsGoodTree, IsTreeFault, ground}
 use Rattle.stream_check.specs.Passes.{IsRefusal}
-use Rattle.stream_check.proofs.Ways.{err_is}
+use Rattle.stream_check.proofs.Files.{end_on}
+use Rattle.stream_check.proofs.Ways.{err_is, on_on}
 use Rattle.stream_check.proofs.Whole.{certified, claim_true, tree_refused}
 use Rattle.stream_check.proofs.pass.check_text.Goals as goal
 
@@ -41,3 +42,8 @@ returns-clause-awaited g c = λ s told text.
       certified m s (option_copied c.args.plan) claim heads.claim c.plans_are_within.ensures c.in_ok-explosion.ensures.instance c.in_ok-rows.rows.items c.in_default.ensures.comes rows.0
           (subst (λ rs. WithTotals m (λ total. IsGoodTree (ground m total rs claim) [] s.tree)) c.deref.ensures.value tree.0),
     )
+
+pub returns-clause-ends : goal.returns-clause-ends
+returns-clause-ends g c = λ told.
+    let on = on_on (on_on c.in_ok-heads.ensures.step.on c.in_ok-rows.ensures.step.on) c.in_ok-check_tree.ensures.step.on in
+    end_on on.goes_on.reads c.args.name.now c.read_end.new.reader.at c.in_ok-read_end.ensures.ends told

@@ -8,6 +8,7 @@ use Rattle.stream_check.specs.declared.fault.StreamFault.TheVariants as stream
 use Rattle.cert_stream.specs.Values.{IsValue}
 use Rattle.stream_check.specs.Passes.{Awaits, IsRefusal}
 use Rattle.stream_check.specs.Streams.{never_refused}
+use Rattle.stream_check.proofs.Files.{at_end}
 use Rattle.stream_check.proofs.Lines.{other_end, some_bytes}
 use Rattle.stream_check.proofs.Ways.{on_stops}
 use Rattle.stream_check.proofs.pass.read_end.Goals.{in-Line, in-Wrong, in-End-2}
@@ -22,6 +23,11 @@ not_wrong : (version : ℕ) (v : Value) (old new : List ℕ) → IsValue version
 not_wrong version v old new is none same =
     let wrong : IsValue version value.Wrong old new = subst (λ x. IsValue version x old new) same is in
     wrong.0 none
+
+no_rest : (version : ℕ) (v : Value) (old new : List ℕ) → IsValue version v old new → v ≡ value.End → old ≡ []
+no_rest version v old new is same =
+    let end : IsValue version value.End old new = subst (λ x. IsValue version x old new) same is in
+    end
 
 pub returns-in_err-next_line-clause-awaited : goal.returns-in_err-next_line-clause-awaited
 returns-in_err-next_line-clause-awaited g c =
@@ -47,4 +53,14 @@ returns-clause-awaited g c =
           let next = (c.in_ok-next_line.ensures.awaited EndLine [] awaits).1 in
           not_wrong c.args.text.version c.in_ok-next_value.field-0 _ _ (c.in_ok-next_value.ensures.value next.told) next.text w.in-Wrong.is)
       | in-End-2 w ↦ rw w.result-is (λ awaits. tt)
+    ]
+
+pub returns-clause-ends : goal.returns-clause-ends
+returns-clause-ends g c =
+    let first = c.in_ok-next_line.ensures.step.on.goes_on in
+    let later = c.in_ok-next_value.ensures.goes_on in
+    elim c.match-branch-4.branch [
+      | in-Line w ↦ rw w.result-is tt
+      | in-Wrong w ↦ rw w.result-is tt
+      | in-End-2 w ↦ rw w.result-is (λ told. at_end first later (λ tells. no_rest c.args.text.version c.in_ok-next_value.field-0 _ _ (c.in_ok-next_value.ensures.value tells) w.in-End-2.is) told)
     ]
