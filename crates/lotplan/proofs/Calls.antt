@@ -20,6 +20,8 @@ use Rattle.existence.specs.Plans.{PlansAreDecided, PlansAreJudged}
 use Rattle.existence.specs.Readings.{BytesMeanSomething, RecordsMeanSomething}
 use Rattle.answers_exist.specs.Bounding.{BoundsComeOut}
 use Rattle.answers_exist.specs.Checking.{CertificatesComeOut, PlansAreHeld, TextsComeOut}
+use Rattle.lot_schedule.specs.Laws.{SamePlansSameSchedules}
+use Rattle.lotplan.specs.Scheduling.{SchedulesAreDecided}
 use Rattle.lotplan.specs.declared.status.TheConstants.{UNDECIDED}
 
 -- one of two statuses is that of what was left undecided
@@ -34,6 +36,7 @@ pub record AreLaws : Type 0 where
   pub checks : CertifiedIsNotRefused
   pub bounds : BaseBoundsAreOne
   pub cells : CellsAreOne
+  pub schedules : SamePlansSameSchedules
 
 -- and those on which it rests that some status is
 pub record Grounds : Type 0 where
@@ -47,6 +50,7 @@ pub record Grounds : Type 0 where
   pub texts : TextsComeOut
   pub certificates : CertificatesComeOut
   pub held : PlansAreHeld
+  pub schedules : SchedulesAreDecided
 
 -- no bytes mean two problems, or a problem and a fault
 pub one_problem : (bytes : List ℕ) (m n : Problem) → BytesMean bytes (Ok m) → BytesMean bytes (Ok n) → m ≡ n

@@ -12,6 +12,8 @@ use Rattle.lot_draft.specs.Refusals.{first_in, backlog_fault, ends_fault, lots_f
 use Rattle.lot_draft.proofs.Faults.{first_none, rest_none}
 use Rattle.lot_draft.proofs.Limits.{plain, within}
 use Rattle.lot_model.specs.Meaning.{most_asked, there_of}
+use Rattle.lot_model.specs.Valid.{HaveOwnNames, HaveOwnResourceNames}
+use Rattle.lot_model.proofs.Validity.{valid}
 use Rattle.instance_reader.specs.Model.{BytesMean}
 use Rattle.plan_rules.specs.Held.{AllFit, plan_of}
 use Rattle.plan_rules.specs.declared.plan.Plan.{Plan}
@@ -32,6 +34,8 @@ pub record IsMeant (m : Problem) : Type 0 where
   pub limits : IsWithinLimits m
   pub totals : (total : ℕ → ℕ) × AreLargestTotals m total
   pub weights : (weight : ℕ → ℕ → ℕ) × AreWeights (bill_of m) weight
+  pub names : HaveOwnNames m
+  pub resource_names : HaveOwnResourceNames m
 
 pub meant : TotalsExist → WeightsExist → (bytes : List ℕ) (m : Problem) → BytesMean bytes (Ok m) → IsMeant m
 meant totals weights bytes m means = ⊎_elim
@@ -46,11 +50,14 @@ meant totals weights bytes m means = ⊎_elim
     let ends = first_none (first_in ends_fault 1 model.items) (first_in lots_fault 1 model.items) after in
     let lots = rest_none (first_in ends_fault 1 model.items) (first_in lots_fault 1 model.items) after in
     let limits = within model checked ends lots in
+    let valid_model = valid model rules.plain rules.later in
     subst IsMeant (sym same) (record {
       some_period = limits.some_period;
       limits = limits;
       totals = totals (bill_of p) (most_asked p) (there_of p) rules.ranked.0 rules.ranked.1;
       weights = weights (bill_of p) rules.ranked.0 rules.ranked.1;
+      names = valid_model.names;
+      resource_names = valid_model.resource_names;
     }))
     means
 

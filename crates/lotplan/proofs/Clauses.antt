@@ -1,7 +1,7 @@
 -- What a command's number says, in the command's own words.
-use Rattle.std.proofs.Common.{◌≡◌, ◌≢◌, ◌<◌, ◌⊎◌, ⊎_elim, ℕ, List, [], ◌∷◌, Option, Some, IsTrue, inl, inr, refl, subst, arith}
+use Rattle.std.proofs.Common.{◌≡◌, ◌≢◌, ◌<◌, ◌⊎◌, ⊎_elim, ℕ, List, [], ◌∷◌, Option, Some, IsTrue, refl, subst, arith}
 use Rattle.lot_io.specs.Outside.{OnlyReads, Printed, Shelved}
-use Rattle.command_line.specs.Words.{Request, IsAllowed, planning, judging, checking, reporting, generating, demonstrating, upgrading, bounding}
+use Rattle.command_line.specs.Words.{Request, IsAllowed, planning, judging, checking, reporting, generating, demonstrating, upgrading, bounding, scheduling, schedule_checking, pegging}
 use Rattle.lotplan.specs.Writing.{StartsAmong}
 use Rattle.lotplan.specs.Planning.{FailsToWrite, FindsNoPlan, LeavesOpen, PlanAnswer, PlanExplains, PlansBest, plan_line, plan_status}
 use Rattle.lotplan.specs.Judging.{FindsFault, FindsFeasible, JudgeAnswer, JudgeExplains, judge_line, judge_status}
@@ -11,6 +11,9 @@ use Rattle.lotplan.specs.Bounding.{BoundAnswer, BoundExplains, FindsBound, Finds
 use Rattle.lotplan.specs.Reporting.{ReportAnswer, ReportExplains, SumsUp, report_line, report_status}
 use Rattle.lotplan.specs.Generating.{FailsToGenerate, GenerateAnswer, GenerateExplains, Generates, generate_line, generate_status}
 use Rattle.lotplan.specs.Showing.{Shows}
+use Rattle.lotplan.specs.Extracting.{ExtractAnswer, ExtractExplains, FailsToExtract, WritesExtract, extract_line, extract_status}
+use Rattle.lotplan.specs.Scheduling.{AcceptsSchedule, FindsSlotsFault, Laid, SchedcheckAnswer, SchedcheckExplains, schedcheck_line, schedcheck_status, scheduled_word}
+use Rattle.lotplan.specs.Pegging.{Pegged, pegged_word}
 use Rattle.lotplan.specs.Laws.{StatusesAreOne}
 use Rattle.lotplan.specs.Saying.{Answered, Gains}
 use Rattle.lotplan.specs.Status.{code_of}
@@ -27,6 +30,8 @@ use Rattle.lotplan.proofs.Upgraded as of_upgraded
 use Rattle.lotplan.proofs.Bounded as of_bounded
 use Rattle.lotplan.proofs.Reported as of_reported
 use Rattle.lotplan.proofs.Generated as of_generated
+use Rattle.lotplan.proofs.Extracted.{fault_at, unwritten_at, written_at}
+use Rattle.lotplan.proofs.Schedchecked as of_schedchecked
 
 module _ (request : Option Request) (code : ℕ) (old new : Shelved) (out_old out_new : Printed) where
   -- an answer, its cause, its number and its line
@@ -58,6 +63,15 @@ module _ (request : Option Request) (code : ℕ) (old new : Shelved) (out_old ou
 
   bound_ending : (m : List ℕ) → request ≡ Some (bounding m) → EndsAs request code old new out_old out_new → Ending BoundAnswer (λ answer. BoundExplains m old new answer × OnlyReads old new) bound_line bound_status
   bound_ending m is e = ending BoundAnswer (λ answer. BoundExplains m old new answer × OnlyReads old new) bound_line bound_status (λ line status d. subst (λ r. Does r old new line status) is d) e
+
+  schedule_ending : (m p s : List ℕ) → request ≡ Some (scheduling m p s) → EndsAs request code old new out_old out_new → Ending ExtractAnswer (ExtractExplains (Laid s) m p s old new) (extract_line scheduled_word) extract_status
+  schedule_ending m p s is e = ending ExtractAnswer (ExtractExplains (Laid s) m p s old new) (extract_line scheduled_word) extract_status (λ line status d. subst (λ r. Does r old new line status) is d) e
+
+  schedcheck_ending : (m p s : List ℕ) → request ≡ Some (schedule_checking m p s) → EndsAs request code old new out_old out_new → Ending SchedcheckAnswer (λ answer. SchedcheckExplains m p s old new answer × OnlyReads old new) schedcheck_line schedcheck_status
+  schedcheck_ending m p s is e = ending SchedcheckAnswer (λ answer. SchedcheckExplains m p s old new answer × OnlyReads old new) schedcheck_line schedcheck_status (λ line status d. subst (λ r. Does r old new line status) is d) e
+
+  peg_ending : (m p q : List ℕ) → request ≡ Some (pegging m p q) → EndsAs request code old new out_old out_new → Ending ExtractAnswer (ExtractExplains (Pegged q) m p q old new) (extract_line pegged_word) extract_status
+  peg_ending m p q is e = ending ExtractAnswer (ExtractExplains (Pegged q) m p q old new) (extract_line pegged_word) extract_status (λ line status d. subst (λ r. Does r old new line status) is d) e
 
   module _ (run : IsProgramRun request code old new out_old out_new) where
     -- ---- `plan`
@@ -161,6 +175,49 @@ module _ (request : Option Request) (code : ℕ) (old new : Shelved) (out_old ou
     bound_undecided m is is_code t =
         let (answer, why, number, line) = bound_ending m is (ended request code old new out_old out_new run (λ e. omega (arith, e, is_code)) (λ e. omega (arith, e, is_code))) in
         of_bounded.undecided_at m code old new out_old out_new answer why.0 number line is_code t
+
+    -- ---- `schedule`
+    pub scheduled : (m p s : List ℕ) → request ≡ Some (scheduling m p s) → code ≡ DONE → IsTrue old.told → WritesExtract (Laid s) scheduled_word old.file new.file m p out_old out_new
+    scheduled m p s is is_code t =
+        let (answer, why, number, line) = schedule_ending m p s is (ended request code old new out_old out_new run (λ e. omega (arith, e, is_code)) (λ e. omega (arith, e, is_code))) in
+        written_at (Laid s) scheduled_word m p s code old new out_old out_new answer why number line is_code t
+
+    pub schedule_faulty : (m p s : List ℕ) → request ≡ Some (scheduling m p s) → code ≡ FAULTY → IsTrue old.told → FindsFault old.file m p out_old out_new
+    schedule_faulty m p s is is_code t =
+        let (answer, why, number, line) = schedule_ending m p s is (ended request code old new out_old out_new run (λ e. omega (arith, e, is_code)) (λ e. omega (arith, e, is_code))) in
+        fault_at (Laid s) scheduled_word m p s code old new out_old out_new answer why number line is_code t
+
+    pub schedule_unwritten : (m p s : List ℕ) → request ≡ Some (scheduling m p s) → code ≡ UNWRITTEN → FailsToExtract old new m p s out_old out_new
+    schedule_unwritten m p s is is_code =
+        let (answer, why, number, line) = schedule_ending m p s is (ended request code old new out_old out_new run (λ e. omega (arith, e, is_code)) (λ e. omega (arith, e, is_code))) in
+        unwritten_at (Laid s) scheduled_word m p s code old new out_old out_new answer why number line is_code
+
+    -- ---- `schedcheck`
+    pub schedule_checked : (m p s : List ℕ) → request ≡ Some (schedule_checking m p s) → code ≡ DONE → IsTrue old.told → AcceptsSchedule old.file m p s out_old out_new
+    schedule_checked m p s is is_code t =
+        let (answer, why, number, line) = schedcheck_ending m p s is (ended request code old new out_old out_new run (λ e. omega (arith, e, is_code)) (λ e. omega (arith, e, is_code))) in
+        of_schedchecked.accepts_at m p s code old new out_old out_new answer why.0 number line is_code t
+
+    pub schedcheck_faulty : (m p s : List ℕ) → request ≡ Some (schedule_checking m p s) → code ≡ FAULTY → IsTrue old.told → FindsFault old.file m p out_old out_new ⊎ FindsSlotsFault old.file m p s out_old out_new
+    schedcheck_faulty m p s is is_code t =
+        let (answer, why, number, line) = schedcheck_ending m p s is (ended request code old new out_old out_new run (λ e. omega (arith, e, is_code)) (λ e. omega (arith, e, is_code))) in
+        of_schedchecked.fault_at m p s code old new out_old out_new answer why.0 number line is_code t
+
+    -- ---- `peg`
+    pub pegged : (m p q : List ℕ) → request ≡ Some (pegging m p q) → code ≡ DONE → IsTrue old.told → WritesExtract (Pegged q) pegged_word old.file new.file m p out_old out_new
+    pegged m p q is is_code t =
+        let (answer, why, number, line) = peg_ending m p q is (ended request code old new out_old out_new run (λ e. omega (arith, e, is_code)) (λ e. omega (arith, e, is_code))) in
+        written_at (Pegged q) pegged_word m p q code old new out_old out_new answer why number line is_code t
+
+    pub peg_faulty : (m p q : List ℕ) → request ≡ Some (pegging m p q) → code ≡ FAULTY → IsTrue old.told → FindsFault old.file m p out_old out_new
+    peg_faulty m p q is is_code t =
+        let (answer, why, number, line) = peg_ending m p q is (ended request code old new out_old out_new run (λ e. omega (arith, e, is_code)) (λ e. omega (arith, e, is_code))) in
+        fault_at (Pegged q) pegged_word m p q code old new out_old out_new answer why number line is_code t
+
+    pub peg_unwritten : (m p q : List ℕ) → request ≡ Some (pegging m p q) → code ≡ UNWRITTEN → FailsToExtract old new m p q out_old out_new
+    peg_unwritten m p q is is_code =
+        let (answer, why, number, line) = peg_ending m p q is (ended request code old new out_old out_new run (λ e. omega (arith, e, is_code)) (λ e. omega (arith, e, is_code))) in
+        unwritten_at (Pegged q) pegged_word m p q code old new out_old out_new answer why number line is_code
 
     -- ---- `demo`
     pub showed : (seed : ℕ) → request ≡ Some (demonstrating seed) → code ≡ DONE → Shows seed out_old out_new

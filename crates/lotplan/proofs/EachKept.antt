@@ -1,6 +1,6 @@
 -- What is known of each command: the one place of the proofs with an arm a command.
-use Rattle.std.proofs.Common.{◌≡◌, ◌∙◌, ℕ, List, inl, refl, sym, subst, Option, Some, None, arith}
-use Rattle.command_line.specs.Words.{Request, version, planning, judging, checking, reporting, generating, demonstrating, upgrading, bounding}
+use Rattle.std.proofs.Common.{◌≡◌, ◌∙◌, ℕ, inl, refl, sym, subst, Option, Some, None, arith}
+use Rattle.command_line.specs.Words.{Request, version, planning, judging, checking, reporting, generating, demonstrating, upgrading, bounding, scheduling, schedule_checking, pegging}
 use Rattle.lotplan.specs.Status.{code_of}
 use Rattle.lotplan.specs.Showing.{demo_meaning}
 use Rattle.lotplan.specs.Run.{meaning_of, no_meaning, version_meaning}
@@ -15,6 +15,10 @@ use Rattle.lotplan.proofs.Reported.{report_kept}
 use Rattle.lotplan.proofs.Generated.{generate_kept}
 use Rattle.lotplan.proofs.Upgraded.{upgrade_kept}
 use Rattle.lotplan.proofs.Bounded.{bound_kept}
+use Rattle.lotplan.specs.Scheduling.{Laid, scheduled_word}
+use Rattle.lotplan.specs.Pegging.{Pegged, pegged_word}
+use Rattle.lotplan.proofs.Extracted.{extract_kept}
+use Rattle.lotplan.proofs.Schedchecked.{schedcheck_kept}
 
 done_number : IsAnswerNumber DONE
 done_number = record { unprinted = λ e. omega (arith, e); no_memory = λ e. omega (arith, e) }
@@ -69,6 +73,9 @@ command_kept (generating seed items periods m) = generate_kept seed items period
 command_kept (demonstrating seed) = demo_kept seed
 command_kept (upgrading m n) = upgrade_kept m n
 command_kept (bounding m) = bound_kept m
+command_kept (scheduling m p s) = extract_kept (Laid s) scheduled_word m p s
+command_kept (schedule_checking m p s) = schedcheck_kept m p s
+command_kept (pegging m p q) = extract_kept (Pegged q) pegged_word m p q
 
 pub kept_of : (request : Option Request) → IsKept (meaning_of request)
 kept_of None = none_kept

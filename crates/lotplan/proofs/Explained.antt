@@ -5,10 +5,9 @@ use Rattle.std.specs.declared.alloc.AllocError.{AllocError}
 use Rattle.lot_draft.specs.declared.fault.ModelFault.{ModelFault}
 use Rattle.lot_io.specs.Outside.{GrewBy, OnlyReads, OnlyWrites, Printed, Rose, Shelved}
 use Rattle.command_line.specs.Words.{AreTaken, Request, generating}
-use Rattle.lotplan.specs.Meaning.{Meaning}
 use Rattle.lotplan.specs.Status.{code_of}
 use Rattle.lotplan.specs.Saying.{Ends, Gains, IsSaid, Prints}
-use Rattle.lotplan.specs.Reading.{ReadAnswer, refused, missing, unread, too_long, read_line, read_status}
+use Rattle.lotplan.specs.Reading.{ReadAnswer, refused, missing, unread, too_long, read_status}
 use Rattle.lotplan.specs.Writing.{StartsAtMost}
 use Rattle.lotplan.specs.Run.{AnswersAs, CallFor, Does, EndsAs, HadNoFault, IsIdle, IsNoCommand, IsProgramRun, Leaves, SaysFor, Stops, meaning_of, ran_out, reads_of, refused_line, runs, writes_of}
 use Rattle.lotplan.specs.declared.said.Said.{Said}

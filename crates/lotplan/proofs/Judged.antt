@@ -15,7 +15,7 @@ use Rattle.lotplan.specs.Meaning.{Meaning}
 use Rattle.lotplan.specs.Status.{code_of}
 use Rattle.plan_rules.specs.declared.plan.Plan.{Plan as Grids}
 use Rattle.plan_rules.specs.Held.{plan_of}
-use Rattle.lotplan.specs.Reading.{FilesStop, HoldsPlan, FileExplains, HoldsProblem, ModelExplains, OfFile, ReadAnswer, refused, missing, unread, too_long, read_line, read_status}
+use Rattle.lotplan.specs.Reading.{FilesStop, HoldsPlan, FileExplains, HoldsProblem, ModelExplains, OfFile, ReadAnswer, refused, missing, unread, too_long, read_status}
 use Rattle.lotplan.specs.Judging.{JudgeAnswer, feasible, no_plan, broken, no_input, judge_line, judge_status, BytesAre, FindsFault, ExplainsNone, FindsFeasible, OfFeasible, HoldFeasible, HoldsBoth, JudgeCallsFor, JudgeExplains, JudgeSays, PlanCallsFor, PlanFileExplains, judge_meaning, judge_meant}
 use Rattle.lotplan.specs.Saying.{Gains, IsSaid}
 use Rattle.lotplan.specs.Run.{HadNoFault}

@@ -16,6 +16,8 @@ pub mod Checked
 pub mod Upgraded
 pub mod Bounded
 pub mod Reported
+pub mod Extracted
+pub mod Schedchecked
 pub mod Generated
 pub mod Shown
 pub mod Drawn

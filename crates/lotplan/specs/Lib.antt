@@ -12,6 +12,9 @@ pub mod Upgrading
 pub mod Bounding
 pub mod Reporting
 pub mod Generating
+pub mod Extracting
+pub mod Scheduling
+pub mod Pegging
 pub mod Showing
 pub mod Run
 pub mod Laws

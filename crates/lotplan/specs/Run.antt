@@ -2,7 +2,7 @@
 use Rattle.std.specs.Prelude.{◌≡◌, ◌+◌, ◌*◌, ℕ, List, [], ◌∷◌, length, codes, Option, Some, None}
 use Rattle.lot_io.specs.Outside.{Files, OnlyReads, Printed, Rose, Shelved, piece_size}
 use Rattle.stream_check.specs.Streams.{pass_size}
-use Rattle.command_line.specs.Words.{Request, version, planning, judging, checking, reporting, generating, demonstrating, upgrading, bounding}
+use Rattle.command_line.specs.Words.{Request, version, planning, judging, checking, reporting, generating, demonstrating, upgrading, bounding, scheduling, schedule_checking, pegging}
 use Rattle.lotplan.specs.Status.{code_of}
 use Rattle.lotplan.specs.Saying.{Gains, Prints}
 use Rattle.lotplan.specs.Reading.{ReadAnswer, file_limit, read_line}
@@ -15,6 +15,8 @@ use Rattle.lotplan.specs.Bounding.{bound_meaning}
 use Rattle.lotplan.specs.Reporting.{report_meaning}
 use Rattle.lotplan.specs.Generating.{generate_meaning}
 use Rattle.lotplan.specs.Showing.{demo_meaning}
+use Rattle.lotplan.specs.Scheduling.{schedule_meaning, schedcheck_meaning}
+use Rattle.lotplan.specs.Pegging.{peg_meaning}
 use Rattle.lotplan.specs.declared.said.Said.{Said}
 use Rattle.lotplan.specs.declared.status.Status.{Status}
 use Rattle.lotplan.specs.declared.status.TheConstants.{DONE, NO_COMMAND}
@@ -71,6 +73,9 @@ meaning_of (Some (generating seed items periods m)) = generate_meaning seed item
 meaning_of (Some (demonstrating seed)) = demo_meaning seed
 meaning_of (Some (upgrading m n)) = upgrade_meaning m n
 meaning_of (Some (bounding m)) = bound_meaning m
+meaning_of (Some (scheduling m p s)) = schedule_meaning m p s
+meaning_of (Some (schedule_checking m p s)) = schedcheck_meaning m p s
+meaning_of (Some (pegging m p q)) = peg_meaning m p q
 
 -- ---- what follows of what the words ask for, with no arms
 -- what a run does to the files, and the line and the status that it comes to

@@ -1,5 +1,6 @@
 // Laws of runs.
 ghost use Rattle.lotplan.specs.Laws.{StatusesAreOne, StatusesExist};
+ghost use Rattle.lotplan.specs.Scheduling.{SchedulesAreDecided};
 
 use answers_exist::{bounds_come_out, certificates_come_out, plans_are_held, texts_come_out};
 use base_bound::base_bounds_are_one;
@@ -8,6 +9,9 @@ use cert_checker::certified_is_not_refused;
 use certificate::texts_mean_one_thing;
 use existence::{
     bytes_mean_something, plans_are_decided, plans_are_judged, records_mean_something,
+};
+use lot_schedule::{
+    records_mean_one_thing, records_mean_slots, same_plans_same_schedules, slots_are_judged,
 };
 
 /// No words and files call for two statuses, but for `plan` where the search may leave a coupled model open, and for
@@ -19,6 +23,16 @@ pub fn statuses_are_one()
     texts_mean_one_thing();
     certified_is_not_refused();
     base_bounds_are_one();
+    same_plans_same_schedules();
+}
+
+// Bytes are a schedule of a plan, or they aren't.
+fn schedules_are_decided()
+    ensures { SchedulesAreDecided }
+{
+    records_mean_one_thing();
+    records_mean_slots();
+    slots_are_judged();
 }
 
 /// All words and files call for some status.
@@ -34,4 +48,5 @@ pub fn statuses_exist()
     texts_come_out();
     certificates_come_out();
     plans_are_held();
+    schedules_are_decided();
 }

@@ -9,6 +9,7 @@
 #![tactic(auto)]
 
 mod commands;
+mod extract;
 mod laws;
 mod model_file;
 mod running;

@@ -3,7 +3,7 @@ ghost use Rattle.std.specs.Prelude.{◌≡◌, ◌≢◌, ◌⊎◌, ◌≤◌, 
 ghost use Rattle.lot_draft.specs.declared.fault.ModelFault.{ModelFault};
 ghost use Rattle.lot_io.specs.Outside.{GrewBy, OnlyReads, OnlyWrites, Rose};
 ghost use Rattle.command_line.specs.Meant.{request_by};
-ghost use Rattle.command_line.specs.Words.{AreTaken, IsAllowed, bounding, checking, command_of, demonstrating, generating, judging, planning, reporting, upgrading};
+ghost use Rattle.command_line.specs.Words.{AreTaken, IsAllowed, bounding, checking, command_of, demonstrating, generating, judging, pegging, planning, reporting, schedule_checking, scheduling, upgrading};
 ghost use Rattle.lotplan.specs.Saying.{Ends, IsSaid, Prints};
 ghost use Rattle.lotplan.specs.declared.status.TheConstants.{DONE, NO_PLAN, UNDECIDED, FAULTY, NO_COMMAND, REFUSED, MISSING, UNREAD, UNWRITTEN, UNPRINTED, NO_MEMORY, TOO_LONG};
 ghost use Rattle.lotplan.specs.declared.status.Status.TheVariants.{NoCommand};
@@ -17,6 +17,9 @@ ghost use Rattle.lotplan.specs.Bounding.{FindsBound, FindsNoBound, FindsNoPoint}
 ghost use Rattle.lotplan.specs.Reporting.{SumsUp};
 ghost use Rattle.lotplan.specs.Generating.{FailsToGenerate, Generates};
 ghost use Rattle.lotplan.specs.Showing.{Shows};
+ghost use Rattle.lotplan.specs.Extracting.{FailsToExtract, WritesExtract};
+ghost use Rattle.lotplan.specs.Scheduling.{AcceptsSchedule, FindsSlotsFault, Laid, scheduled_word};
+ghost use Rattle.lotplan.specs.Pegging.{Pegged, pegged_word};
 ghost use Rattle.lotplan.specs.Run.{CallFor, EndsAs, HadNoFault, IsIdle, IsNoCommand, IsProgramRun, Leaves, SaysFor, Stops, most_given, reads_of, refused_line, writes_of};
 
 use crate::commands::bound::bound_files;
@@ -24,8 +27,11 @@ use crate::commands::check::check_files;
 use crate::commands::demo::show_plans;
 use crate::commands::generate::generate_file;
 use crate::commands::judge::judge_files;
+use crate::commands::peg::peg_files;
 use crate::commands::plan::plan_files;
 use crate::commands::reporting::report_files;
+use crate::commands::schedcheck::schedcheck_files;
+use crate::commands::schedule::schedule_files;
 use crate::commands::upgrade::upgrade_files;
 use crate::laws::statuses_are_one;
 use crate::said::Said;
@@ -39,7 +45,8 @@ use std::alloc::{AllocError, Global};
 ///
 /// `words` are those after the program's name: none for the program's name and version,
 /// `plan MODEL PLAN CERTIFICATE` with or without `--nodes N`, `judge MODEL PLAN`, `check MODEL PLAN CERTIFICATE`,
-/// `report MODEL PLAN`, `gen SEED ITEMS PERIODS MODEL`, `demo SEED`, `upgrade MODEL NEW` or `bound MODEL`. All others are no
+/// `report MODEL PLAN`, `schedule MODEL PLAN SCHEDULE`, `schedcheck MODEL PLAN SCHEDULE`, `peg MODEL PLAN PEGS`,
+/// `gen SEED ITEMS PERIODS MODEL`, `demo SEED`, `upgrade MODEL NEW` or `bound MODEL`. All others are no
 /// command, a call for help or for the version among them: its text is printed, and nothing is done. N is the most nodes
 /// that the certificate's tree may have, from 1 to `LARGEST_BUDGET`, and else `USUAL_BUDGET`. The numbers, and what each
 /// means, stand in `status.rt`; `DONE` is always a claim. All memory is taken before the first write.
@@ -137,6 +144,32 @@ pub fn run<S: Shelf, K: Sink, P: Proposer, H: Heuristic<P::Hint>, W: Watch>(
         → FindsNoPoint (S.shown shelf.old).file m (K.shown out.old) (K.shown out.new) }
     ensures bound_undecided { (m : List ℕ) → command_of (map string_bytes words.now) ≡ Some (bounding m) → result ≡ UNDECIDED → IsTrue (S.shown shelf.old).told
         → FindsNoBound (S.shown shelf.old).file m (K.shown out.old) (K.shown out.new) }
+
+    // After `schedule` with status `DONE` the plan file holds a feasible plan, and the schedule file's bytes are read back as a
+    // schedule of it, of which no other has a smaller sum of ends on any resource in any period; the line has the number of
+    // its slots.
+    ensures scheduled { (m p s : List ℕ) → command_of (map string_bytes words.now) ≡ Some (scheduling m p s) → result ≡ DONE → IsTrue (S.shown shelf.old).told
+        → WritesExtract (Laid s) scheduled_word (S.shown shelf.old).file (S.shown shelf.new).file m p (K.shown out.old) (K.shown out.new) }
+    ensures schedule_faulty { (m p s : List ℕ) → command_of (map string_bytes words.now) ≡ Some (scheduling m p s) → result ≡ FAULTY → IsTrue (S.shown shelf.old).told
+        → FindsFault (S.shown shelf.old).file m p (K.shown out.old) (K.shown out.new) }
+    ensures schedule_unwritten { (m p s : List ℕ) → command_of (map string_bytes words.now) ≡ Some (scheduling m p s) → result ≡ UNWRITTEN
+        → FailsToExtract (S.shown shelf.old) (S.shown shelf.new) m p s (K.shown out.old) (K.shown out.new) }
+
+    // After `schedcheck` with status `DONE` the schedule file's bytes are a schedule of the plan file's feasible plan; with `FAULTY`
+    // the line names the first fault of the plan file, or of the schedule file.
+    ensures schedule_checked { (m p s : List ℕ) → command_of (map string_bytes words.now) ≡ Some (schedule_checking m p s) → result ≡ DONE → IsTrue (S.shown shelf.old).told
+        → AcceptsSchedule (S.shown shelf.old).file m p s (K.shown out.old) (K.shown out.new) }
+    ensures schedcheck_faulty { (m p s : List ℕ) → command_of (map string_bytes words.now) ≡ Some (schedule_checking m p s) → result ≡ FAULTY → IsTrue (S.shown shelf.old).told
+        → FindsFault (S.shown shelf.old).file m p (K.shown out.old) (K.shown out.new) ⊎ FindsSlotsFault (S.shown shelf.old).file m p s (K.shown out.old) (K.shown out.new) }
+
+    // After `peg` with status `DONE` the new file's bytes are the text of exactly the pegs of the plan file's feasible plan; they use up
+    // each supply, meet each need, and come in time where an item has no backlog cost. The line has their number.
+    ensures pegged { (m p q : List ℕ) → command_of (map string_bytes words.now) ≡ Some (pegging m p q) → result ≡ DONE → IsTrue (S.shown shelf.old).told
+        → WritesExtract (Pegged q) pegged_word (S.shown shelf.old).file (S.shown shelf.new).file m p (K.shown out.old) (K.shown out.new) }
+    ensures peg_faulty { (m p q : List ℕ) → command_of (map string_bytes words.now) ≡ Some (pegging m p q) → result ≡ FAULTY → IsTrue (S.shown shelf.old).told
+        → FindsFault (S.shown shelf.old).file m p (K.shown out.old) (K.shown out.new) }
+    ensures peg_unwritten { (m p q : List ℕ) → command_of (map string_bytes words.now) ≡ Some (pegging m p q) → result ≡ UNWRITTEN
+        → FailsToExtract (S.shown shelf.old) (S.shown shelf.new) m p q (K.shown out.old) (K.shown out.new) }
 
     // Without a fault the status is `NO_MEMORY`, or exactly what the words and the files call for.
     ensures called_for { IsTrue (S.shown shelf.old).told
@@ -277,5 +310,12 @@ fn said_of<S: Shelf, P: Proposer, H: Heuristic<P::Hint>, W: Watch>(
         Command::Demo(seed) => show_plans(alloc, proposer, heuristic, watch, seed),
         Command::Upgrade(names) => upgrade_files(alloc, names.model, names.upgraded, shelf),
         Command::Bound(model) => bound_files(alloc, model, shelf),
+        Command::Schedule(names) => {
+            schedule_files(alloc, names.model, names.plan, names.schedule, shelf)
+        }
+        Command::CheckSchedule(names) => {
+            schedcheck_files(alloc, names.model, names.plan, names.schedule, shelf)
+        }
+        Command::Peg(names) => peg_files(alloc, names.model, names.plan, names.pegs, shelf),
     }
 }

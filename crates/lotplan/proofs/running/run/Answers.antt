@@ -1,7 +1,7 @@
 use Rattle.std.proofs.Common.{map, string_bytes}
 use Rattle.command_line.specs.Words.{command_of}
 use Rattle.lotplan.proofs.Explained.{called, ended, fails_to_read, generate_only, idle, is_long, is_run, misses, no_command, only_reads, quiet, refused_words, refuses, silent, tells, unprinted, writes, wrote}
-use Rattle.lotplan.proofs.Clauses.{bound_infeasible, bound_undecided, bounded, check_faulty, checked, checks, generate_unwritten, generated, judge_faulty, judged, optimal, plan_infeasible, plan_undecided, plan_unwritten, report_faulty, showed, summed, upgrade_unwritten, upgraded, wrote_certificate, wrote_some}
+use Rattle.lotplan.proofs.Clauses.{bound_infeasible, bound_undecided, bounded, check_faulty, checked, checks, generate_unwritten, generated, judge_faulty, judged, optimal, peg_faulty, peg_unwritten, pegged, plan_infeasible, plan_undecided, plan_unwritten, report_faulty, schedcheck_faulty, schedule_checked, schedule_faulty, schedule_unwritten, scheduled, showed, summed, upgrade_unwritten, upgraded, wrote_certificate, wrote_some}
 use Rattle.lotplan.proofs.running.run.Goals as goal
 
 pub returns-clause-run : goal.returns-clause-run
@@ -120,3 +120,27 @@ returns-clause-silent g c = silent (command_of (map string_bytes c.args.words.no
 
 pub returns-clause-refused_words : goal.returns-clause-refused_words
 returns-clause-refused_words g c = refused_words (command_of (map string_bytes c.args.words.now)) (map string_bytes c.args.words.now) c.end_with.result (g.K.Sink.shown c.args.out.now) (g.K.Sink.shown c.end_with.new.out) c.said-said.result c.said-said.ensures.refused c.end_with.ensures.ends
+
+pub returns-clause-scheduled : goal.returns-clause-scheduled
+returns-clause-scheduled g c = scheduled (command_of (map string_bytes c.args.words.now)) c.end_with.result (g.S.Shelf.shown c.args.shelf.now) (g.S.Shelf.shown c.said-said.new.shelf) (g.K.Sink.shown c.args.out.now) (g.K.Sink.shown c.end_with.new.out) (is_run (command_of (map string_bytes c.args.words.now)) c.end_with.result (g.S.Shelf.shown c.args.shelf.now) (g.S.Shelf.shown c.said-said.new.shelf) (g.K.Sink.shown c.args.out.now) (g.K.Sink.shown c.end_with.new.out) c.said-said.result c.said-said.ensures.said c.said-said.ensures.memory c.end_with.ensures.ends)
+
+pub returns-clause-schedule_faulty : goal.returns-clause-schedule_faulty
+returns-clause-schedule_faulty g c = schedule_faulty (command_of (map string_bytes c.args.words.now)) c.end_with.result (g.S.Shelf.shown c.args.shelf.now) (g.S.Shelf.shown c.said-said.new.shelf) (g.K.Sink.shown c.args.out.now) (g.K.Sink.shown c.end_with.new.out) (is_run (command_of (map string_bytes c.args.words.now)) c.end_with.result (g.S.Shelf.shown c.args.shelf.now) (g.S.Shelf.shown c.said-said.new.shelf) (g.K.Sink.shown c.args.out.now) (g.K.Sink.shown c.end_with.new.out) c.said-said.result c.said-said.ensures.said c.said-said.ensures.memory c.end_with.ensures.ends)
+
+pub returns-clause-schedule_unwritten : goal.returns-clause-schedule_unwritten
+returns-clause-schedule_unwritten g c = schedule_unwritten (command_of (map string_bytes c.args.words.now)) c.end_with.result (g.S.Shelf.shown c.args.shelf.now) (g.S.Shelf.shown c.said-said.new.shelf) (g.K.Sink.shown c.args.out.now) (g.K.Sink.shown c.end_with.new.out) (is_run (command_of (map string_bytes c.args.words.now)) c.end_with.result (g.S.Shelf.shown c.args.shelf.now) (g.S.Shelf.shown c.said-said.new.shelf) (g.K.Sink.shown c.args.out.now) (g.K.Sink.shown c.end_with.new.out) c.said-said.result c.said-said.ensures.said c.said-said.ensures.memory c.end_with.ensures.ends)
+
+pub returns-clause-schedule_checked : goal.returns-clause-schedule_checked
+returns-clause-schedule_checked g c = schedule_checked (command_of (map string_bytes c.args.words.now)) c.end_with.result (g.S.Shelf.shown c.args.shelf.now) (g.S.Shelf.shown c.said-said.new.shelf) (g.K.Sink.shown c.args.out.now) (g.K.Sink.shown c.end_with.new.out) (is_run (command_of (map string_bytes c.args.words.now)) c.end_with.result (g.S.Shelf.shown c.args.shelf.now) (g.S.Shelf.shown c.said-said.new.shelf) (g.K.Sink.shown c.args.out.now) (g.K.Sink.shown c.end_with.new.out) c.said-said.result c.said-said.ensures.said c.said-said.ensures.memory c.end_with.ensures.ends)
+
+pub returns-clause-schedcheck_faulty : goal.returns-clause-schedcheck_faulty
+returns-clause-schedcheck_faulty g c = schedcheck_faulty (command_of (map string_bytes c.args.words.now)) c.end_with.result (g.S.Shelf.shown c.args.shelf.now) (g.S.Shelf.shown c.said-said.new.shelf) (g.K.Sink.shown c.args.out.now) (g.K.Sink.shown c.end_with.new.out) (is_run (command_of (map string_bytes c.args.words.now)) c.end_with.result (g.S.Shelf.shown c.args.shelf.now) (g.S.Shelf.shown c.said-said.new.shelf) (g.K.Sink.shown c.args.out.now) (g.K.Sink.shown c.end_with.new.out) c.said-said.result c.said-said.ensures.said c.said-said.ensures.memory c.end_with.ensures.ends)
+
+pub returns-clause-pegged : goal.returns-clause-pegged
+returns-clause-pegged g c = pegged (command_of (map string_bytes c.args.words.now)) c.end_with.result (g.S.Shelf.shown c.args.shelf.now) (g.S.Shelf.shown c.said-said.new.shelf) (g.K.Sink.shown c.args.out.now) (g.K.Sink.shown c.end_with.new.out) (is_run (command_of (map string_bytes c.args.words.now)) c.end_with.result (g.S.Shelf.shown c.args.shelf.now) (g.S.Shelf.shown c.said-said.new.shelf) (g.K.Sink.shown c.args.out.now) (g.K.Sink.shown c.end_with.new.out) c.said-said.result c.said-said.ensures.said c.said-said.ensures.memory c.end_with.ensures.ends)
+
+pub returns-clause-peg_faulty : goal.returns-clause-peg_faulty
+returns-clause-peg_faulty g c = peg_faulty (command_of (map string_bytes c.args.words.now)) c.end_with.result (g.S.Shelf.shown c.args.shelf.now) (g.S.Shelf.shown c.said-said.new.shelf) (g.K.Sink.shown c.args.out.now) (g.K.Sink.shown c.end_with.new.out) (is_run (command_of (map string_bytes c.args.words.now)) c.end_with.result (g.S.Shelf.shown c.args.shelf.now) (g.S.Shelf.shown c.said-said.new.shelf) (g.K.Sink.shown c.args.out.now) (g.K.Sink.shown c.end_with.new.out) c.said-said.result c.said-said.ensures.said c.said-said.ensures.memory c.end_with.ensures.ends)
+
+pub returns-clause-peg_unwritten : goal.returns-clause-peg_unwritten
+returns-clause-peg_unwritten g c = peg_unwritten (command_of (map string_bytes c.args.words.now)) c.end_with.result (g.S.Shelf.shown c.args.shelf.now) (g.S.Shelf.shown c.said-said.new.shelf) (g.K.Sink.shown c.args.out.now) (g.K.Sink.shown c.end_with.new.out) (is_run (command_of (map string_bytes c.args.words.now)) c.end_with.result (g.S.Shelf.shown c.args.shelf.now) (g.S.Shelf.shown c.said-said.new.shelf) (g.K.Sink.shown c.args.out.now) (g.K.Sink.shown c.end_with.new.out) c.said-said.result c.said-said.ensures.said c.said-said.ensures.memory c.end_with.ensures.ends)

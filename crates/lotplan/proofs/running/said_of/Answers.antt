@@ -48,3 +48,15 @@ returns-in-Demo-clause-said g c =
     let seed = c.in-Demo.seed in
     subst (λ k. IfOk c.show_plans.result (SaysFor (Some (request_by k)) old old)) (sym c.in-Demo.is)
     (IfOk-weaker c.show_plans.result (DemoSays seed) (SaysFor (Some (demonstrating seed)) old old) (λ said says. says old) c.show_plans.ensures)
+
+pub returns-in-Schedule-clause-said : goal.returns-in-Schedule-clause-said
+returns-in-Schedule-clause-said g c =
+    subst (λ k. IfOk c.schedule_files.result (SaysFor (Some (request_by k)) (g.S.Shelf.shown c.args.shelf.now) (g.S.Shelf.shown c.schedule_files.new.shelf))) (sym c.in-Schedule.is) c.schedule_files.ensures.said
+
+pub returns-in-CheckSchedule-clause-said : goal.returns-in-CheckSchedule-clause-said
+returns-in-CheckSchedule-clause-said g c =
+    subst (λ k. IfOk c.schedcheck_files.result (SaysFor (Some (request_by k)) (g.S.Shelf.shown c.args.shelf.now) (g.S.Shelf.shown c.schedcheck_files.new.shelf))) (sym c.in-CheckSchedule.is) c.schedcheck_files.ensures.said
+
+pub returns-in-Peg-clause-said : goal.returns-in-Peg-clause-said
+returns-in-Peg-clause-said g c =
+    subst (λ k. IfOk c.peg_files.result (SaysFor (Some (request_by k)) (g.S.Shelf.shown c.args.shelf.now) (g.S.Shelf.shown c.peg_files.new.shelf))) (sym c.in-Peg.is) c.peg_files.ensures.said
