@@ -1,0 +1,16 @@
+pub mod Prices
+pub mod Servers
+pub mod Serving
+pub mod Walks
+pub mod Bounds
+pub mod Changes
+pub mod Parts
+pub mod Steps
+pub mod Choices
+pub mod Leasts
+pub mod Pushed
+pub mod Tabled
+pub mod Leads
+pub mod Exact
+pub mod Worked
+pub mod Stocks

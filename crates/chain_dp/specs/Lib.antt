@@ -1,0 +1,7 @@
+pub mod Chains
+pub mod Numbers
+pub mod Lists
+pub mod Tables
+pub mod Costs
+pub mod Worked
+pub mod Stocks

@@ -1,0 +1,5 @@
+pub mod Greatest
+pub mod Starts
+pub mod Nets
+pub mod LargestLots
+pub mod Tables

@@ -1,0 +1,4 @@
+pub mod MustStart
+pub mod Lots
+pub mod Rows
+pub mod Steps

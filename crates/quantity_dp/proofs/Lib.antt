@@ -1,0 +1,3 @@
+pub mod Queues
+pub mod Entries
+pub mod Rows

@@ -1,0 +1,5 @@
+pub mod Lots
+pub mod Laws
+pub mod Limits
+pub mod Window
+pub mod Table

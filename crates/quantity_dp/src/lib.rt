@@ -1,0 +1,26 @@
+//! The cheapest way to start what must be started of one item, in whole quantities with largest lots.
+//!
+//! Family: single items. It stands on `lot_sizing` and `must_start`. Nothing stands on it yet.
+//!
+//! A `LotPeriod` has for one period the price of a setup and of a unit, what must have been started by its end, and
+//! the largest lot. `least_price` gives the least price of quantities that keep these, or none exactly where no
+//! quantities do. `find_fault` names the first period that is past the limits within which it answers.
+//!
+//! It is a recursion over whole quantities: the least price of having started a quantity by the end of a period goes
+//! by the least prices of a window of quantities at the end of the period before, no longer than the largest lot. The
+//! least of a window is found by a queue of prices that rise, so the time is in the number of periods times that of
+//! quantities. Quantities past all that must be started never pay.
+#![tactic(auto)]
+
+mod laws;
+mod limits;
+mod lots;
+mod table;
+#[cfg(test)]
+mod tests;
+mod window;
+
+pub use laws::plans_are_choices;
+pub use limits::{LotsFault, MAX_ENTRIES, MAX_PRICE, find_fault};
+pub use lots::LotPeriod;
+pub use table::least_price;
