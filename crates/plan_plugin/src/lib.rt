@@ -1,15 +1,16 @@
-//! Plans as a plugin of the search: those that are made without a search, by linear programs with given setups, and with the
-//! setups that rounds of prices want.
+//! Plans as a plugin of the search: those that are made without a search, by walks where items have lead times or bounds on
+//! lots, by linear programs with given setups, and with the setups that rounds of prices want.
 //!
 //! `Plans` is a `Heuristic` of `search_plugins`, whose hint is the average over rounds of prices. Its state, an `Effort`, has what
 //! finding plans may still take and what was tried.
 //!
-//! Family: plugins. It stands on `search_plugins`, whose trait it implements, on `first_plans`, `built_plans` and `fixed_setups`,
-//! which make plans, on `price_rounds` for averages, and on `incumbent`, which keeps the best plan; `lotplan_main` names it, and
+//! Family: plugins. It stands on `search_plugins`, whose trait it implements, on `first_plans`, `lagged_plans`, `built_plans` and
+//! `fixed_setups`, which make plans, on `price_rounds` for averages, and on `incumbent`, which keeps the best plan; `lotplan_main` names it, and
 //! nothing of the search stands on it.
 #![tactic(auto)]
 
 mod effort;
+mod lagging;
 mod plans;
 mod programs;
 mod starting;

@@ -8,6 +8,7 @@ ghost use Rattle.incumbent.specs.Kept.{IsBestSoFar, IsNoWorseBest};
 ghost use Rattle.search_ranges.specs.Within.{HaveShape};
 
 use crate::effort::Effort;
+use crate::lagging::lag_in_tree;
 use fixed_setups::{planned, plunged, walked};
 use incumbent::keep_within;
 use lot_model::Instance;
@@ -161,7 +162,10 @@ pub(crate) fn try_walk(
     ensures { OnOk result (IsNoWorseBest instance.now ranges.now best.new best.old) }
 {
     match effort.next_walk() {
-        Some(seed) => walk(alloc, instance, ranges, seed, TREE_WORK, best),
+        Some(seed) => {
+            walk(alloc, instance, ranges, seed, TREE_WORK, best)?;
+            lag_in_tree(alloc, instance, ranges, seed, best)
+        }
         None => Ok(()),
     }
 }

@@ -4,6 +4,7 @@ ghost use Rattle.plan_rules.specs.Rows.{IfFound};
 ghost use Rattle.incumbent.specs.Kept.{IsBestSoFar, IsMadeWithin, IsNoWorseBest};
 ghost use Rattle.search_ranges.specs.Within.{HaveShape, given_ranges};
 
+use crate::lagging::lag_at_start;
 use crate::programs::{look, walk_at_start};
 use first_plans::candidates;
 use incumbent::keep_within;
@@ -46,8 +47,8 @@ fn keep_candidate(
     Ok(())
 }
 
-/// Plans before the first node: those that are made without a search, where there is none one by the program with all setups or
-/// by a plunge, and a walk from the best one. The best plan, with its cost in money, is kept, of those that lie within the
+/// Plans before the first node: those that are made without a search, walks where items have lead times or bounds on lots, where
+/// there is no plan yet one by the program with all setups or by a plunge, and a walk from the best one. The best plan, with its cost in money, is kept, of those that lie within the
 /// ranges.
 ///
 /// The ranges have a number for each item and period of the instance, and the best plan so far lies within them. The error is
@@ -62,6 +63,7 @@ pub(crate) fn try_at_start(
     ensures { OnOk result (IsNoWorseBest instance.now ranges.now best.new best.old) }
 {
     keep_candidate(alloc, instance, ranges, best)?;
+    lag_at_start(alloc, instance, ranges, best)?;
     look(alloc, instance, ranges, best)?;
     walk_at_start(alloc, instance, ranges, best)
 }

@@ -1,0 +1,25 @@
+//! Plans with lead times and bounds on lots.
+//!
+//! A plan is changed step by step: the lots of one item after the other are made anew by a recursion over what has been made so
+//! far, which knows lead times, least and largest lots, the time that the other items leave, and what the components allow.
+//! What breaks a rule costs a penalty until nothing does. Which items are made anew next is drawn at random (a large
+//! neighbourhood search: Shaw 1998).
+//!
+//! `lagged_plan` begins with no lots at all, and `improved_lagged` with those of a plan.
+//!
+//! Family: plugins. It stands on `lot_model`, on `plan_rules`, which judges what comes out, on `own_plan`, by whose definitions a
+//! plan is a feasible one, on `priced_items` for grids of numbers with a sign, and on `rand_pcg`; `plan_plugin` stands on it.
+#![tactic(auto)]
+
+mod drawing;
+mod levels;
+mod planning;
+mod recursion;
+mod remaking;
+mod shop;
+mod taking;
+mod walking;
+mod windows;
+mod worth;
+
+pub use planning::{improved_lagged, lagged_plan};
