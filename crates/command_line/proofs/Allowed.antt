@@ -11,7 +11,7 @@ use Rattle.command_line.specs.Laws.{CommandsAreAllowed}
 use Rattle.lot_sizing.specs.declared.limits.TheConstants.{MAX_ITEMS}
 use Rattle.instance_reader.specs.declared.versions.TheConstants.{FIRST_VERSION_PERIODS}
 use Rattle.command_line.specs.declared.requests.TheConstants.{LARGEST_BUDGET, USUAL_BUDGET}
-use Rattle.command_line.specs.Words.{AreApart, Request, IsAllowed, are_file_names, are_two_names, request_by_matches, request_if, request_in, bounding, bounding_from, budget_from, checking, checking_from, command_of, demonstrating, demonstrating_from, generated, generating, generating_from, is_budget, is_file_name, is_number, is_seed, judging, judging_from, largest_seed, pegging, pegging_from, planned, planning, planning_from, reporting, reporting_from, schedule_checking, schedule_checking_from, scheduling, scheduling_from, unless_refused, upgrading, upgrading_from, version}
+use Rattle.command_line.specs.Words.{AreApart, AreFiveApart, AreFourApart, Request, IsAllowed, are_file_names, are_five_names, are_four_names, are_two_names, request_by_matches, request_if, request_in, bounding, bounding_from, budget_from, checking, checking_from, command_of, demonstrating, demonstrating_from, drawing, drawing_from, generated, generating, generating_from, is_budget, is_file_name, is_number, is_seed, is_start, judging, judging_from, largest_seed, largest_start, pegging, pegging_from, planned, planning, planning_from, reporting, reporting_from, replanned, replanning, replanning_from, schedule_checking, schedule_checking_from, scheduling, scheduling_from, unless_refused, upgrading, upgrading_from, version}
 
 -- the parts of a test that came out true
 pub first_true : (a b : Bool) → (a && b) ≡ true → a ≡ true
@@ -44,6 +44,33 @@ are_apart m p c is =
 
 two_apart : (m p : List ℕ) → are_two_names m p ≡ true → m ≢ p
 two_apart m p is = unlike m p (rest_true (is_file_name p) (not (bytes_eq m p)) (rest_true (is_file_name m) (is_file_name p && not (bytes_eq m p)) is))
+
+four_apart : (m p h c : List ℕ) → are_four_names m p h c ≡ true → AreFourApart m p h c
+four_apart m p h c is =
+    let a = are_file_names m p h in
+    let b = are_file_names m p c in
+    let d = are_two_names h c in
+    let later : (b && d) ≡ true = rest_true a (b && d) is in
+    record {
+      page = are_apart m p h (first_true a (b && d) is);
+      proof = are_apart m p c (first_true b d later);
+      other = two_apart h c (rest_true b d later);
+    }
+
+five_apart : (m p n q c : List ℕ) → are_five_names m p n q c ≡ true → AreFiveApart m p n q c
+five_apart m p n q c is =
+    let a = are_file_names m p n in
+    let b = are_file_names m q c in
+    let d = are_file_names p q c in
+    let e = are_file_names n q c in
+    let later : (b && (d && e)) ≡ true = rest_true a (b && (d && e)) is in
+    let last : (d && e) ≡ true = rest_true b (d && e) later in
+    record {
+      first = are_apart m p n (first_true a (b && (d && e)) is);
+      of_model = are_apart m q c (first_true b (d && e) later);
+      of_plan = are_apart p q c (first_true d e last);
+      of_next = are_apart n q c (rest_true d e last);
+    }
 
 -- a text that is one number's has it in its range
 in_range : (least most n : ℕ) → is_in_range least most n ≡ true → (least ≤ n) × (n ≤ most)
@@ -157,6 +184,31 @@ fine_pegging (Some m) None q = fine_none
 fine_pegging (Some m) (Some p) None = fine_none
 fine_pegging (Some m) (Some p) (Some q) = fine_if (are_file_names m p q) (pegging m p q) (are_apart m p q)
 
+fine_drawing : (m p h c : Option (List ℕ)) → Fine (drawing_from m p h c)
+fine_drawing None p h c = fine_none
+fine_drawing (Some m) None h c = fine_none
+fine_drawing (Some m) (Some p) None c = fine_none
+fine_drawing (Some m) (Some p) (Some h) None = fine_if (are_file_names m p h) (drawing m p h None) (are_apart m p h)
+fine_drawing (Some m) (Some p) (Some h) (Some c) = fine_if (are_four_names m p h c) (drawing m p h (Some c)) (four_apart m p h c)
+
+fine_replanned : (m p f n q c : List ℕ) (budget : Option ℕ) → ((k : ℕ) → budget ≡ Some k → (1 ≤ k) × (k ≤ LARGEST_BUDGET)) → Fine (replanned m p f n q c budget)
+fine_replanned m p f n q c None range = fine_none
+fine_replanned m p f n q c (Some k) range = fine_if (are_five_names m p n q c && is_start f) (replanning m p (digits_value 10 f) n q c k) (λ is. record {
+  apart = five_apart m p n q c (first_true (are_five_names m p n q c) (is_start f) is);
+  start_limit = (number_in_range 0 largest_start f (rest_true (are_five_names m p n q c) (is_start f) is)).1;
+  some = (range k refl).0;
+  limit = (range k refl).1;
+})
+
+fine_replanning : (m p f n q c nodes : Option (List ℕ)) → Fine (replanning_from m p f n q c nodes)
+fine_replanning None p f n q c nodes = fine_none
+fine_replanning (Some m) None f n q c nodes = fine_none
+fine_replanning (Some m) (Some p) None n q c nodes = fine_none
+fine_replanning (Some m) (Some p) (Some f) None q c nodes = fine_none
+fine_replanning (Some m) (Some p) (Some f) (Some n) None c nodes = fine_none
+fine_replanning (Some m) (Some p) (Some f) (Some n) (Some q) None nodes = fine_none
+fine_replanning (Some m) (Some p) (Some f) (Some n) (Some q) (Some c) nodes = fine_replanned m p f n q c (budget_from nodes) (budget_in_range nodes)
+
 fine_in : (name : List ℕ) (rows : List Row) → Fine (request_in name rows)
 fine_in name rows =
     fine_either (bytes_eq name (codes "plan")) _ _ (fine_planning (first_of (codes "M") rows) (first_of (codes "P") rows) (first_of (codes "C") rows) (first_of (codes "nodes") rows))
@@ -169,7 +221,9 @@ fine_in name rows =
     (fine_either (bytes_eq name (codes "bound")) _ _ (fine_bounding (first_of (codes "M") rows))
     (fine_either (bytes_eq name (codes "schedule")) _ _ (fine_scheduling (first_of (codes "M") rows) (first_of (codes "P") rows) (first_of (codes "S") rows))
     (fine_either (bytes_eq name (codes "schedcheck")) _ _ (fine_schedule_checking (first_of (codes "M") rows) (first_of (codes "P") rows) (first_of (codes "S") rows))
-    (fine_either (bytes_eq name (codes "peg")) _ _ (fine_pegging (first_of (codes "M") rows) (first_of (codes "P") rows) (first_of (codes "Q") rows)) fine_none))))))))))
+    (fine_either (bytes_eq name (codes "peg")) _ _ (fine_pegging (first_of (codes "M") rows) (first_of (codes "P") rows) (first_of (codes "Q") rows))
+    (fine_either (bytes_eq name (codes "draw")) _ _ (fine_drawing (first_of (codes "M") rows) (first_of (codes "P") rows) (first_of (codes "H") rows) (first_of (codes "proof") rows))
+    (fine_either (bytes_eq name (codes "replan")) _ _ (fine_replanning (first_of (codes "M") rows) (first_of (codes "P") rows) (first_of (codes "F") rows) (first_of (codes "M2") rows) (first_of (codes "P2") rows) (first_of (codes "C") rows) (first_of (codes "nodes") rows)) fine_none))))))))))))
 
 fine_matches : (s : Option (List ℕ × List Row)) → Fine (request_by_matches s)
 fine_matches None = fine_some version tt

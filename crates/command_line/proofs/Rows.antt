@@ -4,15 +4,17 @@ use Rattle.std.specs.List.{fold}
 use Rattle.std.proofs.lemmas.List.{take_more}
 use Rattle.std.proofs.lemmas.List.Sums.{fold_push}
 use Rattle.clap.specs.Words.{App, Text, new_app, with_rule, with_subcommand}
-use Rattle.command_line.specs.Grammar.{argument_rule, base_app, placed, subcommand}
+use Rattle.command_line.specs.Choices.{choice_of}
+use Rattle.command_line.specs.Grammar.{argument_rule, base_app, choice, placed, subcommand}
 use Rattle.command_line.specs.declared.table.Argument.{Argument}
+use Rattle.command_line.specs.declared.table.Choice.{Choice}
 use Rattle.command_line.specs.declared.table.Row.{Row}
 
 abbrev pub id_of : Argument → Text
 id_of a = a.id.now
 
 abbrev pub app_of_row : Row → App
-app_of_row r = subcommand r.name.now (map id_of r.arguments.now) r.has_nodes
+app_of_row r = subcommand r.name.now (map id_of r.arguments.now) (map choice_of r.options.now)
 
 -- the program with these rows
 abbrev pub grown : List Row → App
@@ -30,3 +32,9 @@ pub argument_more : (name : Text) (list : List Argument) (i : ℕ) (d : Argument
 argument_more name list i d h =
     ap (λ l. placed name (map id_of l)) (take_more list i d h) ∙ ap (placed name) (map_push id_of (take i list) (get_or list i d))
     ∙ fold_push (λ a id. with_rule a (argument_rule id)) (new_app name) (map id_of (take i list)) (get_or list i d).id.now
+
+pub option_more : (name : Text) (ids : List Text) (list : List Choice) (i : ℕ) (d : Choice) → i < length list
+    → subcommand name ids (map choice_of (take (i + 1) list)) ≡ with_rule (subcommand name ids (map choice_of (take i list))) (choice (choice_of (get_or list i d)))
+option_more name ids list i d h =
+    ap (λ l. subcommand name ids (map choice_of l)) (take_more list i d h) ∙ ap (subcommand name ids) (map_push choice_of (take i list) (get_or list i d))
+    ∙ fold_push (λ a o. with_rule a (choice o)) (placed name ids) (map choice_of (take i list)) (choice_of (get_or list i d))

@@ -1,8 +1,9 @@
--- The command line as it is declared: a table of subcommands, their arguments in order, and one option.
+-- The command line as it is declared: a table of subcommands, their arguments in order, and their options.
 use Rattle.std.specs.Prelude.{Bool, true, false, List, [], ◌∷◌, Some, codes, if◌then◌else◌}
 use Rattle.std.specs.List.{fold}
 use Rattle.clap.specs.Words.{App, Rule, Text, new_app, new_rule, with_rule, with_subcommand}
 use Rattle.clap.specs.Simple.{on_top}
+use Rattle.clap.specs.declared.builder.action.ArgAction.TheVariants.{SetTrue}
 
 -- an argument that is known by its place, and has to be there
 abbrev pub argument_rule : Text → Rule
@@ -12,27 +13,41 @@ argument_rule id = record (new_rule id) { required = true }
 abbrev pub option : Text → Rule
 option id = record (new_rule id) { long = Some id; value_names = 1 }
 
--- a subcommand with these arguments, and one that may have the option `--nodes` too
+-- an option without a text, which may be there once
+abbrev pub flag : Text → Rule
+flag id = record (new_rule id) { long = Some id; action = Some SetTrue }
+
+-- an option of this name, with a text or without
+abbrev pub choice : Text × Bool → Rule
+choice o = if o.1 then option o.0 else flag o.0
+
+-- a subcommand with these arguments and options
 abbrev pub placed : Text → List Text → App
 placed name ids = fold (λ a id. with_rule a (argument_rule id)) (new_app name) ids
 
-abbrev pub subcommand : Text → List Text → Bool → App
-subcommand name ids has_nodes = if has_nodes then with_rule (placed name ids) (option (codes "nodes")) else placed name ids
+abbrev pub subcommand : Text → List Text → List (Text × Bool) → App
+subcommand name ids options = fold (λ a o. with_rule a (choice o)) (placed name ids) options
+
+-- the options of a search
+abbrev pub search_options : List (Text × Bool)
+search_options = (codes "nodes", true) ∷ (codes "progress", false) ∷ []
 
 -- the subcommands
 abbrev pub subcommands : List App
 subcommands =
-    subcommand (codes "plan") (codes "M" ∷ codes "P" ∷ codes "C" ∷ []) true
-    ∷ subcommand (codes "judge") (codes "M" ∷ codes "P" ∷ []) false
-    ∷ subcommand (codes "check") (codes "M" ∷ codes "P" ∷ codes "C" ∷ []) false
-    ∷ subcommand (codes "report") (codes "M" ∷ codes "P" ∷ []) false
-    ∷ subcommand (codes "gen") (codes "N" ∷ codes "ITEMS" ∷ codes "PERIODS" ∷ codes "M" ∷ []) false
-    ∷ subcommand (codes "demo") (codes "N" ∷ []) false
-    ∷ subcommand (codes "upgrade") (codes "M" ∷ codes "M2" ∷ []) false
-    ∷ subcommand (codes "bound") (codes "M" ∷ []) false
-    ∷ subcommand (codes "schedule") (codes "M" ∷ codes "P" ∷ codes "S" ∷ []) false
-    ∷ subcommand (codes "schedcheck") (codes "M" ∷ codes "P" ∷ codes "S" ∷ []) false
-    ∷ subcommand (codes "peg") (codes "M" ∷ codes "P" ∷ codes "Q" ∷ []) false
+    subcommand (codes "plan") (codes "M" ∷ codes "P" ∷ codes "C" ∷ []) search_options
+    ∷ subcommand (codes "judge") (codes "M" ∷ codes "P" ∷ []) []
+    ∷ subcommand (codes "check") (codes "M" ∷ codes "P" ∷ codes "C" ∷ []) []
+    ∷ subcommand (codes "report") (codes "M" ∷ codes "P" ∷ []) []
+    ∷ subcommand (codes "gen") (codes "N" ∷ codes "ITEMS" ∷ codes "PERIODS" ∷ codes "M" ∷ []) []
+    ∷ subcommand (codes "demo") (codes "N" ∷ []) []
+    ∷ subcommand (codes "upgrade") (codes "M" ∷ codes "M2" ∷ []) []
+    ∷ subcommand (codes "bound") (codes "M" ∷ []) []
+    ∷ subcommand (codes "schedule") (codes "M" ∷ codes "P" ∷ codes "S" ∷ []) []
+    ∷ subcommand (codes "schedcheck") (codes "M" ∷ codes "P" ∷ codes "S" ∷ []) []
+    ∷ subcommand (codes "peg") (codes "M" ∷ codes "P" ∷ codes "Q" ∷ []) []
+    ∷ subcommand (codes "draw") (codes "M" ∷ codes "P" ∷ codes "H" ∷ []) ((codes "proof", true) ∷ [])
+    ∷ subcommand (codes "replan") (codes "M" ∷ codes "P" ∷ codes "F" ∷ codes "M2" ∷ codes "P2" ∷ codes "C" ∷ []) search_options
     ∷ []
 
 -- the program, whose words come without its own name, with a version and no subcommand `help`

@@ -1,4 +1,5 @@
 pub mod Grammar
+pub mod Choices
 pub mod Words
 pub mod Meant
 pub mod Plain

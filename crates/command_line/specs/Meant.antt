@@ -1,6 +1,6 @@
 -- What the program's own values stand for.
-use Rattle.std.specs.Prelude.{◌≡◌, ⊤, ℕ, List, Option, Some, None, codes}
-use Rattle.command_line.specs.Words.{Request, AreTaken, version, planning, judging, checking, reporting, generating, demonstrating, upgrading, bounding, scheduling, schedule_checking, pegging}
+use Rattle.std.specs.Prelude.{◌≡◌, ⊤, ℕ, List, Option, Some, None, codes, option_map}
+use Rattle.command_line.specs.Words.{Request, AreTaken, version, planning, judging, checking, reporting, generating, demonstrating, upgrading, bounding, scheduling, schedule_checking, pegging, drawing, replanning}
 use Rattle.command_line.specs.declared.commands.Command.{Command}
 use Rattle.command_line.specs.declared.commands.Command.TheVariants as command
 use Rattle.command_line.specs.declared.commands.Reading.{Reading}
@@ -20,6 +20,8 @@ request_by (command.Demo seed) = demonstrating seed
 request_by (command.Schedule names) = scheduling names.model.now names.plan.now names.schedule.now
 request_by (command.CheckSchedule names) = schedule_checking names.model.now names.plan.now names.schedule.now
 request_by (command.Peg names) = pegging names.model.now names.plan.now names.pegs.now
+request_by (command.Draw names certificate) = drawing names.model.now names.plan.now names.page.now (option_map (λ c. c.now) certificate)
+request_by (command.Replan names periods budget) = replanning names.model.now names.plan.now periods names.next_model.now names.next_plan.now names.certificate.now budget
 
 -- what the words were read as
 abbrev pub read_as : Reading → Option Request

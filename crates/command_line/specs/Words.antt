@@ -34,6 +34,11 @@ pub data Request : Type 0 where
   schedule_checking : List ℕ → List ℕ → List ℕ → Request
   -- to say which supply serves which need, with the names of the model file, the plan file and the new file
   pegging : List ℕ → List ℕ → List ℕ → Request
+  -- to draw a plan, with the names of the model file, the plan file, the new page and, where the page is to say what is proved, the certificate file
+  drawing : List ℕ → List ℕ → List ℕ → Option (List ℕ) → Request
+  -- to plan on after the first periods of a plan, with the names of the model file and the plan file, how many periods stay as they are, the names of the model file, the plan file and the
+  -- certificate file of the later periods, and the most nodes that the certificate's tree may have
+  replanning : List ℕ → List ℕ → ℕ → List ℕ → List ℕ → List ℕ → ℕ → Request
 
 -- ---- names and numbers
 
@@ -50,6 +55,14 @@ are_file_names m p c = is_file_name m && (is_file_name p && (is_file_name c && (
 abbrev pub are_two_names : List ℕ → List ℕ → Bool
 are_two_names m p = is_file_name m && (is_file_name p && not (bytes_eq m p))
 
+-- four files' names, no two of them the same
+abbrev pub are_four_names : List ℕ → List ℕ → List ℕ → List ℕ → Bool
+are_four_names m p h c = are_file_names m p h && (are_file_names m p c && are_two_names h c)
+
+-- five files' names, no two of them the same
+abbrev pub are_five_names : List ℕ → List ℕ → List ℕ → List ℕ → List ℕ → Bool
+are_five_names m p n q c = are_file_names m p n && (are_file_names m q c && (are_file_names p q c && are_file_names n q c))
+
 -- the text of a number from the least to the most: decimal digits, with no sign and no 0 before others
 abbrev pub is_number : ℕ → ℕ → List ℕ → Bool
 is_number least most text = bytes_eq text (decimal (digits_value 10 text)) && is_in_range least most (digits_value 10 text)
@@ -57,6 +70,13 @@ is_number least most text = bytes_eq text (decimal (digits_value 10 text)) && is
 -- the largest seed
 abbrev pub largest_seed : ℕ
 largest_seed = 18446744073709551615
+
+-- the most periods that are asked to stay
+abbrev pub largest_start : ℕ
+largest_start = 4294967295
+
+abbrev pub is_start : List ℕ → Bool
+is_start = is_number 0 largest_start
 
 abbrev pub is_budget : List ℕ → Bool
 is_budget = is_number 1 LARGEST_BUDGET
@@ -127,6 +147,19 @@ abbrev pub pegging_from : Option (List ℕ) → Option (List ℕ) → Option (Li
 pegging_from (Some m) (Some p) (Some q) = request_if (are_file_names m p q) (pegging m p q)
 pegging_from _ _ _ = None
 
+abbrev pub drawing_from : Option (List ℕ) → Option (List ℕ) → Option (List ℕ) → Option (List ℕ) → Option Request
+drawing_from (Some m) (Some p) (Some h) None = request_if (are_file_names m p h) (drawing m p h None)
+drawing_from (Some m) (Some p) (Some h) (Some c) = request_if (are_four_names m p h c) (drawing m p h (Some c))
+drawing_from _ _ _ _ = None
+
+abbrev pub replanned : List ℕ → List ℕ → List ℕ → List ℕ → List ℕ → List ℕ → Option ℕ → Option Request
+replanned m p f n q c None = None
+replanned m p f n q c (Some budget) = request_if (are_five_names m p n q c && is_start f) (replanning m p (digits_value 10 f) n q c budget)
+
+abbrev pub replanning_from : Option (List ℕ) → Option (List ℕ) → Option (List ℕ) → Option (List ℕ) → Option (List ℕ) → Option (List ℕ) → Option (List ℕ) → Option Request
+replanning_from (Some m) (Some p) (Some f) (Some n) (Some q) (Some c) nodes = replanned m p f n q c (budget_from nodes)
+replanning_from _ _ _ _ _ _ _ = None
+
 -- ---- what the matches ask for
 
 -- what a subcommand of this name asks for, by the texts of its arguments
@@ -143,6 +176,9 @@ request_in name rows =
     else if bytes_eq name (codes "schedule") then scheduling_from (first_of (codes "M") rows) (first_of (codes "P") rows) (first_of (codes "S") rows)
     else if bytes_eq name (codes "schedcheck") then schedule_checking_from (first_of (codes "M") rows) (first_of (codes "P") rows) (first_of (codes "S") rows)
     else if bytes_eq name (codes "peg") then pegging_from (first_of (codes "M") rows) (first_of (codes "P") rows) (first_of (codes "Q") rows)
+    else if bytes_eq name (codes "draw") then drawing_from (first_of (codes "M") rows) (first_of (codes "P") rows) (first_of (codes "H") rows) (first_of (codes "proof") rows)
+    else if bytes_eq name (codes "replan") then replanning_from (first_of (codes "M") rows) (first_of (codes "P") rows) (first_of (codes "F") rows) (first_of (codes "M2") rows) (first_of (codes "P2") rows)
+    (first_of (codes "C") rows) (first_of (codes "nodes") rows)
     else None
 
 -- words with no subcommand are the program's name
@@ -177,6 +213,26 @@ pub record IsPlanned (m p c : List ℕ) (budget : ℕ) : Type 0 where
   pub some : 1 ≤ budget
   pub limit : budget ≤ LARGEST_BUDGET
 
+-- no two of four names are the same
+pub record AreFourApart (m p h c : List ℕ) : Type 0 where
+  pub page : AreApart m p h
+  pub proof : AreApart m p c
+  pub other : h ≢ c
+
+-- no two of five names are the same
+pub record AreFiveApart (m p n q c : List ℕ) : Type 0 where
+  pub first : AreApart m p n
+  pub of_model : AreApart m q c
+  pub of_plan : AreApart p q c
+  pub of_next : AreApart n q c
+
+-- the names of a plan that goes on are five, no two of them the same, its periods are in their limit, and its budget has at least one node
+pub record IsReplanned (m p : List ℕ) (f : ℕ) (n q c : List ℕ) (budget : ℕ) : Type 0 where
+  pub apart : AreFiveApart m p n q c
+  pub start_limit : f ≤ largest_start
+  pub some : 1 ≤ budget
+  pub limit : budget ≤ LARGEST_BUDGET
+
 pub record IsGenerated (seed items periods : ℕ) : Type 0 where
   pub seed_limit : seed ≤ largest_seed
   pub some_items : 1 ≤ items
@@ -196,4 +252,7 @@ IsAllowed (upgrading m n) = m ≢ n
 IsAllowed (scheduling m p s) = AreApart m p s
 IsAllowed (schedule_checking m p s) = AreApart m p s
 IsAllowed (pegging m p q) = AreApart m p q
+IsAllowed (drawing m p h None) = AreApart m p h
+IsAllowed (drawing m p h (Some c)) = AreFourApart m p h c
+IsAllowed (replanning m p f n q c budget) = IsReplanned m p f n q c budget
 IsAllowed _ = ⊤

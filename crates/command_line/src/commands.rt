@@ -41,6 +41,22 @@ pub enum Command<'a> {
     CheckSchedule(ScheduleNames<'a>),
     /// To say which supply serves which need.
     Peg(PegNames<'a>),
+    /// To draw a plan.
+    Draw {
+        /// The names of the files.
+        names: DrawNames<'a>,
+        /// The certificate file, which is read, where the page is to say what it proves. Its name is none of the others.
+        certificate: Option<&'a str>,
+    },
+    /// To plan on after the first periods of a plan.
+    Replan {
+        /// The names of the files.
+        names: ReplanNames<'a>,
+        /// How many periods stay as they are.
+        periods: u32,
+        /// The most nodes that the certificate's tree may have, from 1 to `LARGEST_BUDGET`.
+        budget: u64,
+    },
 }
 
 /// The names of the files of a plan or of a check, no two of them the same.
@@ -92,6 +108,32 @@ pub struct PegNames<'a> {
     pub plan: &'a str,
     /// The file of pegs, which is written.
     pub pegs: &'a str,
+}
+
+/// The names of the files of a page, no two of them the same.
+#[derive(Clone, Copy, Debug, PartialEq, Eq)]
+pub struct DrawNames<'a> {
+    /// The model file, which is read.
+    pub model: &'a str,
+    /// The plan file, which is read.
+    pub plan: &'a str,
+    /// The page, which is written.
+    pub page: &'a str,
+}
+
+/// The names of the files of a plan that goes on, no two of them the same.
+#[derive(Clone, Copy, Debug, PartialEq, Eq)]
+pub struct ReplanNames<'a> {
+    /// The model file, which is read.
+    pub model: &'a str,
+    /// The plan file, which is read.
+    pub plan: &'a str,
+    /// The model file of the later periods, which is written.
+    pub next_model: &'a str,
+    /// The plan file of the later periods, which is written where there is a plan.
+    pub next_plan: &'a str,
+    /// The certificate file of the later periods, which is written.
+    pub certificate: &'a str,
 }
 
 /// What words were read as.

@@ -1,7 +1,7 @@
 // Which texts are names of files and numbers.
 ghost use Rattle.std.specs.Prelude.{◌≡◌, IfSome, IsNone, false, true};
 ghost use Rattle.std.specs.Str.Parse.{digits_value};
-ghost use Rattle.command_line.specs.Words.{are_file_names, are_two_names, is_file_name, is_number};
+ghost use Rattle.command_line.specs.Words.{are_file_names, are_five_names, are_four_names, are_two_names, is_file_name, is_number};
 
 use whole_numbers::read_whole;
 
@@ -25,6 +25,31 @@ pub(crate) fn are_file_names(model: &str, plan: &str, certificate: &str) -> bool
         && model != plan
         && model != certificate
         && plan != certificate
+}
+
+// Whether four texts are names of files, no two of them the same.
+pub(crate) fn are_four_names(model: &str, plan: &str, page: &str, certificate: &str) -> bool
+    ensures { result ≡ are_four_names model.now plan.now page.now certificate.now }
+{
+    are_file_names(model, plan, page)
+        && are_file_names(model, plan, certificate)
+        && are_two_names(page, certificate)
+}
+
+// Whether five texts are names of files, no two of them the same.
+pub(crate) fn are_five_names(
+    model: &str,
+    plan: &str,
+    next_model: &str,
+    next_plan: &str,
+    certificate: &str,
+) -> bool
+    ensures { result ≡ are_five_names model.now plan.now next_model.now next_plan.now certificate.now }
+{
+    are_file_names(model, plan, next_model)
+        && are_file_names(model, next_plan, certificate)
+        && are_file_names(plan, next_plan, certificate)
+        && are_file_names(next_model, next_plan, certificate)
 }
 
 // Whether two texts are names of files, which aren't the same.

@@ -1,11 +1,12 @@
 // The command line as it is declared to `clap`.
-ghost use Rattle.std.specs.Prelude.{◌≡◌, IfOk, codes, false, map};
+ghost use Rattle.std.specs.Prelude.{◌≡◌, IfOk, false, map};
 ghost use Rattle.clap.specs.Words.{app_of, rule_of};
 ghost use Rattle.clap.specs.declared.builder.command.Command.TheViews.{out-Command};
-ghost use Rattle.command_line.specs.Grammar.{argument_rule, base_app, option, placed, planner_app, subcommand};
+ghost use Rattle.command_line.specs.Grammar.{argument_rule, base_app, choice, placed, planner_app, subcommand};
+ghost use Rattle.command_line.specs.Choices.{choice_of};
 
-use crate::table::{Argument, COMMANDS, Row};
-use clap::{Arg, Command};
+use crate::table::{Argument, COMMANDS, Choice, Row};
+use clap::{Arg, ArgAction, Command};
 use std::alloc::{AllocError, Global};
 
 const VERSION: &str = "1";
@@ -27,10 +28,9 @@ const ENDS: &str = "Ends with
   9   the lines could not be printed
   10  out of memory
   11  a file is too long
+  13  the later periods make no model
 
 Example: lotplan plan model.toml plan.csv plan.cert";
-
-const NODES: &str = "The most nodes of the certificate's tree, 1 to 1000000 [usually 1000]";
 
 fn required<'a>(alloc: Global, argument: Argument) -> Arg<'a>
     ensures rule { rule_of result ≡ argument_rule argument.id.now }
@@ -41,18 +41,19 @@ fn required<'a>(alloc: Global, argument: Argument) -> Arg<'a>
         .help(argument.help)
 }
 
-// The option `--nodes`.
-fn nodes<'a>(alloc: Global) -> Arg<'a>
-    ensures rule { rule_of result ≡ option (codes "nodes") }
+// An option, with a text or without.
+fn optional<'a>(alloc: Global, given: Choice) -> Arg<'a>
+    ensures rule { rule_of result ≡ choice (choice_of given) }
     ensures local { result.global ≡ false }
 {
-    Arg::new(alloc, "nodes")
-        .long("nodes")
-        .value_name("N")
-        .help(NODES)
+    let option = Arg::new(alloc, given.id).long(given.id).help(given.help);
+    match given.text {
+        Some(text) => option.value_name(text),
+        None => option.action(ArgAction::SetTrue),
+    }
 }
 
-// The command of a row, without its option.
+// The command of a row, without its options.
 #[tactic(auto, using(crate::proofs::Rows::argument_more))]
 fn placed<'a>(alloc: Global, row: Row) -> Result<Command<'a>, AllocError>
     ensures shape { IfOk result (λ c. app_of c ≡ placed row.name.now (map (λ a. a.id.now) row.arguments.now)) }
@@ -68,16 +69,16 @@ fn placed<'a>(alloc: Global, row: Row) -> Result<Command<'a>, AllocError>
 }
 
 // The command of a row.
+#[tactic(auto, using(crate::proofs::Rows::option_more))]
 fn command<'a>(alloc: Global, row: Row) -> Result<Command<'a>, AllocError>
-    ensures shape { IfOk result (λ c. app_of c ≡ subcommand row.name.now (map (λ a. a.id.now) row.arguments.now) row.has_nodes) }
+    ensures shape { IfOk result (λ c. app_of c ≡ subcommand row.name.now (map (λ a. a.id.now) row.arguments.now) (map choice_of row.options.now)) }
     ensures local { IfOk result (λ c. (out-Command c).has_globals ≡ false) }
 {
-    let command = placed(alloc, row)?;
-    if row.has_nodes {
-        command.arg(nodes(alloc))
-    } else {
-        Ok(command)
+    let mut command = placed(alloc, row)?;
+    for option in row.options {
+        command = command.arg(optional(alloc, *option))?;
     }
+    Ok(command)
 }
 
 // The program, before its commands.

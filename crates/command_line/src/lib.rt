@@ -15,7 +15,10 @@ mod reader;
 mod requests;
 mod table;
 
-pub use commands::{Command, Names, PegNames, Reading, ScheduleNames, TwoNames, UpgradeNames};
+pub use commands::{
+    Command, DrawNames, Names, PegNames, Reading, ReplanNames, ScheduleNames, TwoNames,
+    UpgradeNames,
+};
 pub use laws::{commands_are_allowed, plain_words_keep_their_meaning};
 pub use reader::read_words;
 pub use requests::{LARGEST_BUDGET, USUAL_BUDGET};

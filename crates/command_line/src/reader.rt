@@ -7,7 +7,7 @@ ghost use Rattle.command_line.specs.Words.{command_of, request_by_matches, reque
 
 use crate::commands::{Command, Reading};
 use crate::grammar::planner;
-use crate::requests;
+use crate::requests::{self, ReplanTexts};
 use clap::ArgMatches;
 use clap::error::{Error, ErrorKind};
 use std::alloc::{AllocError, Global};
@@ -17,8 +17,8 @@ use std::alloc::{AllocError, Global};
 ///
 /// Names of files aren't empty, don't begin with `-`, and no two of a command are the same. Numbers are decimal
 /// digits with no sign and no 0 before others: a seed is below 2^64, items are 1 to `MAX_ITEMS`, periods 1
-/// to `FIRST_VERSION_PERIODS`, the periods of a start below 2^32, and the nodes of `--nodes` 1 to `LARGEST_BUDGET`;
-/// without that option they are `USUAL_BUDGET`. The text of help, of the version and of words that `clap` refuses is
+/// to `FIRST_VERSION_PERIODS`, the periods that stay below 2^32, and the nodes of `--nodes` 1 to `LARGEST_BUDGET`;
+/// without that option they are `USUAL_BUDGET`. `--progress` changes no command. The text of help, of the version and of words that `clap` refuses is
 /// its own; words that it takes, and whose names or numbers aren't in order, are refused by `refused words` and a
 /// line feed.
 ///
@@ -106,6 +106,21 @@ fn request_in<'a>(name: &str, given: &ArgMatches<'a>) -> Option<Command<'a>>
             text_of(given, "P"),
             text_of(given, "Q"),
         ),
+        "draw" => requests::draw(
+            text_of(given, "M"),
+            text_of(given, "P"),
+            text_of(given, "H"),
+            text_of(given, "proof"),
+        ),
+        "replan" => requests::replan(ReplanTexts {
+            model: text_of(given, "M"),
+            plan: text_of(given, "P"),
+            periods: text_of(given, "F"),
+            next_model: text_of(given, "M2"),
+            next_plan: text_of(given, "P2"),
+            certificate: text_of(given, "C"),
+            nodes: text_of(given, "nodes"),
+        }),
         _ => None,
     }
 }

@@ -1,10 +1,14 @@
 // The commands that the texts of arguments give, where the names and numbers are in order.
 ghost use Rattle.std.specs.Prelude.{◌≡◌, option_map};
 ghost use Rattle.command_line.specs.Meant.{request_by};
-ghost use Rattle.command_line.specs.Words.{bounding_from, budget_from, checking_from, demonstrating_from, generated, generating_from, judging_from, pegging_from, planning_from, reporting_from, schedule_checking_from, scheduling_from, upgrading_from};
+ghost use Rattle.command_line.specs.Words.{bounding_from, budget_from, checking_from, demonstrating_from, drawing_from, generated, generating_from, judging_from, pegging_from, planning_from, replanned, replanning_from, reporting_from, schedule_checking_from, scheduling_from, upgrading_from};
 
-use crate::commands::{Command, Names, PegNames, ScheduleNames, TwoNames, UpgradeNames};
-use crate::conditions::{are_file_names, are_two_names, is_file_name, read_number};
+use crate::commands::{
+    Command, DrawNames, Names, PegNames, ReplanNames, ScheduleNames, TwoNames, UpgradeNames,
+};
+use crate::conditions::{
+    are_file_names, are_five_names, are_four_names, are_two_names, is_file_name, read_number,
+};
 use instance_reader::FIRST_VERSION_PERIODS;
 use lot_sizing::limits::MAX_ITEMS;
 
@@ -206,4 +210,84 @@ pub(crate) fn peg<'a>(
         }
         _ => None,
     }
+}
+
+pub(crate) fn draw<'a>(
+    model: Option<&'a str>,
+    plan: Option<&'a str>,
+    page: Option<&'a str>,
+    certificate: Option<&'a str>,
+) -> Option<Command<'a>>
+    ensures { option_map request_by result ≡ drawing_from (option_map (λ s. s.now) model.entry) (option_map (λ s. s.now) plan.entry) (option_map (λ s. s.now) page.entry) (option_map (λ s. s.now) certificate.entry) }
+{
+    let (Some(model), Some(plan), Some(page)) = (model, plan, page) else {
+        return None;
+    };
+    let are_names = match certificate {
+        Some(certificate) => are_four_names(model, plan, page, certificate),
+        None => are_file_names(model, plan, page),
+    };
+    if !are_names {
+        return None;
+    }
+    let names = DrawNames { model, plan, page };
+    Some(Command::Draw { names, certificate })
+}
+
+// A plan that goes on, by the text of its periods and its nodes.
+fn replanned<'a>(names: ReplanNames<'a>, periods: &str, nodes: Option<u64>) -> Option<Command<'a>>
+    ensures { option_map request_by result ≡ replanned names.entry.model.now names.entry.plan.now periods.now names.entry.next_model.now names.entry.next_plan.now names.entry.certificate.now nodes }
+{
+    let budget = nodes?;
+    if !are_five_names(
+        names.model,
+        names.plan,
+        names.next_model,
+        names.next_plan,
+        names.certificate,
+    ) {
+        return None;
+    }
+    let periods = read_number(periods, 0, u64::from(u32::MAX))? as u32;
+    Some(Command::Replan {
+        names,
+        periods,
+        budget,
+    })
+}
+
+// The texts of the arguments of a plan that goes on, where they are given.
+#[derive(Clone, Copy)]
+pub(crate) struct ReplanTexts<'a> {
+    pub(crate) model: Option<&'a str>,
+    pub(crate) plan: Option<&'a str>,
+    pub(crate) periods: Option<&'a str>,
+    pub(crate) next_model: Option<&'a str>,
+    pub(crate) next_plan: Option<&'a str>,
+    pub(crate) certificate: Option<&'a str>,
+    pub(crate) nodes: Option<&'a str>,
+}
+
+pub(crate) fn replan<'a>(given: ReplanTexts<'a>) -> Option<Command<'a>>
+    ensures { option_map request_by result ≡ replanning_from (option_map (λ s. s.now) given.entry.model) (option_map (λ s. s.now) given.entry.plan) (option_map (λ s. s.now) given.entry.periods)
+        (option_map (λ s. s.now) given.entry.next_model) (option_map (λ s. s.now) given.entry.next_plan) (option_map (λ s. s.now) given.entry.certificate) (option_map (λ s. s.now) given.entry.nodes) }
+{
+    let (Some(model), Some(plan), Some(periods)) = (given.model, given.plan, given.periods) else {
+        return None;
+    };
+    let (Some(next_model), Some(next_plan), Some(certificate)) = (
+        given.next_model,
+        given.next_plan,
+        given.certificate,
+    ) else {
+        return None;
+    };
+    let names = ReplanNames {
+        model,
+        plan,
+        next_model,
+        next_plan,
+        certificate,
+    };
+    replanned(names, periods, budget_of(given.nodes))
 }

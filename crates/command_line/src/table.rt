@@ -7,15 +7,22 @@ pub(crate) struct Argument {
     pub(crate) help: &'static str,
 }
 
-// A command: its name, what it does, what it prints and ends with, and its arguments in order.
+// An option, which may be there once: what it is called, the text that it takes, if it takes one, and what it is.
+#[derive(Clone, Copy)]
+pub(crate) struct Choice {
+    pub(crate) id: &'static str,
+    pub(crate) text: Option<&'static str>,
+    pub(crate) help: &'static str,
+}
+
+// A command: its name, what it does, what it prints and ends with, its arguments in order, and its options.
 #[derive(Clone, Copy)]
 pub(crate) struct Row {
     pub(crate) name: &'static str,
     pub(crate) about: &'static str,
     pub(crate) prints: &'static str,
     pub(crate) arguments: &'static [Argument],
-    // Whether it has the option `--nodes` too.
-    pub(crate) has_nodes: bool,
+    pub(crate) options: &'static [Choice],
 }
 
 const MODEL_READ: Argument = Argument {
@@ -89,8 +96,54 @@ const PEGS_WRITTEN: Argument = Argument {
     help: "The file of pegs, which is written",
 };
 
+const PAGE_WRITTEN: Argument = Argument {
+    id: "H",
+    help: "The page, which is written",
+};
+
+const STAYING: Argument = Argument {
+    id: "F",
+    help: "How many periods stay as they are, from 0 on",
+};
+
+const NEXT_MODEL: Argument = Argument {
+    id: "M2",
+    help: "The model file of the later periods, which is written",
+};
+
+const NEXT_PLAN: Argument = Argument {
+    id: "P2",
+    help: "The plan file of the later periods, which is written where there is a plan",
+};
+
+const NEXT_CERTIFICATE: Argument = Argument {
+    id: "C",
+    help: "The certificate file of the later periods, which is written",
+};
+
+// The options of a search.
+const SEARCH_OPTIONS: [Choice; 2] = [
+    Choice {
+        id: "nodes",
+        text: Some("N"),
+        help: "The most nodes of the certificate's tree, 1 to 1000000 [usually 1000]",
+    },
+    Choice {
+        id: "progress",
+        text: None,
+        help: "Tells on the error stream how far the search is",
+    },
+];
+
+// The option of a page that says what is proved.
+const PROOF_OPTIONS: [Choice; 1] = [Choice {
+    id: "proof",
+    text: Some("C"),
+    help: "A certificate file, which is read: the page says what it proves",
+}];
+
 // The commands, in the order in which help lists them.
-pub(crate) const COMMANDS: [Row; 11] = [
+pub(crate) const COMMANDS: [Row; 13] = [
     Row {
         name: "plan",
         about: "Plans a model at the least cost, or proves that it has no plan",
@@ -101,7 +154,7 @@ undecided; `lotplan --help` has the other statuses.
 
 Example: lotplan plan model.toml plan.csv plan.cert --nodes 500",
         arguments: &[MODEL_READ, PLAN_WRITTEN, CERTIFICATE_WRITTEN],
-        has_nodes: true,
+        options: &SEARCH_OPTIONS,
     },
     Row {
         name: "judge",
@@ -111,7 +164,7 @@ with 3; `lotplan --help` has the other statuses.
 
 Example: lotplan judge model.toml plan.csv",
         arguments: &[MODEL_READ, PLAN_READ],
-        has_nodes: false,
+        options: &[],
     },
     Row {
         name: "check",
@@ -121,7 +174,7 @@ Ends with 0 or, at a fault, with 3; `lotplan --help` has the other statuses.
 
 Example: lotplan check model.toml plan.csv plan.cert",
         arguments: &[MODEL_READ, PLAN_CLAIMED, CERTIFICATE_READ],
-        has_nodes: false,
+        options: &[],
     },
     Row {
         name: "report",
@@ -132,7 +185,7 @@ has the other statuses.
 
 Example: lotplan report model.toml plan.csv",
         arguments: &[MODEL_READ, PLAN_READ],
-        has_nodes: false,
+        options: &[],
     },
     Row {
         name: "gen",
@@ -141,7 +194,7 @@ Example: lotplan report model.toml plan.csv",
 
 Example: lotplan gen 7 12 24 model.toml",
         arguments: &[SEED, ITEMS, PERIODS, MODEL_WRITTEN],
-        has_nodes: false,
+        options: &[],
     },
     Row {
         name: "demo",
@@ -151,7 +204,7 @@ Example: lotplan gen 7 12 24 model.toml",
 
 Example: lotplan demo 7",
         arguments: &[SEED],
-        has_nodes: false,
+        options: &[],
     },
     Row {
         name: "upgrade",
@@ -160,7 +213,7 @@ Example: lotplan demo 7",
 
 Example: lotplan upgrade old.toml new.toml",
         arguments: &[MODEL_READ, MODEL_UPGRADED],
-        has_nodes: false,
+        options: &[],
     },
     Row {
         name: "bound",
@@ -171,7 +224,7 @@ where it is too large or its numbers are; `lotplan --help` has the other statuse
 
 Example: lotplan bound model.toml",
         arguments: &[MODEL_READ],
-        has_nodes: false,
+        options: &[],
     },
     Row {
         name: "schedule",
@@ -182,7 +235,7 @@ the schedule file is a slot: resource, period, item, start, end. Ends with 0 or 
 
 Example: lotplan schedule model.toml plan.csv slots.csv",
         arguments: &[MODEL_READ, PLAN_READ, SCHEDULE_WRITTEN],
-        has_nodes: false,
+        options: &[],
     },
     Row {
         name: "schedcheck",
@@ -195,7 +248,7 @@ period T item I` of a lot that has none. Of a plan that breaks a rule it prints 
 
 Example: lotplan schedcheck model.toml plan.csv slots.csv",
         arguments: &[MODEL_READ, PLAN_READ, SCHEDULE_READ],
-        has_nodes: false,
+        options: &[],
     },
     Row {
         name: "peg",
@@ -206,6 +259,38 @@ file of pegs is a peg: item, from, to, quantity, where a supply is `opening` or 
 
 Example: lotplan peg model.toml plan.csv pegs.csv",
         arguments: &[MODEL_READ, PLAN_READ, PEGS_WRITTEN],
-        has_nodes: false,
+        options: &[],
+    },
+    Row {
+        name: "draw",
+        about: "Draws a plan, its loads and what is proved as a page for a browser",
+        prints: "Prints `drawn N` with the bytes of the page, or the first rule that the plan breaks. With `--proof` the
+certificate is checked first, and its first fault is printed where it isn't accepted. The page is one
+HTML file that needs no other. Ends with 0, or with 3 and no page; `lotplan --help` has the other
+statuses.
+
+Example: lotplan draw model.toml plan.csv plan.html --proof plan.cert",
+        arguments: &[MODEL_READ, PLAN_READ, PAGE_WRITTEN],
+        options: &PROOF_OPTIONS,
+    },
+    Row {
+        name: "replan",
+        about: "Keeps the first periods of a plan and plans the later ones",
+        prints: "Prints the lines of `plan` for the later periods, and then `total N`, what the whole costs at least
+with these first periods, or `total floor N`, which it can't cost less than. `infeasible` alone says
+that the first periods can't stay as they are. Ends with 0 where it is optimal, with 1 where there is
+no plan, with 2 where it is undecided, and with 13 where the later periods make no model;
+`lotplan --help` has the other statuses.
+
+Example: lotplan replan model.toml plan.csv 4 later.toml later.csv later.cert",
+        arguments: &[
+            MODEL_READ,
+            PLAN_READ,
+            STAYING,
+            NEXT_MODEL,
+            NEXT_PLAN,
+            NEXT_CERTIFICATE,
+        ],
+        options: &SEARCH_OPTIONS,
     },
 ];

@@ -10,6 +10,7 @@ use Rattle.lot_sizing.specs.Plan.{Plan}
 use Rattle.lot_sizing.proofs.Same.{SamePlan}
 use Rattle.lot_draft.specs.declared.fault.ModelFault.{ModelFault}
 use Rattle.lot_draft.proofs.Limits.{plain}
+use Rattle.lot_model.specs.Laws.{MeansOneThing, MeansSomething}
 use Rattle.instance_reader.specs.Model.{BytesMean}
 use Rattle.instance_reader.specs.declared.versions.TheConstants.{NEWEST_VERSION}
 use Rattle.instance_reader.proofs.Meanings.{bytes_one}
@@ -21,6 +22,7 @@ use Rattle.existence.specs.Readings.{BytesMeanSomething, RecordsMeanSomething}
 use Rattle.answers_exist.specs.Bounding.{BoundsComeOut}
 use Rattle.answers_exist.specs.Checking.{CertificatesComeOut, PlansAreHeld, TextsComeOut}
 use Rattle.lot_schedule.specs.Laws.{SamePlansSameSchedules}
+use Rattle.frozen_start.specs.Laws.{ThereIsOneRest}
 use Rattle.lotplan.specs.Scheduling.{SchedulesAreDecided}
 use Rattle.lotplan.specs.declared.status.TheConstants.{UNDECIDED}
 
@@ -37,6 +39,8 @@ pub record AreLaws : Type 0 where
   pub bounds : BaseBoundsAreOne
   pub cells : CellsAreOne
   pub schedules : SamePlansSameSchedules
+  pub rests : ThereIsOneRest
+  pub models : MeansOneThing
 
 -- and those on which it rests that some status is
 pub record Grounds : Type 0 where
@@ -51,6 +55,7 @@ pub record Grounds : Type 0 where
   pub certificates : CertificatesComeOut
   pub held : PlansAreHeld
   pub schedules : SchedulesAreDecided
+  pub models : MeansSomething
 
 -- no bytes mean two problems, or a problem and a fault
 pub one_problem : (bytes : List ℕ) (m n : Problem) → BytesMean bytes (Ok m) → BytesMean bytes (Ok n) → m ≡ n

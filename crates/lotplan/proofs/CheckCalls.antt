@@ -109,12 +109,12 @@ check_call laws (Some bytes) plan certificate s t a b = ⊎_elim
 
 -- ---- for some
 -- a certificate that is accepted or refused
-decided_some : (m : Problem) (c : Shape) (given : Option Plan) → IsDecided m c given → (status : ℕ) × GivenCallsFor m c given status
+pub decided_some : (m : Problem) (c : Shape) (given : Option Plan) → IsDecided m c given → (status : ℕ) × GivenCallsFor m c given status
 decided_some m c given (inl accepted) = (DONE, inl (accepted, refl))
 decided_some m c given (inr (line, w, fault)) = (FAULTY, inr (line, w, fault, refl))
 
 -- the limit on a file's bytes, and the first length past it
-within_file : (n : ℕ) → n ≤ too_many - 1 → n < too_many
+pub within_file : (n : ℕ) → n ≤ too_many - 1 → n < too_many
 within_file n few = omega (arith, few)
 
 module _ (by : Grounds) where

@@ -34,14 +34,14 @@ use Rattle.lotplan.proofs.Outputs.{IsAnswerNumber, IsCommandNumber, answered, re
 use Rattle.lotplan.proofs.Readings.{IsReading, SomeStop, reading, stops_after}
 
 -- ---- from a fault of the certificate file to the answer
-abbrev FaultExplains : List ℕ → Shelved → Shelved → (ℕ → Why → Type 0) → CheckAnswer → Type 0
+abbrev pub FaultExplains : List ℕ → Shelved → Shelved → (ℕ → Why → Type 0) → CheckAnswer → Type 0
 FaultExplains c old new P (accepted claim) = ⊥
 FaultExplains c old new P (no_certificate fault) = (fault ≢ text.Memory) × (IsTrue old.told → OfBytes (old.file c) (λ bytes. IsCertTextFault bytes fault))
 FaultExplains c old new P (no_plan fault) = ⊥
 FaultExplains c old new P (rejected line w) = P line w
 FaultExplains c old new P (no_input w) = CertificateExplains c old new w
 
-explains_fault : (c : List ℕ) (old new : Shelved) (P : ℕ → Why → Type 0) (fault : StreamFault) (answer : CheckAnswer) → IsStreamFault c old new P fault → IsRefusal c fault answer → FaultExplains c old new P answer
+pub explains_fault : (c : List ℕ) (old new : Shelved) (P : ℕ → Why → Type 0) (fault : StreamFault) (answer : CheckAnswer) → IsStreamFault c old new P fault → IsRefusal c fault answer → FaultExplains c old new P answer
 explains_fault c old new P stream.Missing answer x is = subst (FaultExplains c old new P) (sym is) (refl, x.0, x.1)
 explains_fault c old new P stream.Failed answer x is = subst (FaultExplains c old new P) (sym is) (refl, x)
 explains_fault c old new P stream.TooLong answer x is = subst (FaultExplains c old new P) (sym is) (refl, x.0, x.1)
@@ -79,13 +79,13 @@ claim_refused problem p c old new fault answer x is = of answer (explains_fault 
 told_before : {old mid : Shelved} → OnlyReads old mid → IsTrue old.told → IsTrue mid.told
 told_before reads t = subst IsTrue (sym reads.told) t
 
-certificate_after : (c : List ℕ) (old mid new : Shelved) (w : ReadAnswer) → OnlyReads old mid → CertificateExplains c mid new w → CertificateExplains c old new w
+pub certificate_after : (c : List ℕ) (old mid new : Shelved) (w : ReadAnswer) → OnlyReads old mid → CertificateExplains c mid new w → CertificateExplains c old new w
 certificate_after c old mid new (refused fault) reads x = absurd x
 certificate_after c old mid new (missing file) reads x = (x.0, omega (arith, x.1, reads.misses), λ t. subst (λ (f : Files). f c ≡ None) reads.files (x.2 (told_before reads t)))
 certificate_after c old mid new (unread file) reads x = (x.0, omega (arith, x.1, reads.faults))
 certificate_after c old mid new (too_long file) reads x = (x.0, omega (arith, x.1, reads.given), λ t. subst (λ (f : Files). IsTooLong (f c)) reads.files (x.2 (told_before reads t)))
 
-given_after : (problem : Problem) (given : Option Plan) (c : List ℕ) (old mid new : Shelved) (answer : CheckAnswer) → OnlyReads old mid → GivenExplains problem given c mid new answer → GivenExplains problem given c old new answer
+pub given_after : (problem : Problem) (given : Option Plan) (c : List ℕ) (old mid new : Shelved) (answer : CheckAnswer) → OnlyReads old mid → GivenExplains problem given c mid new answer → GivenExplains problem given c old new answer
 given_after problem given c old mid new (accepted claim) reads x =
     (x.0, λ t. subst (λ (f : Files). OfCertificate (f c) (λ certificate. (certificate.claim ≡ claim) × OfProblem problem (λ total weight. IsCertified problem total weight certificate given))) reads.files (x.1 (told_before reads t)))
 given_after problem given c old mid new (no_certificate fault) reads x =
@@ -116,7 +116,7 @@ same_bytes : (a b : List ℕ) → Some a ≡ Some b → a ≡ b
 same_bytes a b same = cc same
 
 -- what is known of the certificate of a file is known of any that its bytes are the text of
-of_text : TextsMeanOneThing → (file : Option (List ℕ)) (P : Shape → Type 0) → OfCertificate file P → (bytes : List ℕ) → file ≡ Some bytes → (certificate : Shape) → IsTextOf bytes certificate → P certificate
+pub of_text : TextsMeanOneThing → (file : Option (List ℕ)) (P : Shape → Type 0) → OfCertificate file P → (bytes : List ℕ) → file ≡ Some bytes → (certificate : Shape) → IsTextOf bytes certificate → P certificate
 of_text one file P known bytes is certificate reads =
     let read = subst (λ b. IsTextOf b known.3.0) (same_bytes known.0 bytes (sym known.1 ∙ is)) known.3.1 in
     subst P ((one bytes).one_certificate known.3.0 certificate read reads) known.3.2
@@ -154,7 +154,7 @@ whole one problem p c old new given (rejected line w) goes x = λ t.
 whole one problem p c old new given (no_input w) goes x = inl x
 
 -- the claim that was read
-abbrev Claims : List ℕ → Shelved → Claim → Type 0
+abbrev pub Claims : List ℕ → Shelved → Claim → Type 0
 Claims c old claim = IsTrue old.told → OfCertificate (old.file c) (λ certificate. certificate.claim ≡ claim)
 
 goes_with : (problem : Problem) (p c : List ℕ) (old : Shelved) (claim : Claim) (given : Option Plan) → Claims c old claim → (IsTrue old.told → IsGiven old.file p problem claim given) → GoesWith problem p c old given
@@ -319,7 +319,7 @@ stop_at m p c old new line status (no_plan fault) x says ends r = absurd (omega 
 stop_at m p c old new line status (rejected at w) x says ends r = absurd (omega (arith, ap code_of ends, r.low))
 stop_at m p c old new line status (no_input w) x says ends r = record { why = w; cause = x; says = says; ends = ends }
 
-answer_number : (answer : CheckAnswer) → IsCommandNumber (code_of (check_status answer))
+pub answer_number : (answer : CheckAnswer) → IsCommandNumber (code_of (check_status answer))
 answer_number (accepted claim) = record { answers = record { unprinted = λ e. omega (arith, e); no_memory = λ e. omega (arith, e) }; command = λ e. omega (arith, e) }
 answer_number (no_certificate fault) = record { answers = record { unprinted = λ e. omega (arith, e); no_memory = λ e. omega (arith, e) }; command = λ e. omega (arith, e) }
 answer_number (no_plan fault) = record { answers = record { unprinted = λ e. omega (arith, e); no_memory = λ e. omega (arith, e) }; command = λ e. omega (arith, e) }

@@ -1,7 +1,7 @@
 -- What a command's number says, in the command's own words.
-use Rattle.std.proofs.Common.{◌≡◌, ◌≢◌, ◌<◌, ◌⊎◌, ⊎_elim, ℕ, List, [], ◌∷◌, Option, Some, IsTrue, refl, subst, arith}
+use Rattle.std.proofs.Common.{◌≡◌, ◌≢◌, ◌<◌, ◌⊎◌, ⊎_elim, ℕ, List, [], ◌∷◌, Option, Some, IsTrue, inl, inr, refl, subst, arith}
 use Rattle.lot_io.specs.Outside.{OnlyReads, Printed, Shelved}
-use Rattle.command_line.specs.Words.{Request, IsAllowed, planning, judging, checking, reporting, generating, demonstrating, upgrading, bounding, scheduling, schedule_checking, pegging}
+use Rattle.command_line.specs.Words.{Request, IsAllowed, planning, judging, checking, reporting, generating, demonstrating, upgrading, bounding, scheduling, schedule_checking, pegging, drawing, replanning}
 use Rattle.lotplan.specs.Writing.{StartsAmong}
 use Rattle.lotplan.specs.Planning.{FailsToWrite, FindsNoPlan, LeavesOpen, PlanAnswer, PlanExplains, PlansBest, plan_line, plan_status}
 use Rattle.lotplan.specs.Judging.{FindsFault, FindsFeasible, JudgeAnswer, JudgeExplains, judge_line, judge_status}
@@ -14,16 +14,18 @@ use Rattle.lotplan.specs.Showing.{Shows}
 use Rattle.lotplan.specs.Extracting.{ExtractAnswer, ExtractExplains, FailsToExtract, WritesExtract, extract_line, extract_status}
 use Rattle.lotplan.specs.Scheduling.{AcceptsSchedule, FindsSlotsFault, Laid, SchedcheckAnswer, SchedcheckExplains, schedcheck_line, schedcheck_status, scheduled_word}
 use Rattle.lotplan.specs.Pegging.{Pegged, pegged_word}
+use Rattle.lotplan.specs.Drawing.{DrawAnswer, DrawExplains, Draws, FailsToDraw, FindsDrawFault, draw_line, draw_status}
+use Rattle.lotplan.specs.Replanning.{CallsForDoneIfShort, FailsToReplan, FindsNoRest, FindsPlanFault, ReplanAnswer, ReplanExplains, ReplansBest, FindsNoneLater, FindsNoStart, LeavesRestOpen, replan_line, replan_status}
 use Rattle.lotplan.specs.Laws.{StatusesAreOne}
 use Rattle.lotplan.specs.Saying.{Answered, Gains}
 use Rattle.lotplan.specs.Status.{code_of}
 use Rattle.lotplan.specs.Run.{Does, EndsAs, IsProgramRun}
 use Rattle.lotplan.specs.declared.status.Status.{Status}
-use Rattle.lotplan.specs.declared.status.TheConstants.{DONE, NO_PLAN, UNDECIDED, FAULTY, UNWRITTEN, UNPRINTED, NO_MEMORY}
+use Rattle.lotplan.specs.declared.status.TheConstants.{DONE, NO_PLAN, UNDECIDED, FAULTY, UNWRITTEN, UNPRINTED, NO_MEMORY, NO_REST}
 use Rattle.lotplan.proofs.Explained.{ended}
 use Rattle.lotplan.proofs.Outputs.{line_is, number_is}
 use Rattle.lotplan.proofs.Planned as of_planned
-use Rattle.lotplan.proofs.Planned.{EndsSearch}
+use Rattle.lotplan.proofs.Planned.{EndsSearch, SomeAccepted}
 use Rattle.lotplan.proofs.Judged as of_judged
 use Rattle.lotplan.proofs.Checked as of_checked
 use Rattle.lotplan.proofs.Upgraded as of_upgraded
@@ -32,6 +34,8 @@ use Rattle.lotplan.proofs.Reported as of_reported
 use Rattle.lotplan.proofs.Generated as of_generated
 use Rattle.lotplan.proofs.Extracted.{fault_at, unwritten_at, written_at}
 use Rattle.lotplan.proofs.Schedchecked as of_schedchecked
+use Rattle.lotplan.proofs.Paged as of_paged
+use Rattle.lotplan.proofs.Replanned as of_replanned
 
 module _ (request : Option Request) (code : ℕ) (old new : Shelved) (out_old out_new : Printed) where
   -- an answer, its cause, its number and its line
@@ -72,6 +76,12 @@ module _ (request : Option Request) (code : ℕ) (old new : Shelved) (out_old ou
 
   peg_ending : (m p q : List ℕ) → request ≡ Some (pegging m p q) → EndsAs request code old new out_old out_new → Ending ExtractAnswer (ExtractExplains (Pegged q) m p q old new) (extract_line pegged_word) extract_status
   peg_ending m p q is e = ending ExtractAnswer (ExtractExplains (Pegged q) m p q old new) (extract_line pegged_word) extract_status (λ line status d. subst (λ r. Does r old new line status) is d) e
+
+  draw_ending : (m p h : List ℕ) (c : Option (List ℕ)) → request ≡ Some (drawing m p h c) → EndsAs request code old new out_old out_new → Ending DrawAnswer (DrawExplains m p h c old new) draw_line draw_status
+  draw_ending m p h c is e = ending DrawAnswer (DrawExplains m p h c old new) draw_line draw_status (λ line status d. subst (λ r. Does r old new line status) is d) e
+
+  replan_ending : (m p : List ℕ) (first : ℕ) (n q c : List ℕ) (budget : ℕ) → request ≡ Some (replanning m p first n q c budget) → EndsAs request code old new out_old out_new → Ending ReplanAnswer (ReplanExplains m p first n q c budget old new) replan_line replan_status
+  replan_ending m p first n q c budget is e = ending ReplanAnswer (ReplanExplains m p first n q c budget old new) replan_line replan_status (λ line status d. subst (λ r. Does r old new line status) is d) e
 
   module _ (run : IsProgramRun request code old new out_old out_new) where
     -- ---- `plan`
@@ -219,6 +229,63 @@ module _ (request : Option Request) (code : ℕ) (old new : Shelved) (out_old ou
         let (answer, why, number, line) = peg_ending m p q is (ended request code old new out_old out_new run (λ e. omega (arith, e, is_code)) (λ e. omega (arith, e, is_code))) in
         unwritten_at (Pegged q) pegged_word m p q code old new out_old out_new answer why number line is_code
 
+    -- ---- `draw`
+    pub drawn : (m p h : List ℕ) (c : Option (List ℕ)) → request ≡ Some (drawing m p h c) → code ≡ DONE → IsTrue old.told → Draws old.file new.file m p h c out_old out_new
+    drawn m p h c is is_code t =
+        let (answer, why, number, line) = draw_ending m p h c is (ended request code old new out_old out_new run (λ e. omega (arith, e, is_code)) (λ e. omega (arith, e, is_code))) in
+        of_paged.drawn_at m p h c code old new out_old out_new answer why number line is_code t
+
+    pub draw_faulty : (m p h : List ℕ) (c : Option (List ℕ)) → request ≡ Some (drawing m p h c) → code ≡ FAULTY → IsTrue old.told → FindsDrawFault old new m p c out_old out_new
+    draw_faulty m p h c is is_code t =
+        let (answer, why, number, line) = draw_ending m p h c is (ended request code old new out_old out_new run (λ e. omega (arith, e, is_code)) (λ e. omega (arith, e, is_code))) in
+        of_paged.fault_at m p h c code old new out_old out_new answer why number line is_code t
+
+    pub draw_unwritten : (m p h : List ℕ) (c : Option (List ℕ)) → request ≡ Some (drawing m p h c) → code ≡ UNWRITTEN → FailsToDraw old new m p h c out_old out_new
+    draw_unwritten m p h c is is_code =
+        let (answer, why, number, line) = draw_ending m p h c is (ended request code old new out_old out_new run (λ e. omega (arith, e, is_code)) (λ e. omega (arith, e, is_code))) in
+        of_paged.unwritten_at m p h c code old new out_old out_new answer why number line is_code
+
+    -- ---- `replan`
+    pub replanned : (m p n q c : List ℕ) (first budget : ℕ) → request ≡ Some (replanning m p first n q c budget) → code ≡ DONE → IsTrue old.told → ReplansBest old.file new.file m p first n q c budget out_old out_new
+    replanned m p n q c first budget is is_code t =
+        let (answer, why, number, line) = replan_ending m p first n q c budget is (ended request code old new out_old out_new run (λ e. omega (arith, e, is_code)) (λ e. omega (arith, e, is_code))) in
+        of_replanned.best_at m p first n q c budget code old new out_old out_new answer why number line is_code t
+
+    pub replan_infeasible : (m p n q c : List ℕ) (first budget : ℕ) → request ≡ Some (replanning m p first n q c budget) → code ≡ NO_PLAN → IsTrue old.told → FindsNoneLater old.file new.file m p first n q c budget out_old out_new ⊎ FindsNoStart old.file new.file m p first out_old out_new
+    replan_infeasible m p n q c first budget is is_code t =
+        let (answer, why, number, line) = replan_ending m p first n q c budget is (ended request code old new out_old out_new run (λ e. omega (arith, e, is_code)) (λ e. omega (arith, e, is_code))) in
+        (of_replanned.none_at m p first n q c budget code old new out_old out_new answer why number line is_code).0 t
+
+    pub replan_wrote_two : (m p n q c : List ℕ) (first budget : ℕ) → request ≡ Some (replanning m p first n q c budget) → code ≡ NO_PLAN → StartsAmong (n ∷ c ∷ []) 2 old new ⊎ OnlyReads old new
+    replan_wrote_two m p n q c first budget is is_code =
+        let (answer, why, number, line) = replan_ending m p first n q c budget is (ended request code old new out_old out_new run (λ e. omega (arith, e, is_code)) (λ e. omega (arith, e, is_code))) in
+        (of_replanned.none_at m p first n q c budget code old new out_old out_new answer why number line is_code).1
+
+    pub replan_undecided : (m p n q c : List ℕ) (first budget : ℕ) → request ≡ Some (replanning m p first n q c budget) → code ≡ UNDECIDED → IsTrue old.told → LeavesRestOpen old.file new.file m p first n q c budget out_old out_new
+    replan_undecided m p n q c first budget is is_code t =
+        let (answer, why, number, line) = replan_ending m p first n q c budget is (ended request code old new out_old out_new run (λ e. omega (arith, e, is_code)) (λ e. omega (arith, e, is_code))) in
+        (of_replanned.open_at m p first n q c budget code old new out_old out_new answer why number line is_code).0 t
+
+    pub replan_wrote_some : (m p n q c : List ℕ) (first budget : ℕ) → request ≡ Some (replanning m p first n q c budget) → code ≡ UNDECIDED → StartsAmong (n ∷ q ∷ c ∷ []) 3 old new ⊎ StartsAmong (n ∷ c ∷ []) 2 old new
+    replan_wrote_some m p n q c first budget is is_code =
+        let (answer, why, number, line) = replan_ending m p first n q c budget is (ended request code old new out_old out_new run (λ e. omega (arith, e, is_code)) (λ e. omega (arith, e, is_code))) in
+        (of_replanned.open_at m p first n q c budget code old new out_old out_new answer why number line is_code).1
+
+    pub no_rest : (m p n q c : List ℕ) (first budget : ℕ) → request ≡ Some (replanning m p first n q c budget) → code ≡ NO_REST → IsTrue old.told → FindsNoRest old.file m p first out_old out_new
+    no_rest m p n q c first budget is is_code t =
+        let (answer, why, number, line) = replan_ending m p first n q c budget is (ended request code old new out_old out_new run (λ e. omega (arith, e, is_code)) (λ e. omega (arith, e, is_code))) in
+        of_replanned.no_rest_at m p first n q c budget code old new out_old out_new answer why number line is_code t
+
+    pub replan_faulty : (m p n q c : List ℕ) (first budget : ℕ) → request ≡ Some (replanning m p first n q c budget) → code ≡ FAULTY → IsTrue old.told → FindsPlanFault old.file m p out_old out_new
+    replan_faulty m p n q c first budget is is_code t =
+        let (answer, why, number, line) = replan_ending m p first n q c budget is (ended request code old new out_old out_new run (λ e. omega (arith, e, is_code)) (λ e. omega (arith, e, is_code))) in
+        of_replanned.fault_at m p first n q c budget code old new out_old out_new answer why number line is_code t
+
+    pub replan_unwritten : (m p n q c : List ℕ) (first budget : ℕ) → request ≡ Some (replanning m p first n q c budget) → code ≡ UNWRITTEN → FailsToReplan old new m p first n q c out_old out_new
+    replan_unwritten m p n q c first budget is is_code =
+        let (answer, why, number, line) = replan_ending m p first n q c budget is (ended request code old new out_old out_new run (λ e. omega (arith, e, is_code)) (λ e. omega (arith, e, is_code))) in
+        of_replanned.unwritten_at m p first n q c budget code old new out_old out_new answer why number line is_code
+
     -- ---- `demo`
     pub showed : (seed : ℕ) → request ≡ Some (demonstrating seed) → code ≡ DONE → Shows seed out_old out_new
     showed seed is is_code =
@@ -230,9 +297,22 @@ module _ (request : Option Request) (code : ℕ) (old new : Shelved) (out_old ou
     neither : (other : ℕ) → UNDECIDED < other → EndsSearch code → code ≢ other
     neither other above done is = ⊎_elim (λ e. omega (arith, above, is, e)) (λ rest. ⊎_elim (λ e. omega (arith, above, is, e)) (λ e. omega (arith, above, is, e)) rest) done
 
+    -- of files of which a certificate is accepted
+    done_if : StatusesAreOne → (n q c : List ℕ) → SomeAccepted new.file n q c → CallsForDone new.file n q c
+    done_if one n q c (claim, all) =
+        let calls_for : CheckCallsFor (new.file n) (new.file q) (new.file c) DONE = of_checked.accepted_called n q c DONE new claim all refl in
+        record { done = calls_for; alone = λ status calls. ⊎_elim (λ same. same) (λ may. absurd may.0) (one (Some (checking n q c)) new.file status DONE calls calls_for) }
+
     pub checks : StatusesAreOne → ((a : Request) → request ≡ Some a → IsAllowed a) → (m p c : List ℕ) (budget : ℕ) → request ≡ Some (planning m p c budget) → EndsSearch code → IsTrue old.told → CallsForDone new.file m p c
     checks one allowed m p c budget is done t =
         let (answer, why, number, lines) = plan_ending m p c budget is (ended request code old new out_old out_new run (neither NO_MEMORY (omega arith) done) (neither UNPRINTED (omega arith) done)) in
-        let (claim, all) = of_planned.accepted_at m p c budget code old new (allowed (planning m p c budget) is).apart t answer why number done in
-        let calls_for : CheckCallsFor (new.file m) (new.file p) (new.file c) DONE = of_checked.accepted_called m p c DONE new claim all refl in
-        record { done = calls_for; alone = λ status calls. ⊎_elim (λ same. same) (λ may. absurd may.0) (one (Some (checking m p c)) new.file status DONE calls calls_for) }
+        done_if one m p c (of_planned.accepted_at m p c budget code old new (allowed (planning m p c budget) is).apart t answer why number done)
+
+    -- and on what `replan` wrote, where the new model file isn't too long
+    pub replan_checks : StatusesAreOne → (m p n q c : List ℕ) (first budget : ℕ) → request ≡ Some (replanning m p first n q c budget) → EndsSearch code → IsTrue old.told → CallsForDoneIfShort new.file n q c ⊎ ((code ≡ NO_PLAN) × OnlyReads old new)
+    replan_checks one m p n q c first budget is done t =
+        let (answer, why, number, lines) = replan_ending m p first n q c budget is (ended request code old new out_old out_new run (neither NO_MEMORY (omega arith) done) (neither UNPRINTED (omega arith) done)) in
+        ⊎_elim
+        (λ accepted. inl (λ short. done_if one n q c (accepted short)))
+        (λ none. inr none)
+        (of_replanned.accepted_at m p first n q c budget code old new answer why number t done)

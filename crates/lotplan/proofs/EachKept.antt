@@ -1,6 +1,6 @@
 -- What is known of each command: the one place of the proofs with an arm a command.
 use Rattle.std.proofs.Common.{◌≡◌, ◌∙◌, ℕ, inl, refl, sym, subst, Option, Some, None, arith}
-use Rattle.command_line.specs.Words.{Request, version, planning, judging, checking, reporting, generating, demonstrating, upgrading, bounding, scheduling, schedule_checking, pegging}
+use Rattle.command_line.specs.Words.{Request, version, planning, judging, checking, reporting, generating, demonstrating, upgrading, bounding, scheduling, schedule_checking, pegging, drawing, replanning}
 use Rattle.lotplan.specs.Status.{code_of}
 use Rattle.lotplan.specs.Showing.{demo_meaning}
 use Rattle.lotplan.specs.Run.{meaning_of, no_meaning, version_meaning}
@@ -19,6 +19,8 @@ use Rattle.lotplan.specs.Scheduling.{Laid, scheduled_word}
 use Rattle.lotplan.specs.Pegging.{Pegged, pegged_word}
 use Rattle.lotplan.proofs.Extracted.{extract_kept}
 use Rattle.lotplan.proofs.Schedchecked.{schedcheck_kept}
+use Rattle.lotplan.proofs.Paged.{draw_kept}
+use Rattle.lotplan.proofs.Replanned.{replan_kept}
 
 done_number : IsAnswerNumber DONE
 done_number = record { unprinted = λ e. omega (arith, e); no_memory = λ e. omega (arith, e) }
@@ -76,6 +78,8 @@ command_kept (bounding m) = bound_kept m
 command_kept (scheduling m p s) = extract_kept (Laid s) scheduled_word m p s
 command_kept (schedule_checking m p s) = schedcheck_kept m p s
 command_kept (pegging m p q) = extract_kept (Pegged q) pegged_word m p q
+command_kept (drawing m p h c) = draw_kept m p h c
+command_kept (replanning m p first n q c budget) = replan_kept m p first n q c budget
 
 pub kept_of : (request : Option Request) → IsKept (meaning_of request)
 kept_of None = none_kept

@@ -9,7 +9,7 @@ use Rattle.lotplan.specs.Status.{code_of}
 use Rattle.lotplan.specs.Saying.{Ends, Gains, IsSaid, Prints}
 use Rattle.lotplan.specs.Reading.{ReadAnswer, refused, missing, unread, too_long, read_status}
 use Rattle.lotplan.specs.Writing.{StartsAtMost}
-use Rattle.lotplan.specs.Run.{AnswersAs, CallFor, Does, EndsAs, HadNoFault, IsIdle, IsNoCommand, IsProgramRun, Leaves, SaysFor, Stops, meaning_of, ran_out, reads_of, refused_line, runs, writes_of}
+use Rattle.lotplan.specs.Run.{AnswersAs, CallFor, Does, EndsAs, HadNoFault, IsIdle, IsNoCommand, IsOverlong, IsProgramRun, Leaves, SaysFor, Stops, meaning_of, ran_out, reads_of, refused_line, runs, writes_of}
 use Rattle.lotplan.specs.declared.said.Said.{Said}
 use Rattle.lotplan.specs.declared.status.Status.{Status}
 use Rattle.lotplan.specs.declared.status.Status.TheVariants.{NoCommand}
@@ -65,51 +65,58 @@ none_by (Some request) code old new out_old out_new e four = absurd ((command_ke
 pub no_command : (request : Option Request) (code : ℕ) (old new : Shelved) (out_old out_new : Printed) → IsProgramRun request code old new out_old out_new → code ≡ NO_COMMAND → IsNoCommand request out_old out_new
 no_command request code old new out_old out_new run is = none_by request code old new out_old out_new (ended request code old new out_old out_new run (λ e. omega (arith, e, is)) (λ e. omega (arith, e, is))) is
 
--- ---- files that give nothing to go on with
+-- ---- files that give nothing to go on with, or a page that would be too long
 abbrev SomeCause : Option Request → ℕ → Shelved → Shelved → Printed → Printed → Type 0
-SomeCause request code old new out_old out_new = (why : ReadAnswer) × Stops request old new out_old out_new why × (code ≡ code_of (read_status why))
+SomeCause request code old new out_old out_new =
+    ((why : ReadAnswer) × Stops request old new out_old out_new why × (code ≡ code_of (read_status why))) ⊎ (IsOverlong request old out_old out_new × (code ≡ TOO_LONG))
 
 stop : (request : Option Request) (code : ℕ) (old new : Shelved) (out_old out_new : Printed) → IsProgramRun request code old new out_old out_new → IsReading code → code ≢ UNPRINTED → code ≢ NO_MEMORY → SomeCause request code old new out_old out_new
 stop request code old new out_old out_new run r nine ten =
     let e = ended request code old new out_old out_new run ten nine in
-    let s = (after_of request old new e.line e.status e.does).stops (subst IsReading e.number r) in
-    (s.why, record { cause = s.cause; line = subst (λ l. Gains l out_old out_new) s.says e.gains }, e.number ∙ ap code_of s.ends)
+    ⊎_elim
+    (λ s. inl (s.why, record { cause = s.cause; line = subst (λ l. Gains l out_old out_new) s.says e.gains }, e.number ∙ ap code_of s.ends))
+    (λ l. inr (record { cause = l.cause; line = subst (λ l. Gains l out_old out_new) l.says e.gains }, e.number ∙ ap code_of l.ends))
+    ((after_of request old new e.line e.status e.does).stops (subst IsReading e.number r))
 
 pub refuses : (request : Option Request) (code : ℕ) (old new : Shelved) (out_old out_new : Printed) → IsProgramRun request code old new out_old out_new → code ≡ REFUSED → (fault : ModelFault) × Stops request old new out_old out_new (refused fault)
 refuses request code old new out_old out_new run is = pick (stop request code old new out_old out_new run (record { low = omega (arith, is); high = omega (arith, is); other = λ e. omega (arith, is, e) }) (λ e. omega (arith, is, e)) (λ e. omega (arith, is, e)))
   where
     pick : SomeCause request code old new out_old out_new → (fault : ModelFault) × Stops request old new out_old out_new (refused fault)
-    pick (refused fault, x, number) = (fault, x)
-    pick (missing file, x, number) = absurd (omega (arith, is, number))
-    pick (unread file, x, number) = absurd (omega (arith, is, number))
-    pick (too_long file, x, number) = absurd (omega (arith, is, number))
+    pick (inl (refused fault, x, number)) = (fault, x)
+    pick (inl (missing file, x, number)) = absurd (omega (arith, is, number))
+    pick (inl (unread file, x, number)) = absurd (omega (arith, is, number))
+    pick (inl (too_long file, x, number)) = absurd (omega (arith, is, number))
+    pick (inr (x, number)) = absurd (omega (arith, is, number))
 
 pub misses : (request : Option Request) (code : ℕ) (old new : Shelved) (out_old out_new : Printed) → IsProgramRun request code old new out_old out_new → code ≡ MISSING → (file : List ℕ) × Stops request old new out_old out_new (missing file)
 misses request code old new out_old out_new run is = pick (stop request code old new out_old out_new run (record { low = omega (arith, is); high = omega (arith, is); other = λ e. omega (arith, is, e) }) (λ e. omega (arith, is, e)) (λ e. omega (arith, is, e)))
   where
     pick : SomeCause request code old new out_old out_new → (file : List ℕ) × Stops request old new out_old out_new (missing file)
-    pick (refused fault, x, number) = absurd (omega (arith, is, number))
-    pick (missing file, x, number) = (file, x)
-    pick (unread file, x, number) = absurd (omega (arith, is, number))
-    pick (too_long file, x, number) = absurd (omega (arith, is, number))
+    pick (inl (refused fault, x, number)) = absurd (omega (arith, is, number))
+    pick (inl (missing file, x, number)) = (file, x)
+    pick (inl (unread file, x, number)) = absurd (omega (arith, is, number))
+    pick (inl (too_long file, x, number)) = absurd (omega (arith, is, number))
+    pick (inr (x, number)) = absurd (omega (arith, is, number))
 
 pub fails_to_read : (request : Option Request) (code : ℕ) (old new : Shelved) (out_old out_new : Printed) → IsProgramRun request code old new out_old out_new → code ≡ UNREAD → (file : List ℕ) × Stops request old new out_old out_new (unread file)
 fails_to_read request code old new out_old out_new run is = pick (stop request code old new out_old out_new run (record { low = omega (arith, is); high = omega (arith, is); other = λ e. omega (arith, is, e) }) (λ e. omega (arith, is, e)) (λ e. omega (arith, is, e)))
   where
     pick : SomeCause request code old new out_old out_new → (file : List ℕ) × Stops request old new out_old out_new (unread file)
-    pick (refused fault, x, number) = absurd (omega (arith, is, number))
-    pick (missing file, x, number) = absurd (omega (arith, is, number))
-    pick (unread file, x, number) = (file, x)
-    pick (too_long file, x, number) = absurd (omega (arith, is, number))
+    pick (inl (refused fault, x, number)) = absurd (omega (arith, is, number))
+    pick (inl (missing file, x, number)) = absurd (omega (arith, is, number))
+    pick (inl (unread file, x, number)) = (file, x)
+    pick (inl (too_long file, x, number)) = absurd (omega (arith, is, number))
+    pick (inr (x, number)) = absurd (omega (arith, is, number))
 
-pub is_long : (request : Option Request) (code : ℕ) (old new : Shelved) (out_old out_new : Printed) → IsProgramRun request code old new out_old out_new → code ≡ TOO_LONG → (file : List ℕ) × Stops request old new out_old out_new (too_long file)
+pub is_long : (request : Option Request) (code : ℕ) (old new : Shelved) (out_old out_new : Printed) → IsProgramRun request code old new out_old out_new → code ≡ TOO_LONG → ((file : List ℕ) × Stops request old new out_old out_new (too_long file)) ⊎ IsOverlong request old out_old out_new
 is_long request code old new out_old out_new run is = pick (stop request code old new out_old out_new run (record { low = omega (arith, is); high = omega (arith, is); other = λ e. omega (arith, is, e) }) (λ e. omega (arith, is, e)) (λ e. omega (arith, is, e)))
   where
-    pick : SomeCause request code old new out_old out_new → (file : List ℕ) × Stops request old new out_old out_new (too_long file)
-    pick (refused fault, x, number) = absurd (omega (arith, is, number))
-    pick (missing file, x, number) = absurd (omega (arith, is, number))
-    pick (unread file, x, number) = absurd (omega (arith, is, number))
-    pick (too_long file, x, number) = (file, x)
+    pick : SomeCause request code old new out_old out_new → ((file : List ℕ) × Stops request old new out_old out_new (too_long file)) ⊎ IsOverlong request old out_old out_new
+    pick (inl (refused fault, x, number)) = absurd (omega (arith, is, number))
+    pick (inl (missing file, x, number)) = absurd (omega (arith, is, number))
+    pick (inl (unread file, x, number)) = absurd (omega (arith, is, number))
+    pick (inl (too_long file, x, number)) = inl (file, x)
+    pick (inr (x, number)) = inr x
 
 -- ---- printing that failed, and none
 -- a failed print raised its count, and no print ends with the number of memory

@@ -125,7 +125,7 @@ module _ (Writes : Extract) (word : List ℕ) where
           wrote = λ none. wrote_at (code_of status) old new d.answer d.why (ap code_of d.ends) none;
           reads = λ e. absurd (cc e);
           idle = λ e. absurd (cc e);
-          stops = λ r. stop_at old new line status d.answer d.why d.says d.ends r;
+          stops = λ r. inl (stop_at old new line status d.answer d.why d.says d.ends r);
           calls = λ out_old out_new fine t. called_at (code_of status) old new out_old out_new fine t d.answer d.why (ap code_of d.ends);
         };
         one = λ laws file a b c d. inl (judge_call (file m) (file p) a b c d);

@@ -82,7 +82,7 @@ generate_kept seed items periods m = record {
       wrote = λ none. wrote_at seed items periods m (code_of status) old new d.answer d.why (ap code_of d.ends) none;
       reads = λ e. absurd (cc e);
       idle = λ e f. absurd (cc f);
-      stops = λ r. stop_at d.answer (code_of status) (ap code_of d.ends) r;
+      stops = λ r. inl (stop_at d.answer (code_of status) (ap code_of d.ends) r);
       calls = λ out_old out_new fine t. called_at seed items periods m (code_of status) old new out_old out_new fine d.answer d.why (ap code_of d.ends);
     };
     one = λ laws file s t a b. inl (a ∙ sym b);

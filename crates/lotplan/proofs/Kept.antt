@@ -1,5 +1,5 @@
 -- What is known of what each command means.
-use Rattle.std.proofs.Common.{◌≡◌, ◌≢◌, ◌⊎◌, ℕ, List, [], length, IsTrue, sym, subst}
+use Rattle.std.proofs.Common.{◌≡◌, ◌≢◌, ◌⊎◌, inl, ℕ, List, [], length, IsTrue, sym, subst}
 use Rattle.lot_io.specs.Outside.{Files, GrewBy, OnlyReads, Printed, Shelved}
 use Rattle.lotplan.specs.Meaning.{Meaning}
 use Rattle.lotplan.specs.Run.{HadNoFault}
@@ -9,7 +9,7 @@ use Rattle.lotplan.specs.declared.status.Status.{Status}
 use Rattle.lotplan.specs.declared.status.TheConstants.{DONE, NO_PLAN, UNDECIDED, NO_COMMAND, UNWRITTEN}
 use Rattle.lotplan.proofs.Calls.{AreLaws, Grounds, OneIsUndecided}
 use Rattle.lotplan.proofs.Outputs.{IsAnswerNumber}
-use Rattle.lotplan.proofs.Readings.{IsReading, SomeStop, same_reads}
+use Rattle.lotplan.proofs.Readings.{IsReading, SomeStop, Stopped, same_reads}
 use Rattle.lotplan.proofs.Writings.{reads_at_most, reads_none}
 
 -- after what was done
@@ -25,8 +25,8 @@ pub record IsAfter (means : Meaning) (old new : Shelved) (line : List ℕ) (stat
   -- a command that writes no file only reads, and one that reads none either changes nothing
   pub reads : means.writes ≡ [] → OnlyReads old new
   pub idle : means.reads ≡ [] → means.writes ≡ [] → new ≡ old
-  -- files that give nothing to go on with
-  pub stops : IsReading (code_of status) → SomeStop means old new line status
+  -- files that give nothing to go on with, or a page that would be too long
+  pub stops : IsReading (code_of status) → Stopped means old new line status
   -- and the status that is called for
   pub calls : (out_old out_new : Printed) → HadNoFault old new out_old out_new → IsTrue old.told → means.calls_for old.file (code_of status)
 
@@ -50,7 +50,7 @@ read_after means old new line status none some reads number stops calls = record
   wrote = λ done. subst (λ names. GrewBy (length names) old.starts new.starts) (sym none) (reads_none old new reads);
   reads = λ e. reads;
   idle = λ e. absurd (some e);
-  stops = stops;
+  stops = λ r. inl (stops r);
   calls = calls;
 }
 

@@ -9,6 +9,7 @@ pub mod JudgeCalls
 pub mod CheckCalls
 pub mod UpgradeCalls
 pub mod BoundCalls
+pub mod ReplanCalls
 pub mod Kept
 pub mod Planned
 pub mod Judged
@@ -18,7 +19,12 @@ pub mod Bounded
 pub mod Reported
 pub mod Extracted
 pub mod Schedchecked
+pub mod SamePages
+pub mod PageCalls
+pub mod Paged
 pub mod Generated
+pub mod Continued
+pub mod Replanned
 pub mod Shown
 pub mod Drawn
 pub mod Certified

@@ -2,6 +2,7 @@
 use Rattle.std.proofs.Common.{◌≡◌, ◌⊎◌, ◌∙◌, ⊎_elim, inl, inr, ℕ, sym, subst, arith, List, Option, Some, None, refl, length}
 use Rattle.std.specs.Prelude.{Ok, Err, Result}
 use Rattle.lot_sizing.specs.Problem.{Problem}
+use Rattle.lot_sizing.specs.Totals.{IsRanking}
 use Rattle.lot_draft.specs.declared.fault.ModelFault.{ModelFault}
 use Rattle.instance_reader.specs.Model.{BytesMean}
 use Rattle.instance_reader.specs.declared.versions.TheConstants.{NEWEST_VERSION}
@@ -12,7 +13,7 @@ use Rattle.std.proofs.lemmas.Bool.{cases_lt}
 use Rattle.lotplan.proofs.Calls.{Grounds, OneIsUndecided, no_fault, one_problem, ranked}
 
 -- ---- for one
-problem_one : (m : Problem) (budget s t : ℕ) → ProblemCallsFor m budget s → ProblemCallsFor m budget t → (s ≡ t) ⊎ (MayBeLeft m budget × OneIsUndecided s t)
+pub problem_one : (m : Problem) (budget s t : ℕ) → ProblemCallsFor m budget s → ProblemCallsFor m budget t → (s ≡ t) ⊎ (MayBeLeft m budget × OneIsUndecided s t)
 problem_one m budget s t (inl a) (inl b) = inl (a.0 ∙ sym b.0)
 problem_one m budget s t (inl (is, p, feasible)) (inr (inl b)) = absurd (b.1 p feasible)
 problem_one m budget s t (inl a) (inr (inr b)) = inr (b.1, inr b.0)
@@ -37,13 +38,15 @@ file_call (Some bytes) budget s t (inr (short, inl (m, reads, calls))) (inr (als
 
 -- ---- for some
 module _ (by : Grounds) where
-  problem_some : (bytes : List ℕ) (m : Problem) (budget : ℕ) → BytesMean bytes (Ok m) → (status : ℕ) × ProblemCallsFor m budget status
-  problem_some bytes m budget means =
-      let rank = ranked bytes m means in
-      ⊎_elim
+  -- of a problem in which no item is its own component
+  pub ranked_some : (m : Problem) (budget : ℕ) (rank : ℕ → ℕ) → IsRanking m rank → (status : ℕ) × ProblemCallsFor m budget status
+  ranked_some m budget rank ranks = ⊎_elim
       (λ plan. (DONE, inl (refl, plan.0, plan.1)))
       (λ none. (NO_PLAN, inr (inl (refl, none))))
-      (by.decided m rank.0 rank.1)
+      (by.decided m rank ranks)
+
+  problem_some : (bytes : List ℕ) (m : Problem) (budget : ℕ) → BytesMean bytes (Ok m) → (status : ℕ) × ProblemCallsFor m budget status
+  problem_some bytes m budget means = let rank = ranked bytes m means in ranked_some m budget rank.0 rank.1
 
   bytes_some : (bytes : List ℕ) (budget : ℕ) (r : Result Problem ModelFault) → BytesMean bytes r → (status : ℕ) × BytesCallFor bytes budget status
   bytes_some bytes budget (Ok m) means = let call = problem_some bytes m budget means in (call.0, inl (m, means, call.1))

@@ -147,7 +147,7 @@ module _ (p c : List ℕ) (old new : Shelved) where
 
 -- ---- what the model file calls for
 -- a problem that was left open may be
-open_calls : (problem : Problem) (budget bound : ℕ) (found : Found) → IsFound problem budget found → found.certificate.claim ≡ BoundOf bound → MayBeLeft problem budget
+pub open_calls : (problem : Problem) (budget bound : ℕ) (found : Found) → IsFound problem budget found → found.certificate.claim ≡ BoundOf bound → MayBeLeft problem budget
 open_calls problem budget bound found is claims = record {
   coupled = λ alone. left_alone found bound claims (is.uncoupled.1 alone) is.used;
   large = λ total ts fits. absurd (subst IsDecided claims (is.small total ts fits));
@@ -195,7 +195,7 @@ SomeAccepted after m p c = (claim : Claim) × AllAre after m p c (accepted claim
 abbrev pub EndsSearch : ℕ → Type 0
 EndsSearch code = (code ≡ DONE) ⊎ ((code ≡ NO_PLAN) ⊎ (code ≡ UNDECIDED))
 
-low_ends : (code : ℕ) → UNDECIDED < code → EndsSearch code → ⊥
+pub low_ends : (code : ℕ) → UNDECIDED < code → EndsSearch code → ⊥
 low_ends code low done = ⊎_elim (λ e. omega (arith, low, e)) (λ rest. ⊎_elim (λ e. omega (arith, low, e)) (λ e. omega (arith, low, e)) rest) done
 
 module _ (m p c : List ℕ) (budget code : ℕ) (old new : Shelved) (apart : AreApart m p c) (t : IsTrue old.told) where
@@ -260,7 +260,7 @@ plan_kept m p c budget = record {
       wrote = λ zero. wrote_at m p c budget (code_of status) old new d.answer d.why (ap code_of d.ends) zero;
       reads = λ e. absurd (cc e);
       idle = λ e. absurd (cc e);
-      stops = λ r. stop_at m p c budget old new line status d.answer d.why d.says d.ends r;
+      stops = λ r. inl (stop_at m p c budget old new line status d.answer d.why d.says d.ends r);
       calls = λ out_old out_new fine t. called_at m budget (code_of status) old p c new out_old out_new fine t d.answer d.why (ap code_of d.ends);
     };
     one = λ laws file s t a b. file_call (file m) budget s t a b;

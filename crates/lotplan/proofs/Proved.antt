@@ -153,13 +153,14 @@ module _ (m : Problem) (budget : ℕ) (found : Found) (is_found : IsFound m budg
     none_alone Infeasible is alone = given_none Infeasible is
     none_alone (BoundOf bound) is alone = never_alone bound is alone
 
-    unproved_at : IsUnwritten c old new → WriteExplains m budget p c old new (unwritten c)
+    pub proved : (answer : PlanAnswer) → IsAnswerTo m found.certificate.claim found.plan found.root found.nodes answer → IsWritten c bytes old new → WriteExplains m budget p c old new answer
+    proved answer answers w = proved_at found.certificate.claim refl answer (subst (λ g. IsAnswerTo m found.certificate.claim g found.root found.nodes answer) none answers) w
+
+    pub unproved_at : IsUnwritten c old new → WriteExplains m budget p c old new (unwritten c)
     unproved_at w = (w.failed, inr (inr (refl, λ t. record { own = no_own; impossible = none_alone found.certificate.claim refl }, w.touches)))
 
     pub says_proved : (answer : PlanAnswer) (said : Said) → IsAnswerTo m found.certificate.claim found.plan found.root found.nodes answer → IsSaid (plan_line answer) (plan_status answer) said → IsWritten c bytes old new → WriteSays m budget p c old new said
-    says_proved answer said answers says w =
-        let answers_none = subst (λ g. IsAnswerTo m found.certificate.claim g found.root found.nodes answer) none answers in
-        (answer, proved_at found.certificate.claim refl answer answers_none w, says)
+    says_proved answer said answers says w = (answer, proved answer answers w, says)
 
     pub says_unproved : (said : Said) → IsSaid (plan_line (unwritten c)) (plan_status (unwritten c)) said → IsUnwritten c old new → WriteSays m budget p c old new said
     says_unproved said says w = (unwritten c, unproved_at w, says)
@@ -195,7 +196,7 @@ module _ (m : Problem) (budget : ℕ) (found : Found) (is_found : IsFound m budg
       written = writes_plan after written;
     }
 
-    unplanned_at : (old new : Shelved) → IsUnwritten p old new → WriteExplains m budget p c old new (unwritten p)
+    pub unplanned_at : (old new : Shelved) → IsUnwritten p old new → WriteExplains m budget p c old new (unwritten p)
     unplanned_at old new w = (w.failed, inl (refl, λ t. record { chosen = plan_of plan; feasible = good.feasible; best = best_alone found.certificate.claim refl }, w.touches))
 
     pub says_unplanned : (old new : Shelved) (said : Said) → IsSaid (plan_line (unwritten p)) (plan_status (unwritten p)) said → IsUnwritten p old new → WriteSays m budget p c old new said
@@ -238,14 +239,15 @@ module _ (m : Problem) (budget : ℕ) (found : Found) (is_found : IsFound m budg
         starts_both p c old mid new first.touches w.touches,
       )
 
-      uncertified_at : IsUnwritten c mid new → WriteExplains m budget p c old new (unwritten c)
+      pub planned : (answer : PlanAnswer) → IsAnswerTo m found.certificate.claim found.plan found.root found.nodes answer → IsWritten c bytes mid new → WriteExplains m budget p c old new answer
+      planned answer answers w = planned_at found.certificate.claim refl answer (subst (λ g. IsAnswerTo m found.certificate.claim g found.root found.nodes answer) is_plan answers) w
+
+      pub uncertified_at : IsUnwritten c mid new → WriteExplains m budget p c old new (unwritten c)
       uncertified_at w =
           (omega (arith, w.failed, first.fine), inr (inl (refl, λ t. (cost_of m plan, writes_feasible new.file (plan_stays w.touches t)), starts_both p c old mid new first.touches w.touches)))
 
       pub says_planned : (answer : PlanAnswer) (said : Said) → IsAnswerTo m found.certificate.claim found.plan found.root found.nodes answer → IsSaid (plan_line answer) (plan_status answer) said → IsWritten c bytes mid new → WriteSays m budget p c old new said
-      says_planned answer said answers says w =
-          let answers_some = subst (λ g. IsAnswerTo m found.certificate.claim g found.root found.nodes answer) is_plan answers in
-          (answer, planned_at found.certificate.claim refl answer answers_some w, says)
+      says_planned answer said answers says w = (answer, planned answer answers w, says)
 
       pub says_uncertified : (said : Said) → IsSaid (plan_line (unwritten c)) (plan_status (unwritten c)) said → IsUnwritten c mid new → WriteSays m budget p c old new said
       says_uncertified said says w = (unwritten c, uncertified_at w, says)

@@ -1,12 +1,13 @@
 -- What the reading of files leaves, and why it stops.
-use Rattle.std.proofs.Common.{◌≡◌, ◌≢◌, ◌≤◌, ℕ, List, IsTrue, None, refl, sym, subst, arith}
+use Rattle.std.proofs.Common.{◌≡◌, ◌≢◌, ◌⊎◌, ◌≤◌, ℕ, List, IsTrue, None, refl, sym, subst, arith}
 use Rattle.lot_io.specs.Outside.{Files, OnlyReads, Shelved}
-use Rattle.lotplan.specs.Meaning.{Meaning}
+use Rattle.lotplan.specs.Meaning.{Meaning, long_page_line}
 use Rattle.lotplan.specs.Status.{code_of}
 use Rattle.lotplan.specs.Reading.{FileExplains, FirstExplains, IsTooLong, ModelExplains, ReadAnswer, refused, missing, unread, too_long, read_line, read_status, ExplainsStop, read_meant}
 use Rattle.lotplan.specs.declared.model_file.Stop.{Stop}
 use Rattle.lotplan.specs.declared.model_file.Stop.TheVariants.{Answered, Memory}
 use Rattle.lotplan.specs.declared.status.Status.{Status}
+use Rattle.lotplan.specs.declared.status.Status.TheVariants.{TooLong}
 use Rattle.lotplan.specs.declared.status.TheConstants.{REFUSED, UNWRITTEN, TOO_LONG}
 
 -- what shows the same was only read
@@ -69,3 +70,13 @@ pub record SomeStop (means : Meaning) (old new : Shelved) (line : List ℕ) (sta
   pub cause : means.stops old new why
   pub says : line ≡ read_line why
   pub ends : status ≡ read_status why
+
+-- a page would be too long, and the line and the status say so
+pub record SomeLongPage (means : Meaning) (old : Shelved) (line : List ℕ) (status : Status) : Type 0 where
+  pub cause : means.overlong old
+  pub says : line ≡ long_page_line
+  pub ends : status ≡ TooLong
+
+-- one of the two
+abbrev pub Stopped : Meaning → Shelved → Shelved → List ℕ → Status → Type 0
+Stopped means old new line status = SomeStop means old new line status ⊎ SomeLongPage means old line status

@@ -164,7 +164,7 @@ slots_one laws problem bytes a b is_a is_b (Some text) u v x y = ⊎_elim
         (λ e. ⊎_elim (λ f. absurd (e.0 (same_schedule laws problem bytes text b a is_b is_a f.0))) (λ f. e.1 ∙ sym f.1) d)
         c
 
-same_bytes : (a b : List ℕ) → Some a ≡ Some b → a ≡ b
+pub same_bytes : (a b : List ℕ) → Some a ≡ Some b → a ≡ b
 same_bytes a b same = cc same
 
 both_feasible : AreLaws → (file : Files) (m p s : List ℕ) (u v : ℕ) → OfFeasible file m p (λ problem plan. SlotsCallFor problem plan (file s) u) → OfFeasible file m p (λ problem plan. SlotsCallFor problem plan (file s) v) → u ≡ v
@@ -213,7 +213,7 @@ slots_some by problem named plan (Some bytes) = ⊎_elim
     (cases_lt file_limit (length bytes))
 
 -- a plan that `judge` calls `DONE` for is feasible
-plan_done : (problem : Problem) (found : Option (List ℕ)) → PlanCallsFor problem found DONE → (bytes : List ℕ) × (found ≡ Some bytes) × (length bytes ≤ file_limit) × (amount : ℕ) × AreFeasible problem bytes amount
+pub plan_done : (problem : Problem) (found : Option (List ℕ)) → PlanCallsFor problem found DONE → (bytes : List ℕ) × (found ≡ Some bytes) × (length bytes ≤ file_limit) × (amount : ℕ) × AreFeasible problem bytes amount
 plan_done problem None calls = absurd (omega (arith, calls))
 plan_done problem (Some bytes) calls = ⊎_elim
     (λ long. absurd (omega (arith, long.1)))
@@ -223,7 +223,7 @@ plan_done problem (Some bytes) calls = ⊎_elim
     short.1)
     calls
 
-model_done : (found plan : Option (List ℕ)) → JudgeCallsFor found plan DONE → (bytes : List ℕ) × (found ≡ Some bytes) × (length bytes ≤ file_limit) × (problem : Problem) × BytesMean bytes (Ok problem) × PlanCallsFor problem plan DONE
+pub model_done : (found plan : Option (List ℕ)) → JudgeCallsFor found plan DONE → (bytes : List ℕ) × (found ≡ Some bytes) × (length bytes ≤ file_limit) × (problem : Problem) × BytesMean bytes (Ok problem) × PlanCallsFor problem plan DONE
 model_done None plan calls = absurd (omega (arith, calls))
 model_done (Some bytes) plan calls = ⊎_elim
     (λ long. absurd (omega (arith, long.1)))

@@ -149,7 +149,7 @@ upgrade_kept m n = record {
       wrote = λ none. wrote_at m n (code_of status) old new d.answer d.why (ap code_of d.ends) none;
       reads = λ e. absurd (cc e);
       idle = λ e. absurd (cc e);
-      stops = λ r. stop_at m n old new line status d.answer d.why d.says d.ends r;
+      stops = λ r. inl (stop_at m n old new line status d.answer d.why d.says d.ends r);
       calls = λ out_old out_new fine t. called_at m n (code_of status) old new out_old out_new fine t d.answer d.why (ap code_of d.ends);
     };
     one = λ laws file s t a b. inl (upgrade_call_one (file m) s t a b);

@@ -158,6 +158,7 @@ bound_meaning m = record {
   passes = [];
   writes = [];
   stops = ModelExplains m;
+  overlong = λ old. ⊥;
   calls_for = λ file. BoundCallsFor (file m);
   may_be_left = λ file. MayPass (file m);
 }

@@ -269,6 +269,7 @@ check_meaning m p c = record {
   passes = c ∷ [];
   writes = [];
   stops = CheckStops m p c;
+  overlong = λ old. ⊥;
   calls_for = λ file. CheckCallsFor (file m) (file p) (file c);
   may_be_left = λ file. ⊥;
 }

@@ -92,6 +92,7 @@ extract_meaning Writes word m p s = record {
   passes = [];
   writes = s ∷ [];
   stops = FilesStop m p;
+  overlong = λ old. ⊥;
   calls_for = λ file. JudgeCallsFor (file m) (file p);
   may_be_left = λ file. ⊥;
 }

@@ -81,6 +81,7 @@ generate_meaning seed items periods m = record {
   passes = [];
   writes = m ∷ [];
   stops = λ old new why. ⊥;
+  overlong = λ old. ⊥;
   calls_for = λ file status. status ≡ DONE;
   may_be_left = λ file. ⊥;
 }

@@ -188,6 +188,7 @@ judge_meaning m p = record {
   passes = [];
   writes = [];
   stops = FilesStop m p;
+  overlong = λ old. ⊥;
   calls_for = λ file. JudgeCallsFor (file m) (file p);
   may_be_left = λ file. ⊥;
 }

@@ -15,6 +15,8 @@ pub mod Generating
 pub mod Extracting
 pub mod Scheduling
 pub mod Pegging
+pub mod Replanning
+pub mod Drawing
 pub mod Showing
 pub mod Run
 pub mod Laws

@@ -1,8 +1,13 @@
 -- What a command means. Each command has its own meaning in its own file, and `Run` says which words mean which.
-use Rattle.std.specs.Prelude.{ℕ, List}
+use Rattle.std.specs.Prelude.{ℕ, List, ◌++◌, codes, decimal}
 use Rattle.lot_io.specs.Outside.{Files, Shelved}
+use Rattle.plan_page.specs.declared.limits.TheConstants.{MAX_PAGE}
 use Rattle.lotplan.specs.Reading.{ReadAnswer}
 use Rattle.lotplan.specs.declared.status.Status.{Status}
+
+-- the line of a page that would be longer than it may be, which names the limit in bytes
+abbrev pub long_page_line : List ℕ
+long_page_line = codes "refused page " ++ (decimal MAX_PAGE ++ codes "\n")
 
 pub record Meaning : Type 1 where
   -- what a run does: the files before and after, the line or lines, and the status
@@ -14,6 +19,8 @@ pub record Meaning : Type 1 where
   pub writes : List (List ℕ)
   -- why they gave nothing to go on with
   pub stops : Shelved → Shelved → ReadAnswer → Type 0
+  -- why a page would be longer than it may be
+  pub overlong : Shelved → Type 0
   -- the status that they call for, faults and out of memory aside
   pub calls_for : Files → ℕ → Type 0
   -- they may call for `UNDECIDED` beside another status

@@ -308,6 +308,7 @@ plan_meaning m p c budget = record {
   passes = [];
   writes = p ∷ c ∷ [];
   stops = ModelExplains m;
+  overlong = λ old. ⊥;
   calls_for = λ file. FileCallsFor (file m) budget;
   may_be_left = λ file. MayLeave (file m) budget;
 }

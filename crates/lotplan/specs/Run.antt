@@ -2,11 +2,11 @@
 use Rattle.std.specs.Prelude.{◌≡◌, ◌+◌, ◌*◌, ℕ, List, [], ◌∷◌, length, codes, Option, Some, None}
 use Rattle.lot_io.specs.Outside.{Files, OnlyReads, Printed, Rose, Shelved, piece_size}
 use Rattle.stream_check.specs.Streams.{pass_size}
-use Rattle.command_line.specs.Words.{Request, version, planning, judging, checking, reporting, generating, demonstrating, upgrading, bounding, scheduling, schedule_checking, pegging}
+use Rattle.command_line.specs.Words.{Request, version, planning, judging, checking, reporting, generating, demonstrating, upgrading, bounding, scheduling, schedule_checking, pegging, drawing, replanning}
 use Rattle.lotplan.specs.Status.{code_of}
 use Rattle.lotplan.specs.Saying.{Gains, Prints}
 use Rattle.lotplan.specs.Reading.{ReadAnswer, file_limit, read_line}
-use Rattle.lotplan.specs.Meaning.{Meaning}
+use Rattle.lotplan.specs.Meaning.{Meaning, long_page_line}
 use Rattle.lotplan.specs.Planning.{plan_meaning}
 use Rattle.lotplan.specs.Judging.{judge_meaning}
 use Rattle.lotplan.specs.Checking.{check_meaning}
@@ -17,6 +17,8 @@ use Rattle.lotplan.specs.Generating.{generate_meaning}
 use Rattle.lotplan.specs.Showing.{demo_meaning}
 use Rattle.lotplan.specs.Scheduling.{schedule_meaning, schedcheck_meaning}
 use Rattle.lotplan.specs.Pegging.{peg_meaning}
+use Rattle.lotplan.specs.Drawing.{draw_meaning}
+use Rattle.lotplan.specs.Replanning.{replan_meaning}
 use Rattle.lotplan.specs.declared.said.Said.{Said}
 use Rattle.lotplan.specs.declared.status.Status.{Status}
 use Rattle.lotplan.specs.declared.status.TheConstants.{DONE, NO_COMMAND}
@@ -42,6 +44,7 @@ version_meaning = record {
   passes = [];
   writes = [];
   stops = λ old new why. ⊥;
+  overlong = λ old. ⊥;
   calls_for = λ file status. status ≡ DONE;
   may_be_left = λ file. ⊥;
 }
@@ -58,6 +61,7 @@ no_meaning = record {
   passes = [];
   writes = [];
   stops = λ old new why. ⊥;
+  overlong = λ old. ⊥;
   calls_for = λ file status. status ≡ NO_COMMAND;
   may_be_left = λ file. ⊥;
 }
@@ -76,6 +80,8 @@ meaning_of (Some (bounding m)) = bound_meaning m
 meaning_of (Some (scheduling m p s)) = schedule_meaning m p s
 meaning_of (Some (schedule_checking m p s)) = schedcheck_meaning m p s
 meaning_of (Some (pegging m p q)) = peg_meaning m p q
+meaning_of (Some (drawing m p h c)) = draw_meaning m p h c
+meaning_of (Some (replanning m p first n q c budget)) = replan_meaning m p first n q c budget
 
 -- ---- what follows of what the words ask for, with no arms
 -- what a run does to the files, and the line and the status that it comes to
@@ -157,3 +163,8 @@ pub record IsNoCommand (request : Option Request) (out_old out_new : Printed) : 
 pub record Stops (request : Option Request) (old new : Shelved) (out_old out_new : Printed) (why : ReadAnswer) : Type 0 where
   pub cause : (meaning_of request).stops old new why
   pub line : Gains (read_line why) out_old out_new
+
+-- the page that the words ask for would be too long, and the line names the limit
+pub record IsOverlong (request : Option Request) (old : Shelved) (out_old out_new : Printed) : Type 0 where
+  pub cause : (meaning_of request).overlong old
+  pub line : Gains long_page_line out_old out_new

@@ -204,6 +204,7 @@ schedcheck_meaning m p s = record {
   passes = [];
   writes = [];
   stops = SchedcheckStops m p s;
+  overlong = λ old. ⊥;
   calls_for = λ file. SchedcheckCallsFor file m p s;
   may_be_left = λ file. ⊥;
 }

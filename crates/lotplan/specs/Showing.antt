@@ -123,6 +123,7 @@ demo_meaning seed = record {
   passes = [];
   writes = [];
   stops = λ old new why. ⊥;
+  overlong = λ old. ⊥;
   calls_for = λ file status. status ≡ DONE;
   may_be_left = λ file. ⊥;
 }

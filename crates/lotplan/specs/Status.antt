@@ -1,6 +1,6 @@
 -- The number with which the process ends.
 use Rattle.std.specs.Prelude.{ℕ}
-use Rattle.lotplan.specs.declared.status.TheConstants.{DONE, NO_PLAN, UNDECIDED, FAULTY, NO_COMMAND, REFUSED, MISSING, UNREAD, UNWRITTEN, UNPRINTED, NO_MEMORY, TOO_LONG}
+use Rattle.lotplan.specs.declared.status.TheConstants.{DONE, NO_PLAN, UNDECIDED, FAULTY, NO_COMMAND, REFUSED, MISSING, UNREAD, UNWRITTEN, UNPRINTED, NO_MEMORY, TOO_LONG, NO_REST}
 use Rattle.lotplan.specs.declared.status.Status.{Status}
 use Rattle.lotplan.specs.declared.status.Status.TheVariants as status
 
@@ -17,3 +17,4 @@ code_of status.Unwritten = UNWRITTEN
 code_of status.Unprinted = UNPRINTED
 code_of status.NoMemory = NO_MEMORY
 code_of status.TooLong = TOO_LONG
+code_of status.NoRest = NO_REST

@@ -112,6 +112,7 @@ upgrade_meaning m n = record {
   passes = [];
   writes = n ∷ [];
   stops = FirstExplains m;
+  overlong = λ old. ⊥;
   calls_for = λ file. UpgradeCallsFor (file m);
   may_be_left = λ file. ⊥;
 }

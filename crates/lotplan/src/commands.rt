@@ -2,10 +2,12 @@
 pub mod bound;
 pub mod check;
 pub mod demo;
+pub mod draw;
 pub mod generate;
 pub mod judge;
 pub mod peg;
 pub mod plan;
+pub mod replanning;
 pub mod reporting;
 pub mod schedcheck;
 pub mod schedule;

@@ -1,11 +1,11 @@
 // The top call.
-ghost use Rattle.std.specs.Prelude.{◌≡◌, ◌≢◌, ◌⊎◌, ◌≤◌, ◌+◌, ℕ, List, [], ◌∷◌, length, IsTrue, Some, None, map, string_bytes, IfOk, OnErr};
+ghost use Rattle.std.specs.Prelude.{◌≡◌, ◌≢◌, ◌⊎◌, ◌≤◌, ◌+◌, ℕ, List, [], ◌∷◌, length, IsTrue, Option, Some, None, map, string_bytes, IfOk, OnErr};
 ghost use Rattle.lot_draft.specs.declared.fault.ModelFault.{ModelFault};
 ghost use Rattle.lot_io.specs.Outside.{GrewBy, OnlyReads, OnlyWrites, Rose};
 ghost use Rattle.command_line.specs.Meant.{request_by};
-ghost use Rattle.command_line.specs.Words.{AreTaken, IsAllowed, bounding, checking, command_of, demonstrating, generating, judging, pegging, planning, reporting, schedule_checking, scheduling, upgrading};
+ghost use Rattle.command_line.specs.Words.{AreTaken, IsAllowed, bounding, checking, command_of, demonstrating, drawing, generating, judging, pegging, planning, replanning, reporting, schedule_checking, scheduling, upgrading};
 ghost use Rattle.lotplan.specs.Saying.{Ends, IsSaid, Prints};
-ghost use Rattle.lotplan.specs.declared.status.TheConstants.{DONE, NO_PLAN, UNDECIDED, FAULTY, NO_COMMAND, REFUSED, MISSING, UNREAD, UNWRITTEN, UNPRINTED, NO_MEMORY, TOO_LONG};
+ghost use Rattle.lotplan.specs.declared.status.TheConstants.{DONE, NO_PLAN, UNDECIDED, FAULTY, NO_COMMAND, REFUSED, MISSING, UNREAD, UNWRITTEN, UNPRINTED, NO_MEMORY, TOO_LONG, NO_REST};
 ghost use Rattle.lotplan.specs.declared.status.Status.TheVariants.{NoCommand};
 ghost use Rattle.lotplan.specs.Reading.{missing, refused, too_long, unread};
 ghost use Rattle.lotplan.specs.Writing.{StartsAmong, StartsAtMost};
@@ -20,15 +20,19 @@ ghost use Rattle.lotplan.specs.Showing.{Shows};
 ghost use Rattle.lotplan.specs.Extracting.{FailsToExtract, WritesExtract};
 ghost use Rattle.lotplan.specs.Scheduling.{AcceptsSchedule, FindsSlotsFault, Laid, scheduled_word};
 ghost use Rattle.lotplan.specs.Pegging.{Pegged, pegged_word};
-ghost use Rattle.lotplan.specs.Run.{CallFor, EndsAs, HadNoFault, IsIdle, IsNoCommand, IsProgramRun, Leaves, SaysFor, Stops, most_given, reads_of, refused_line, writes_of};
+ghost use Rattle.lotplan.specs.Drawing.{Draws, FailsToDraw, FindsDrawFault};
+ghost use Rattle.lotplan.specs.Replanning.{CallsForDoneIfShort, FailsToReplan, FindsNoRest, FindsNoStart, FindsNoneLater, FindsPlanFault, LeavesRestOpen, ReplansBest};
+ghost use Rattle.lotplan.specs.Run.{CallFor, EndsAs, HadNoFault, IsIdle, IsNoCommand, IsOverlong, IsProgramRun, Leaves, SaysFor, Stops, most_given, reads_of, refused_line, writes_of};
 
 use crate::commands::bound::bound_files;
 use crate::commands::check::check_files;
 use crate::commands::demo::show_plans;
+use crate::commands::draw::draw_files;
 use crate::commands::generate::generate_file;
 use crate::commands::judge::judge_files;
 use crate::commands::peg::peg_files;
 use crate::commands::plan::plan_files;
+use crate::commands::replanning::replan_files;
 use crate::commands::reporting::report_files;
 use crate::commands::schedcheck::schedcheck_files;
 use crate::commands::schedule::schedule_files;
@@ -46,6 +50,8 @@ use std::alloc::{AllocError, Global};
 /// `words` are those after the program's name: none for the program's name and version,
 /// `plan MODEL PLAN CERTIFICATE` with or without `--nodes N`, `judge MODEL PLAN`, `check MODEL PLAN CERTIFICATE`,
 /// `report MODEL PLAN`, `schedule MODEL PLAN SCHEDULE`, `schedcheck MODEL PLAN SCHEDULE`, `peg MODEL PLAN PEGS`,
+/// `draw MODEL PLAN PAGE` with or without `--proof CERTIFICATE`,
+/// `replan MODEL PLAN PERIODS NEW_MODEL NEW_PLAN CERTIFICATE` with or without `--nodes N`,
 /// `gen SEED ITEMS PERIODS MODEL`, `demo SEED`, `upgrade MODEL NEW` or `bound MODEL`. All others are no
 /// command, a call for help or for the version among them: its text is printed, and nothing is done. N is the most nodes
 /// that the certificate's tree may have, from 1 to `LARGEST_BUDGET`, and else `USUAL_BUDGET`. The numbers, and what each
@@ -171,12 +177,53 @@ pub fn run<S: Shelf, K: Sink, P: Proposer, H: Heuristic<P::Hint>, W: Watch>(
     ensures peg_unwritten { (m p q : List ℕ) → command_of (map string_bytes words.now) ≡ Some (pegging m p q) → result ≡ UNWRITTEN
         → FailsToExtract (S.shown shelf.old) (S.shown shelf.new) m p q (K.shown out.old) (K.shown out.new) }
 
+    // After `draw` with status `DONE` the plan file holds a feasible plan, and the page's bytes are those of its page; what the page says is
+    // proved is so, and where a certificate is asked for it is what `check` accepts. The line has the number of its bytes. With `FAULTY`
+    // the line names the first fault of the plan, or of the certificate.
+    ensures drawn { (m p h : List ℕ) (c : Option (List ℕ)) → command_of (map string_bytes words.now) ≡ Some (drawing m p h c) → result ≡ DONE → IsTrue (S.shown shelf.old).told
+        → Draws (S.shown shelf.old).file (S.shown shelf.new).file m p h c (K.shown out.old) (K.shown out.new) }
+    ensures draw_faulty { (m p h : List ℕ) (c : Option (List ℕ)) → command_of (map string_bytes words.now) ≡ Some (drawing m p h c) → result ≡ FAULTY → IsTrue (S.shown shelf.old).told
+        → FindsDrawFault (S.shown shelf.old) (S.shown shelf.new) m p c (K.shown out.old) (K.shown out.new) }
+    ensures draw_unwritten { (m p h : List ℕ) (c : Option (List ℕ)) → command_of (map string_bytes words.now) ≡ Some (drawing m p h c) → result ≡ UNWRITTEN
+        → FailsToDraw (S.shown shelf.old) (S.shown shelf.new) m p h c (K.shown out.old) (K.shown out.new) }
+
+    // After `replan` with status `DONE` the new model file means the rest, the periods after those that are kept; the new plan file
+    // holds a best plan of it, and behind the start of the plan file's plan that is a best plan of all that agree with the start.
+    // The certificate file proves it, and the last line has what it costs.
+    ensures replanned { (m p n q c : List ℕ) (first budget : ℕ) → command_of (map string_bytes words.now) ≡ Some (replanning m p first n q c budget) → result ≡ DONE → IsTrue (S.shown shelf.old).told
+        → ReplansBest (S.shown shelf.old).file (S.shown shelf.new).file m p first n q c budget (K.shown out.old) (K.shown out.new) }
+
+    // On `NO_PLAN` no feasible plan agrees with the start: no plan of the rest is feasible, or the start doesn't stand, and then no
+    // file has changed. On `UNDECIDED` each that agrees costs at least the floor on the last line. On `NO_REST` no later periods
+    // can be planned, and on `FAULTY` the plan file holds no plan. On `UNWRITTEN` the line names the file that could not be written.
+    ensures replan_infeasible { (m p n q c : List ℕ) (first budget : ℕ) → command_of (map string_bytes words.now) ≡ Some (replanning m p first n q c budget) → result ≡ NO_PLAN → IsTrue (S.shown shelf.old).told
+        → FindsNoneLater (S.shown shelf.old).file (S.shown shelf.new).file m p first n q c budget (K.shown out.old) (K.shown out.new)
+        ⊎ FindsNoStart (S.shown shelf.old).file (S.shown shelf.new).file m p first (K.shown out.old) (K.shown out.new) }
+    ensures replan_undecided { (m p n q c : List ℕ) (first budget : ℕ) → command_of (map string_bytes words.now) ≡ Some (replanning m p first n q c budget) → result ≡ UNDECIDED → IsTrue (S.shown shelf.old).told
+        → LeavesRestOpen (S.shown shelf.old).file (S.shown shelf.new).file m p first n q c budget (K.shown out.old) (K.shown out.new) }
+    ensures no_rest { (m p n q c : List ℕ) (first budget : ℕ) → command_of (map string_bytes words.now) ≡ Some (replanning m p first n q c budget) → result ≡ NO_REST → IsTrue (S.shown shelf.old).told
+        → FindsNoRest (S.shown shelf.old).file m p first (K.shown out.old) (K.shown out.new) }
+    ensures replan_faulty { (m p n q c : List ℕ) (first budget : ℕ) → command_of (map string_bytes words.now) ≡ Some (replanning m p first n q c budget) → result ≡ FAULTY → IsTrue (S.shown shelf.old).told
+        → FindsPlanFault (S.shown shelf.old).file m p (K.shown out.old) (K.shown out.new) }
+    ensures replan_unwritten { (m p n q c : List ℕ) (first budget : ℕ) → command_of (map string_bytes words.now) ≡ Some (replanning m p first n q c budget) → result ≡ UNWRITTEN
+        → FailsToReplan (S.shown shelf.old) (S.shown shelf.new) m p first n q c (K.shown out.old) (K.shown out.new) }
+    ensures replan_wrote_two { (m p n q c : List ℕ) (first budget : ℕ) → command_of (map string_bytes words.now) ≡ Some (replanning m p first n q c budget) → result ≡ NO_PLAN
+        → StartsAmong (n ∷ c ∷ []) 2 (S.shown shelf.old) (S.shown shelf.new) ⊎ OnlyReads (S.shown shelf.old) (S.shown shelf.new) }
+    ensures replan_wrote_some { (m p n q c : List ℕ) (first budget : ℕ) → command_of (map string_bytes words.now) ≡ Some (replanning m p first n q c budget) → result ≡ UNDECIDED
+        → StartsAmong (n ∷ q ∷ c ∷ []) 3 (S.shown shelf.old) (S.shown shelf.new) ⊎ StartsAmong (n ∷ c ∷ []) 2 (S.shown shelf.old) (S.shown shelf.new) }
+
+    // After `replan` with status `DONE`, `NO_PLAN` or `UNDECIDED`, `check` calls for `DONE` on the three files that it left, where the
+    // new model file isn't too long to be read; or the status is `NO_PLAN`, and nothing was written.
+    ensures replan_checks { (m p n q c : List ℕ) (first budget : ℕ) → command_of (map string_bytes words.now) ≡ Some (replanning m p first n q c budget)
+        → (result ≡ DONE) ⊎ ((result ≡ NO_PLAN) ⊎ (result ≡ UNDECIDED)) → IsTrue (S.shown shelf.old).told
+        → CallsForDoneIfShort (S.shown shelf.new).file n q c ⊎ ((result ≡ NO_PLAN) × OnlyReads (S.shown shelf.old) (S.shown shelf.new)) }
+
     // Without a fault the status is `NO_MEMORY`, or exactly what the words and the files call for.
     ensures called_for { IsTrue (S.shown shelf.old).told
         → HadNoFault (S.shown shelf.old) (S.shown shelf.new) (K.shown out.old) (K.shown out.new)
         → (result ≡ NO_MEMORY) ⊎ CallFor (command_of (map string_bytes words.now)) (S.shown shelf.old).file result }
 
-    // The cause of each status that any command may have, and its line.
+    // The cause of each status that any command may have, and its line; `draw` may also refuse a page for its length.
     ensures no_command { result ≡ NO_COMMAND → IsNoCommand (command_of (map string_bytes words.now)) (K.shown out.old) (K.shown out.new) }
     ensures refused_words { command_of (map string_bytes words.now) ≡ None → AreTaken (map string_bytes words.now)
         → (result ≡ NO_MEMORY) ⊎ Prints refused_line NoCommand result (K.shown out.old) (K.shown out.new) }
@@ -187,8 +234,9 @@ pub fn run<S: Shelf, K: Sink, P: Proposer, H: Heuristic<P::Hint>, W: Watch>(
     ensures unread { result ≡ UNREAD → (file : List ℕ) × Stops (command_of (map string_bytes words.now))
         (S.shown shelf.old) (S.shown shelf.new) (K.shown out.old) (K.shown out.new) (unread file) }
     ensures unprinted { result ≡ UNPRINTED → Rose (K.shown out.old).faults (K.shown out.new).faults }
-    ensures too_long { result ≡ TOO_LONG → (file : List ℕ) × Stops (command_of (map string_bytes words.now))
-        (S.shown shelf.old) (S.shown shelf.new) (K.shown out.old) (K.shown out.new) (too_long file) }
+    ensures too_long { result ≡ TOO_LONG → ((file : List ℕ) × Stops (command_of (map string_bytes words.now))
+        (S.shown shelf.old) (S.shown shelf.new) (K.shown out.old) (K.shown out.new) (too_long file))
+        ⊎ IsOverlong (command_of (map string_bytes words.now)) (S.shown shelf.old) (K.shown out.old) (K.shown out.new) }
 
     // What is written: nothing on a status but those that `quiet` names; never another file than the command's own; on
     // `DONE` each of these once; and by a command that has none nothing at all.
@@ -199,7 +247,7 @@ pub fn run<S: Shelf, K: Sink, P: Proposer, H: Heuristic<P::Hint>, W: Watch>(
     ensures only_reads { writes_of (command_of (map string_bytes words.now)) ≡ [] → OnlyReads (S.shown shelf.old) (S.shown shelf.new) }
 
     // What is read: nothing for words that are no command, for the version, and by `demo`; no file by `gen`; of each file
-    // that a command reads at most as much as of one within the limit, and by `check` three times a certificate file.
+    // that a command reads at most as much as of one within the limit, and by `check` and `draw` three times a certificate file.
     ensures idle { IsIdle (command_of (map string_bytes words.now)) → S.shown shelf.new ≡ S.shown shelf.old }
     ensures given { (S.shown shelf.new).given ≤ (S.shown shelf.old).given + most_given (command_of (map string_bytes words.now)) }
     ensures told { (S.shown shelf.new).told ≡ (S.shown shelf.old).told }
@@ -317,5 +365,13 @@ fn said_of<S: Shelf, P: Proposer, H: Heuristic<P::Hint>, W: Watch>(
             schedcheck_files(alloc, names.model, names.plan, names.schedule, shelf)
         }
         Command::Peg(names) => peg_files(alloc, names.model, names.plan, names.pegs, shelf),
+        Command::Draw { names, certificate } => draw_files(alloc, names, certificate, shelf),
+        Command::Replan {
+            names,
+            periods,
+            budget,
+        } => replan_files(
+            alloc, proposer, heuristic, watch, names, periods, budget, shelf,
+        ),
     }
 }

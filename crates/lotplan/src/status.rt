@@ -27,6 +27,8 @@ pub const NO_MEMORY: u8 = 10;
 
 pub const TOO_LONG: u8 = 11;
 
+pub const NO_REST: u8 = 13;
+
 /// How a run ends.
 #[derive(Clone, Copy, Debug, PartialEq, Eq)]
 pub enum Status {
@@ -52,8 +54,11 @@ pub enum Status {
     Unprinted,
     /// Memory ran out.
     NoMemory,
-    /// A file is longer than `MAX_FILE` bytes, or a certificate file than the most bytes that `cert_stream` reads.
+    /// A file is longer than `MAX_FILE` bytes, a certificate file than the most bytes that `cert_stream` reads, or a page would
+    /// be longer than `MAX_PAGE`.
     TooLong,
+    /// After the periods that are kept, no later ones can be planned.
+    NoRest,
 }
 
 impl Status {
@@ -74,6 +79,7 @@ impl Status {
             Status::Unprinted => UNPRINTED,
             Status::NoMemory => NO_MEMORY,
             Status::TooLong => TOO_LONG,
+            Status::NoRest => NO_REST,
         }
     }
 }

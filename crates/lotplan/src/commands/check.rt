@@ -3,6 +3,7 @@ ghost use Rattle.std.specs.Prelude.{◌≡◌, ◌≤◌, ◌+◌, ◌*◌, stri
 ghost use Rattle.lot_io.specs.Outside.{OnlyReads, piece_size};
 ghost use Rattle.stream_check.specs.Streams.{pass_size};
 ghost use Rattle.lotplan.specs.Checking.{CheckSays, GivenExplains, IsRefusal, PlannedExplains, ProofExplains, accepted_line, check_line, check_meant, check_status, no_certificate_line, rejected_line};
+ghost use Rattle.lotplan.specs.Drawing.{WithPlanExplains};
 ghost use Rattle.lotplan.specs.Reading.{file_limit};
 ghost use Rattle.lotplan.specs.Saying.{IsSaid};
 
@@ -166,6 +167,27 @@ fn check_planned<'a, S: Shelf>(
         Err(PlanStop::NoPlan(fault)) => Ok(CheckAnswer::NoPlan(fault)),
         Err(PlanStop::Answered(why)) => Ok(CheckAnswer::NoInput(why)),
         Err(PlanStop::Memory) => Err(AllocError),
+    }
+}
+
+/// Checks the certificate in a file with this plan, which goes with it where an optimal cost is claimed.
+pub fn check_with<'a, S: Shelf>(
+    alloc: Global,
+    instance: &Instance,
+    plan: &Plan,
+    certificate: &'a str,
+    shelf: &mut S,
+) -> Result<CheckAnswer<'a>, AllocError>
+    ensures answer { IfOk result (λ answer. WithPlanExplains instance.now plan.now certificate.entry.now (S.shown shelf.old) (S.shown shelf.new) (check_meant answer)) }
+    ensures reads { OnlyReads (S.shown shelf.old) (S.shown shelf.new) }
+    ensures given { (S.shown shelf.new).given ≤ (S.shown shelf.old).given + 3 * pass_size }
+{
+    texts_mean_one_thing();
+    match read_claim(alloc, shelf, certificate) {
+        Ok(Claim::Optimal(_)) => check_given(alloc, instance, Some(plan), certificate, shelf),
+        Ok(Claim::Infeasible) => check_given(alloc, instance, None, certificate, shelf),
+        Ok(Claim::Bound(_)) => check_given(alloc, instance, None, certificate, shelf),
+        Err(fault) => refusal(certificate, fault),
     }
 }
 

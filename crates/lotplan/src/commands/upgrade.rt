@@ -58,8 +58,8 @@ impl UpgradeAnswer<'_> {
     }
 }
 
-// Each text of an instance means its problem.
-fn texts_mean_it(instance: &Instance)
+/// Each text of an instance means its problem. It computes nothing.
+pub fn texts_mean_it(instance: &Instance)
     ensures { (bytes : List ℕ) → IsModelText instance.now bytes → BytesMean bytes (Ok instance.now) }
 {
     an_instance_breaks_no_rule(instance);

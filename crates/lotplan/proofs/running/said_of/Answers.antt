@@ -60,3 +60,11 @@ returns-in-CheckSchedule-clause-said g c =
 pub returns-in-Peg-clause-said : goal.returns-in-Peg-clause-said
 returns-in-Peg-clause-said g c =
     subst (λ k. IfOk c.peg_files.result (SaysFor (Some (request_by k)) (g.S.Shelf.shown c.args.shelf.now) (g.S.Shelf.shown c.peg_files.new.shelf))) (sym c.in-Peg.is) c.peg_files.ensures.said
+
+pub returns-in-Replan-clause-said : goal.returns-in-Replan-clause-said
+returns-in-Replan-clause-said g c =
+    subst (λ k. IfOk c.replan_files.result (SaysFor (Some (request_by k)) (g.S.Shelf.shown c.args.shelf.now) (g.S.Shelf.shown c.replan_files.new.shelf))) (sym c.in-Replan.is) c.replan_files.ensures.said
+
+pub returns-in-Draw-clause-said : goal.returns-in-Draw-clause-said
+returns-in-Draw-clause-said g c =
+    subst (λ k. IfOk c.draw_files.result (SaysFor (Some (request_by k)) (g.S.Shelf.shown c.args.shelf.now) (g.S.Shelf.shown c.draw_files.new.shelf))) (sym c.in-Draw.is) c.draw_files.ensures.said

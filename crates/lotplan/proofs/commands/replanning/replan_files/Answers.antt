@@ -1,0 +1,26 @@
+use Rattle.lotplan.specs.Reading.{read_meant}
+use Rattle.lotplan.specs.Replanning.{no_input, no_plan}
+use Rattle.lotplan.proofs.Replanned.{says_other, says_start}
+use Rattle.lotplan.proofs.Writings.{memory_after}
+use Rattle.lotplan.proofs.commands.replanning.replan_files.Goals as goal
+
+pub returns-in-Ok-clause-said : goal.returns-in-Ok-clause-said
+returns-in-Ok-clause-said g c =
+    let names = c.args.names in
+    let read = c.in-Ok.read in
+    says_start names.model.now names.plan.now c.args.first names.next_model.now names.next_plan.now names.certificate.now c.args.budget read.instance read.plan (g.S.Shelf.shown c.args.shelf.now) (g.S.Shelf.shown c.read_given.new.shelf) (g.S.Shelf.shown c.replan_instance.new.shelf) c.in-Ok.ensures.holds c.read_given.ensures.reads c.replan_instance.result c.replan_instance.ensures.said
+
+pub returns-in-Ok-clause-memory : goal.returns-in-Ok-clause-memory
+returns-in-Ok-clause-memory g c = memory_after (g.S.Shelf.shown c.args.shelf.now) (g.S.Shelf.shown c.read_given.new.shelf) (g.S.Shelf.shown c.replan_instance.new.shelf) c.replan_instance.result c.read_given.ensures.reads c.replan_instance.ensures.memory
+
+pub returns-in-Err-NoPlan-clause-said : goal.returns-in-Err-NoPlan-clause-said
+returns-in-Err-NoPlan-clause-said g c =
+    let names = c.args.names in
+    let stop = rw (c.in-Err-NoPlan.field-0-is) at c.in-Err-NoPlan.ensures.stop in
+    says_other names.model.now names.plan.now c.args.first names.next_model.now names.next_plan.now names.certificate.now c.args.budget (g.S.Shelf.shown c.args.shelf.now) (g.S.Shelf.shown c.read_given.new.shelf) (no_plan c.in-Err-NoPlan.fault) c.answer_line.result (stop, c.read_given.ensures.reads) c.answer_line.ensures
+
+pub returns-in-Err-Answered-clause-said : goal.returns-in-Err-Answered-clause-said
+returns-in-Err-Answered-clause-said g c =
+    let names = c.args.names in
+    let stop = rw (c.in-Err-Answered.field-0-is) at c.in-Err-Answered.ensures.stop in
+    says_other names.model.now names.plan.now c.args.first names.next_model.now names.next_plan.now names.certificate.now c.args.budget (g.S.Shelf.shown c.args.shelf.now) (g.S.Shelf.shown c.read_given.new.shelf) (no_input (read_meant c.in-Err-Answered.why)) c.answer_line-in-Err-Answered.result (stop, c.read_given.ensures.reads) c.answer_line-in-Err-Answered.ensures

@@ -1,0 +1,93 @@
+use Rattle.std.proofs.Common.{◌<◌, ◌≤◌, ◌∙◌, [], ◌∷◌, length, sym, subst, arith}
+use Rattle.instance_reader.specs.Written.{IsModelText}
+use Rattle.plan_rules.specs.Held.{plan_of}
+use Rattle.plan_file.specs.Records.{IsPlanOf, records_of}
+use Rattle.certificate.specs.Limits.{IsTextOf}
+use Rattle.certificate.specs.Shapes.{shape_of}
+use Rattle.stream_check.specs.Streams.{too_many}
+use Rattle.lotplan.specs.Reading.{file_limit}
+use Rattle.lotplan.proofs.Continued.{last_lost, model_lost, plan_lost, three_written}
+use Rattle.lotplan.proofs.Writings.{stops_first}
+use Rattle.lotplan.proofs.commands.replanning.write_three.Goals as goal
+
+pub returns-in-Ok-clause-said : goal.returns-in-Ok-clause-said
+returns-in-Ok-clause-said g c =
+    let rest = c.args.rest.now in
+    let names = c.args.names in
+    let found = c.args.found.now in
+    let is = c.requires.found in
+    let plan = c.args.chosen.now in
+    let model = c.as_slice.result.now in
+    let records = c.as_slice-2.result.now in
+    let proof = c.as_slice-3.result.now in
+    let value = c.as_slice-2.ensures.value in
+    let old = g.S.Shelf.shown c.args.shelf.now in
+    let new = g.S.Shelf.shown c.write_all.new.shelf in
+    let written = subst (λ b. IsModelText rest.instance b) (sym c.as_slice.ensures.value) c.in_ok-model.ensures in
+    let text = subst (λ b. IsTextOf b (shape_of found.certificate)) (sym c.as_slice-3.ensures.value) (c.in_ok-proof.ensures.means is.proved.writable) in
+    let short : length proof < too_many = omega arith in
+    let are = value ∙ c.in_ok-plan.ensures.text in
+    let read = subst (λ b. IsPlanOf rest.instance (records_of b) (plan_of plan)) (sym value) c.in_ok-plan.ensures.read in
+    let few = subst (λ b. length b ≤ file_limit) (sym value) c.in_ok-plan.ensures.short in
+    three_written rest c.args.budget found is names.next_model.now names.next_plan.now names.certificate.now c.requires.apart model written (c.texts_mean_it.ensures model written) proof text short old new plan c.requires.chosen records are read few c.in_ok-written.written c.in_ok-written.ensures c.in-Ok.ensures.all
+
+pub returns-in-Err-eq0-clause-said : goal.returns-in-Err-eq0-clause-said
+returns-in-Err-eq0-clause-said g c =
+    let rest = c.args.rest.now in
+    let names = c.args.names in
+    let found = c.args.found.now in
+    let is = c.requires.found in
+    let plan = c.args.chosen.now in
+    let model = c.as_slice.result.now in
+    let records = c.as_slice-2.result.now in
+    let proof = c.as_slice-3.result.now in
+    let value = c.as_slice-2.ensures.value in
+    let old = g.S.Shelf.shown c.args.shelf.now in
+    let new = g.S.Shelf.shown c.write_all.new.shelf in
+    let written = subst (λ b. IsModelText rest.instance b) (sym c.as_slice.ensures.value) c.in_ok-model.ensures in
+    let text = subst (λ b. IsTextOf b (shape_of found.certificate)) (sym c.as_slice-3.ensures.value) (c.in_ok-proof.ensures.means is.proved.writable) in
+    let short : length proof < too_many = omega arith in
+    let lost = stops_first c.in-Err-eq0.field-0 names.next_model.now model ((names.next_plan.now, records) ∷ (names.certificate.now, proof) ∷ []) old new (omega arith) c.in-Err-eq0.ensures.stops in
+    model_lost rest c.args.budget found is names.next_model.now names.next_plan.now names.certificate.now c.requires.apart model written (c.texts_mean_it.ensures model written) proof text short old new c.in_ok-unmodelled.unmodelled c.in_ok-unmodelled.ensures lost
+
+pub returns-in-Err-eq1-clause-said : goal.returns-in-Err-eq1-clause-said
+returns-in-Err-eq1-clause-said g c =
+    let rest = c.args.rest.now in
+    let names = c.args.names in
+    let found = c.args.found.now in
+    let is = c.requires.found in
+    let plan = c.args.chosen.now in
+    let model = c.as_slice.result.now in
+    let records = c.as_slice-2.result.now in
+    let proof = c.as_slice-3.result.now in
+    let value = c.as_slice-2.ensures.value in
+    let old = g.S.Shelf.shown c.args.shelf.now in
+    let new = g.S.Shelf.shown c.write_all.new.shelf in
+    let written = subst (λ b. IsModelText rest.instance b) (sym c.as_slice.ensures.value) c.in_ok-model.ensures in
+    let text = subst (λ b. IsTextOf b (shape_of found.certificate)) (sym c.as_slice-3.ensures.value) (c.in_ok-proof.ensures.means is.proved.writable) in
+    let short : length proof < too_many = omega arith in
+    let are = value ∙ c.in_ok-plan.ensures.text in
+    let read = subst (λ b. IsPlanOf rest.instance (records_of b) (plan_of plan)) (sym value) c.in_ok-plan.ensures.read in
+    let few = subst (λ b. length b ≤ file_limit) (sym value) c.in_ok-plan.ensures.short in
+    plan_lost rest c.args.budget found is names.next_model.now names.next_plan.now names.certificate.now c.requires.apart model written (c.texts_mean_it.ensures model written) proof text short old new plan c.requires.chosen records are read few c.in-Err-eq1.field-0 c.in_ok-unplanned.unplanned c.in_ok-unplanned.ensures (omega arith) c.in-Err-eq1.ensures.stops
+
+pub returns-clause-said : goal.returns-clause-said
+returns-clause-said g c =
+    let rest = c.args.rest.now in
+    let names = c.args.names in
+    let found = c.args.found.now in
+    let is = c.requires.found in
+    let plan = c.args.chosen.now in
+    let model = c.as_slice.result.now in
+    let records = c.as_slice-2.result.now in
+    let proof = c.as_slice-3.result.now in
+    let value = c.as_slice-2.ensures.value in
+    let old = g.S.Shelf.shown c.args.shelf.now in
+    let new = g.S.Shelf.shown c.write_all.new.shelf in
+    let written = subst (λ b. IsModelText rest.instance b) (sym c.as_slice.ensures.value) c.in_ok-model.ensures in
+    let text = subst (λ b. IsTextOf b (shape_of found.certificate)) (sym c.as_slice-3.ensures.value) (c.in_ok-proof.ensures.means is.proved.writable) in
+    let short : length proof < too_many = omega arith in
+    let are = value ∙ c.in_ok-plan.ensures.text in
+    let read = subst (λ b. IsPlanOf rest.instance (records_of b) (plan_of plan)) (sym value) c.in_ok-plan.ensures.read in
+    let few = subst (λ b. length b ≤ file_limit) (sym value) c.in_ok-plan.ensures.short in
+    last_lost rest c.args.budget found is names.next_model.now names.next_plan.now names.certificate.now c.requires.apart model written (c.texts_mean_it.ensures model written) proof text short old new plan c.requires.chosen records are read few c.in-Err.field-0 c.in_ok-unproved.unproved c.in_ok-unproved.ensures (λ e. omega (arith, e)) (λ e. omega (arith, e)) c.in-Err.ensures.stops

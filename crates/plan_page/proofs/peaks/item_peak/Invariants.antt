@@ -1,0 +1,8 @@
+use Rattle.std.proofs.Common.{◌≡◌, ◌-◌}
+use Rattle.plan_rules.specs.Held.{plan_of}
+use Rattle.plan_page.specs.Peaks.{max_to, peak_at}
+use Rattle.plan_page.proofs.peaks.item_peak.Given as goal
+
+-- the largest so far
+abbrev pub invariant-loop-period : goal.invariant-loop-period
+invariant-loop-period l = l.peak ≡ max_to (l.period - 1) (peak_at l.instance (plan_of l.plan) l.item)

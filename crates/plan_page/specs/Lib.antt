@@ -1,0 +1,15 @@
+pub mod Numbers
+pub mod Charts
+pub mod Marks
+pub mod Peaks
+pub mod Totals
+pub mod Proving
+pub mod Costs
+pub mod Loads
+pub mod Rows
+pub mod Resources
+pub mod Cells
+pub mod Items
+pub mod Framing
+pub mod Page
+pub mod Laws
