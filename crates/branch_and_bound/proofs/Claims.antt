@@ -48,7 +48,7 @@ shown rules best least rs tree (Bound bound) e h =
     )
 
 -- a bound is open
-bound_open : (rules : Rules) (best least : Option ℕ) (tree : Tree) (claim : Claim) → least_said tree ≡ least → IsLeastClaim best least claim → IsBound claim → IsBelow (least_said tree) best
+pub bound_open : (rules : Rules) (best least : Option ℕ) (tree : Tree) (claim : Claim) → least_said tree ≡ least → IsLeastClaim best least claim → IsBound claim → IsBelow (least_said tree) best
 bound_open rules best least tree (Optimal cost) e h b = absurd b
 bound_open rules best least tree Infeasible e h b = absurd b
 bound_open rules best least tree (Bound bound) e h b = subst (λ x. IsBelow x best) (sym e) h.1

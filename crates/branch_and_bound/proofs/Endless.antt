@@ -37,6 +37,14 @@ lesser-right a None = tt
 lesser-right None (Some b) = omega arith
 lesser-right (Some a) (Some b) = omega arith
 
+-- two costs that are no less have a lesser one that is no less
+pub lesser-more : (a b c d : Option ℕ) → IsAtMost a c → IsAtMost b d → IsAtMost (lesser a b) (lesser c d)
+lesser-more a b None d h k = at_most-trans (lesser a b) b d (lesser-right a b) k
+lesser-more a b (Some c) None h k = at_most-trans (lesser a b) a (Some c) (lesser-left a b) h
+lesser-more None b (Some c) (Some d) h k = absurd h
+lesser-more (Some a) None (Some c) (Some d) h k = absurd k
+lesser-more (Some a) (Some b) (Some c) (Some d) h k = omega (arith, h, k)
+
 pub lesser-one : (a b : Option ℕ) → (lesser a b ≡ a) ⊎ (lesser a b ≡ b)
 lesser-one None b = inr refl
 lesser-one (Some a) None = inl refl

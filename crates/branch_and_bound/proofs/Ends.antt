@@ -1,5 +1,5 @@
 -- Laws of trees while they are searched.
-use Rattle.std.proofs.Common.{◌≡◌, ◌+◌, ℕ, sym, refl, subst, List, Option}
+use Rattle.std.proofs.Common.{◌≡◌, ◌+◌, ℕ, sym, refl, subst, List, Option, None}
 use Rattle.lin_rows.specs.declared.column.Column.{Column}
 use Rattle.lin_rows.specs.declared.bound.Bound.{Bound}
 use Rattle.branch_and_bound.specs.declared.proposal.Proposal.{Proposal as Leaf}
@@ -8,12 +8,12 @@ use Rattle.branch_and_bound.specs.declared.sought.Sought.TheVariants.{Branch', L
 use Rattle.branch_and_bound.specs.declared.node.Range.{Range}
 use Rattle.branch_and_bound.specs.Counts.{branches}
 use Rattle.branch_and_bound.specs.Ranges.{high_side, low_side}
-use Rattle.branch_and_bound.specs.Costs.{IsAtMost}
-use Rattle.branch_and_bound.specs.Trees.{AtLeaf, Rules, high_path, low_path}
+use Rattle.branch_and_bound.specs.Costs.{IsAtMost, IsBelow, lesser}
+use Rattle.branch_and_bound.specs.Trees.{AtLeaf, Rules, high_path, least_said, low_path}
 use Rattle.branch_and_bound.specs.Growing.{AreBranches, EachEnd, IsBranchAt, IsMarkedDeep, IsSound}
 use Rattle.branch_and_bound.specs.Joined.{IsBranch}
 use Rattle.branch_and_bound.proofs.Joined.{at_branch}
-use Rattle.branch_and_bound.proofs.Endless.{below-more}
+use Rattle.branch_and_bound.proofs.Endless.{below-less, below-more, lesser-left, lesser-more, lesser-right}
 
 -- what follows at each leaf
 pub end_map : (P Q : AtLeaf) (f : (rs : List Range) (path : List Bound) (leaf : Leaf) → P rs path leaf → Q rs path leaf) (rs : List Range) (path : List Bound) (tree : Tree) → EachEnd P rs path tree → EachEnd Q rs path tree
@@ -41,6 +41,16 @@ deep_later mark best less h rs path tree d =
     (λ rs path leaf k under below. k under (below-more leaf.says less best below h))
     rs path tree d
 
+-- where the least number is not below the best cost, no leaf is open
+pub closed_deep : (best : Option ℕ) (rs : List Range) (path : List Bound) (tree : Tree) → (IsBelow (least_said tree) best → ⊥) → EachEnd (IsMarkedDeep None best) rs path tree
+closed_deep best rs path (Branch' c spot at p low q high) shut =
+    let a = least_said low in
+    let b = least_said high in (
+      closed_deep best (low_side rs spot at) (low_path path c at) low (λ below. shut (below-less (lesser a b) a best (lesser-left a b) below)),
+      closed_deep best (high_side rs spot at) (high_path path c at) high (λ below. shut (below-less (lesser a b) b best (lesser-right a b) below)),
+    )
+closed_deep best rs path (LeafOf leaf) shut = λ under below. absurd (shut below)
+
 -- the same of equal ranges and paths
 pub moved : (P : List Range → List Bound → Type 0) (xs rs : List Range) (ys path : List Bound) → xs ≡ rs → ys ≡ path → P rs path → P xs ys
 moved P xs rs ys path ex ey h = subst (λ z. P z ys) (sym ex) (subst (P rs) (sym ey) h)
@@ -54,6 +64,10 @@ ends_joined P rs path c k at low high tree is one two = at_branch (EachEnd P rs 
 
 pub branches_joined : (rules : Rules) (rs : List Range) (path : List Bound) (c : Column) (k at : ℕ) (low high tree : Tree) → IsBranch tree c k at low high → IsBranchAt rules rs path c k at → AreBranches rules (low_side rs k at) (low_path path c at) low → AreBranches rules (high_side rs k at) (high_path path c at) high → AreBranches rules rs path tree
 branches_joined rules rs path c k at low high tree is here one two = at_branch (AreBranches rules rs path) c k at low high (λ p q. (here, one, two)) tree is
+
+-- a branch over two sides that say no less than these says no less than both
+pub least_joined : (c : Column) (k at : ℕ) (low high tree : Tree) (a b : Option ℕ) → IsBranch tree c k at low high → IsAtMost a (least_said low) → IsAtMost b (least_said high) → IsAtMost (lesser a b) (least_said tree)
+least_joined c k at low high tree a b is one two = at_branch (λ x. IsAtMost (lesser a b) (least_said x)) c k at low high (λ p q. lesser-more a b (least_said low) (least_said high) one two) tree is
 
 pub count_joined : (c : Column) (k at : ℕ) (low high tree : Tree) → IsBranch tree c k at low high → branches tree ≡ branches low + branches high + 1
 count_joined c k at low high tree is = at_branch (λ x. branches x ≡ branches low + branches high + 1) c k at low high (λ p q. refl) tree is

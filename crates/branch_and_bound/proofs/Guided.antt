@@ -1,5 +1,5 @@
 -- Laws of nodes and of trees below them while they are searched.
-use Rattle.std.proofs.Common.{◌≡◌, ◌-◌, ◌∙◌, ℕ, Bool, true, false, sym, ap, List, length, take, set, Option, Result, Ok, Err, OnOk}
+use Rattle.std.proofs.Common.{◌≡◌, ◌-◌, ◌∙◌, ⊎_elim, inl, inr, ℕ, Bool, true, false, sym, ap, List, length, take, set, Option, Result, Ok, Err, OnOk}
 use Rattle.lin_rows.specs.declared.bound.Bound.{Bound}
 use Rattle.branch_and_bound.specs.declared.proposal.Proposal.{Proposal as Leaf}
 use Rattle.branch_and_bound.specs.declared.proposal.Split.{Split}
@@ -10,11 +10,13 @@ use Rattle.branch_and_bound.specs.declared.rules.Guide.{Ghosts}
 use Rattle.branch_and_bound.specs.Ranges.{range_at}
 use Rattle.branch_and_bound.specs.Costs.{IsAtMost}
 use Rattle.branch_and_bound.specs.Sides.{side_path, side_ranges}
+use Rattle.branch_and_bound.specs.Trees.{least_said}
 use Rattle.branch_and_bound.specs.Growing.{IsMarkedDeep, IsSound}
-use Rattle.branch_and_bound.specs.Guided.{AtNode, AtSide, IsBranchOf, AreDeep, IsLater, IsSameNode, IsSoundTree}
+use Rattle.branch_and_bound.specs.Guided.{AtNode, AtSide, IsBranchOf, AreDeep, IsLater, IsSameNode, IsSoundLeaf, IsSoundTree, StaysDeep, StaysEnded}
 use Rattle.branch_and_bound.specs.Joined.{IsBranch}
-use Rattle.branch_and_bound.proofs.Endless.{at_most-trans}
-use Rattle.branch_and_bound.proofs.Ends.{branches_joined, deep_later, ends_joined, moved, sound_later}
+use Rattle.branch_and_bound.proofs.Endless.{at_most-refl, at_most-trans}
+use Rattle.branch_and_bound.proofs.Ends.{branches_joined, deep_later, ends_joined, leaf_later, moved, sound_later}
+use Rattle.branch_and_bound.proofs.Gaps.{near_later}
 use Rattle.branch_and_bound.proofs.Sides.{back_path, back_ranges}
 
 -- what holds at a node holds at the same node
@@ -42,6 +44,10 @@ later_on G guide a b c grows_on first next = record {
   grows = grows_on first.grows next.grows;
   kept = at_most-trans (G.cost c) (G.cost b) (G.cost a) next.kept first.kept;
 }
+
+-- a state is no earlier than itself
+pub later_same : {Self S : Type 0} (G : Ghosts Self S) (guide : Self) (a : S) → G.IsState guide a → G.Grows a a → IsLater G guide a a
+later_same G guide a is same = record { state = is; grows = same; kept = at_most-refl (G.cost a) }
 
 -- the same of a step that may want memory
 pub later_if : {T E Self S : Type 0} (r : Result T E) (G : Ghosts Self S) (guide : Self) (a b c : S) → (G.Grows a b → G.Grows b c → G.Grows a c) → IsLater G guide a b → OnOk r (IsLater G guide b c) → OnOk r (IsLater G guide a c)
@@ -74,3 +80,16 @@ side_deep mark best less most node split tree h deep =
 pub deep_joined : (mark best : Option ℕ) (node : Node) (split : Split) (low high tree : Tree) → IsBranch tree split.column split.place split.at low high → AtSide true node split (AreDeep mark best low) → AtSide false node split (AreDeep mark best high) → AtNode node (AreDeep mark best tree)
 deep_joined mark best node split low high tree is one two =
     ends_joined (IsMarkedDeep mark best) node.ranges.items node.path.items split.column split.place split.at low high tree is one two
+
+-- a sound leaf is one in a later state
+pub leaf_kept : {Self S : Type 0} (G : Ghosts Self S) (guide : Self) (before after : S) → IsLater G guide before after → ((rs : List Range) (path : List Bound) (leaf : Leaf) → G.Holds guide before rs path leaf → G.Holds guide after rs path leaf) → (leaf : Leaf) (rs : List Range) (path : List Bound) → IsSoundLeaf G guide before leaf rs path → IsSoundLeaf G guide after leaf rs path
+leaf_kept G guide before after later stay leaf rs path h =
+    leaf_later (G.Holds guide before) (G.Holds guide after) (G.IsEvident guide) (G.cost before) (G.cost after) later.kept stay rs path leaf h
+
+-- a search that has ended has ended in a later state too, where its leaves say no less
+pub ended_later : {Self S : Type 0} (G : Ghosts Self S) (before after : S) (node : Node) (old new : Tree) → IsAtMost (G.cost after) (G.cost before) → AtNode node (StaysDeep G before after old new) → IsAtMost (least_said old) (least_said new) → AtNode node (StaysEnded G before after old new)
+ended_later G before after node old new less stays risen gap ended =
+    ⊎_elim
+    (λ deep. inl (stays deep))
+    (λ near. inr (near_later gap (least_said old) (least_said new) (G.cost before) (G.cost after) risen less near))
+    ended

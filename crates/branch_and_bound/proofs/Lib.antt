@@ -1,6 +1,7 @@
 pub mod Halves
 pub mod Ranges
 pub mod Endless
+pub mod Gaps
 pub mod Joined
 pub mod Ends
 pub mod Sides
@@ -8,4 +9,5 @@ pub mod Guided
 pub mod Trees
 pub mod Claims
 pub mod Shown
+pub mod Causes
 pub mod Whole

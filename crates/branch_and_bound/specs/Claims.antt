@@ -1,5 +1,5 @@
 -- What a tree shows of all plans in its ranges.
-use Rattle.std.specs.Prelude.{◌≡◌, ◌⊎◌, ℕ, ◌+◌, ◌<◌, ◌≤◌, List, [], length, Option, Some, None}
+use Rattle.std.specs.Prelude.{◌≡◌, ◌⊎◌, ℕ, ◌+◌, ◌<◌, ◌≤◌, Bool, true, List, [], length, Option, Some, None}
 use Rattle.cert_lines.specs.declared.limits.TheConstants.{MAX_BRANCHES}
 use Rattle.branch_and_bound.specs.declared.sought.Sought.{Sought as Tree}
 use Rattle.branch_and_bound.specs.declared.proposal.Proposal.{Proposal}
@@ -10,6 +10,7 @@ use Rattle.branch_and_bound.specs.Counts.{longest, nodes}
 use Rattle.branch_and_bound.specs.declared.node.Range.{Range}
 use Rattle.branch_and_bound.specs.Ranges.{height}
 use Rattle.branch_and_bound.specs.Costs.{IsAtMost, IsBelow}
+use Rattle.branch_and_bound.specs.Gaps.{IsWithinGap}
 use Rattle.branch_and_bound.specs.Trees.{AtLeaf, EachLeaf, Rules, SomeLeaf}
 
 -- each leaf says no plan, or at least this
@@ -46,6 +47,12 @@ abbrev pub IsUndecided : Rules → Option ℕ → ℕ → List Range → Tree �
 IsUndecided rules best budget rs tree =
     (budget < nodes tree + 2)
     ⊎ ((longest tree ≡ MAX_BRANCHES) × (MAX_BRANCHES < height rs) × EachLeaf rules.place (IsOpenDeep rules best) rs [] tree)
+
+-- why a bound is claimed though a leaf is open: want of nodes or depth; the best cost lies within the gap above it; or the guide may have ended the search
+abbrev pub HasCause : Rules → Option ℕ → ℕ → Option ℕ → Bool → List Range → Tree → Claim → Type 0
+HasCause rules best budget gap may_stop rs tree (Optimal cost) = Unit {0}
+HasCause rules best budget gap may_stop rs tree Infeasible = Unit {0}
+HasCause rules best budget gap may_stop rs tree (Bound bound) = IsUndecided rules best budget rs tree ⊎ IsWithinGap gap bound best ⊎ (may_stop ≡ true)
 
 -- the claim of a cost and of the least number that a leaf says
 abbrev pub IsLeastClaim : Option ℕ → Option ℕ → Claim → Type 0

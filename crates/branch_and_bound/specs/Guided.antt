@@ -1,5 +1,5 @@
 -- What a guide and its state say of a node, and of the tree below it, while the tree is searched.
-use Rattle.std.specs.Prelude.{◌≡◌, Bool, true, false, List, Option, ℕ, None}
+use Rattle.std.specs.Prelude.{◌≡◌, ◌⊎◌, Bool, true, false, List, Option, ℕ, None}
 use Rattle.lin_rows.specs.declared.bound.Bound.{Bound}
 use Rattle.branch_and_bound.specs.declared.proposal.Proposal.{Proposal as Leaf}
 use Rattle.branch_and_bound.specs.declared.proposal.Split.{Split}
@@ -10,7 +10,8 @@ use Rattle.branch_and_bound.specs.declared.splitting.Sides.{Sides}
 use Rattle.branch_and_bound.specs.declared.rules.Guide.{Ghosts}
 use Rattle.branch_and_bound.specs.Ranges.{AreOrdered}
 use Rattle.branch_and_bound.specs.Costs.{IsAtMost}
-use Rattle.branch_and_bound.specs.Trees.{Rules}
+use Rattle.branch_and_bound.specs.Gaps.{IsNear}
+use Rattle.branch_and_bound.specs.Trees.{Rules, least_said}
 use Rattle.branch_and_bound.specs.Sides.{side_path, side_ranges}
 use Rattle.branch_and_bound.specs.Growing.{AreBranches, EachEnd, IsBranchAt, IsMarkedDeep, IsSound}
 
@@ -30,6 +31,10 @@ IsBranchOf rules split rs path = IsBranchAt rules rs path split.column split.pla
 -- each leaf below the mark that is open against the best cost has MAX_BRANCHES branches above it
 abbrev pub AreDeep : Option ℕ → Option ℕ → Tree → List Range → List Bound → Type 0
 AreDeep mark best tree rs path = EachEnd (IsMarkedDeep mark best) rs path tree
+
+-- each open leaf has MAX_BRANCHES branches above it, or the best cost lies within the gap above the least number that a leaf says
+abbrev pub IsEnded : Option ℕ → Option ℕ → Tree → List Range → List Bound → Type 0
+IsEnded gap best tree rs path = AreDeep None best tree rs path ⊎ IsNear gap (least_said tree) best
 
 -- the node is as it was
 pub record IsSameNode (old new : Node) : Type 0 where
@@ -73,7 +78,12 @@ module _ {Self S : Type 0} (G : Ghosts Self S) where
   StaysDeep before after old new rs path =
       AreDeep None (G.cost before) old rs path → AreDeep None (G.cost after) new rs path
 
-  -- the same of two sides and the branch over them
+  -- if the search has ended within a gap with the old tree in the first state, so it has with the new tree in the second one
+  abbrev pub StaysEnded : S → S → Tree → Tree → List Range → List Bound → Type 0
+  StaysEnded before after old new rs path =
+      (gap : Option ℕ) → IsEnded gap (G.cost before) old rs path → IsEnded gap (G.cost after) new rs path
+
+  -- if each open leaf of two sides was deep, so is each of the branch over them
   abbrev pub StaysDeepJoined : S → S → Node → Split → Tree → Tree → Tree → Type 0
   StaysDeepJoined before after node split low high tree =
       AtSide true node split (AreDeep None (G.cost before) low)

@@ -2,6 +2,7 @@ pub mod Ranges
 pub mod Counts
 pub mod Stripped
 pub mod Costs
+pub mod Gaps
 pub mod Trees
 pub mod Growing
 pub mod Sides

@@ -1,7 +1,8 @@
 // A round of asking for evidence at the leaves that say a number.
 ghost use Rattle.std.specs.Prelude.{◌≡◌, ◌≤◌, ◌+◌, ◌<◌, ℕ, List, OnOk, IfOk, length, true, false, None};
-ghost use Rattle.branch_and_bound.specs.Costs.{IsAtMost};
+ghost use Rattle.branch_and_bound.specs.Costs.{IsAtMost, lesser};
 ghost use Rattle.branch_and_bound.specs.Counts.{branches};
+ghost use Rattle.branch_and_bound.specs.Trees.{least_said};
 ghost use Rattle.branch_and_bound.specs.Growing.{unexamined, unexamined_at, wanted, wanted_at};
 ghost use Rattle.branch_and_bound.specs.Guided.{AtNode, AtSide, IsBranchOf, IsGuided, IsLater, IsSameNode, IsSoundLeaf, IsSoundTree, StaysDeep, StaysDeepJoined};
 
@@ -55,6 +56,7 @@ pub fn ask_tree<S, G: Guide<S>>(
     ensures tree { IfOk result (λ t. AtNode node.old (IsSoundTree G.Guide guide.now state.new t)) }
     ensures fewer { IfOk result (λ t. unexamined t + wanted bound tree ≡ unexamined tree) }
     ensures deep { IfOk result (λ t. AtNode node.old (StaysDeep G.Guide state.old state.new tree t)) }
+    ensures risen { IfOk result (λ t. IsAtMost (least_said tree) (least_said t)) }
 {
     match tree {
         Sought::Branch {
@@ -103,6 +105,7 @@ fn ask_branch<S, G: Guide<S>>(
     ensures fewer { IfOk result (λ t.
         unexamined t + wanted bound low + wanted bound high ≡ unexamined low + unexamined high) }
     ensures deep { IfOk result (StaysDeepJoined G.Guide state.old state.new node.old split low high) }
+    ensures risen { IfOk result (λ t. IsAtMost (lesser (least_said low) (least_said high)) (least_said t)) }
 {
     let left = ask_side(alloc, guide, node, state, bound, split, true, low)?;
     let right = ask_side(alloc, guide, node, state, bound, split, false, high)?;
@@ -132,6 +135,7 @@ fn ask_side<S, G: Guide<S>>(
     ensures fewer { IfOk result (λ t. unexamined t + wanted bound tree ≡ unexamined tree) }
     ensures deep { IfOk result (λ t.
         AtSide most node.old split (StaysDeep G.Guide state.old state.new tree t)) }
+    ensures risen { IfOk result (λ t. IsAtMost (least_said tree) (least_said t)) }
 {
     let range = enter::<S, G>(guide, node, split, most)?;
     let examined = ask_tree(alloc, guide, node, state, bound, tree)?;

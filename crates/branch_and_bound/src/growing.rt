@@ -28,6 +28,25 @@ fn is_branched(
     room >= 1 && depth < MAX_BRANCHES as usize && is_below(says, mark) && is_below(says, best)
 }
 
+// Whether a leaf is branched on, and the guide doesn't end the search there.
+fn goes_on<S, G: Guide<S>>(
+    guide: &G,
+    state: &mut S,
+    room: u64,
+    depth: usize,
+    says: Option<u128>,
+    mark: Option<u128>,
+) -> bool
+    requires state { G.IsState guide.now state.old }
+    ensures later { IsLater G.Guide guide.now state.old state.new }
+    ensures open { result ≡ true → ((1 ≤ room) × (depth < MAX_BRANCHES) × IsBelow says (G.cost state.old)) }
+    ensures shut { result ≡ false → G.may_stop guide.now state.old ≡ false
+        → 1 ≤ room → IsBelow says mark → IsBelow says (G.cost state.new) → MAX_BRANCHES ≤ depth }
+{
+    let best = guide.best(state);
+    is_branched(room, depth, says, mark, best) && !guide.stops(None, state)
+}
+
 // A branch with its two sides.
 pub fn join(alloc: Global, split: Split, low: Sought, high: Sought) -> Result<Sought, AllocError>
     ensures { IfOk result (λ t. IsBranch t split.column split.place split.at low high) }
@@ -41,8 +60,8 @@ pub fn join(alloc: Global, split: Split, low: Sought, high: Sought) -> Result<So
     })
 }
 
-// The tree with branches in the place of each leaf below the mark, and below them, as long as there is room. The
-// node is as before. It calls itself for each branch on the way to a leaf.
+// The tree with branches in the place of each leaf below the mark, and below them, as long as there is room and the
+// guide doesn't end the search. The node is as before. It calls itself for each branch on the way to a leaf.
 #[cycle(grow)]
 pub fn grow<S, G: Guide<S>>(
     alloc: Global,
@@ -61,7 +80,8 @@ pub fn grow<S, G: Guide<S>>(
     ensures less { OnOk result (room.new ≤ room.old) }
     ensures rest { IfOk result (λ t. branches t + room.new ≡ branches tree + room.old) }
     ensures tree { IfOk result (λ t. AtNode node.old (IsSoundTree G.Guide guide.now state.new t)) }
-    ensures deep { IfOk result (λ t. 1 ≤ room.new → AtNode node.old (AreDeep mark (G.cost state.new) t)) }
+    ensures deep { IfOk result (λ t. G.may_stop guide.now state.old ≡ false
+        → 1 ≤ room.new → AtNode node.old (AreDeep mark (G.cost state.new) t)) }
 {
     match tree {
         Sought::Branch {
@@ -104,10 +124,10 @@ fn grow_leaf<S, G: Guide<S>>(
     ensures less { OnOk result (room.new ≤ room.old) }
     ensures rest { IfOk result (λ t. branches t + room.new ≡ room.old) }
     ensures tree { IfOk result (λ t. AtNode node.old (IsSoundTree G.Guide guide.now state.new t)) }
-    ensures deep { IfOk result (λ t. 1 ≤ room.new → AtNode node.old (AreDeep mark (G.cost state.new) t)) }
+    ensures deep { IfOk result (λ t. G.may_stop guide.now state.old ≡ false
+        → 1 ≤ room.new → AtNode node.old (AreDeep mark (G.cost state.new) t)) }
 {
-    let best = guide.best(state);
-    if !is_branched(*room, node.path.len(), proposal.says, mark, best) {
+    if !goes_on(guide, state, *room, node.path.len(), proposal.says, mark) {
         return Ok(Sought::Leaf(proposal));
     }
     let split = guide.branch(node, &proposal, state);
@@ -149,7 +169,8 @@ fn grow_branch<S, G: Guide<S>>(
     ensures less { OnOk result (room.new ≤ room.old) }
     ensures rest { IfOk result (λ t. branches t + room.new ≡ branches low + branches high + 1 + room.old) }
     ensures tree { IfOk result (λ t. AtNode node.old (IsSoundTree G.Guide guide.now state.new t)) }
-    ensures deep { IfOk result (λ t. 1 ≤ room.new → AtNode node.old (AreDeep mark (G.cost state.new) t)) }
+    ensures deep { IfOk result (λ t. G.may_stop guide.now state.old ≡ false
+        → 1 ≤ room.new → AtNode node.old (AreDeep mark (G.cost state.new) t)) }
 {
     let left = grow_side(alloc, guide, node, state, room, mark, split, true, low)?;
     let right = grow_side(alloc, guide, node, state, room, mark, split, false, high)?;
@@ -178,8 +199,8 @@ fn grow_side<S, G: Guide<S>>(
     ensures less { OnOk result (room.new ≤ room.old) }
     ensures rest { IfOk result (λ t. branches t + room.new ≡ branches tree + room.old) }
     ensures tree { IfOk result (λ t. AtSide most node.old split (IsSoundTree G.Guide guide.now state.new t)) }
-    ensures deep { IfOk result (λ t. 1 ≤ room.new →
-        AtSide most node.old split (AreDeep mark (G.cost state.new) t)) }
+    ensures deep { IfOk result (λ t. G.may_stop guide.now state.old ≡ false
+        → 1 ≤ room.new → AtSide most node.old split (AreDeep mark (G.cost state.new) t)) }
 {
     let range = enter::<S, G>(guide, node, split, most)?;
     let grown = grow(alloc, guide, node, state, room, mark, tree)?;

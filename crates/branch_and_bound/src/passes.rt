@@ -1,12 +1,14 @@
 // Passes over a tree with a rising mark.
-ghost use Rattle.std.specs.Prelude.{◌≡◌, ◌≤◌, ◌+◌, ℕ, List, OnOk, IfOk, None};
+ghost use Rattle.std.specs.Prelude.{◌≡◌, ◌≤◌, ◌+◌, ℕ, List, OnOk, IfOk, None, true, false};
 ghost use Rattle.branch_and_bound.specs.Counts.{branches};
-ghost use Rattle.branch_and_bound.specs.Guided.{AreDeep, AtNode, IsGuided, IsLater, IsSameNode, IsSoundTree};
+ghost use Rattle.branch_and_bound.specs.Gaps.{IsNear};
+ghost use Rattle.branch_and_bound.specs.Guided.{AtNode, IsEnded, IsGuided, IsLater, IsSameNode, IsSoundTree};
 
 use crate::costs::is_below;
 use crate::counting::least_number;
 use crate::growing::grow;
-use crate::{Guide, Node, Sought};
+use crate::limits::is_near;
+use crate::{Guide, Limits, Node, Sought};
 use std::alloc::{AllocError, Global};
 
 // How many passes have a mark.
@@ -31,39 +33,105 @@ fn next_mark(least: Option<u128>, root: Option<u128>, best: Option<u128>) -> Opt
     Some(number.saturating_add(step.max(1)))
 }
 
-// The tree after one pass, where a leaf is open and there is room for a branch.
+// Whether the search ends before a pass: the best cost lies within the gap above the least number that a leaf says, or the
+// guide ends it.
+fn is_over<S, G: Guide<S>>(
+    guide: &G,
+    state: &mut S,
+    limits: Limits,
+    least: Option<u128>,
+    best: Option<u128>,
+) -> bool
+    requires state { G.IsState guide.now state.old }
+    ensures later { IsLater G.Guide guide.now state.old state.new }
+    ensures over { result ≡ true → G.may_stop guide.now state.old ≡ false → IsNear limits.gap least best }
+{
+    is_near(limits.gap, least, best) || guide.stops(least, state)
+}
+
+// The mark of a pass; the last one has none.
+fn mark_of(
+    is_last: bool,
+    least: Option<u128>,
+    root: Option<u128>,
+    best: Option<u128>,
+) -> Option<u128>
+    ensures { is_last ≡ true → result ≡ None }
+{
+    if is_last {
+        return None;
+    }
+    next_mark(least, root, best)
+}
+
+// What a pass leaves.
+#[derive(Drop)]
+struct Passed {
+    // The tree.
+    tree: Sought,
+    // Whether the search is over.
+    is_over: bool,
+}
+
+// The tree after one pass. The search is over where there is no room for a branch or no leaf is open, where it ends before
+// the pass, and after the last one.
 fn grow_once<S, G: Guide<S>>(
     alloc: Global,
     guide: &G,
     node: &mut Node,
     state: &mut S,
+    limits: Limits,
     room: &mut u64,
     root: Option<u128>,
-    tree: Sought,
-) -> Result<Sought, AllocError>
+    is_last: bool,
+    first: Sought,
+) -> Result<Passed, AllocError>
     requires node { AtNode node.old (IsGuided G.Guide guide.now) }
     requires state { G.IsState guide.now state.old }
-    requires tree { AtNode node.old (IsSoundTree G.Guide guide.now state.old tree) }
+    requires tree { AtNode node.old (IsSoundTree G.Guide guide.now state.old first) }
     ensures same_node { OnOk result (IsSameNode node.old node.new) }
     ensures later { OnOk result (IsLater G.Guide guide.now state.old state.new) }
-    ensures rest { IfOk result (λ t. branches t + room.new ≡ branches tree + room.old) }
-    ensures tree { IfOk result (λ t. AtNode node.old (IsSoundTree G.Guide guide.now state.new t)) }
+    ensures rest { IfOk result (λ p. branches p.tree + room.new ≡ branches first + room.old) }
+    ensures tree { IfOk result (λ p. AtNode node.old (IsSoundTree G.Guide guide.now state.new p.tree)) }
+    ensures ended { IfOk result (λ p. p.is_over ≡ true → G.may_stop guide.now state.old ≡ false
+        → 1 ≤ room.new → AtNode node.old (IsEnded limits.gap (G.cost state.new) p.tree)) }
+    ensures last { IfOk result (λ p. is_last ≡ true → p.is_over ≡ true) }
 {
-    let least = least_number(&tree);
-    let best = guide.best(state);
-    if *room == 0 || !is_below(least, best) {
-        return Ok(tree);
+    if *room == 0 {
+        return Ok(Passed {
+            tree: first,
+            is_over: true,
+        });
     }
-    let mark = next_mark(least, root, best);
-    grow(alloc, guide, node, state, room, mark, tree)
+    let least = least_number(&first);
+    let best = guide.best(state);
+    if !is_below(least, best) {
+        return Ok(Passed {
+            tree: first,
+            is_over: true,
+        });
+    }
+    if is_over(guide, state, limits, least, best) {
+        return Ok(Passed {
+            tree: first,
+            is_over: true,
+        });
+    }
+    let mark = mark_of(is_last, least, root, best);
+    let grown = grow(alloc, guide, node, state, room, mark, first)?;
+    Ok(Passed {
+        tree: grown,
+        is_over: is_last,
+    })
 }
 
-// The tree after all passes, the last one of which has no mark. The root's leaf said the number `root`.
+// The tree after all passes, or after those before the search was over. The root's leaf said the number `root`.
 pub fn grow_all<S, G: Guide<S>>(
     alloc: Global,
     guide: &G,
     node: &mut Node,
     state: &mut S,
+    limits: Limits,
     room: &mut u64,
     root: Option<u128>,
     first: Sought,
@@ -75,11 +143,17 @@ pub fn grow_all<S, G: Guide<S>>(
     ensures later { OnOk result (IsLater G.Guide guide.now state.old state.new) }
     ensures rest { IfOk result (λ t. branches t + room.new ≡ branches first + room.old) }
     ensures tree { IfOk result (λ t. AtNode node.old (IsSoundTree G.Guide guide.now state.new t)) }
-    ensures deep { IfOk result (λ t. 1 ≤ room.new → AtNode node.old (AreDeep None (G.cost state.new) t)) }
+    ensures ended { IfOk result (λ t. G.may_stop guide.now state.old ≡ false
+        → 1 ≤ room.new → AtNode node.old (IsEnded limits.gap (G.cost state.new) t)) }
 {
     let mut tree = first;
     for _ in 0..PASSES {
-        tree = grow_once(alloc, guide, node, state, room, root, tree)?;
+        let passed = grow_once(alloc, guide, node, state, limits, room, root, false, tree)?;
+        tree = passed.tree;
+        if passed.is_over {
+            return Ok(tree);
+        }
     }
-    grow(alloc, guide, node, state, room, None, tree)
+    let passed = grow_once(alloc, guide, node, state, limits, room, root, true, tree)?;
+    Ok(passed.tree)
 }

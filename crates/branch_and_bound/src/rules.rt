@@ -1,5 +1,5 @@
 // What a guide says of the nodes of a search.
-ghost use Rattle.std.specs.Prelude.{◌≡◌, ℕ, Bool, true, List, length, Option, IfOk, OnOk};
+ghost use Rattle.std.specs.Prelude.{◌≡◌, ℕ, Bool, true, false, List, length, Option, IfOk, OnOk};
 ghost use Rattle.branch_and_bound.specs.Ranges.{AreOrdered, IsAllowed, IsPoint, IsSplitAt};
 ghost use Rattle.branch_and_bound.specs.Costs.{IsAtMost, IsBelow};
 ghost use Rattle.branch_and_bound.specs.Trees.{Rules};
@@ -38,6 +38,9 @@ pub trait Guide<S> {
 
     /// The cost of the best plan so far, and none where there is no plan.
     ghost cost: { S → Option ℕ };
+
+    /// Whether the guide may end the search, in a state. It is the same in each later state.
+    ghost may_stop: { Self → S → Bool };
 
     /// The cost of the best plan so far.
     fn best(&self, state: &S) -> Option<u128>
@@ -106,6 +109,15 @@ pub trait Guide<S> {
         ensures evident { IfOk result (λ p. IsEvident self.now node.now.ranges.items node.now.path.items p) }
         ensures more { IfOk result (λ p. IsAtMost proposal.says p.says) };
 
+    /// Whether the search is to end now, though leaves are open. It is asked before each pass over the tree, with the
+    /// least number that a leaf says, which is below the best cost, and before each branch, with none.
+    fn stops(&self, bound: Option<u128>, state: &mut S) -> bool
+        requires state { IsState self.now state.old }
+        ensures state { IsState self.now state.new }
+        ensures grows { Grows state.old state.new }
+        ensures kept { IsAtMost (cost state.new) (cost state.old) }
+        ensures never { may_stop self.now state.old ≡ false → result ≡ false };
+
     /// Both sides of a branch are nodes where it is one.
     ghost sides: { (guide : Self) (most : Bool) (rs : List Range) (path : List Bound) (c : Column) (at : ℕ) → IsNode guide rs path → IsSplitAt rs ((rules guide).place c) at → IsNode guide (side_ranges most rs ((rules guide).place c) at) (side_path most path c at) };
 
@@ -114,6 +126,9 @@ pub trait Guide<S> {
 
     /// What comes after a later state comes after the first one.
     ghost grows_on: { (a b c : S) → Grows a b → Grows b c → Grows a c };
+
+    /// Whether the guide may end the search is the same in each later state.
+    ghost may_on: { (guide : Self) (a b : S) → Grows a b → may_stop guide a ≡ may_stop guide b };
 
     /// What holds of a leaf holds in each later state.
     ghost stays: { (guide : Self) (a b : S) (rs : List Range) (path : List Bound) (p : Proposal) → Grows a b → Holds guide a rs path p → Holds guide b rs path p };

@@ -1,18 +1,18 @@
 // A search of all ranges, and what it shows.
-ghost use Rattle.std.specs.Prelude.{◌≡◌, ◌≤◌, ◌+◌, ◌*◌, ℕ, [], length, None, Option, OnOk, IfOk};
+ghost use Rattle.std.specs.Prelude.{◌≡◌, ◌≤◌, ◌+◌, ◌*◌, ℕ, [], length, None, Option, OnOk, IfOk, false};
 ghost use Rattle.cert_lines.specs.declared.limits.TheConstants.{MAX_BRANCHES};
 ghost use Rattle.branch_and_bound.specs.Counts.{branches, longest, nodes};
 ghost use Rattle.branch_and_bound.specs.Ranges.{AreOrdered, height, volume};
 ghost use Rattle.branch_and_bound.specs.Costs.{IsAtMost};
 ghost use Rattle.branch_and_bound.specs.Trees.{EachLeaf, IsSplitTree};
 ghost use Rattle.branch_and_bound.specs.Growing.{IsSettled};
-ghost use Rattle.branch_and_bound.specs.Guided.{AreDeep, IsGuided, IsLater, IsSoundTree};
-ghost use Rattle.branch_and_bound.specs.Claims.{IsBound, IsLeastClaim, IsShown, IsEvidenced, IsUndecided};
+ghost use Rattle.branch_and_bound.specs.Guided.{IsEnded, IsGuided, IsLater, IsSoundTree};
+ghost use Rattle.branch_and_bound.specs.Claims.{HasCause, IsBound, IsLeastClaim, IsShown, IsEvidenced};
 
 use crate::counting::least_number;
 use crate::passes::grow_all;
 use crate::settling::settle;
-use crate::{Guide, Node, Range, Searched, Sought};
+use crate::{Guide, Limits, Node, Range, Searched, Sought};
 use cert_lines::Claim;
 use std::alloc::{AllocError, Global};
 
@@ -40,6 +40,7 @@ fn search_tree<S, G: Guide<S>>(
     guide: &G,
     ranges: Vec<Range>,
     state: &mut S,
+    limits: Limits,
     room: &mut u64,
 ) -> Result<Sought, AllocError>
     requires node { IsGuided G.Guide guide.now ranges.items [] }
@@ -48,7 +49,8 @@ fn search_tree<S, G: Guide<S>>(
     ensures rest { IfOk result (λ t. branches t + room.new ≡ room.old) }
     ensures tree { IfOk result (λ t. IsSoundTree G.Guide guide.now state.new t ranges.items []) }
     ensures settled { IfOk result (λ t. IsSettled (G.cost state.new) t) }
-    ensures deep { IfOk result (λ t. 1 ≤ room.new → AreDeep None (G.cost state.new) t ranges.items []) }
+    ensures ended { IfOk result (λ t. G.may_stop guide.now state.old ≡ false
+        → 1 ≤ room.new → IsEnded limits.gap (G.cost state.new) t ranges.items []) }
 {
     let mut node = Node {
         ranges,
@@ -57,20 +59,25 @@ fn search_tree<S, G: Guide<S>>(
     let first = guide.start(alloc, &node, state)?;
     let root = first.says;
     let leaf = Sought::Leaf(first);
-    let grown = grow_all(alloc, guide, &mut node, state, room, root, leaf)?;
-    settle(alloc, guide, &mut node, state, grown)
+    let grown = grow_all(alloc, guide, &mut node, state, limits, room, root, leaf)?;
+    let settled = settle(alloc, guide, &mut node, state, grown)?;
+    Ok(settled)
 }
 
-/// Searches all choices in the ranges, with at most so many nodes. The claim is a bound only for one of two
-/// causes: two more nodes would pass the budget, or all leaves that are left open have `MAX_BRANCHES` branches above
-/// them. Where a bound is claimed, evidence was asked for at each leaf that says just this number. It fails
-/// only where memory runs out.
+/// Searches all choices in the ranges, with at most so many nodes. The claim is a bound only for one of four
+/// causes: two more nodes would pass the budget; all leaves that are left open have `MAX_BRANCHES` branches above
+/// them; the best cost lies within the gap of the limits above the bound; or the guide may end the search. Where a bound
+/// is claimed, evidence was asked for at each leaf that says just this number. It fails only where memory runs out.
+///
+/// Whether the search is over is looked at before each pass over the tree; the guide's word is asked for before each
+/// branch too.
 pub fn search<S, G: Guide<S>>(
     alloc: Global,
     guide: &G,
     ranges: Vec<Range>,
     state: &mut S,
     budget: u64,
+    limits: Limits,
 ) -> Result<Searched, AllocError>
     requires ordered { AreOrdered ranges.items }
     requires node { G.IsNode guide.now ranges.items [] }
@@ -86,12 +93,13 @@ pub fn search<S, G: Guide<S>>(
     ensures holds { IfOk result (λ s. EachLeaf (G.rules guide.now).place (G.Holds guide.now state.new) ranges.items [] s.tree) }
     ensures shown { IfOk result (λ s. IsShown (G.rules guide.now) (G.cost state.new) ranges.items s.tree s.claim) }
     ensures evidence { IfOk result (λ s. IsEvidenced (G.rules guide.now) (G.IsEvident guide.now) ranges.items s.tree s.claim) }
-    ensures cause { IfOk result (λ s. IsBound s.claim → IsUndecided (G.rules guide.now) (G.cost state.new) budget ranges.items s.tree) }
-    ensures decided { IfOk result (λ s. 2 * volume ranges.items ≤ budget + 1 → height ranges.items ≤ MAX_BRANCHES → IsBound s.claim → ⊥) }
+    ensures cause { IfOk result (λ s. HasCause (G.rules guide.now) (G.cost state.new) budget limits.gap (G.may_stop guide.now state.old) ranges.items s.tree s.claim) }
+    ensures decided { IfOk result (λ s. limits.gap ≡ None → G.may_stop guide.now state.old ≡ false
+        → 2 * volume ranges.items ≤ budget + 1 → height ranges.items ≤ MAX_BRANCHES → IsBound s.claim → ⊥) }
 {
     let all = (budget - 1) / 2;
     let mut room = all;
-    let tree = search_tree(alloc, guide, ranges, state, &mut room)?;
+    let tree = search_tree(alloc, guide, ranges, state, limits, &mut room)?;
     Ok(Searched {
         claim: claim_of(guide.best(state), least_number(&tree)),
         tree,

@@ -2,7 +2,7 @@
 ghost use Rattle.std.specs.Prelude.{◌≡◌, ◌≤◌, ◌<◌, ◌+◌, ℕ, List, OnOk, IfOk, IfSome, None, Some, true, false};
 ghost use Rattle.branch_and_bound.specs.Counts.{branches};
 ghost use Rattle.branch_and_bound.specs.Growing.{IsSettled, IsWanting, unexamined};
-ghost use Rattle.branch_and_bound.specs.Guided.{AtNode, IsGuided, IsLater, IsSameNode, IsSoundTree, StaysDeep};
+ghost use Rattle.branch_and_bound.specs.Guided.{AtNode, IsGuided, IsLater, IsSameNode, IsSoundTree, StaysEnded};
 
 use crate::asking::ask_tree;
 use crate::costs::is_below;
@@ -37,10 +37,13 @@ fn ask_least<S, G: Guide<S>>(
     ensures count { IfOk result (λ t. branches t ≡ branches tree) }
     ensures tree { IfOk result (λ t. AtNode node.old (IsSoundTree G.Guide guide.now state.new t)) }
     ensures fewer { IfOk result (λ t. IsWanting tree → unexamined t < unexamined tree) }
-    ensures deep { IfOk result (λ t. AtNode node.old (StaysDeep G.Guide state.old state.new tree t)) }
+    ensures ended { IfOk result (λ t. AtNode node.old (StaysEnded G.Guide state.old state.new tree t)) }
 {
     match least_number(&tree) {
-        Some(bound) => ask_tree(alloc, guide, node, state, bound, tree),
+        Some(bound) => {
+            let asked = ask_tree(alloc, guide, node, state, bound, tree)?;
+            Ok(asked)
+        }
         None => Ok(tree),
     }
 }
@@ -61,7 +64,7 @@ pub fn settle<S, G: Guide<S>>(
     ensures count { IfOk result (λ t. branches t ≡ branches first) }
     ensures tree { IfOk result (λ t. AtNode node.old (IsSoundTree G.Guide guide.now state.new t)) }
     ensures settled { IfOk result (λ t. IsSettled (G.cost state.new) t) }
-    ensures deep { IfOk result (λ t. AtNode node.old (StaysDeep G.Guide state.old state.new first t)) }
+    ensures ended { IfOk result (λ t. AtNode node.old (StaysEnded G.Guide state.old state.new first t)) }
 {
     let mut tree = first;
     while wants_evidence(guide.best(state), &tree) {

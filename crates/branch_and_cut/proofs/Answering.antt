@@ -1,5 +1,5 @@
 -- All that holds of what is found, with and without a search.
-use Rattle.std.proofs.Common.{◌≡◌, ◌≤◌, ◌∙◌, ℕ, refl, sym, subst, arith, List, Option, Some, None, Ok, Err}
+use Rattle.std.proofs.Common.{◌≡◌, ◌≤◌, ◌∙◌, ℕ, Bool, refl, sym, subst, arith, List, Option, Some, None, Ok, Err}
 use Rattle.std.specs.Prelude.{◌↔◌, IfOk, IfSome, IsNone, Result}
 use Rattle.std.specs.declared.alloc.AllocError.{AllocError}
 use Rattle.lot_sizing.specs.Best.{IsFloor, IsImpossible}
@@ -23,6 +23,7 @@ use Rattle.branching.specs.declared.found.RootSays.TheVariants as root
 use Rattle.branching.specs.Found.{GoesWithPlan, IsDecidedAlone, IsProved}
 use Rattle.root_rounds.specs.declared.round_leaf.Root.{Root}
 use Rattle.root_rounds.specs.Root.{BoundsPlans}
+use Rattle.branch_and_bound.specs.declared.limits.Limits.{Limits}
 use Rattle.branch_and_bound.specs.declared.node.Range.{Range}
 use Rattle.branch_and_bound.specs.declared.sought.Searched.{Searched}
 use Rattle.branch_and_cut.specs.declared.guiding.Model.{Model}
@@ -82,8 +83,8 @@ first_least m None given good least = tt
 first_least m (Some p) given good least = least (plan_of p) good.feasible
 
 -- ---- without coupling
-pub alone_answer : (m : Problem) (budget : ℕ) (first : Option Plan) (found : Found) (r : Root) (a : Apart) → 1 ≤ budget → IfSome first (IsGoodPlan m) → IsRootOf m r → r.says ≡ root.Uncoupled → AreApart m a → ApartIsOne → IsProved m found → IsDecidedAlone found → IsAnswer m budget first found
-alone_answer m budget first found r a some good is says apart one proved alone =
+pub alone_answer : (m : Problem) (budget : ℕ) (limits : Limits) (stopping : Bool) (first : Option Plan) (found : Found) (r : Root) (a : Apart) → 1 ≤ budget → IfSome first (IsGoodPlan m) → IsRootOf m r → r.says ≡ root.Uncoupled → AreApart m a → ApartIsOne → IsProved m found → IsDecidedAlone found → IsAnswer m budget limits stopping first found
+alone_answer m budget limits stopping first found r a some good is says apart one proved alone =
     let (total, weight, totals, weights) = is.figures in
     let claim = found.certificate.claim in
     let given = found.plan in
@@ -98,13 +99,13 @@ alone_answer m budget first found r a some good is says apart one proved alone =
       kept = first_least m first given good least;
       own = λ q own feasible. least q feasible;
       goes = alone_goes m claim given alone.decided;
-      cause = no_bound claim (λ amount. shown.WithRows m found (shown.IsUndecided m budget found)) decided;
+      cause = no_bound claim (λ amount. shown.WithRows m found (shown.IsUndecided m budget limits stopping found)) decided;
       evidence = no_bound claim (λ amount. shown.WithRows m found (shown.HasEvidence m found amount)) decided;
       root = (r, is.means, says ∙ sym alone.root);
       uncoupled = (λ e. apart_of, λ free. alone.root);
       uses = subst (UsesRoot found) (sym alone.root) (record { alone = alone.alone; decided = decided });
       apart = λ amount at. alone_floor m claim given amount alone.decided comes (subst (IsFloor m) (one m a.amount amount apart.amount at) apart.floor);
-      complete = λ total totals enough. decided;
+      complete = λ none still total totals enough. decided;
       version = record { plain = λ plain. alone.version; other = λ not. absurd (not apart_of.plain) };
     }
 
@@ -112,9 +113,9 @@ both_of : (m : Problem) (ranges : Ranges) (plan : Option Plan) → IfSome plan (
 both_of m ranges None good within = tt
 both_of m ranges (Some p) good within = record { good = good; within = within }
 
-pub alone_within : (m : Problem) (ranges : Ranges) (budget : ℕ) (first : Option Plan) (found : Found) (r : Root) (a : Apart) → 1 ≤ budget → IfSome first (IsGoodWithin m ranges) → IsRootOf m r → r.says ≡ root.Uncoupled → AreApart m a → ApartIsOne → IsProved m found → IsDecidedAlone found → IfSome found.plan (λ p. IsWithin m ranges (plan_of p)) → IsAnswerWithin m ranges budget first found
-alone_within m ranges budget first found r a some good is says apart one proved alone within =
-    let answer = alone_answer m budget first found r a some (good_first m ranges first good) is says apart one proved alone in
+pub alone_within : (m : Problem) (ranges : Ranges) (budget : ℕ) (limits : Limits) (stopping : Bool) (first : Option Plan) (found : Found) (r : Root) (a : Apart) → 1 ≤ budget → IfSome first (IsGoodWithin m ranges) → IsRootOf m r → r.says ≡ root.Uncoupled → AreApart m a → ApartIsOne → IsProved m found → IsDecidedAlone found → IfSome found.plan (λ p. IsWithin m ranges (plan_of p)) → IsAnswerWithin m ranges budget limits stopping first found
+alone_within m ranges budget limits stopping first found r a some good is says apart one proved alone within =
+    let answer = alone_answer m budget limits stopping first found r a some (good_first m ranges first good) is says apart one proved alone in
     let claim = found.certificate.claim in
     let decided = alone_decided claim found.plan alone.decided in
     record {
@@ -123,7 +124,7 @@ alone_within m ranges budget first found r a some good is says apart one proved 
       within = answer.within;
       kept = answer.kept;
       goes = answer.goes;
-      cause = no_bound claim (λ amount. shown.WithRows m found (IsUndecidedWithin m ranges budget found)) decided;
+      cause = no_bound claim (λ amount. shown.WithRows m found (IsUndecidedWithin m ranges budget limits stopping found)) decided;
       evidence = no_bound claim (λ amount. shown.WithRows m found (HasEvidenceWithin m ranges found amount)) decided;
       root = answer.root;
       uncoupled = answer.uncoupled;
@@ -148,8 +149,8 @@ all_alone m ranges (Some p) all good = all (plan_of p) good.feasible
 none_least : (m : Problem) (given : Option Plan) → IsImpossible m → (q : terms.Plan) → terms.IsFeasible m q → CostsAtMost m given (terms.cost m q)
 none_least m given none q feasible = absurd (none q feasible)
 
-pub none_answer : (m : Problem) (budget : ℕ) (first : Option Plan) (found : Found) (r : Root) → 1 ≤ budget → IfSome first (IsGoodPlan m) → IsRootOf m r → r.says ≡ root.Empty → IsVersionOf m found.certificate.version → IsProved m found → found.plan ≡ None → found.root ≡ r.says → IsImpossibleByOne found → IsAnswer m budget first found
-none_answer m budget first found r some good is says version proved without root_is by =
+pub none_answer : (m : Problem) (budget : ℕ) (limits : Limits) (stopping : Bool) (first : Option Plan) (found : Found) (r : Root) → 1 ≤ budget → IfSome first (IsGoodPlan m) → IsRootOf m r → r.says ≡ root.Empty → IsVersionOf m found.certificate.version → IsProved m found → found.plan ≡ None → found.root ≡ r.says → IsImpossibleByOne found → IsAnswer m budget limits stopping first found
+none_answer m budget limits stopping first found r some good is says version proved without root_is by =
     let impossible : IsImpossible m = subst (BoundsPlans m) says is.bounds in
     let root_empty : found.root ≡ root.Empty = root_is ∙ says in
     let claim_is = by.none in
@@ -162,18 +163,18 @@ none_answer m budget first found r some good is says version proved without root
       kept = first_least m first found.plan good least;
       own = λ q own feasible. least q feasible;
       goes = subst (λ c. GoesTogether m c found.plan) (sym claim_is) (subst (λ p. IsNone p) (sym without) refl);
-      cause = no_bound found.certificate.claim (λ amount. shown.WithRows m found (shown.IsUndecided m budget found)) decided;
+      cause = no_bound found.certificate.claim (λ amount. shown.WithRows m found (shown.IsUndecided m budget limits stopping found)) decided;
       evidence = no_bound found.certificate.claim (λ amount. shown.WithRows m found (shown.HasEvidence m found amount)) decided;
       root = (r, is.means, sym root_is);
       uncoupled = (λ e. is.uncoupled.0 (sym root_is ∙ e), λ free. root_is ∙ is.uncoupled.1 free);
       uses = subst (UsesRoot found) (sym root_empty) by;
       apart = λ amount at. subst (IsClaimedAtLeast amount) (sym claim_is) tt;
-      complete = λ total totals enough. decided;
+      complete = λ none still total totals enough. decided;
       version = version;
     }
 
-pub none_within : (m : Problem) (ranges : Ranges) (budget : ℕ) (first : Option Plan) (found : Found) (r : Root) → 1 ≤ budget → IfSome first (IsGoodWithin m ranges) → IsRootOf m r → r.says ≡ root.Empty → IsVersionOf m found.certificate.version → WholeIsProved m → IsProvedWithin m ranges found → found.plan ≡ None → found.root ≡ r.says → IsImpossibleByOne found → IsAnswerWithin m ranges budget first found
-none_within m ranges budget first found r some good is says version whole proved without root_is by =
+pub none_within : (m : Problem) (ranges : Ranges) (budget : ℕ) (limits : Limits) (stopping : Bool) (first : Option Plan) (found : Found) (r : Root) → 1 ≤ budget → IfSome first (IsGoodWithin m ranges) → IsRootOf m r → r.says ≡ root.Empty → IsVersionOf m found.certificate.version → WholeIsProved m → IsProvedWithin m ranges found → found.plan ≡ None → found.root ≡ r.says → IsImpossibleByOne found → IsAnswerWithin m ranges budget limits stopping first found
+none_within m ranges budget limits stopping first found r some good is says version whole proved without root_is by =
     let impossible : IsImpossible m = subst (BoundsPlans m) says is.bounds in
     let claim_is = by.none in
     let decided : IsDecided found.certificate.claim = subst IsDecided (sym claim_is) tt in
@@ -183,13 +184,13 @@ none_within m ranges budget first found r some good is says version whole proved
       within = omega (arith, by.alone, some);
       kept = first_least m first found.plan (good_first m ranges first good) (none_least m found.plan impossible);
       goes = subst (λ c. GoesTogether m c found.plan) (sym claim_is) (subst (λ p. IsNone p) (sym without) refl);
-      cause = no_bound found.certificate.claim (λ amount. shown.WithRows m found (IsUndecidedWithin m ranges budget found)) decided;
+      cause = no_bound found.certificate.claim (λ amount. shown.WithRows m found (IsUndecidedWithin m ranges budget limits stopping found)) decided;
       evidence = no_bound found.certificate.claim (λ amount. shown.WithRows m found (HasEvidenceWithin m ranges found amount)) decided;
       root = (r, is.means, sym root_is);
       uncoupled = (λ e. is.uncoupled.0 (sym root_is ∙ e), λ free. root_is ∙ is.uncoupled.1 free);
       apart = λ amount at. subst (IsClaimedAtLeast amount) (sym claim_is) tt;
       version = version;
-      whole = λ all. none_answer m budget first found r some (good_first m ranges first good) is says version (whole ranges all found proved) without root_is by;
+      whole = λ all. none_answer m budget limits stopping first found r some (good_first m ranges first good) is says version (whole ranges all found proved) without root_is by;
     }
 
 -- ---- by a search
@@ -206,8 +207,8 @@ uses_of found root.Empty coupled some closed = absurd (some refl)
 uses_of found (root.Stopped round) coupled some closed = tt
 uses_of found (root.Passed round at) coupled some closed = tt
 
-pub searched_within : (g : Model) (k : Known) (budget : ℕ) (first : Option Plan) (found : Found) (r : Root) (a : Apart) (best : Option Planned) → IsRootOf g.instance.now r → (IsWhole g.instance.now (ranges_in g) → r.says ≡ root.Uncoupled → ⊥) → (r.says ≡ root.Empty → ⊥) → AreApart g.instance.now a → ApartIsOne → LieInWhole g.instance.now → WholeIsProved g.instance.now → IsProvedWithin g.instance.now (ranges_in g) found → IsFinished g k budget found → found.plan ≡ plan_kept k.best → found.root ≡ r.says → IsVersionOf g.instance.now found.certificate.version → a.amount ≤ g.least → ((c : ℕ) → r.says ≡ root.Closed c → c ≤ g.least) → IfSome k.best (IsMadeWithin g.instance.now (ranges_in g)) → IsNoWorse k.best best → KeepsGiven g.instance.now first best → (AllLieWithin g.instance.now (ranges_in g) → KeepsOwnMade g.instance.now best) → IsAnswerWithin g.instance.now (ranges_in g) budget first found
-searched_within g k budget first found r a best is coupled some apart one lie whole proved ends plan_is root_is version apart_least closed_least made less kept own =
+pub searched_within : (g : Model) (k : Known) (budget : ℕ) (limits : Limits) (stopping : Bool) (first : Option Plan) (found : Found) (r : Root) (a : Apart) (best : Option Planned) → IsRootOf g.instance.now r → (IsWhole g.instance.now (ranges_in g) → r.says ≡ root.Uncoupled → ⊥) → (r.says ≡ root.Empty → ⊥) → AreApart g.instance.now a → ApartIsOne → LieInWhole g.instance.now → WholeIsProved g.instance.now → IsProvedWithin g.instance.now (ranges_in g) found → IsFinished g k budget limits stopping found → found.plan ≡ plan_kept k.best → found.root ≡ r.says → IsVersionOf g.instance.now found.certificate.version → a.amount ≤ g.least → ((c : ℕ) → r.says ≡ root.Closed c → c ≤ g.least) → IfSome k.best (IsMadeWithin g.instance.now (ranges_in g)) → IsNoWorse k.best best → KeepsGiven g.instance.now first best → (AllLieWithin g.instance.now (ranges_in g) → KeepsOwnMade g.instance.now best) → IsAnswerWithin g.instance.now (ranges_in g) budget limits stopping first found
+searched_within g k budget limits stopping first found r a best is coupled some apart one lie whole proved ends plan_is root_is version apart_least closed_least made less kept own =
     let m = g.instance.now in
     let ranges = ranges_in g in
     let claim = found.certificate.claim in
@@ -236,7 +237,7 @@ searched_within g k budget first found r a best is coupled some apart one lie wh
         kept = keeps;
         own = subst (KeepsOwn m) (sym plan_is) (own_kept m k.best made_is (λ q is_own feasible. at_most_on (cost_kept k.best) (cost_kept best) (Some (terms.cost m q)) less (own (lie ranges all) q is_own feasible)));
         goes = ends.goes;
-        cause = cause_whole m ranges budget found all ends.cause;
+        cause = cause_whole m ranges budget limits stopping found all ends.cause;
         evidence = shows_whole m ranges found all ends.evidence;
         root = said;
         uncoupled = free;
@@ -248,11 +249,11 @@ searched_within g k budget first found r a best is coupled some apart one lie wh
     }
 
 -- ---- if memory was there
-pub searched_ok : (g : Model) (k : Known) (budget version : ℕ) (first : Option Plan) (result : Result Found AllocError) (r : Root) (a : Apart) (best : Option Planned) → g.root ≡ r.says → g.version ≡ version → IsRootOf g.instance.now r → (IsWhole g.instance.now (ranges_in g) → r.says ≡ root.Uncoupled → ⊥) → (r.says ≡ root.Empty → ⊥) → AreApart g.instance.now a → ApartIsOne → LieInWhole g.instance.now → WholeIsProved g.instance.now → IfOk result (IsProvedWithin g.instance.now (ranges_in g)) → IfOk result (IsFinished g k budget) → IfOk result (λ found. found.plan ≡ plan_kept k.best) → IfOk result (λ found. found.root ≡ g.root) → IfOk result (λ found. found.certificate.version ≡ g.version) → IsVersionOf g.instance.now version → a.amount ≤ g.least → ((c : ℕ) → r.says ≡ root.Closed c → c ≤ g.least) → IfSome k.best (IsMadeWithin g.instance.now (ranges_in g)) → IsNoWorse k.best best → KeepsGiven g.instance.now first best → (AllLieWithin g.instance.now (ranges_in g) → KeepsOwnMade g.instance.now best) → IfOk result (IsAnswerWithin g.instance.now (ranges_in g) budget first)
-searched_ok g k budget version first (Ok found) r a best root_same version_same is coupled some apart one lie whole proved ends plan_is root_is version_is known apart_least closed_least made less kept own =
-    searched_within g k budget first found r a best is coupled some apart one lie whole proved ends plan_is (root_is ∙ root_same) (subst (IsVersionOf g.instance.now) (sym (version_is ∙ version_same)) known) apart_least closed_least made less kept own
-searched_ok g k budget version first (Err e) r a best root_same version_same is coupled some apart one lie whole proved ends plan_is root_is version_is known apart_least closed_least made less kept own = tt
+pub searched_ok : (g : Model) (k : Known) (budget version : ℕ) (limits : Limits) (stopping : Bool) (first : Option Plan) (result : Result Found AllocError) (r : Root) (a : Apart) (best : Option Planned) → g.root ≡ r.says → g.version ≡ version → IsRootOf g.instance.now r → (IsWhole g.instance.now (ranges_in g) → r.says ≡ root.Uncoupled → ⊥) → (r.says ≡ root.Empty → ⊥) → AreApart g.instance.now a → ApartIsOne → LieInWhole g.instance.now → WholeIsProved g.instance.now → IfOk result (IsProvedWithin g.instance.now (ranges_in g)) → IfOk result (IsFinished g k budget limits stopping) → IfOk result (λ found. found.plan ≡ plan_kept k.best) → IfOk result (λ found. found.root ≡ g.root) → IfOk result (λ found. found.certificate.version ≡ g.version) → IsVersionOf g.instance.now version → a.amount ≤ g.least → ((c : ℕ) → r.says ≡ root.Closed c → c ≤ g.least) → IfSome k.best (IsMadeWithin g.instance.now (ranges_in g)) → IsNoWorse k.best best → KeepsGiven g.instance.now first best → (AllLieWithin g.instance.now (ranges_in g) → KeepsOwnMade g.instance.now best) → IfOk result (IsAnswerWithin g.instance.now (ranges_in g) budget limits stopping first)
+searched_ok g k budget version limits stopping first (Ok found) r a best root_same version_same is coupled some apart one lie whole proved ends plan_is root_is version_is known apart_least closed_least made less kept own =
+    searched_within g k budget limits stopping first found r a best is coupled some apart one lie whole proved ends plan_is (root_is ∙ root_same) (subst (IsVersionOf g.instance.now) (sym (version_is ∙ version_same)) known) apart_least closed_least made less kept own
+searched_ok g k budget version limits stopping first (Err e) r a best root_same version_same is coupled some apart one lie whole proved ends plan_is root_is version_is known apart_least closed_least made less kept own = tt
 
-pub ended_on : (g : Model) (k : Known) (budget : ℕ) (rs : List Range) (s : Searched) (result : Result Found AllocError) → IsSearched g k budget rs s → IfOk result (λ found. (n : ℕ) (list : List Range) → IsSearched g k n list s → IsFinished g k n found) → IfOk result (IsFinished g k budget)
-ended_on g k budget rs s (Ok found) is all = all budget rs is
-ended_on g k budget rs s (Err e) is all = tt
+pub ended_on : (g : Model) (k : Known) (budget : ℕ) (limits : Limits) (stopping : Bool) (rs : List Range) (s : Searched) (result : Result Found AllocError) → IsSearched g k budget limits stopping rs s → IfOk result (λ found. (n : ℕ) (l : Limits) (stop : Bool) (list : List Range) → IsSearched g k n l stop list s → IsFinished g k n l stop found) → IfOk result (IsFinished g k budget limits stopping)
+ended_on g k budget limits stopping rs s (Ok found) is all = all budget limits stopping rs is
+ended_on g k budget limits stopping rs s (Err e) is all = tt

@@ -1,5 +1,5 @@
 -- What a tree that was sought shows, as a certificate says it.
-use Rattle.std.proofs.Common.{◌≡◌, ◌≤◌, ◌<◌, ◌^◌, ◌∙◌, ⊎_elim, inl, inr, ℕ, refl, sym, ap, subst, arith, List, [], Option, Some, None}
+use Rattle.std.proofs.Common.{◌≡◌, ◌≤◌, ◌<◌, ◌^◌, ◌∙◌, ⊎_elim, inl, inr, ◌+◌, ◌*◌, ℕ, Bool, refl, sym, ap, subst, arith, List, [], Option, Some, None}
 use Rattle.std.specs.Prelude.{IfSome, map}
 use Rattle.lot_sizing.specs.Best.{IsFloor}
 use Rattle.lot_sizing.specs.Problem.{Problem, item_count}
@@ -35,7 +35,9 @@ use Rattle.branch_and_bound.specs.declared.node.Range.{Range}
 use Rattle.branch_and_bound.specs.declared.proposal.Proposal.{Proposal}
 use Rattle.branch_and_bound.specs.declared.sought.Sought.{Sought}
 use Rattle.branch_and_bound.specs.declared.sought.Sought.TheVariants.{Branch', Leaf}
-use Rattle.branch_and_bound.specs.Claims.{IsBound, IsOpenDeep, IsShown, IsEvidenced, SomeSays}
+use Rattle.branch_and_bound.specs.declared.limits.Limits.{Limits}
+use Rattle.branch_and_bound.specs.Gaps.{IsWithinGap}
+use Rattle.branch_and_bound.specs.Claims.{HasCause, IsBound, IsOpenDeep, IsShown, IsEvidenced, IsUndecided as IsLeftOpen, SomeSays}
 use Rattle.branch_and_bound.specs.Costs.{IsAtMost, IsBelow}
 use Rattle.branch_and_bound.specs.Counts.{longest, nodes}
 use Rattle.branch_and_bound.specs.declared.sought.Searched.{Searched}
@@ -50,8 +52,8 @@ use Rattle.incumbent.specs.Kept.{cost_kept, plan_kept, IsMadeWithin}
 use Rattle.branch_and_cut.specs.Knowing.{ranges_in, shapes}
 use Rattle.branch_and_cut.specs.Leaves.{IsGoodLeafWithin, IsKept, IsEvidentAt, said}
 use Rattle.search_ranges.specs.Nodes.{IsNodeOf, choice_place, choice_rules}
-use Rattle.branch_and_cut.specs.Search.{GoesTogether, IsBelowPlan, IsClaimedAtLeast, IsDecided, IsEvidence}
-use Rattle.branch_and_cut.specs.SearchWithin.{HasEvidenceWithin, IsCertifiedWithin, IsDeepIfOpenWithin, IsProvedWithin, IsUndecidedWithin, SaysAmountWithin}
+use Rattle.branch_and_cut.specs.Search.{GoesTogether, IsBelowPlan, IsClaimedAtLeast, IsDecided, IsEvidence, IsPlanNear}
+use Rattle.branch_and_cut.specs.SearchWithin.{HasEvidenceWithin, IsCertifiedWithin, IsDeepIfOpenWithin, IsOutOfRoomWithin, IsProvedWithin, IsUndecidedWithin, SaysAmountWithin}
 use Rattle.branch_and_cut.specs.Search as shown
 use Rattle.branch_and_cut.proofs.Proved.{Grounds, IsEnoughAt, IsShownBy, proved_shape}
 use Rattle.branch_and_cut.proofs.Translating.{each_on, each_two, some_on, split_tree}
@@ -95,6 +97,12 @@ goes m None rs sought Infeasible made is = refl
 goes m (Some p) rs sought Infeasible made is = cc (is.0)
 goes m None rs sought (BoundOf amount) made is = tt
 goes m (Some p) rs sought (BoundOf amount) made is = omega (arith, is.0, made.cost)
+
+-- the plan is as near to a bound as the cost that is kept with it
+near_kept : (m : Problem) (gap : Option ℕ) (amount : ℕ) (best : Option Planned) → IfSome best (IsMade m) → IsWithinGap gap amount (cost_kept best) → IsPlanNear m gap (BoundOf amount) (plan_kept best)
+near_kept m None amount best made near = absurd near
+near_kept m (Some gap) amount None made near = absurd near
+near_kept m (Some gap) amount (Some p) made near = subst (λ cost. 10000 * cost ≤ 10000 * amount + gap * cost) made.cost near
 
 -- some leaf that has one thing has another one, where all leaves have it
 pub at_some : (place : Column → ℕ) (P R : AtLeaf) (C : Type 0) → ((rs : List Range) (path : List Bound) (p : Proposal) → P rs path p → R rs path p → C) → (rs : List Range) (path : List Bound) (sought : Sought) → EachLeaf place P rs path sought → SomeLeaf place R rs path sought → C
@@ -208,7 +216,7 @@ pub within_of : (m : Problem) (ranges : Ranges) (best : Option Planned) → IfSo
 within_of m ranges None is = tt
 within_of m ranges (Some p) is = is.within
 
-module _ (g : Model) (k : Known) (budget : ℕ) (rs : List Range) (s : Searched) (t : Tree) (is : IsSearched g k budget rs s) (of : IsTreeOf s t) where
+module _ (g : Model) (k : Known) (budget : ℕ) (limits : Limits) (stopping : Bool) (rs : List Range) (s : Searched) (t : Tree) (is : IsSearched g k budget limits stopping rs s) (of : IsTreeOf s t) where
   pub shown_by : s.nodes ≤ MAX_NODES → IsShownBy g.instance.now (ranges_in g) (made_shape g k s t) k.rows.items (plan_kept k.best)
   shown_by few =
       let m = g.instance.now in
@@ -231,8 +239,8 @@ module _ (g : Model) (k : Known) (budget : ℕ) (rs : List Range) (s : Searched)
       }
 
   -- the causes of a bound
-  left_open : SaysAreOne → (total : ℕ → ℕ) → AreLargestTotals g.instance.now total → IsBound s.claim → (found : Found) → found.nodes ≡ s.nodes → found.plan ≡ plan_kept k.best → shown.tree_in found ≡ tree_shape t → IsUndecidedWithin g.instance.now (ranges_in g) budget found k.rows.items
-  left_open one total totals bound found nodes_are plan_is tree_is =
+  no_room : SaysAreOne → (total : ℕ → ℕ) → AreLargestTotals g.instance.now total → IsLeftOpen (choice_rules g.instance.now) (cost_kept k.best) budget rs s.tree → (found : Found) → found.nodes ≡ s.nodes → found.plan ≡ plan_kept k.best → shown.tree_in found ≡ tree_shape t → IsOutOfRoomWithin g.instance.now (ranges_in g) budget found k.rows.items
+  no_room one total totals left found nodes_are plan_is tree_is =
       let m = g.instance.now in
       let ranges = ranges_in g in
       ⊎_elim
@@ -244,7 +252,19 @@ module _ (g : Model) (k : Known) (budget : ℕ) (rs : List Range) (s : Searched)
             (subst (λ x. split.EachLeaf (IsDeepIfOpenWithin m ranges (plan_kept k.best) k.rows.items) [] x) (sym tree_is)
             (all_deep m ranges g.version g.least k.rows.items rs s.tree one total totals k.best t (made_of m ranges k.best is.known.best) is.node is.short is.split of.stripped is.holds deep.2));
       }))
-      (is.cause bound)
+      left
+
+  left_open : SaysAreOne → (total : ℕ → ℕ) → AreLargestTotals g.instance.now total → (amount : ℕ) → s.claim ≡ BoundOf amount → (found : Found) → found.certificate.claim ≡ s.claim → found.nodes ≡ s.nodes → found.plan ≡ plan_kept k.best → shown.tree_in found ≡ tree_shape t → IsUndecidedWithin g.instance.now (ranges_in g) budget limits stopping found k.rows.items
+  left_open one total totals amount bound found claim_is nodes_are plan_is tree_is =
+      let m = g.instance.now in
+      let why : HasCause (choice_rules m) (cost_kept k.best) budget limits.gap stopping rs s.tree (BoundOf amount) = subst (HasCause (choice_rules m) (cost_kept k.best) budget limits.gap stopping rs s.tree) bound is.cause in
+      ⊎_elim
+      (λ left. inl (no_room one total totals left found nodes_are plan_is tree_is))
+      (λ other. inr (⊎_elim
+      (λ near. inl (subst (λ c. IsPlanNear m limits.gap c found.plan) (sym (claim_is ∙ bound)) (subst (λ p. IsPlanNear m limits.gap (BoundOf amount) p) (sym plan_is) (near_kept m limits.gap amount k.best (made_of m (ranges_in g) k.best is.known.best) near))))
+      (λ stop. inr stop)
+      other))
+      why
 
 if_bound : (claim : Claim) (P : ℕ → Type 0) → ((amount : ℕ) → claim ≡ BoundOf amount → P amount) → shown.IfBound claim P
 if_bound (Optimal amount) P all = tt
@@ -256,8 +276,8 @@ is_decided (Optimal amount) none = tt
 is_decided Infeasible none = tt
 is_decided (BoundOf amount) none = none tt
 
-pub finished : (g : Model) (k : Known) (budget : ℕ) (rs : List Range) (s : Searched) (t : Tree) (found : Found) → WholeIsMeasured → SaysAreOne → (total : ℕ → ℕ) → AreLargestTotals g.instance.now total → IsSearched g k budget rs s → IsTreeOf s t → found.certificate.claim ≡ s.claim → found.certificate.cuts ≡ k.cuts → found.certificate.tree ≡ t → found.plan ≡ plan_kept k.best → found.root ≡ g.root → found.nodes ≡ s.nodes → IsFinished g k budget found
-finished g k budget rs s t found measured one total totals is of claim_is cuts_are tree_is plan_is root_is nodes_are =
+pub finished : (g : Model) (k : Known) (budget : ℕ) (limits : Limits) (stopping : Bool) (rs : List Range) (s : Searched) (t : Tree) (found : Found) → WholeIsMeasured → SaysAreOne → (total : ℕ → ℕ) → AreLargestTotals g.instance.now total → IsSearched g k budget limits stopping rs s → IsTreeOf s t → found.certificate.claim ≡ s.claim → found.certificate.cuts ≡ k.cuts → found.certificate.tree ≡ t → found.plan ≡ plan_kept k.best → found.root ≡ g.root → found.nodes ≡ s.nodes → IsFinished g k budget limits stopping found
+finished g k budget limits stopping rs s t found measured one total totals is of claim_is cuts_are tree_is plan_is root_is nodes_are =
     let m = g.instance.now in
     let ranges = ranges_in g in
     let rows = k.rows.items in
@@ -268,9 +288,8 @@ finished g k budget rs s t found measured one total totals is of claim_is cuts_a
     record {
       within = omega (arith, nodes_are, is.within);
       goes = subst (λ c. GoesTogether m c found.plan) (sym claim_is) (subst (λ p. GoesTogether m s.claim p) (sym plan_is) (goes m k.best rs s.tree s.claim made is.shown));
-      cause = if_bound found.certificate.claim (λ amount. shown.WithRows m found (IsUndecidedWithin m ranges budget found)) (λ amount e.
-          let bound : IsBound s.claim = subst IsBound (sym (bound_of amount e)) tt in
-          (rows, good, left_open g k budget rs s t is of one total totals bound found nodes_are plan_is tree_same));
+      cause = if_bound found.certificate.claim (λ amount. shown.WithRows m found (IsUndecidedWithin m ranges budget limits stopping found)) (λ amount e.
+          (rows, good, left_open g k budget limits stopping rs s t is of one total totals amount (bound_of amount e) found claim_is nodes_are plan_is tree_same));
       evidence = if_bound found.certificate.claim (λ amount. shown.WithRows m found (HasEvidenceWithin m ranges found amount)) (λ amount e.
           let b = bound_of amount e in
           let shows : IsShown (choice_rules m) (cost_kept k.best) rs s.tree (BoundOf amount) = subst (IsShown (choice_rules m) (cost_kept k.best) rs s.tree) b is.shown in
@@ -284,19 +303,19 @@ finished g k budget rs s t found measured one total totals is of claim_is cuts_a
                   (all_evidence m ranges g.version g.least rows rs s.tree one total totals g.root amount t is.node is.short is.split of.stripped is.holds evident));
             },
           ));
-      complete = λ all other others enough. subst IsDecided (sym claim_is) (is_decided s.claim (is.decided
+      complete = λ all none still other others enough. subst IsDecided (sym claim_is) (is_decided s.claim (is.decided none still
           (omega (arith, enough.volume, ap volume (is.listed.whole all other others), (measured (item_count m) m.periods other).0))
           (omega (arith, enough.height, ap height (is.listed.whole all other others), (measured (item_count m) m.periods other).1))));
       least = subst (IsClaimedAtLeast g.least) (sym claim_is) (claimed_least m ranges g.version g.least rows rs s.tree k.best s.claim made is.known.begun.floor is.holds is.shown);
     }
 
 -- what is found is proved
-pub found_proved : (g : Model) (k : Known) (budget : ℕ) (rs : List Range) (s : Searched) (t : Tree) (found : Found) → Grounds g.instance.now → IsSearched g k budget rs s → IsTreeOf s t → s.nodes ≤ MAX_NODES → shape_of found.certificate ≡ made_shape g k s t → found.plan ≡ plan_kept k.best → found.nodes ≡ s.nodes → IsProvedWithin g.instance.now (ranges_in g) found
-found_proved g k budget rs s t found by is of few shape plan_is nodes_are =
+pub found_proved : (g : Model) (k : Known) (budget : ℕ) (limits : Limits) (stopping : Bool) (rs : List Range) (s : Searched) (t : Tree) (found : Found) → Grounds g.instance.now → IsSearched g k budget limits stopping rs s → IsTreeOf s t → s.nodes ≤ MAX_NODES → shape_of found.certificate ≡ made_shape g k s t → found.plan ≡ plan_kept k.best → found.nodes ≡ s.nodes → IsProvedWithin g.instance.now (ranges_in g) found
+found_proved g k budget limits stopping rs s t found by is of few shape plan_is nodes_are =
     let m = g.instance.now in
     let ranges = ranges_in g in
     let made = made_shape g k s t in
-    let p = proved_shape m by ranges made k.rows.items (plan_kept k.best) (shown_by g k budget rs s t is of few) in
+    let p = proved_shape m by ranges made k.rows.items (plan_kept k.best) (shown_by g k budget limits stopping rs s t is of few) in
     record {
       writable = subst IsWritable (sym shape) p.writable;
       lines = subst (λ (c : Shape). line_count c < 2 ^ 63) (sym shape) p.lines;

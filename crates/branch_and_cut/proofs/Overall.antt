@@ -1,5 +1,5 @@
 -- Ranges that are the whole ones, and a certificate of one leaf over any ranges.
-use Rattle.std.proofs.Common.{◌≡◌, ◌≤◌, ⊎_elim, inl, inr, ℕ, sym, ap, subst, arith, List, [], Option, Some, None}
+use Rattle.std.proofs.Common.{◌≡◌, ◌≤◌, ⊎_elim, inl, inr, ℕ, Bool, sym, ap, subst, arith, List, [], Option, Some, None}
 use Rattle.std.specs.Prelude.{IfSome}
 use Rattle.lot_sizing.specs.Bill.{AreWeights, bill_of}
 use Rattle.lot_sizing.specs.Least.{SameCells}
@@ -31,11 +31,12 @@ use Rattle.acceptance.specs.Named.{Named, names}
 use Rattle.acceptance.specs.Says as says
 use Rattle.acceptance.specs.Says.{Says, point_make, point_setup}
 use Rattle.cert_checker.specs.Checks.{plan_given}
+use Rattle.branch_and_bound.specs.declared.limits.Limits.{Limits}
 use Rattle.branching.specs.declared.found.Found.{Found}
 use Rattle.branching.specs.Found.{IsProved}
 use Rattle.root_rounds.specs.Root.{HasFigures}
-use Rattle.branch_and_cut.specs.Search.{HasEvidence, IfBound, IsDeepIfOpen, IsEvidence, IsUndecided, SaysAmount, SomeLeaf, WithRows, tree_in}
-use Rattle.branch_and_cut.specs.SearchWithin.{HasEvidenceWithin, IsDeepIfOpenWithin, IsProvedWithin, IsUndecidedWithin, SaysAmountWithin, WholeIsProved}
+use Rattle.branch_and_cut.specs.Search.{HasEvidence, IfBound, IsDeepIfOpen, IsEvidence, IsOutOfRoom, IsUndecided, SaysAmount, SomeLeaf, WithRows, tree_in}
+use Rattle.branch_and_cut.specs.SearchWithin.{HasEvidenceWithin, IsDeepIfOpenWithin, IsOutOfRoomWithin, IsProvedWithin, IsUndecidedWithin, SaysAmountWithin, WholeIsProved}
 use Rattle.search_ranges.specs.Within.{IsWhole}
 use Rattle.incumbent.proofs.Chosen.{least_on, none_on}
 use Rattle.branch_and_cut.proofs.Proved.{each_map, goes_within}
@@ -106,8 +107,8 @@ module _ (m : Problem) (ranges : Ranges) (all : IsWhole m ranges) (rows : List L
     each = each_map (λ path leaf. SaysAmountWithin m ranges rows amount path leaf → IsEvidence m found.root path amount) (λ path leaf. SaysAmount m rows amount path leaf → IsEvidence m found.root path amount) (λ path leaf has says. has (from_whole amount path leaf says)) [] (tree_in found) is.each;
   }
 
-  pub undecided_whole : (budget : ℕ) (found : Found) → IsUndecidedWithin m ranges budget found rows → IsUndecided m budget found rows
-  undecided_whole budget found is =
+  no_room_whole : (budget : ℕ) (found : Found) → IsOutOfRoomWithin m ranges budget found rows → IsOutOfRoom m budget found rows
+  no_room_whole budget found is =
       ⊎_elim
       (λ less. inl less)
       (λ deep. inr (record {
@@ -117,15 +118,18 @@ module _ (m : Problem) (ranges : Ranges) (all : IsWhole m ranges) (rows : List L
       }))
       is
 
+  pub undecided_whole : (budget : ℕ) (limits : Limits) (stopping : Bool) (found : Found) → IsUndecidedWithin m ranges budget limits stopping found rows → IsUndecided m budget limits stopping found rows
+  undecided_whole budget limits stopping found is = ⊎_elim (λ left. inl (no_room_whole budget found left)) (λ other. inr other) is
+
 pub bound_whole : (claim : Claim) (P Q : ℕ → Type 0) → ((amount : ℕ) → P amount → Q amount) → IfBound claim P → IfBound claim Q
 bound_whole (Optimal amount) P Q f is = tt
 bound_whole Infeasible P Q f is = tt
 bound_whole (BoundOf amount) P Q f is = f amount is
 
-pub cause_whole : (m : Problem) (ranges : Ranges) (budget : ℕ) (found : Found) → IsWhole m ranges → IfBound found.certificate.claim (λ amount. WithRows m found (IsUndecidedWithin m ranges budget found)) → IfBound found.certificate.claim (λ amount. WithRows m found (IsUndecided m budget found))
-cause_whole m ranges budget found all is =
-    bound_whole found.certificate.claim (λ amount. WithRows m found (IsUndecidedWithin m ranges budget found)) (λ amount. WithRows m found (IsUndecided m budget found))
-    (λ amount has. let (rows, good, left) = has in (rows, good, undecided_whole m ranges all rows budget found left))
+pub cause_whole : (m : Problem) (ranges : Ranges) (budget : ℕ) (limits : Limits) (stopping : Bool) (found : Found) → IsWhole m ranges → IfBound found.certificate.claim (λ amount. WithRows m found (IsUndecidedWithin m ranges budget limits stopping found)) → IfBound found.certificate.claim (λ amount. WithRows m found (IsUndecided m budget limits stopping found))
+cause_whole m ranges budget limits stopping found all is =
+    bound_whole found.certificate.claim (λ amount. WithRows m found (IsUndecidedWithin m ranges budget limits stopping found)) (λ amount. WithRows m found (IsUndecided m budget limits stopping found))
+    (λ amount has. let (rows, good, left) = has in (rows, good, undecided_whole m ranges all rows budget limits stopping found left))
     is
 
 pub shows_whole : (m : Problem) (ranges : Ranges) (found : Found) → IsWhole m ranges → IfBound found.certificate.claim (λ amount. WithRows m found (HasEvidenceWithin m ranges found amount)) → IfBound found.certificate.claim (λ amount. WithRows m found (HasEvidence m found amount))

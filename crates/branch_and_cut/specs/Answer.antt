@@ -1,7 +1,8 @@
 -- All that holds of what a search finds.
-use Rattle.std.specs.Prelude.{◌≡◌, ◌↔◌, ℕ, ◌≤◌, Option, IfSome}
+use Rattle.std.specs.Prelude.{◌≡◌, ◌↔◌, ℕ, ◌≤◌, Bool, Option, IfSome}
 use Rattle.lot_sizing.specs.Problem.{IsUncoupled, Problem}
 use Rattle.plan_rules.specs.declared.plan.Plan.{Plan}
+use Rattle.branch_and_bound.specs.declared.limits.Limits.{Limits}
 use Rattle.branching.specs.declared.found.Found.{Found}
 use Rattle.branching.specs.declared.found.RootSays.TheVariants.{Uncoupled}
 use Rattle.branching.specs.Found.{IsProved}
@@ -30,33 +31,33 @@ pub record StartsWell (m : Problem) (r : Given) (budget : ℕ) (first : Option P
   pub root : IsRootOf m said
 
 -- over all ranges
-pub record IsAnswer (m : Problem) (budget : ℕ) (first : Option Plan) (found : Found) : Type 0 where
+pub record IsAnswer (m : Problem) (budget : ℕ) (limits : Limits) (stopping : Bool) (first : Option Plan) (found : Found) : Type 0 where
   pub proved : IsProved m found
   pub plan : IfSome found.plan (IsGoodPlan m)
   pub within : found.nodes ≤ budget
   pub kept : KeepsFirst m first found.plan
   pub own : KeepsOwn m found.plan
   pub goes : GoesTogether m found.certificate.claim found.plan
-  pub cause : IfBound found.certificate.claim (λ amount. WithRows m found (IsUndecided m budget found))
+  pub cause : IfBound found.certificate.claim (λ amount. WithRows m found (IsUndecided m budget limits stopping found))
   pub evidence : IfBound found.certificate.claim (λ amount. WithRows m found (HasEvidence m found amount))
   pub root : IsSaidAtRoot m found.root
   pub uncoupled : found.root ≡ Uncoupled ↔ IsUncoupled m
   pub uses : UsesRoot found found.root
   pub apart : IsNoLessThanApart m found.certificate.claim
-  pub complete : DecidesSmall m budget found.certificate.claim
+  pub complete : DecidesSmall m budget limits stopping found.certificate.claim
   pub version : IsVersionOf m found.certificate.version
 
 -- over ranges that were given; and all of the above where they are the whole ones
-pub record IsAnswerWithin (m : Problem) (ranges : Ranges) (budget : ℕ) (first : Option Plan) (found : Found) : Type 0 where
+pub record IsAnswerWithin (m : Problem) (ranges : Ranges) (budget : ℕ) (limits : Limits) (stopping : Bool) (first : Option Plan) (found : Found) : Type 0 where
   pub proved : IsProvedWithin m ranges found
   pub plan : IfSome found.plan (IsGoodWithin m ranges)
   pub within : found.nodes ≤ budget
   pub kept : KeepsFirst m first found.plan
   pub goes : GoesTogether m found.certificate.claim found.plan
-  pub cause : IfBound found.certificate.claim (λ amount. WithRows m found (IsUndecidedWithin m ranges budget found))
+  pub cause : IfBound found.certificate.claim (λ amount. WithRows m found (IsUndecidedWithin m ranges budget limits stopping found))
   pub evidence : IfBound found.certificate.claim (λ amount. WithRows m found (HasEvidenceWithin m ranges found amount))
   pub root : IsSaidAtRoot m found.root
   pub uncoupled : found.root ≡ Uncoupled ↔ IsUncoupled m
   pub apart : IsNoLessThanApart m found.certificate.claim
   pub version : IsVersionOf m found.certificate.version
-  pub whole : IsWhole m ranges → IsAnswer m budget first found
+  pub whole : IsWhole m ranges → IsAnswer m budget limits stopping first found

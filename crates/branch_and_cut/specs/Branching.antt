@@ -1,5 +1,5 @@
 -- What holds of a leaf goes on to hold on the sides of a branch, and later.
-use Rattle.std.proofs.Common.{◌∙◌, ⊎_elim, ℕ, sym, ap, subst, arith, Bool, List, [], ◌∷◌, ◌++◌, append_assoc}
+use Rattle.std.proofs.Common.{◌∙◌, ⊎_elim, ℕ, refl, sym, ap, subst, arith, Bool, List, [], ◌∷◌, ◌++◌, append_assoc}
 use Rattle.std.proofs.lemmas.List.{append-nil}
 use Rattle.lot_sizing.specs.Problem.{Problem}
 use Rattle.lin_rows.specs.declared.bound.Bound.{Bound}
@@ -19,7 +19,7 @@ use Rattle.branch_and_bound.specs.Ranges.{IsSplitAt}
 use Rattle.branch_and_bound.specs.Sides.{side_bound, side_path}
 use Rattle.search_ranges.specs.Sides.{path_of, point_at}
 use Rattle.branch_and_cut.specs.declared.knowing.Known.{Known}
-use Rattle.branch_and_cut.specs.Knowing.{IsAfter}
+use Rattle.branch_and_cut.specs.Knowing.{IsAfter, IsAfterWith}
 use Rattle.branch_and_cut.specs.Leaves.{IsGoodLeaf, IsGoodLeafWithin, IsKept, IsLasting, LeafSaysWithin, said}
 
 -- ---- leaves
@@ -125,3 +125,9 @@ after_on a b c first next = record {
   more = first.more ++ next.more;
   rows = next.rows ∙ ap (λ (list : List LinRow). list ++ next.more) first.rows ∙ append_assoc a.rows.items first.more next.more;
 }
+
+pub after_same_with : (a : Known) (may : Bool) → IsAfterWith a a may may
+after_same_with a may = record { after = after_same a; may = refl }
+
+pub after_on_with : (a b c : Known) (one two three : Bool) → IsAfterWith a b one two → IsAfterWith b c two three → IsAfterWith a c one three
+after_on_with a b c one two three first next = record { after = after_on a b c first.after next.after; may = first.may ∙ next.may }

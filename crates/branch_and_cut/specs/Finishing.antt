@@ -1,10 +1,11 @@
 -- What a search has shown when it ends.
-use Rattle.std.specs.Prelude.{◌≡◌, ℕ, ◌+◌, ◌*◌, ◌≤◌, List, []}
+use Rattle.std.specs.Prelude.{◌≡◌, ℕ, ◌+◌, ◌*◌, ◌≤◌, Bool, false, List, [], None}
 use Rattle.cert_lines.specs.declared.limits.TheConstants.{MAX_BRANCHES}
 use Rattle.branching.specs.declared.found.Found.{Found}
 use Rattle.branch_and_bound.specs.declared.node.Range.{Range}
 use Rattle.branch_and_bound.specs.declared.sought.Searched.{Searched}
-use Rattle.branch_and_bound.specs.Claims.{IsBound, IsShown, IsEvidenced, IsUndecided as IsLeftOpen}
+use Rattle.branch_and_bound.specs.declared.limits.Limits.{Limits}
+use Rattle.branch_and_bound.specs.Claims.{HasCause, IsBound, IsShown, IsEvidenced}
 use Rattle.branch_and_bound.specs.Counts.{longest, nodes}
 use Rattle.branch_and_bound.specs.Ranges.{height, volume}
 use Rattle.branch_and_bound.specs.Trees.{EachLeaf, IsSplitTree}
@@ -19,7 +20,7 @@ use Rattle.search_ranges.specs.Listed.{AreListed}
 use Rattle.search_ranges.specs.Within.{IsWhole}
 
 -- a tree over the ranges that were given, whose leaves say what is claimed
-pub record IsSearched (g : Model) (k : Known) (budget : ℕ) (rs : List Range) (s : Searched) : Type 0 where
+pub record IsSearched (g : Model) (k : Known) (budget : ℕ) (limits : Limits) (stopping : Bool) (rs : List Range) (s : Searched) : Type 0 where
   pub known : IsKnown g k
   pub listed : AreListed g.instance.now (ranges_in g) rs
   pub node : IsNodeIn g rs []
@@ -30,14 +31,14 @@ pub record IsSearched (g : Model) (k : Known) (budget : ℕ) (rs : List Range) (
   pub holds : EachLeaf (choice_place g.instance.now) (IsKeptIn g k) rs [] s.tree
   pub shown : IsShown (choice_rules g.instance.now) (cost_kept k.best) rs s.tree s.claim
   pub evident : IsEvidenced (choice_rules g.instance.now) (λ rs path p. IsEvidentIn g path p) rs s.tree s.claim
-  pub cause : IsBound s.claim → IsLeftOpen (choice_rules g.instance.now) (cost_kept k.best) budget rs s.tree
-  pub decided : 2 * volume rs ≤ budget + 1 → height rs ≤ MAX_BRANCHES → IsBound s.claim → ⊥
+  pub cause : HasCause (choice_rules g.instance.now) (cost_kept k.best) budget limits.gap stopping rs s.tree s.claim
+  pub decided : limits.gap ≡ None → stopping ≡ false → 2 * volume rs ≤ budget + 1 → height rs ≤ MAX_BRANCHES → IsBound s.claim → ⊥
 
 -- what is found with its certificate, after such a search
-pub record IsFinished (g : Model) (k : Known) (budget : ℕ) (found : Found) : Type 0 where
+pub record IsFinished (g : Model) (k : Known) (budget : ℕ) (limits : Limits) (stopping : Bool) (found : Found) : Type 0 where
   pub within : found.nodes ≤ budget
   pub goes : GoesTogether g.instance.now found.certificate.claim found.plan
-  pub cause : IfBound found.certificate.claim (λ amount. WithRows g.instance.now found (IsUndecidedWithin g.instance.now (ranges_in g) budget found))
+  pub cause : IfBound found.certificate.claim (λ amount. WithRows g.instance.now found (IsUndecidedWithin g.instance.now (ranges_in g) budget limits stopping found))
   pub evidence : IfBound found.certificate.claim (λ amount. WithRows g.instance.now found (HasEvidenceWithin g.instance.now (ranges_in g) found amount))
-  pub complete : IsWhole g.instance.now (ranges_in g) → DecidesSmall g.instance.now budget found.certificate.claim
+  pub complete : IsWhole g.instance.now (ranges_in g) → DecidesSmall g.instance.now budget limits stopping found.certificate.claim
   pub least : IsClaimedAtLeast g.least found.certificate.claim

@@ -1,5 +1,5 @@
 -- What the search of a model knows while it goes on.
-use Rattle.std.specs.Prelude.{◌≡◌, ℕ, ◌++◌, List, map, IfSome}
+use Rattle.std.specs.Prelude.{◌≡◌, ℕ, ◌++◌, Bool, false, List, map, IfSome}
 use Rattle.lin_rows.specs.Rows.{LinRow}
 use Rattle.cert_lines.specs.Shapes.{CutShape, cut_shape}
 use Rattle.echelon.specs.Weights.{IsExplosionOf}
@@ -40,6 +40,16 @@ pub record IsKnown (g : Model) (k : Known) : Type 0 where
   pub best : IfSome k.best (IsMadeWithin g.instance.now (ranges_in g))
   pub sums : IsReadyFor g.instance.now k.sums
   pub explosion : IsExplosionOf g.instance.now g.explosion
+
+-- what is known at a time, with whether the search was ended: where nothing may end it, it wasn't
+pub record IsKnownBy (g : Model) (k : Known) (is_ended may_stop : Bool) : Type 0 where
+  pub known : IsKnown g k
+  pub ended : may_stop ≡ false → is_ended ≡ false
+
+-- more rows may follow those that were there, and whether the search may be ended is as it was
+pub record IsAfterWith (old new : Known) (may_before may_after : Bool) : Type 0 where
+  pub after : IsAfter old new
+  pub may : may_before ≡ may_after
 
 -- it is known later: more rows may follow, and the best plan is at least as good
 pub record KnowsMore (g : Model) (old new : Known) : Type 0 where

@@ -1,5 +1,5 @@
 -- What the search of a model gives, and what it shows where it leaves the best cost open.
-use Rattle.std.specs.Prelude.{◌≡◌, ◌⊎◌, ℕ, ◌+◌, ◌*◌, ◌≤◌, ◌<◌, List, [], length, map, Option, Some, None, IfSome, IsNone, IsSome, ⊤}
+use Rattle.std.specs.Prelude.{◌≡◌, ◌⊎◌, ℕ, ◌+◌, ◌*◌, ◌≤◌, ◌<◌, Bool, true, false, List, [], length, map, Option, Some, None, IfSome, IsNone, IsSome, ⊤}
 use Rattle.lot_sizing.specs.Problem.{IsPlain, Problem, item_count}
 use Rattle.lot_sizing.specs.Plan as terms
 use Rattle.plan_rules.specs.declared.plan.Plan.{Plan}
@@ -26,6 +26,8 @@ pub use Rattle.incumbent.specs.Good.{IsGoodPlan, cost_of}
 use Rattle.apart.specs.Apart.{IsApart}
 use Rattle.path_relaxation.specs.declared.says.Exempt.{Exempt}
 use Rattle.path_relaxation.specs.Path.{IsExempt, IsMetAt}
+use Rattle.branch_and_bound.specs.declared.limits.Limits.{Limits}
+use Rattle.branch_and_bound.specs.Gaps.{IsWithinGap}
 use Rattle.branch_and_bound.specs.Whole.{whole_height, whole_volume}
 
 -- ---- plans
@@ -146,17 +148,36 @@ pub record IsDeep (m : Problem) (found : Found) (rows : List LinRow) : Type 0 wh
   pub leaves : EachLeaf (IsDeepIfOpen m found.plan rows) [] (tree_in found)
 
 -- two more nodes would pass the budget, or the tree is as deep as it may be
-abbrev pub IsUndecided : Problem → ℕ → Found → List LinRow → Type 0
-IsUndecided m budget found rows = (budget < found.nodes + 2) ⊎ IsDeep m found rows
+abbrev pub IsOutOfRoom : Problem → ℕ → Found → List LinRow → Type 0
+IsOutOfRoom m budget found rows = (budget < found.nodes + 2) ⊎ IsDeep m found rows
+
+-- a bound is claimed, and there is a plan that costs no more than the gap above it
+abbrev pub IsPlanNear : Problem → Option ℕ → Claim → Option Plan → Type 0
+IsPlanNear m gap (Optimal amount) given = ⊥
+IsPlanNear m gap Infeasible given = ⊥
+IsPlanNear m gap (BoundOf amount) None = ⊥
+IsPlanNear m gap (BoundOf amount) (Some p) = IsWithinGap gap amount (Some (cost_of m p))
+
+-- no limits but the budget
+abbrev pub no_limits : Limits
+no_limits = record { gap = None }
+
+-- why a bound is claimed. There was no more room; or the plan costs no more than the gap of the limits above the bound; or what watches may have ended the search, which `stopping` says
+abbrev pub IsUndecided : Problem → ℕ → Limits → Bool → Found → List LinRow → Type 0
+IsUndecided m budget limits stopping found rows =
+    IsOutOfRoom m budget found rows
+    ⊎ IsPlanNear m limits.gap found.certificate.claim found.plan
+    ⊎ (stopping ≡ true)
 
 -- the budget is enough for all choices of quantities and setups, and no path is too short for them
 pub record HasBudgetForAll (m : Problem) (budget : ℕ) (total : ℕ → ℕ) : Type 0 where
   pub volume : 2 * whole_volume (item_count m) m.periods total ≤ budget + 1
   pub height : whole_height (item_count m) m.periods total ≤ MAX_BRANCHES
 
--- then the model is decided
-abbrev pub DecidesSmall : Problem → ℕ → Claim → Type 0
-DecidesSmall m budget claim = WithTotals m (λ total. HasBudgetForAll m budget total → IsDecided claim)
+-- then the model is decided, unless there is a gap within which the search may end, or what watches may end it
+abbrev pub DecidesSmall : Problem → ℕ → Limits → Bool → Claim → Type 0
+DecidesSmall m budget limits stopping claim =
+    limits.gap ≡ None → stopping ≡ false → WithTotals m (λ total. HasBudgetForAll m budget total → IsDecided claim)
 
 -- ---- versions
 -- the text is of the first version where the problem is plain, and of the second otherwise

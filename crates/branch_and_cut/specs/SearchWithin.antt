@@ -1,5 +1,5 @@
 -- What the search of a model within given ranges gives, and what it shows where it leaves the best cost open.
-use Rattle.std.specs.Prelude.{◌≡◌, ◌⊎◌, ℕ, ◌+◌, ◌≤◌, ◌<◌, ◌^◌, List, [], length, Option}
+use Rattle.std.specs.Prelude.{◌≡◌, ◌⊎◌, ℕ, ◌+◌, ◌≤◌, ◌<◌, ◌^◌, Bool, true, List, [], length, Option}
 use Rattle.lot_sizing.specs.Problem.{Problem, item_count}
 use Rattle.plan_rules.specs.declared.plan.Plan.{Plan}
 use Rattle.lin_rows.specs.declared.bound.Bound.{Bound}
@@ -19,9 +19,10 @@ use Rattle.cert_checker.specs.Checks.{ComesWith, line_count, plan_given}
 use Rattle.cert_checker.specs.Cuts.{OfProblem}
 use Rattle.branching.specs.declared.found.Found.{Found}
 use Rattle.branching.specs.Found.{IsProved}
+use Rattle.branch_and_bound.specs.declared.limits.Limits.{Limits}
 use Rattle.branch_and_bound.specs.Whole.{whole_height}
 use Rattle.search_ranges.specs.Within.{IsWhole}
-use Rattle.branch_and_cut.specs.Search.{IsBelowPlan, IsEvidence, SomeLeaf, tree_in}
+use Rattle.branch_and_cut.specs.Search.{IsBelowPlan, IsEvidence, IsPlanNear, SomeLeaf, tree_in}
 
 -- ---- certificates
 -- a certificate is accepted over the ranges with the plan that was given, and its sums are small
@@ -61,8 +62,15 @@ pub record IsDeepWithin (m : Problem) (ranges : Ranges) (found : Found) (rows : 
   pub leaves : EachLeaf (IsDeepIfOpenWithin m ranges found.plan rows) [] (tree_in found)
 
 -- two more nodes would pass the budget, or the tree is as deep as it may be
-abbrev pub IsUndecidedWithin : Problem → Ranges → ℕ → Found → List LinRow → Type 0
-IsUndecidedWithin m ranges budget found rows = (budget < found.nodes + 2) ⊎ IsDeepWithin m ranges found rows
+abbrev pub IsOutOfRoomWithin : Problem → Ranges → ℕ → Found → List LinRow → Type 0
+IsOutOfRoomWithin m ranges budget found rows = (budget < found.nodes + 2) ⊎ IsDeepWithin m ranges found rows
+
+-- why a bound is claimed. There was no more room; or the plan costs no more than the gap of the limits above the bound; or what watches may have ended the search, which `stopping` says
+abbrev pub IsUndecidedWithin : Problem → Ranges → ℕ → Limits → Bool → Found → List LinRow → Type 0
+IsUndecidedWithin m ranges budget limits stopping found rows =
+    IsOutOfRoomWithin m ranges budget found rows
+    ⊎ IsPlanNear m limits.gap found.certificate.claim found.plan
+    ⊎ (stopping ≡ true)
 
 -- ---- the whole ranges
 -- what is proved over them is proved of all plans

@@ -1,6 +1,7 @@
 // What is found, with its certificate.
-ghost use Rattle.std.specs.Prelude.{◌≡◌, ℕ, List, IfOk};
+ghost use Rattle.std.specs.Prelude.{◌≡◌, ℕ, Bool, List, IfOk};
 ghost use Rattle.root_rounds.specs.Root.{HasFigures};
+ghost use Rattle.branch_and_bound.specs.declared.limits.Limits.{Limits};
 ghost use Rattle.branch_and_bound.specs.declared.node.Range.{Range};
 ghost use Rattle.branch_and_cut.specs.Finishing.{IsFinished, IsSearched};
 ghost use Rattle.incumbent.specs.Kept.{plan_kept};
@@ -27,12 +28,16 @@ pub(crate) fn finish(
     searched: Searched,
 ) -> Result<Found, AllocError>
     requires figures { HasFigures model.now.instance.now }
-    requires searched { (budget : ℕ) × (rs : List Range) × IsSearched model.now known budget rs searched }
+    requires searched { (budget : ℕ) × (limits : Limits) × (stopping : Bool) × (rs : List Range)
+        × IsSearched model.now known budget limits stopping rs searched }
     ensures proved { IfOk result (IsProvedWithin model.now.instance.now (ranges_in model.now)) }
     ensures plan { IfOk result (λ found. found.plan ≡ plan_kept known.best) }
     ensures root { IfOk result (λ found. found.root ≡ model.now.root) }
     ensures version { IfOk result (λ found. found.certificate.version ≡ model.now.version) }
-    ensures shown { IfOk result (λ found. (budget : ℕ) (rs : List Range) → IsSearched model.now known budget rs searched → IsFinished model.now known budget found) }
+    ensures shown { IfOk result (λ found.
+        (budget : ℕ) (limits : Limits) (stopping : Bool) (rs : List Range)
+        → IsSearched model.now known budget limits stopping rs searched
+        → IsFinished model.now known budget limits stopping found) }
 {
     accepted_over_ranges();
     few_lines();

@@ -13,15 +13,24 @@ pub(crate) struct Guided<'a, P, H> {
     pub(crate) heuristic: &'a H,
 }
 
-/// What is known while a search goes on, with the states of the plugins. Nothing is claimed of those.
+/// What is known while a search goes on, with the states of what proposes. Nothing is claimed of those.
 #[derive(Drop)]
-pub(crate) struct State<N, E, W> {
+pub(crate) struct State<N, E> {
     /// What is known.
     pub(crate) known: Known,
     /// What the proposer remembers.
     pub(crate) notes: N,
     /// What the heuristic remembers.
     pub(crate) effort: E,
-    /// What is told of nodes.
+}
+
+/// The same, with what is told of it and may end the search.
+#[derive(Drop)]
+pub(crate) struct Watched<N, E, W> {
+    /// What is known, and what is remembered.
+    pub(crate) work: State<N, E>,
+    /// What is told of nodes and passes.
     pub(crate) watch: W,
+    /// Whether it has ended the search.
+    pub(crate) is_ended: bool,
 }

@@ -18,7 +18,7 @@ use certificate::{Cut, MAX_CUTS};
 use incumbent::best_cost;
 use lot_model::Instance;
 use plan_rules::Planned;
-use search_plugins::{Heuristic, Progress, Proposed, Proposer, Watch};
+use search_plugins::{Heuristic, Progress, Proposed, Proposer};
 use std::alloc::{AllocError, Global};
 
 // Whether there is room for a cut of each item.
@@ -132,12 +132,12 @@ fn noted<P: Proposer>(
 
 /// The leaf of a node: the one that was there, or one that is proposed where it says more. One is asked for where the
 /// leaf that was there leaves the node open, and where there is room for cuts. Plans are proposed beside.
-pub(crate) fn priced<P: Proposer, H: Heuristic<P::Hint>, W: Watch>(
+pub(crate) fn priced<P: Proposer, H: Heuristic<P::Hint>>(
     alloc: Global,
     guided: &Guided<'_, P, H>,
     node: &Node,
     proposal: Proposal,
-    state: &mut State<P::State, H::State, W>,
+    state: &mut State<P::State, H::State>,
 ) -> Result<Proposal, AllocError>
     requires reached { IsReached guided.now.model state.old.known node.now }
     requires lasting { IsLastingIn guided.now.model state.old.known node.now.path.items proposal }

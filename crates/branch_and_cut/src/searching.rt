@@ -1,6 +1,7 @@
 // The search of a model.
-ghost use Rattle.std.specs.Prelude.{◌≡◌, ◌≤◌, ◌↔◌, IfOk, IfSome};
+ghost use Rattle.std.specs.Prelude.{◌≡◌, ◌≤◌, ◌↔◌, Bool, IfOk, IfSome};
 ghost use Rattle.lot_sizing.specs.Problem.{IsUncoupled};
+ghost use Rattle.branch_and_bound.specs.declared.limits.Limits.{Limits};
 ghost use Rattle.branching.specs.Found.{IsProved};
 ghost use Rattle.branching.specs.declared.found.RootSays.TheVariants.{Empty, Uncoupled};
 ghost use Rattle.leaf_growth.specs.Written.{HasVersion};
@@ -17,10 +18,11 @@ use crate::finishing::finish;
 use crate::guiding::Model;
 use crate::impossible::none_found;
 use crate::knowing::Known;
-use crate::plugged::{Guided, State};
+use crate::plugged::{Guided, State, Watched};
 use crate::whole::whole_is_proved;
 use apart::{Apart, apart, apart_is_one};
 use branch_and_bound as engine;
+use branch_and_bound::Limits;
 use branching::{Found, RootSays, plan_uncoupled};
 use cert_checker::NamedSums;
 use certificate::{FIRST_CERT_VERSION, MAX_CERT_VERSION};
@@ -72,6 +74,7 @@ fn searched<P: Proposer, H: Heuristic<P::Hint>, W: Watch + Drop>(
     ranges: &Ranges,
     budget: u64,
     first: Option<Plan>,
+    limits: Limits,
     said: Root,
     apart: Apart,
 ) -> Result<Found, AllocError>
@@ -79,7 +82,8 @@ fn searched<P: Proposer, H: Heuristic<P::Hint>, W: Watch + Drop>(
     requires coupled { IsWhole instance.now (given_ranges ranges.now) → said.says ≡ Uncoupled → ⊥ }
     requires some { said.says ≡ Empty → ⊥ }
     requires apart { AreApart instance.now apart }
-    ensures { IfOk result (IsAnswerWithin instance.now (given_ranges ranges.now) budget first) }
+    ensures { IfOk result
+        (IsAnswerWithin instance.now (given_ranges ranges.now) budget limits (W.may_stop watch) first) }
 {
     apart_is_one();
     lie_in_whole(instance);
@@ -111,15 +115,19 @@ fn searched<P: Proposer, H: Heuristic<P::Hint>, W: Watch + Drop>(
         proposer,
         heuristic,
     };
-    let mut state = State {
+    let work = State {
         known,
         notes: proposer.begin(alloc, instance)?,
         effort,
+    };
+    let mut state = Watched {
+        work,
         watch,
+        is_ended: false,
     };
     let list = listed(alloc, instance, ranges)?;
-    let found = engine::search(alloc, &guided, list, &mut state, budget)?;
-    finish(alloc, &guided.model, state.known, found)
+    let found = engine::search(alloc, &guided, list, &mut state, budget, limits)?;
+    finish(alloc, &guided.model, state.work.known, found)
 }
 
 // What is found of a model without coupling: its best plan, where that lies within the ranges; that there is none; and
@@ -133,13 +141,15 @@ fn alone<P: Proposer, H: Heuristic<P::Hint>, W: Watch + Drop>(
     ranges: &Ranges,
     budget: u64,
     first: Option<Plan>,
+    limits: Limits,
     said: Root,
     apart: Apart,
 ) -> Result<Found, AllocError>
     requires start { StartsWell instance.now ranges.now budget first said }
     requires uncoupled { said.says ≡ Uncoupled }
     requires apart { AreApart instance.now apart }
-    ensures { IfOk result (IsAnswerWithin instance.now (given_ranges ranges.now) budget first) }
+    ensures { IfOk result
+        (IsAnswerWithin instance.now (given_ranges ranges.now) budget limits (W.may_stop watch) first) }
 {
     apart_is_one();
     lie_in_whole(instance);
@@ -148,7 +158,7 @@ fn alone<P: Proposer, H: Heuristic<P::Hint>, W: Watch + Drop>(
         return Ok(found);
     }
     searched(
-        alloc, proposer, heuristic, watch, instance, ranges, budget, first, said, apart,
+        alloc, proposer, heuristic, watch, instance, ranges, budget, first, limits, said, apart,
     )
 }
 
@@ -162,7 +172,8 @@ fn impossible(
 ) -> Found
     requires start { StartsWell instance.now ranges.now budget first said }
     requires none { said.says ≡ Empty }
-    ensures { IsAnswerWithin instance.now (given_ranges ranges.now) budget first result }
+    ensures { (limits : Limits) (stopping : Bool)
+        → IsAnswerWithin instance.now (given_ranges ranges.now) budget limits stopping first result }
 {
     whole_is_proved(instance);
     let version = version_of(instance);
@@ -179,20 +190,22 @@ fn answer<P: Proposer, H: Heuristic<P::Hint>, W: Watch + Drop>(
     ranges: &Ranges,
     budget: u64,
     first: Option<Plan>,
+    limits: Limits,
     said: Root,
     apart: Apart,
 ) -> Result<Found, AllocError>
     requires start { StartsWell instance.now ranges.now budget first said }
     requires apart { AreApart instance.now apart }
-    ensures { IfOk result (IsAnswerWithin instance.now (given_ranges ranges.now) budget first) }
+    ensures { IfOk result
+        (IsAnswerWithin instance.now (given_ranges ranges.now) budget limits (W.may_stop watch) first) }
 {
     match said.says {
         RootSays::Uncoupled => alone(
-            alloc, proposer, heuristic, watch, instance, ranges, budget, first, said, apart,
+            alloc, proposer, heuristic, watch, instance, ranges, budget, first, limits, said, apart,
         ),
         RootSays::Empty => Ok(impossible(instance, ranges, budget, first, said)),
         _ => searched(
-            alloc, proposer, heuristic, watch, instance, ranges, budget, first, said, apart,
+            alloc, proposer, heuristic, watch, instance, ranges, budget, first, limits, said, apart,
         ),
     }
 }
@@ -208,7 +221,11 @@ fn answer<P: Proposer, H: Heuristic<P::Hint>, W: Watch + Drop>(
 /// |---|---|
 /// | `Optimal` | no plan within the ranges costs less than the plan, which costs this amount of money |
 /// | `Infeasible` | no plan within the ranges is feasible |
-/// | `Bound` | every plan within the ranges costs at least this amount, which is below the cost of the plan, if there is one. The cause is the budget, which two more nodes would pass, or the `MAX_BRANCHES` branches that a path may have |
+/// | `Bound` | every plan within the ranges costs at least this amount, which is below the cost of the plan, if there is one. The cause is one of four, below |
+///
+/// A bound is claimed only for one of these causes. Two more nodes would pass the budget. Or all leaves that are left open have
+/// the `MAX_BRANCHES` branches above them that a path may have. Or there is a plan, and its cost lies no more than the gap of
+/// `limits` above the amount, in hundredths of a percent of that cost. Or the watcher may end the search (`may_stop`).
 ///
 /// No amount is below what the items cost apart. A bound is said by some leaf; at each leaf that says it, some point of the
 /// relaxation without cuts on the path to it costs no more, or that relaxation wasn't found, for the exact cause that
@@ -219,7 +236,8 @@ fn answer<P: Proposer, H: Heuristic<P::Hint>, W: Watch + Drop>(
 ///
 /// All of it holds for any proposer, heuristic and watcher. Leaves that are proposed are judged, and cuts and places to branch on
 /// are tested; a heuristic may put a feasible plan within the ranges, which costs no more, in the place of the best one. The
-/// watcher is told of the nodes of the tree.
+/// watcher is told of the nodes of the tree and of the passes over it, and is asked whether the search is to end: before each pass
+/// and before each branch. The work at the root and the evidence for a bound aren't ended so.
 ///
 /// The error is that memory ran out, by a plugin's word too. It takes memory for a tableau and for the tree with its leaves. A
 /// tree of more than `MAX_NODES` nodes, 2^45, is given up with the same error.
@@ -232,6 +250,7 @@ pub fn search<P: Proposer, H: Heuristic<P::Hint>, W: Watch + Drop>(
     ranges: Ranges,
     budget: u64,
     first: Option<Plan>,
+    limits: Limits,
 ) -> Result<Found, AllocError>
     requires budget { 1 ≤ budget }
     requires ranges { AreGiven instance.now ranges }
@@ -241,18 +260,21 @@ pub fn search<P: Proposer, H: Heuristic<P::Hint>, W: Watch + Drop>(
     ensures within { IfOk result (λ found. found.nodes ≤ budget) }
     ensures kept { IfOk result (λ found. KeepsFirst instance.now first found.plan) }
     ensures goes { IfOk result (λ found. GoesTogether instance.now found.certificate.claim found.plan) }
-    ensures cause { IfOk result (λ found. IfBound found.certificate.claim (λ amount. WithRows instance.now found (IsUndecidedWithin instance.now (given_ranges ranges) budget found))) }
+    ensures cause { IfOk result (λ found. IfBound found.certificate.claim (λ amount.
+        WithRows instance.now found
+        (IsUndecidedWithin instance.now (given_ranges ranges) budget limits (W.may_stop watch) found))) }
     ensures evidence { IfOk result (λ found. IfBound found.certificate.claim (λ amount. WithRows instance.now found (HasEvidenceWithin instance.now (given_ranges ranges) found amount))) }
     ensures root { IfOk result (λ found. IsSaidAtRoot instance.now found.root) }
     ensures uncoupled { IfOk result (λ found. found.root ≡ Uncoupled ↔ IsUncoupled instance.now) }
     ensures apart { IfOk result (λ found. IsNoLessThanApart instance.now found.certificate.claim) }
     ensures version { IfOk result (λ found. IsVersionOf instance.now found.certificate.version) }
-    ensures whole { IfOk result (λ found. IsWhole instance.now (given_ranges ranges) → IsAnswer instance.now budget first found) }
+    ensures whole { IfOk result (λ found. IsWhole instance.now (given_ranges ranges)
+        → IsAnswer instance.now budget limits (W.may_stop watch) first found) }
 {
     let said = root(alloc, instance)?;
     let apart = apart(alloc, instance)?;
     let found = answer(
-        alloc, proposer, heuristic, watch, instance, &ranges, budget, first, said, apart,
+        alloc, proposer, heuristic, watch, instance, &ranges, budget, first, limits, said, apart,
     )?;
     Ok(found)
 }
@@ -267,7 +289,11 @@ pub fn search<P: Proposer, H: Heuristic<P::Hint>, W: Watch + Drop>(
 /// |---|---|
 /// | `Optimal` | the plan is best and costs this amount of money |
 /// | `Infeasible` | no plan is feasible |
-/// | `Bound` | every plan costs at least this amount, which is below the cost of the plan, if there is one. The cause is the budget, which two more nodes would pass, or the `MAX_BRANCHES` branches that a path may have |
+/// | `Bound` | every plan costs at least this amount, which is below the cost of the plan, if there is one. The cause is one of four, below |
+///
+/// A bound is claimed only for one of these causes. Two more nodes would pass the budget. Or all leaves that are left open have
+/// the `MAX_BRANCHES` branches above them that a path may have. Or there is a plan, and its cost lies no more than the gap of
+/// `limits` above the amount, in hundredths of a percent of that cost. Or the watcher may end the search (`may_stop`).
 ///
 /// No amount is below what the items cost apart or what the root closes to. A bound is said by some leaf; at each leaf
 /// that says it, some point of the relaxation without cuts on the path to it costs no more, or that relaxation wasn't
@@ -276,11 +302,13 @@ pub fn search<P: Proposer, H: Heuristic<P::Hint>, W: Watch + Drop>(
 /// An uncoupled model takes one node, and so does a model of which the root says that its relaxation has no point
 /// (`Empty`). A root that is skipped, stopped or passed doesn't say so, and then one node isn't promised. A budget of
 /// about twice the number of all choices of quantities and setups decides every model whose largest totals and setups
-/// have at most `MAX_BRANCHES` binary digits over all items and periods.
+/// have at most `MAX_BRANCHES` binary digits over all items and periods, where there is no gap and the watcher may not end the
+/// search.
 ///
 /// All of it holds for any proposer, heuristic and watcher. Leaves that are proposed are judged, and cuts and places to branch on
 /// are tested; a heuristic may put a feasible plan, which costs no more, in the place of the best one. The
-/// watcher is told of the nodes of the tree.
+/// watcher is told of the nodes of the tree and of the passes over it, and is asked whether the search is to end: before each pass
+/// and before each branch. The work at the root and the evidence for a bound aren't ended so.
 ///
 /// The error is that memory ran out, by a plugin's word too. It takes memory for a tableau and for the tree with its leaves. A
 /// tree of more than `MAX_NODES` nodes, 2^45, is given up with the same error.
@@ -292,6 +320,7 @@ pub fn search_all<P: Proposer, H: Heuristic<P::Hint>, W: Watch + Drop>(
     instance: &Instance,
     budget: u64,
     first: Option<Plan>,
+    limits: Limits,
 ) -> Result<Found, AllocError>
     requires budget { 1 ≤ budget }
     requires first { IfSome first (IsGoodPlan instance.now) }
@@ -301,18 +330,21 @@ pub fn search_all<P: Proposer, H: Heuristic<P::Hint>, W: Watch + Drop>(
     ensures kept { IfOk result (λ found. KeepsFirst instance.now first found.plan) }
     ensures own { IfOk result (λ found. KeepsOwn instance.now found.plan) }
     ensures goes { IfOk result (λ found. GoesTogether instance.now found.certificate.claim found.plan) }
-    ensures cause { IfOk result (λ found. IfBound found.certificate.claim (λ amount. WithRows instance.now found (IsUndecided instance.now budget found))) }
+    ensures cause { IfOk result (λ found. IfBound found.certificate.claim (λ amount.
+        WithRows instance.now found
+        (IsUndecided instance.now budget limits (W.may_stop watch) found))) }
     ensures evidence { IfOk result (λ found. IfBound found.certificate.claim (λ amount. WithRows instance.now found (HasEvidence instance.now found amount))) }
     ensures root { IfOk result (λ found. IsSaidAtRoot instance.now found.root) }
     ensures uncoupled { IfOk result (λ found. found.root ≡ Uncoupled ↔ IsUncoupled instance.now) }
     ensures uses { IfOk result (λ found. UsesRoot found found.root) }
     ensures apart { IfOk result (λ found. IsNoLessThanApart instance.now found.certificate.claim) }
-    ensures complete { IfOk result (λ found. DecidesSmall instance.now budget found.certificate.claim) }
+    ensures complete { IfOk result (λ found.
+        DecidesSmall instance.now budget limits (W.may_stop watch) found.certificate.claim) }
     ensures version { IfOk result (λ found. IsVersionOf instance.now found.certificate.version) }
 {
     lie_in_whole(instance);
     let ranges = Ranges::all(alloc, instance)?;
     search(
-        alloc, proposer, heuristic, watch, instance, ranges, budget, first,
+        alloc, proposer, heuristic, watch, instance, ranges, budget, first, limits,
     )
 }

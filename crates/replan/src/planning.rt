@@ -1,25 +1,25 @@
 // From an instance and a plan to a plan of the later periods.
-ghost use Rattle.std.specs.Prelude.{◌≡◌, ◌≤◌, ◌<◌, ◌^◌, ◌↔◌, ◌⊎◌, ℕ, Ok, Err, IfOk, IfSome};
+ghost use Rattle.std.specs.Prelude.{◌≡◌, ◌≤◌, ◌<◌, ◌^◌, ◌↔◌, ◌⊎◌, ℕ, false, Ok, Err, IfOk, IfSome};
 ghost use Rattle.lot_sizing.specs.Problem.{IsUncoupled};
 ghost use Rattle.lot_draft.specs.declared.fault.ModelFault.{ModelFault};
 ghost use Rattle.plan_rules.specs.Held.{AllFit, plan_of};
 ghost use Rattle.frozen_start.specs.Starts.{NoneAgreesWith, StartStands};
 ghost use Rattle.branching.specs.Found.{IsProved};
 ghost use Rattle.branching.specs.declared.found.RootSays.TheVariants.{Uncoupled};
-ghost use Rattle.branch_and_cut.specs.Search.{DecidesSmall, GoesTogether, HasEvidence, IfBound, IsGoodPlan, IsNoLessThanApart, IsSaidAtRoot, IsUndecided, IsVersionOf, KeepsOwn, UsesRoot, WithRows};
+ghost use Rattle.branch_and_cut.specs.Search.{DecidesSmall, GoesTogether, HasEvidence, IfBound, IsGoodPlan, IsNoLessThanApart, IsSaidAtRoot, IsUndecided, IsVersionOf, KeepsOwn, UsesRoot, WithRows, no_limits};
 ghost use Rattle.replan.specs.Answers.{IsFirstLead, IsRest, IsRestRefused, MayGoOn};
 ghost use Rattle.replan.specs.Whole.{DecidesWhole, IfPlanned, IsJoined, total_claimed};
 ghost use Rattle.replan.specs.declared.fault.RestFault.TheVariants.{First, Lead, Draft, Memory};
 ghost use Rattle.replan.specs.declared.planned.Replanned.TheVariants.{NoStart};
 
 use crate::{Replanned, Rest, RestFault, rest};
-use branch_and_cut::search_all;
+use branch_and_cut::{Limits, search_all};
 use branching::Found;
 use certificate::Claim;
 use frozen_start::{joins_are_feasible, rests_decide};
 use lot_model::Instance;
 use plan_rules::Plan;
-use search_plugins::{Heuristic, Proposer, Watch};
+use search_plugins::{Heuristic, Proposer, Unstopped, Watch};
 use std::alloc::Global;
 
 /// What is claimed of all plans that agree with the start, in money: what they cost at least. It is what is spent and the least
@@ -47,6 +47,8 @@ pub fn total(rest: &Rest, found: &Found) -> Option<u128>
 /// | `Planned` with `Optimal` | the plan behind the start is feasible, and none that agrees with the start costs less; its cost is the `total` |
 /// | `Planned` with `Infeasible` | no feasible plan agrees with the start |
 /// | `Planned` with `Bound` | each feasible plan that agrees with the start costs at least the `total` |
+///
+/// The watcher is told of the search, and doesn't end it.
 ///
 /// `rest` is what the call `rest` gives, and so are the errors. `found` meets every clause of `search_all` of the rest's
 /// instance.
@@ -79,13 +81,13 @@ pub fn replan<P: Proposer, H: Heuristic<P::Hint>, W: Watch + Drop>(
     ensures within { IfOk result (IfPlanned (λ rest found. found.nodes ≤ budget)) }
     ensures own { IfOk result (IfPlanned (λ rest found. KeepsOwn rest.instance found.plan)) }
     ensures goes { IfOk result (IfPlanned (λ rest found. GoesTogether rest.instance found.certificate.claim found.plan)) }
-    ensures cause { IfOk result (IfPlanned (λ rest found. IfBound found.certificate.claim (λ amount. WithRows rest.instance found (IsUndecided rest.instance budget found)))) }
+    ensures cause { IfOk result (IfPlanned (λ rest found. IfBound found.certificate.claim (λ amount. WithRows rest.instance found (IsUndecided rest.instance budget no_limits false found)))) }
     ensures evidence { IfOk result (IfPlanned (λ rest found. IfBound found.certificate.claim (λ amount. WithRows rest.instance found (HasEvidence rest.instance found amount)))) }
     ensures root { IfOk result (IfPlanned (λ rest found. IsSaidAtRoot rest.instance found.root)) }
     ensures uncoupled { IfOk result (IfPlanned (λ rest found. found.root ≡ Uncoupled ↔ IsUncoupled rest.instance)) }
     ensures uses { IfOk result (IfPlanned (λ rest found. UsesRoot found found.root)) }
     ensures apart { IfOk result (IfPlanned (λ rest found. IsNoLessThanApart rest.instance found.certificate.claim)) }
-    ensures complete { IfOk result (IfPlanned (λ rest found. DecidesSmall rest.instance budget found.certificate.claim)) }
+    ensures complete { IfOk result (IfPlanned (λ rest found. DecidesSmall rest.instance budget no_limits false found.certificate.claim)) }
     ensures version { IfOk result (IfPlanned (λ rest found. IsVersionOf rest.instance found.certificate.version)) }
 {
     joins_are_feasible();
@@ -93,7 +95,11 @@ pub fn replan<P: Proposer, H: Heuristic<P::Hint>, W: Watch + Drop>(
     match rest(alloc, instance, &plan.make, &plan.setup, first) {
         Ok(Some(rest)) => {
             let later = &rest.instance;
-            let found = search_all(alloc, proposer, heuristic, watch, later, budget, None)?;
+            let watch = Unstopped { told: watch };
+            let limits = Limits { gap: None };
+            let found = search_all(
+                alloc, proposer, heuristic, watch, later, budget, None, limits,
+            )?;
             Ok(Replanned::Planned { rest, found })
         }
         Ok(None) => Ok(Replanned::NoStart),

@@ -1,5 +1,5 @@
 //! What may be plugged into the search: traits of what proposes leaves and branches, of what proposes plans, and of what is told
-//! of its nodes.
+//! of its nodes and passes and may end it.
 //!
 //! The search takes any of them, and what it promises holds for any. It judges each leaf, tests each cut, and branches on a place
 //! only where that can be branched on. The clauses of a heuristic are that it puts nothing in the place of the best plan but a
@@ -8,8 +8,9 @@
 //! A `Proposer` is asked in this order. Once: `begin`. At each node that its leaf leaves open: `open`, then `improve` at most
 //! `times` times, then `leaf`; `close` where the node stays open, and later `branch` with the note that `close` gave. A
 //! `Heuristic` is asked `begin` and `at_start` once, `by_hint` with the proposer's `hint` after each time that `improve` leaves
-//! something to do, and `at_node` where all setups of a node are chosen. A `Watch` is told of each node once its leaf is known.
-//! `Nothing` proposes nothing, and `()` watches nothing.
+//! something to do, and `at_node` where all setups of a node are chosen. A `Watch` is told of each node once its leaf is known and
+//! of each pass over the tree, and is asked before each pass and each branch whether the search is to end. `Nothing` proposes
+//! nothing, `()` watches nothing, `Unstopped` and `Limited` watch for another one.
 //!
 //! Family: search. It stands on `cert_lines` and `leaf_growth` for cuts and leaves, on `branch_and_bound` and `search_ranges` for
 //! nodes and ranges, and on `incumbent` for the best plan; `branch_and_cut` and `lotplan` take what is plugged in, and
@@ -24,4 +25,4 @@ mod watch;
 pub use heuristic::Heuristic;
 pub use nothing::Nothing;
 pub use proposer::{Progress, Proposed, Proposer};
-pub use watch::Watch;
+pub use watch::{Limited, Unstopped, Watch};

@@ -1,6 +1,6 @@
-ghost use Rattle.std.specs.Prelude.{◌≤◌};
+ghost use Rattle.std.specs.Prelude.{◌≡◌, ◌≤◌, Bool, true};
 
-use branch_and_cut::{Found, Ranges, RootSays, search, search_all};
+use branch_and_cut::{Found, Limits, Ranges, RootSays, search, search_all};
 use cert_checker::check;
 use certificate::{Claim, is_writable};
 use fixtures::{Item, MADE, Resource, instance};
@@ -28,15 +28,30 @@ fn alone(alloc: Global, periods: u32, demand: &[i64]) -> Result<Instance, Fail> 
     instance(alloc, periods, &[], &[Item { demand, ..ALONE }])
 }
 
-// Counts the nodes of which it is told.
+// No gap.
+const NO_LIMITS: Limits = Limits { gap: None };
+
+// Counts the nodes and passes of which it is told, and ends the search before so many passes.
 #[derive(Debug, Drop)]
 struct Count {
     nodes: u64,
+    passes: u64,
+    most: u64,
 }
 
 impl Watch for Count {
+    ghost may_stop = { λ _. true };
+
     fn node(&mut self, _depth: usize, _says: Option<u128>, _best: Option<u128>) {
         self.nodes = self.nodes.wrapping_add(1);
+    }
+
+    fn pass(&mut self, _bound: Option<u128>, _best: Option<u128>) {
+        self.passes = self.passes.wrapping_add(1);
+    }
+
+    fn stops(&mut self) -> bool {
+        self.passes > self.most
     }
 }
 
@@ -54,9 +69,13 @@ fn found_by<P: Proposer, H: Heuristic<P::Hint>>(
     requires { 1 ≤ budget }
 {
     let instance = model(alloc, periods, demand, capacity)?;
-    let mut count = Count { nodes: 0 };
+    let mut count = Count {
+        nodes: 0,
+        passes: 0,
+        most: u64::MAX,
+    };
     let found = search_all(
-        alloc, proposer, heuristic, &mut count, &instance, budget, None,
+        alloc, proposer, heuristic, &mut count, &instance, budget, None, NO_LIMITS,
     )?;
     if check(alloc, &instance, &found.certificate, found.plan.as_ref()).is_err() {
         return Err("not accepted".into());
@@ -136,7 +155,7 @@ fn that_there_is_no_plan_is_found(rt: HostRuntime) -> Result<(), Fail> {
 // What is claimed of one item without a resource, what the root says, and the nodes of the search.
 fn said_alone(alloc: Global, demand: &[i64]) -> Result<(Claim, RootSays, u64), Fail> {
     let instance = alone(alloc, 2, demand)?;
-    let found = search_all(alloc, &Nothing, &Nothing, (), &instance, 1, None)?;
+    let found = search_all(alloc, &Nothing, &Nothing, (), &instance, 1, None, NO_LIMITS)?;
     Ok((found.certificate.claim, found.root, found.nodes))
 }
 
@@ -168,7 +187,17 @@ fn between(alloc: Global, instance: &Instance, low: u64, high: u64) -> Result<Fo
     if !ranges.are_of(instance) {
         return Err("no ranges of the instance".into());
     }
-    let found = search(alloc, &Nothing, &Nothing, (), instance, ranges, 1_000, None)?;
+    let found = search(
+        alloc,
+        &Nothing,
+        &Nothing,
+        (),
+        instance,
+        ranges,
+        1_000,
+        None,
+        NO_LIMITS,
+    )?;
     Ok(found)
 }
 
@@ -184,7 +213,16 @@ fn two_lots(alloc: Global, is_shared: bool) -> Result<Instance, Fail> {
 // The claim of a search over all ranges, and how much its plan makes in each period.
 fn best_of_all(alloc: Global, is_shared: bool) -> Result<(Claim, (u64, u64)), Fail> {
     let instance = two_lots(alloc, is_shared)?;
-    let found = search_all(alloc, &Nothing, &Nothing, (), &instance, 1_000, None)?;
+    let found = search_all(
+        alloc,
+        &Nothing,
+        &Nothing,
+        (),
+        &instance,
+        1_000,
+        None,
+        NO_LIMITS,
+    )?;
     let quantities = made(&found)?;
     Ok((found.certificate.claim, quantities))
 }
@@ -258,5 +296,49 @@ fn fit(alloc: Global, periods: u32) -> Result<bool, Fail> {
 fn ranges_of_another_shape_are_told(rt: HostRuntime) -> Result<(), Fail> {
     let alloc = rt.alloc();
     assert_eq!(rt; (fit(alloc, 2)?, fit(alloc, 3)?), (false, true));
+    Ok(())
+}
+
+// What is found from the one plan on of one item in two periods on a resource of 6, within a gap and by a watcher that ends the
+// search before so many passes and one: whether a bound is claimed, whether the tree has one node, and how much is made.
+fn cut_short(alloc: Global, gap: Option<u32>, most: u64) -> Result<(bool, bool, (u64, u64)), Fail> {
+    let instance = model(alloc, 2, &[2, 8], 6)?;
+    let known = search_all(
+        alloc,
+        &Nothing,
+        &Nothing,
+        (),
+        &instance,
+        1_000,
+        None,
+        NO_LIMITS,
+    )?;
+    let mut count = Count {
+        nodes: 0,
+        passes: 0,
+        most,
+    };
+    let first = known.plan;
+    let limits = Limits { gap };
+    let found = search_all(
+        alloc, &Nothing, &Nothing, &mut count, &instance, 1_000, first, limits,
+    )?;
+    let is_bound = matches!(&found.certificate.claim, Claim::Bound(_));
+    let quantities = made(&found)?;
+    Ok((is_bound, found.nodes == 1, quantities))
+}
+
+// The relaxation at the root costs less than the plan, by more than a hundredth of a percent.
+#[test]
+fn a_search_ends_early(rt: HostRuntime) -> Result<(), Fail> {
+    let alloc = rt.alloc();
+    for (gap, most, is_bound) in [
+        (None, u64::MAX, false),
+        (Some(1u32), u64::MAX, false),
+        (Some(10_000), u64::MAX, true),
+        (None, 0, true),
+    ] {
+        assert_eq!(rt; cut_short(alloc, gap, most)?, (is_bound, is_bound, (5, 5)));
+    }
     Ok(())
 }

@@ -1,5 +1,5 @@
 // A guide that shows nothing before a point is reached, to try the search with.
-ghost use Rattle.std.specs.Prelude.{◌≡◌, ◌+◌, ◌*◌, ℕ, true, false};
+ghost use Rattle.std.specs.Prelude.{◌≡◌, ◌+◌, ◌*◌, ℕ, true, false, refl};
 ghost use Rattle.branch_and_bound.specs.Ranges.{AreOrdered, IsPoint};
 ghost use Rattle.branch_and_bound.specs.Costs.{IsAtMost, IsBelow};
 ghost use Rattle.tests_search.specs.Weak.{IsWeakCost, number_of, weak_rules};
@@ -14,6 +14,8 @@ use std::alloc::{AllocError, Global};
 pub struct Weak {
     /// What a leaf says at least once evidence was asked for.
     pub evidence: u128,
+    /// Whether it ends the search as soon as it is asked.
+    pub is_ending: bool,
 }
 
 // A column with this number.
@@ -69,11 +71,15 @@ impl Guide<Option<u128>> for Weak {
 
     ghost cost = { λ state. state };
 
+    ghost may_stop = { λ guide state. guide.is_ending };
+
     ghost sides = { λ guide most rs path c at node split. tt };
 
     ghost same = { λ a. tt };
 
     ghost grows_on = { λ a b c first second. tt };
+
+    ghost may_on = { λ guide a b grows. refl };
 
     ghost stays = { λ guide a b rs path p grows holds. tt };
 
@@ -130,5 +136,9 @@ impl Guide<Option<u128>> for Weak {
             examined: true,
             note: proposal.note,
         })
+    }
+
+    fn stops(&self, _: Option<u128>, _: &mut Option<u128>) -> bool {
+        self.is_ending
     }
 }

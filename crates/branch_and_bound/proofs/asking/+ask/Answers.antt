@@ -1,5 +1,7 @@
 use Rattle.std.proofs.Common.{◌∙◌, rules, true, false, None}
+use Rattle.branch_and_bound.specs.Trees.{least_said}
 use Rattle.branch_and_bound.specs.Guided.{AreDeep, AtNode, AtSide, IsBranchOf, IsGuided, IsSameNode, IsSoundTree}
+use Rattle.branch_and_bound.proofs.Ends.{least_joined}
 use Rattle.branch_and_bound.proofs.Guided.{back_node, deep_joined, node_moved, same_back, side_deep, side_later, side_moved, tree_joined}
 use Rattle.branch_and_bound.proofs.asking.+ask.Goals as goal
 
@@ -62,3 +64,8 @@ ask_side-returns-clause-same_node g t c =
     (c.in_ok-examined.ensures.same_node.ranges ∙ c.in_ok-range.ensures.side.ranges)
     (c.in_ok-examined.ensures.same_node.path ∙ c.in_ok-range.ensures.side.path)
     c.leave.ensures.ranges c.leave.ensures.path
+
+pub ask_branch-returns-clause-risen : goal.ask_branch-returns-clause-risen
+ask_branch-returns-clause-risen g t c =
+    let split = c.args.split in
+    least_joined split.column split.place split.at c.in_ok-left.left c.in_ok-right.right c.in_ok-join.field-0 (least_said c.args.low) (least_said c.args.high) c.in_ok-join.ensures c.in_ok-left.ensures.risen c.in_ok-right.ensures.risen

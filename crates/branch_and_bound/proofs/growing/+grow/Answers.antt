@@ -1,14 +1,16 @@
-use Rattle.std.proofs.Common.{◌≤◌, ◌∙◌, arith, rules, true, false}
+use Rattle.std.proofs.Common.{◌≡◌, ◌≤◌, ◌∙◌, sym, arith, rules, true, false}
 use Rattle.branch_and_bound.specs.Guided.{AreDeep, AtNode, AtSide, IsBranchOf, IsGuided, IsSameNode, IsSoundTree}
-use Rattle.branch_and_bound.proofs.Guided.{back_node, deep_joined, later_if, node_moved, same_back, side_deep, side_later, side_moved, tree_joined}
+use Rattle.branch_and_bound.proofs.Guided.{back_node, deep_joined, later_if, later_on, node_moved, same_back, side_deep, side_later, side_moved, tree_joined}
 use Rattle.branch_and_bound.proofs.growing.+grow.Goals as goal
 
 pub grow_leaf-returns-clause-later : goal.grow_leaf-returns-clause-later
 grow_leaf-returns-clause-later g t c =
+    let guide = c.args.guide.now in
     let s0 = c.args.state.now in
-    let s1 = c.propose_sides.new.state in
-    let s2 = c.grow_branch.new.state in
-    later_if c.grow_branch.result g.G.Guide c.args.guide.now s0 s1 s2 (g.met.G.Guide.grows_on s0 s1 s2) c.in_ok-sides.ensures.later c.grow_branch.ensures.later
+    let s1 = c.goes_on.new.state in
+    let s2 = c.propose_sides.new.state in
+    let s3 = c.grow_branch.new.state in
+    later_if c.grow_branch.result g.G.Guide guide s0 s2 s3 (g.met.G.Guide.grows_on s0 s2 s3) (later_on g.G.Guide guide s0 s1 s2 (g.met.G.Guide.grows_on s0 s1 s2) c.goes_on.ensures.later c.in_ok-sides.ensures.later) c.grow_branch.ensures.later
 
 pub grow_branch-grow_side-requires-2 : goal.grow_branch-grow_side-requires-2
 grow_branch-grow_side-requires-2 g t c =
@@ -47,7 +49,11 @@ grow_branch-returns-clause-tree g t c =
 
 pub grow_branch-returns-clause-deep : goal.grow_branch-returns-clause-deep
 grow_branch-returns-clause-deep g t c =
-    λ more.
+    λ still more.
+    let guide = c.args.guide.now in
+    let s0 = c.args.state.now in
+    let s1 = c.grow_side.new.state in
+    let on : g.G.Guide.may_stop guide s1 ≡ false = sym (g.met.G.Guide.may_on guide s0 s1 c.in_ok-left.ensures.later.grows) ∙ still in
     let split = c.args.split in
     let old = c.args.node.now in
     let mid = c.grow_side.new.node in
@@ -57,8 +63,8 @@ grow_branch-returns-clause-deep g t c =
     let right = c.in_ok-right.right in
     let before : 1 ≤ c.grow_side.new.room = let l = c.in_ok-right.ensures.less in omega (arith, more, l) in
     deep_joined c.args.mark best2 old split left right c.in_ok-join.field-0 c.in_ok-join.ensures
-    (side_deep c.args.mark best1 best2 true old split left c.in_ok-right.ensures.later.kept (c.in_ok-left.ensures.deep before))
-    (side_moved (AreDeep c.args.mark best2 right) false split mid old (same_back old mid c.in_ok-left.ensures.same_node) (c.in_ok-right.ensures.deep more))
+    (side_deep c.args.mark best1 best2 true old split left c.in_ok-right.ensures.later.kept (c.in_ok-left.ensures.deep still before))
+    (side_moved (AreDeep c.args.mark best2 right) false split mid old (same_back old mid c.in_ok-left.ensures.same_node) (c.in_ok-right.ensures.deep on more))
 
 pub grow_side-returns-clause-same_node : goal.grow_side-returns-clause-same_node
 grow_side-returns-clause-same_node g t c =

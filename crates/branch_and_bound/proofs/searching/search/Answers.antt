@@ -2,9 +2,9 @@ use Rattle.std.proofs.Common.{◌≡◌, ◌+◌, ◌-◌, ◌/◌, refl, arith,
 use Rattle.branch_and_bound.specs.Counts.{branches}
 use Rattle.branch_and_bound.specs.Trees.{least_said}
 use Rattle.branch_and_bound.specs.Claims.{IsLeastClaim}
-use Rattle.branch_and_bound.proofs.Trees.{IsGrown}
-use Rattle.branch_and_bound.proofs.Claims.{cause, no_bound, shown}
-use Rattle.branch_and_bound.proofs.Shown.{claimed, grown, held, nodes_of_branches, short_of_branches, split_of_branches, evident}
+use Rattle.branch_and_bound.proofs.Causes.{caused, none_left}
+use Rattle.branch_and_bound.proofs.Claims.{shown}
+use Rattle.branch_and_bound.proofs.Shown.{claimed, held, nodes_of_branches, short_of_branches, split_of_branches, evident}
 use Rattle.branch_and_bound.proofs.searching.search.Goals as goal
 
 pub returns-clause-nodes : goal.returns-clause-nodes
@@ -42,16 +42,18 @@ returns-clause-evidence g c =
 
 pub returns-clause-cause : goal.returns-clause-cause
 returns-clause-cause g c =
-    let best = g.G.Guide.cost c.search_tree.new.state in
+    let guide = c.args.guide.now in
+    let after = c.search_tree.new.state in
+    let best = g.G.Guide.cost after in
     let tree = c.in_ok-tree.tree in
     let said : IsLeastClaim best (least_said tree) c.claim_of.result = claimed best c.best.result c.least_number.result tree c.claim_of.result c.best.ensures c.least_number.ensures c.claim_of.ensures in
-    let all : IsGrown (g.G.Guide.rules c.args.guide.now) best c.args.budget c.args.ranges.items [] tree = grown (g.G.Guide.rules c.args.guide.now) (g.G.Guide.Holds c.args.guide.now c.search_tree.new.state) (g.G.Guide.IsEvident c.args.guide.now) best c.args.budget c.search_tree.new.room c.args.ranges.items tree c.requires.budget c.in_ok-tree.ensures.rest c.in_ok-tree.ensures.tree.branches c.in_ok-tree.ensures.tree.sound c.in_ok-tree.ensures.deep in
-    cause (g.G.Guide.rules c.args.guide.now) best (least_said tree) c.args.budget c.args.ranges.items tree c.claim_of.result c.requires.ordered all refl said
+    caused (g.G.Guide.rules guide) (g.G.Guide.Holds guide after) (g.G.Guide.IsEvident guide) best (least_said tree) c.args.budget c.search_tree.new.room c.args.limits.gap (g.G.Guide.may_stop guide c.args.state.now) c.args.ranges.items tree c.claim_of.result c.requires.ordered c.requires.budget c.in_ok-tree.ensures.rest c.in_ok-tree.ensures.tree.branches c.in_ok-tree.ensures.tree.sound c.in_ok-tree.ensures.ended refl said
 
 pub returns-clause-decided : goal.returns-clause-decided
 returns-clause-decided g c =
-    let best = g.G.Guide.cost c.search_tree.new.state in
+    let guide = c.args.guide.now in
+    let after = c.search_tree.new.state in
+    let best = g.G.Guide.cost after in
     let tree = c.in_ok-tree.tree in
     let said : IsLeastClaim best (least_said tree) c.claim_of.result = claimed best c.best.result c.least_number.result tree c.claim_of.result c.best.ensures c.least_number.ensures c.claim_of.ensures in
-    let all : IsGrown (g.G.Guide.rules c.args.guide.now) best c.args.budget c.args.ranges.items [] tree = grown (g.G.Guide.rules c.args.guide.now) (g.G.Guide.Holds c.args.guide.now c.search_tree.new.state) (g.G.Guide.IsEvident c.args.guide.now) best c.args.budget c.search_tree.new.room c.args.ranges.items tree c.requires.budget c.in_ok-tree.ensures.rest c.in_ok-tree.ensures.tree.branches c.in_ok-tree.ensures.tree.sound c.in_ok-tree.ensures.deep in
-    no_bound (g.G.Guide.rules c.args.guide.now) best (least_said tree) c.args.budget c.args.ranges.items tree c.claim_of.result c.requires.ordered all refl said
+    none_left (g.G.Guide.rules guide) (g.G.Guide.Holds guide after) (g.G.Guide.IsEvident guide) best (least_said tree) c.args.budget c.search_tree.new.room c.args.limits.gap (g.G.Guide.may_stop guide c.args.state.now) c.args.ranges.items tree c.claim_of.result c.requires.ordered c.requires.budget c.in_ok-tree.ensures.rest c.in_ok-tree.ensures.tree.branches c.in_ok-tree.ensures.tree.sound c.in_ok-tree.ensures.ended refl said

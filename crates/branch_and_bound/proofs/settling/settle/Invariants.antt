@@ -1,7 +1,7 @@
 use Rattle.std.proofs.Common.{◌≡◌}
 use Rattle.branch_and_bound.specs.Counts.{branches}
 use Rattle.branch_and_bound.specs.Growing.{unexamined}
-use Rattle.branch_and_bound.specs.Guided.{AtNode, IsGuided, IsLater, IsSameNode, IsSoundTree, StaysDeep}
+use Rattle.branch_and_bound.specs.Guided.{AtNode, IsGuided, IsLater, IsSameNode, IsSoundTree, StaysEnded}
 use Rattle.branch_and_bound.proofs.settling.settle.Given as goal
 
 abbrev pub invariant-loop-alloc : goal.invariant-loop-alloc
@@ -12,7 +12,7 @@ invariant-loop-alloc g l = record {
   later : IsLater g.G.Guide l.guide l.fn.state l.state;
   count : branches l.tree ≡ branches l.fn.first;
   tree : AtNode l.fn.node (IsSoundTree g.G.Guide l.guide l.state l.tree);
-  deep : AtNode l.fn.node (StaysDeep g.G.Guide l.fn.state l.state l.fn.first l.tree);
+  ended : AtNode l.fn.node (StaysEnded g.G.Guide l.fn.state l.state l.fn.first l.tree);
 }
 
 abbrev pub decreases-loop-alloc : goal.decreases-loop-alloc

@@ -9,7 +9,7 @@ returns-clause-proved c =
     let m = g.instance.now in
     let s = c.args.searched in
     let t = c.in_ok-tree.tree in
-    let (budget, rs, is) = c.requires.searched in
+    let (budget, limits, stopping, rs, is) = c.requires.searched in
     let counted = c.shapes_are_counted.ensures t in
     let by : Grounds m = record {
       instance = c.an_instance_breaks_no_rule.ensures;
@@ -20,14 +20,14 @@ returns-clause-proved c =
       figures = c.requires.figures;
     } in
     let of : IsTreeOf s t = record { stripped = c.in_ok-tree.ensures.stripped; nodes = counted.0 ∙ c.in_ok-tree.ensures.nodes; longest = counted.1 ∙ c.in_ok-tree.ensures.longest } in
-    found_proved g c.args.known budget rs s t _ by is of (omega arith) refl c.best_plan.ensures refl
+    found_proved g c.args.known budget limits stopping rs s t _ by is of (omega arith) refl c.best_plan.ensures refl
 
 pub returns-clause-shown : goal.returns-clause-shown
-returns-clause-shown c = λ budget rs is.
+returns-clause-shown c = λ budget limits stopping rs is.
     let g = c.args.model.now in
     let s = c.args.searched in
     let t = c.in_ok-tree.tree in
     let (total, weight, totals, weights) = c.requires.figures in
     let counted = c.shapes_are_counted.ensures t in
     let of : IsTreeOf s t = record { stripped = c.in_ok-tree.ensures.stripped; nodes = counted.0 ∙ c.in_ok-tree.ensures.nodes; longest = counted.1 ∙ c.in_ok-tree.ensures.longest } in
-    finished g c.args.known budget rs s t _ c.whole_is_measured.ensures c.says_are_one.ensures total totals is of refl refl refl c.best_plan.ensures refl refl
+    finished g c.args.known budget limits stopping rs s t _ c.whole_is_measured.ensures c.says_are_one.ensures total totals is of refl refl refl c.best_plan.ensures refl refl

@@ -14,7 +14,7 @@ lies_within-requires-clause-plan ghosts c =
 
 pub returns-then-lies_within : goal.returns-then-lies_within
 returns-then-lies_within ghosts c =
-    alone_within c.args.instance.now (given_ranges c.args.ranges.now) c.args.budget c.args.first c.in_ok-found.found c.args.said c.args.apart c.requires.start.room c.requires.start.good c.requires.start.root c.requires.uncoupled c.requires.apart c.apart_is_one.ensures c.in_ok-found.ensures.proved c.in_ok-found.ensures.decided (c.lies_within.ensures.0 c.if-lies_within.true)
+    alone_within c.args.instance.now (given_ranges c.args.ranges.now) c.args.budget c.args.limits (ghosts.W.Watch.may_stop c.args.watch) c.args.first c.in_ok-found.found c.args.said c.args.apart c.requires.start.room c.requires.start.good c.requires.start.root c.requires.uncoupled c.requires.apart c.apart_is_one.ensures c.in_ok-found.ensures.proved c.in_ok-found.ensures.decided (c.lies_within.ensures.0 c.if-lies_within.true)
 
 pub searched-requires-clause-coupled : goal.searched-requires-clause-coupled
 searched-requires-clause-coupled ghosts c = λ all same.

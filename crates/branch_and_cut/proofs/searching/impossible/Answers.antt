@@ -5,7 +5,7 @@ use Rattle.branch_and_cut.proofs.Answering.{none_within}
 use Rattle.branch_and_cut.proofs.searching.impossible.Goals as goal
 
 pub returns : goal.returns
-returns c =
+returns c = λ limits stopping.
     let m = c.args.instance.now in
     let version = subst (IsVersionOf m) (sym c.none_found.ensures.version) c.version_of-version.ensures.version in
-    none_within m (given_ranges c.args.ranges.now) c.args.budget c.args.first c.none_found.result c.args.said c.requires.start.room c.requires.start.good c.requires.start.root c.requires.none version c.whole_is_proved.ensures c.none_found.ensures.proved c.none_found.ensures.plan c.none_found.ensures.root c.none_found.ensures.alone
+    none_within m (given_ranges c.args.ranges.now) c.args.budget limits stopping c.args.first c.none_found.result c.args.said c.requires.start.room c.requires.start.good c.requires.start.root c.requires.none version c.whole_is_proved.ensures c.none_found.ensures.proved c.none_found.ensures.plan c.none_found.ensures.root c.none_found.ensures.alone

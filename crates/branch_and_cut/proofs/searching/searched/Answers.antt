@@ -7,15 +7,17 @@ use Rattle.branch_and_cut.proofs.searching.searched.Goals as goal
 pub search-requires-clause-state : goal.search-requires-clause-state
 search-requires-clause-state g c =
     let begins = c.in_ok-begun.ensures.begins c.version_of-version.result c.version_of-version.ensures.known in
-    record { given = c.requires.start.given; begun = begins.begun; cuts = begins.cuts; best = c.in_ok-best.ensures.made; sums = c.in_ok-sums.ensures; explosion = c.in_ok-explosion.ensures }
+    record { known = record { given = c.requires.start.given; begun = begins.begun; cuts = begins.cuts; best = c.in_ok-best.ensures.made; sums = c.in_ok-sums.ensures; explosion = c.in_ok-explosion.ensures }; ended = λ _. refl }
 
 pub finish-requires-clause-searched : goal.finish-requires-clause-searched
 finish-requires-clause-searched g c =
     let found = c.in_ok-found.ensures in (
       c.args.budget,
+      c.args.limits,
+      g.W.Watch.may_stop c.args.watch,
       c.in_ok-list.list.items,
       record {
-        known = found.state;
+        known = found.state.known;
         listed = c.in_ok-list.ensures.listed;
         node = c.in_ok-list.ensures.node;
         nodes = found.nodes;
@@ -41,11 +43,12 @@ returns ghosts c =
       least = c.in_ok-begun.begun.least;
       first = c.in_ok-begun.begun.first;
     } in
-    let k = c.search.new.state.known in
+    let k = c.search.new.state.work.known in
+    let stopping = ghosts.W.Watch.may_stop c.args.watch in
     let rs = c.in_ok-list.list.items in
     let found = c.in_ok-found.ensures in
-    let is : IsSearched g k c.args.budget rs c.in_ok-found.found = record {
-      known = found.state;
+    let is : IsSearched g k c.args.budget c.args.limits stopping rs c.in_ok-found.found = record {
+      known = found.state.known;
       listed = c.in_ok-list.ensures.listed;
       node = c.in_ok-list.ensures.node;
       nodes = found.nodes;
@@ -58,7 +61,7 @@ returns ghosts c =
       cause = found.cause;
       decided = found.decided;
     } in
-    searched_ok g k c.args.budget c.version_of-version.result c.args.first c.finish.result c.args.said c.args.apart c.in_ok-best.best refl refl c.requires.start.root c.requires.coupled c.requires.some c.requires.apart c.apart_is_one.ensures c.lie_in_whole.ensures c.whole_is_proved.ensures
+    searched_ok g k c.args.budget c.version_of-version.result c.args.limits stopping c.args.first c.finish.result c.args.said c.args.apart c.in_ok-best.best refl refl c.requires.start.root c.requires.coupled c.requires.some c.requires.apart c.apart_is_one.ensures c.lie_in_whole.ensures c.whole_is_proved.ensures
     c.finish.ensures.proved
-    (ended_on g k c.args.budget rs c.in_ok-found.found c.finish.result is c.finish.ensures.shown)
-    c.finish.ensures.plan c.finish.ensures.root c.finish.ensures.version c.version_of-version.ensures.version c.in_ok-begun.ensures.apart c.in_ok-begun.ensures.closed found.state.best found.kept c.in_ok-best.ensures.kept c.in_ok-best.ensures.own
+    (ended_on g k c.args.budget c.args.limits stopping rs c.in_ok-found.found c.finish.result is c.finish.ensures.shown)
+    c.finish.ensures.plan c.finish.ensures.root c.finish.ensures.version c.version_of-version.ensures.version c.in_ok-begun.ensures.apart c.in_ok-begun.ensures.closed found.state.known.best found.kept c.in_ok-best.ensures.kept c.in_ok-best.ensures.own
