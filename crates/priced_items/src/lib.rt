@@ -19,6 +19,7 @@ mod grid;
 pub mod numbers;
 mod prices;
 mod pricing;
+mod quick;
 mod recursion;
 mod settling;
 mod splitting;

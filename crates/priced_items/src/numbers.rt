@@ -36,7 +36,8 @@ pub fn wide(a: i64, b: i64) -> i128 {
     i128::from(a).wrapping_mul(i128::from(b))
 }
 
-pub(crate) fn narrow(number: i128) -> i64 {
+/// The same number in 64 bits, or the nearest one.
+pub fn narrow(number: i128) -> i64 {
     match i64::try_from(number) {
         Ok(small) => small,
         Err(_) if number < 0 => i64::MIN,
@@ -44,8 +45,8 @@ pub(crate) fn narrow(number: i128) -> i64 {
     }
 }
 
-// The quotient, and 0 by 0.
-pub(crate) fn over(a: i64, b: i64) -> i64 {
+/// The quotient, and 0 by 0.
+pub fn over(a: i64, b: i64) -> i64 {
     if b == 0 { 0 } else { a.wrapping_div(b) }
 }
 

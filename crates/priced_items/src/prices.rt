@@ -66,16 +66,23 @@ impl DualPrices {
         pricing: &Pricing,
     ) -> Result<DualPrices, AllocError> {
         let mut found = DualPrices::zero(alloc, instance, 0)?;
-        found.capacity.take_from(&self.capacity);
-        found.stock.take_from(&self.stock);
-        let scale = of_amount(self.scale);
+        found.drop_from(self, instance, pricing);
+        Ok(found)
+    }
+
+    /// These prices are those of another list, of the same problem, with all costs dropped: as in `dropped`. It takes no memory.
+    pub fn drop_from(&mut self, other: &DualPrices, instance: &Instance, pricing: &Pricing) {
+        self.scale = 0;
+        self.capacity.take_from(&other.capacity);
+        self.stock.take_from(&other.stock);
+        self.back.clear();
+        let scale = of_amount(other.scale);
         for item in 1..instance.items() + 1 {
-            if let Some(line) = found.stock.line_mut(item) {
+            if let Some(line) = self.stock.line_mut(item) {
                 take_costs(line, instance.hold_costs(item), scale);
             }
         }
-        settle(instance, pricing, &mut found);
-        Ok(found)
+        settle(instance, pricing, self);
     }
 }
 

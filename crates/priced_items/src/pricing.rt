@@ -3,7 +3,7 @@ ghost use Rattle.std.specs.Prelude.{◌≤◌};
 ghost use Rattle.lot_sizing.specs.Problem.{item_count};
 ghost use Rattle.echelon.specs.Weights.{IsExplosionOf};
 
-use crate::numbers::{of_amount, of_total, plus, times};
+use crate::numbers::{of_amount, of_total, plus, sum_of, times};
 use echelon::{EchelonItem, Explosion, echelon_of, lead_free, net_of};
 use lot_model::Instance;
 use std::alloc::{AllocError, Global};
@@ -21,6 +21,8 @@ pub struct Item {
     pub net: Vec<i64>,
     /// What is left of the opening stock.
     pub left: Vec<i64>,
+    /// What remains to be made in all periods.
+    pub total: i64,
     /// The stock before the first period.
     pub opening: i64,
     /// The largest stock at the end.
@@ -149,10 +151,12 @@ fn item_of(
     let echelon = echelon_of(alloc, instance, explosion, number)?;
     let net = net_of(alloc, &echelon)?;
     let end_max = end_max_of(instance, &echelon);
+    let remains = all_signed(alloc, &net.net)?;
     Ok(Some(Item {
         number,
         demand: all_signed(alloc, &echelon.demand)?,
-        net: all_signed(alloc, &net.net)?,
+        total: sum_of(&remains),
+        net: remains,
         left: all_signed(alloc, &net.left)?,
         opening: of_total(echelon.opening),
         end_max,

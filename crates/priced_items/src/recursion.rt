@@ -2,6 +2,7 @@
 use crate::costs::Costs;
 use crate::numbers::{add_times, at, less, plus, refill, wide};
 use crate::pricing::Item;
+use crate::quick::Quick;
 use std::alloc::{AllocError, Global};
 
 // A server that is open: what all positions so far cost with it, and the first position that it serves.
@@ -49,6 +50,8 @@ pub struct Serving {
     // What a unit costs that is held from the first period to each one, and that is owed.
     held: Vec<i64>,
     owed: Vec<i64>,
+    // The same recursion in shorter numbers, which is taken where they fit.
+    quick: Quick,
 }
 
 // For each period the sum of the numbers before it.
@@ -134,6 +137,7 @@ impl Serving {
             late: Vec::new(alloc),
             held: Vec::new(alloc),
             owed: Vec::new(alloc),
+            quick: Quick::new(alloc),
         }
     }
 
@@ -170,6 +174,15 @@ impl Serving {
     /// A cheapest way to serve what remains to be made of an item at its costs. The error is that memory ran out, of which
     /// none is taken where as much was served before. It takes time in the square of the number of periods.
     pub fn serve_all(&mut self, item: &Item, costs: &Costs) -> Result<(), AllocError> {
+        self.is_whole = self.quick.serve_all(item, costs, &mut self.places)?;
+        if self.is_whole {
+            return Ok(());
+        }
+        self.serve_wide(item, costs)
+    }
+
+    // The same in 128 bits.
+    fn serve_wide(&mut self, item: &Item, costs: &Costs) -> Result<(), AllocError> {
         self.begin(costs)?;
         let mut before = 0i128;
         let (mut period, mut number) = (0u32, 0u32);
