@@ -5,7 +5,8 @@
 //! What breaks a rule costs a penalty until nothing does. Which items are made anew next is drawn at random (a large
 //! neighbourhood search: Shaw 1998).
 //!
-//! `lagged_plan` begins with no lots at all, and `improved_lagged` with those of a plan.
+//! `lagged_plan` begins with no lots at all, `repaired` with lots that may break rules, and `improved_lagged` with those of a plan.
+//! `plain_model` is a model of plain items whose plans are such lots.
 //!
 //! Family: plugins. It stands on `lot_model`, on `plan_rules`, which judges what comes out, on `own_plan`, by whose definitions a
 //! plan is a feasible one, on `priced_items` for grids of numbers with a sign, and on `rand_pcg`; `plan_plugin` stands on it.
@@ -13,6 +14,7 @@
 
 mod drawing;
 mod levels;
+mod plain;
 mod planning;
 mod recursion;
 mod remaking;
@@ -22,4 +24,5 @@ mod walking;
 mod windows;
 mod worth;
 
-pub use planning::{improved_lagged, lagged_plan};
+pub use plain::plain_model;
+pub use planning::{improved_lagged, lagged_plan, repaired};

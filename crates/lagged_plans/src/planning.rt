@@ -111,6 +111,43 @@ pub fn lagged_plan(
     plan_of_best(alloc, instance, best)
 }
 
+// The quantity of an item and a period, and 0 where the grid doesn't have them.
+fn read(grid: &Grid, item: u32, period: u32) -> u64 {
+    if item == 0 || item > grid.items() || period == 0 || period > grid.periods() {
+        return 0;
+    }
+    grid.get(item, period)
+}
+
+// Lots of an item.
+fn read_row(instance: &Instance, make: &Grid, item: u32, lots: &mut IntegerGrid) {
+    for period in 1..instance.periods() + 1 {
+        lots.put(item, period, of_amount(read(make, item, period)));
+    }
+}
+
+/// A feasible plan with its cost that a walk finds which begins with these lots, whatever rules they break; a quantity of an item
+/// or period that the grid doesn't have is 0. None where it finds none.
+///
+/// Seed, work and error are those of `lagged_plan`.
+pub fn repaired(
+    alloc: Global,
+    instance: &Instance,
+    make: &Grid,
+    seed: u64,
+    work: u64,
+) -> Result<Option<Planned>, AllocError>
+    ensures plan { IfFound result (IsMade instance.now) }
+{
+    let shop = Shop::of(alloc, instance)?;
+    let mut lots = IntegerGrid::zero(alloc, instance.items(), instance.periods())?;
+    for item in 1..instance.items() + 1 {
+        read_row(instance, make, item, &mut lots);
+    }
+    let best = walk_from(alloc, &shop, lots, false, seed, work)?;
+    plan_of_best(alloc, instance, best)
+}
+
 /// A feasible plan that costs less than this one and that a walk from its lots finds, with its cost. None where it finds none.
 ///
 /// Seed, work and error are those of `lagged_plan`.

@@ -1,5 +1,5 @@
 // The lots of an item, made anew while those of other items stay or are still to be made.
-use crate::levels::levels_of;
+use crate::levels::{Wanted, levels_of};
 use crate::recursion::{Offer, Task};
 use crate::shop::{FAR, Line, Product, Shop};
 use crate::taking::{arriving, asked, is_marked, room_for};
@@ -36,6 +36,8 @@ pub(crate) struct Manner<'a> {
     /// The periods whose lots are made anew.
     pub(crate) first: u32,
     pub(crate) last: u32,
+    /// How many levels of what has been made so far are looked at, beside those of needs, lots and components.
+    pub(crate) levels: i64,
 }
 
 impl Manner<'_> {
@@ -229,6 +231,22 @@ fn made_before(make: &IntegerGrid, product: &Product, period: u32) -> i64 {
     total
 }
 
+// Units that are made up to each period.
+fn made_up_to(
+    alloc: Global,
+    shop: &Shop,
+    make: &IntegerGrid,
+    product: &Product,
+) -> Result<Vec<i64>, AllocError> {
+    let mut total = 0;
+    let mut list = Vec::with_capacity(alloc, shop.periods as usize)?;
+    for period in 1..shop.periods.saturating_add(1) {
+        total = plus(total, make.get(product.number, period));
+        list.push(total)?;
+    }
+    Ok(list)
+}
+
 // What bounds the lots of an item up to a last period, and what they cost.
 fn task_of(
     alloc: Global,
@@ -246,11 +264,19 @@ fn task_of(
     } else {
         Some(made_before(make, product, last.saturating_add(1)))
     };
+    let made = made_up_to(alloc, shop, make, product)?;
+    let allowed = allowed_of(alloc, shop, make, product, manner)?;
+    let wanted = Wanted {
+        most: manner.levels,
+        made: &made,
+        allowed: &allowed,
+    };
+    let levels = levels_of(alloc, product, &needed, shop.periods, wanted, begun, end)?;
     Ok(Task {
         periods: shop.periods,
         lead: product.lead,
         first: manner.first,
-        levels: levels_of(alloc, product, &needed, shop.periods, begun, end)?,
+        levels,
         free,
         needed,
         hold: product.hold.as_slice().to_vec(alloc)?,
@@ -259,7 +285,7 @@ fn task_of(
         end_max: product.end_max,
         outside: times(manner.penalty(product.penalty), 4),
         saved: saved_of(alloc, shop, product, manner)?,
-        allowed: allowed_of(alloc, shop, make, product, manner)?,
+        allowed,
         missing: missing_of(shop, product, manner),
         offers: offers_of(alloc, shop, make, product, manner, last)?,
     })

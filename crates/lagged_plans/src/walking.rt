@@ -18,6 +18,9 @@ const SLACK_PARTS: i64 = 75;
 // Thousandths of what may be done.
 const THOUSAND: u64 = 1000;
 
+// It ends after so many moves for each item and period that found nothing better than the best plan.
+const QUIET: u32 = 15;
+
 // After so many moves that found nothing better a walk goes back to its best plan, if it stands at one that breaks rules.
 const PATIENCE: u32 = 500;
 
@@ -35,6 +38,22 @@ const EARLIER: u32 = 3;
 // The generator of random changes runs on this stream.
 const STREAM: u64 = 54;
 
+// So many levels of what has been made so far are looked at in one of so many moves, and else fewer.
+const FINE: i64 = 1500;
+
+const COARSE: i64 = 150;
+
+const FINE_EACH: u32 = 4;
+
+// How many levels a move looks at.
+fn drawn_levels(words: &mut Lcg64Xsh32) -> i64 {
+    if below(words, FINE_EACH) == 0 {
+        FINE
+    } else {
+        COARSE
+    }
+}
+
 // Items that are made anew in one move.
 #[derive(Drop)]
 struct Round {
@@ -48,6 +67,8 @@ struct Round {
     // The periods whose lots of items of this rank are made anew; those of their components begin earlier.
     span: Span,
     rank: u32,
+    // How many levels of what has been made so far are looked at.
+    levels: i64,
     work: u64,
 }
 
@@ -79,6 +100,7 @@ impl Round {
             tolls: &self.tolls,
             first: self.span.first.saturating_sub(earlier).max(1),
             last: self.span.last,
+            levels: self.levels,
         };
         let work = remake(alloc, shop, make, product, &manner)?;
         self.work = self.work.saturating_add(work);
@@ -137,9 +159,10 @@ struct Walk<'a> {
     best: Option<Best>,
     words: Lcg64Xsh32,
     strict: i64,
-    // What it took, and the moves since something better was found.
+    // What it took, and the moves since something better was found: since it went back to the best lots, and in all.
     work: u64,
     idle: u32,
+    quiet: u32,
 }
 
 // What lots cost with so much of the penalties.
@@ -166,6 +189,7 @@ impl<'a> Walk<'a> {
             strict: STRICT,
             work: 0,
             idle: 0,
+            quiet: 0,
         };
         walk.note(alloc, worth)?;
         Ok(walk)
@@ -183,8 +207,10 @@ impl<'a> Walk<'a> {
     // Notes the lots where it stands, if they are the best.
     fn note(&mut self, alloc: Global, worth: Worth) -> Result<(), AllocError> {
         self.idle = self.idle.saturating_add(1);
+        self.quiet = self.quiet.saturating_add(1);
         if self.is_best(worth) {
             self.idle = 0;
+            self.quiet = 0;
             self.best = Some(Best {
                 make: self.make.copy(alloc)?,
                 cost: worth.cost,
@@ -207,6 +233,7 @@ impl<'a> Walk<'a> {
                 last: self.shop.periods,
             },
             rank: 0,
+            levels: FINE,
             work: 0,
         };
         round.remake_all(alloc, self.shop, &mut self.make, &mut self.words)?;
@@ -275,6 +302,7 @@ impl<'a> Walk<'a> {
             tolls,
             span: drawn_span(self.shop, &mut self.words),
             rank,
+            levels: drawn_levels(&mut self.words),
             work: 0,
         };
         let mut make = self.make.copy(alloc)?;
@@ -300,6 +328,11 @@ impl<'a> Walk<'a> {
         Ok(())
     }
 
+    // Whether nothing better than the best lots was found for long.
+    fn is_quiet(&self, cells: u32) -> bool {
+        self.best.is_some() && self.quiet > cells.saturating_mul(QUIET)
+    }
+
     // Moves while there is room for work.
     fn go_on(&mut self, alloc: Global, work: u64) -> Result<(), AllocError> {
         let cells = self.shop.items.saturating_mul(self.shop.periods);
@@ -307,7 +340,7 @@ impl<'a> Walk<'a> {
         for step in 0..moves {
             let share = self.work.saturating_mul(THOUSAND) / work.max(1);
             let done = share.max(step.saturating_mul(THOUSAND) / moves.max(1));
-            if done >= THOUSAND {
+            if done >= THOUSAND || self.is_quiet(cells) {
                 return Ok(());
             }
             self.go(alloc, THOUSAND - done)?;

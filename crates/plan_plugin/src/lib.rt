@@ -1,5 +1,5 @@
-//! Plans as a plugin of the search: those that are made without a search, by walks where items have lead times or bounds on
-//! lots, by linear programs with given setups, and with the setups that rounds of prices want.
+//! Plans as a plugin of the search: those that are made without a search, by walks over the lots of items, by linear programs with
+//! given setups, and with the setups that rounds of prices want.
 //!
 //! `Plans` is a `Heuristic` of `search_plugins`, whose hint is the average over rounds of prices. Its state, an `Effort`, has what
 //! finding plans may still take and what was tried.

@@ -18,9 +18,9 @@ use std::alloc::{AllocError, Global};
 
 // What a program takes is counted as the square of items times periods, and so much is what those of a walk may take: at the
 // root, and in the tree. `effort` says what those may take whose setups are wanted.
-const ROOT_WORK: u64 = 5_000_000;
+const ROOT_WORK: u64 = 600_000;
 
-const TREE_WORK: u64 = 2_000_000;
+const TREE_WORK: u64 = 600_000;
 
 // Most changes that a walk tries.
 const MOST_CHANGES: u64 = 600;

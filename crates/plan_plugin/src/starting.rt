@@ -4,7 +4,7 @@ ghost use Rattle.plan_rules.specs.Rows.{IfFound};
 ghost use Rattle.incumbent.specs.Kept.{IsBestSoFar, IsMadeWithin, IsNoWorseBest};
 ghost use Rattle.search_ranges.specs.Within.{HaveShape, given_ranges};
 
-use crate::lagging::lag_at_start;
+use crate::lagging::{lag_after_programs, lag_at_start};
 use crate::programs::{look, walk_at_start};
 use first_plans::candidates;
 use incumbent::keep_within;
@@ -47,9 +47,23 @@ fn keep_candidate(
     Ok(())
 }
 
-/// Plans before the first node: those that are made without a search, walks where items have lead times or bounds on lots, where
-/// there is no plan yet one by the program with all setups or by a plunge, and a walk from the best one. The best plan, with its cost in money, is kept, of those that lie within the
-/// ranges.
+// Walks from the best plan: over setups by programs, and then over the lots of items.
+fn walk_from_best(
+    alloc: Global,
+    instance: &Instance,
+    ranges: &Ranges,
+    best: &mut Option<Planned>,
+) -> Result<(), AllocError>
+    requires { IsBestSoFar instance.now ranges.now best.old }
+    ensures { OnOk result (IsNoWorseBest instance.now ranges.now best.new best.old) }
+{
+    walk_at_start(alloc, instance, ranges, best)?;
+    lag_after_programs(alloc, instance, ranges, best)
+}
+
+/// Plans before the first node: those that are made without a search, walks over the lots of items, where there is no plan yet one
+/// by the program with all setups or by a plunge, and walks from the best one, over setups and once more over lots. The best plan,
+/// with its cost in money, is kept, of those that lie within the ranges.
 ///
 /// The ranges have a number for each item and period of the instance, and the best plan so far lies within them. The error is
 /// that memory ran out; it takes memory for the plans and for a tableau.
@@ -65,5 +79,5 @@ pub(crate) fn try_at_start(
     keep_candidate(alloc, instance, ranges, best)?;
     lag_at_start(alloc, instance, ranges, best)?;
     look(alloc, instance, ranges, best)?;
-    walk_at_start(alloc, instance, ranges, best)
+    walk_from_best(alloc, instance, ranges, best)
 }
