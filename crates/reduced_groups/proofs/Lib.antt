@@ -1,0 +1,11 @@
+mod Items
+mod Late
+mod ChainPlans
+mod Bounds
+mod Priced
+mod AlikeLevels
+mod Alike
+mod Once
+mod Starting
+mod Found
+mod Placed

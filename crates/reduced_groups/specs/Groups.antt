@@ -1,0 +1,102 @@
+-- Groups of items whose reduced costs are bounded together, and what the setups and quantities of each may be.
+use Rattle.std.specs.Prelude.{◌≡◌, ℕ, ◌+◌, ◌-◌, ◌*◌, ◌≤◌, ◌<◌, List, [], ◌∷◌, if◌then◌else◌, ◌==◌}
+use Rattle.lot_sizing.specs.Sums.{sum_to}
+use Rattle.lot_sizing.specs.Problem.{Problem, entry, item_at, item_count, per_unit}
+use Rattle.lot_sizing.specs.Net.{asked_of, asked_to, needed_to}
+use Rattle.lot_sizing.specs.Bill.{AreWeights, bill_of}
+use Rattle.lot_sizing.specs.Echelon.{asked_in_echelon}
+use Rattle.lot_sizing.specs.Plan.{EachCell, Table}
+use Rattle.lot_sizing.specs.Single.{NetPlan}
+use Rattle.lin_rows.specs.declared.column.Column.{Column}
+use Rattle.lin_rows.specs.declared.column.Column.TheVariants.{X, Y}
+use Rattle.must_start.specs.MustStart.{AreMustStart}
+use Rattle.must_start.specs.Lots.{IsLargestLot}
+use Rattle.quantity_dp.specs.Lots.{Lots}
+use Rattle.chain_dp.specs.Chains.{Level}
+use Rattle.reduced_groups.specs.declared.group.ChainLink.{ChainLink}
+
+-- an item by what must have been started of it; a lead-free item whose echelon may be late, with a share of its backlogs for each period; an item by what must have been started and its largest lots, in whole quantities; and a chain of items, the lowest first, each of which goes into the next one
+pub data GroupShape : Type 0 where
+  ItemGroup : (item : ℕ) → GroupShape
+  LateGroup : (item : ℕ) → (shares : List ℕ) → GroupShape
+  QuantityGroup : (item : ℕ) → GroupShape
+  ChainGroup : (low : ChainLink) → (rest : List ChainLink) → GroupShape
+
+-- what is known of a problem: the units of one item in another, what must have been started of each item by the end of each period, and its largest lots
+pub record Known : Type 0 where
+  pub weight : ℕ → ℕ → ℕ
+  pub start : Table
+  pub lot : Table
+
+-- and it is so
+pub record AreKnown (m : Problem) (total : ℕ → ℕ) (known : Known) : Type 0 where
+  pub weight : AreWeights (bill_of m) known.weight
+  pub start : AreMustStart m known.start
+  pub lot : EachCell m (λ i t. IsLargestLot m total i t (known.lot i t))
+
+-- what the setups and quantities of an item cost at the prices of columns
+abbrev pub made_cost : Problem → (Column → ℕ) → ℕ → NetPlan → ℕ
+made_cost m price i q = sum_to m.periods (λ t. price (Y i t) * q.setup t + price (X i t) * q.make t)
+
+-- setups and quantities of an item: a setup is made or not, nothing is made without one, and what must have been started has been
+pub record IsItemChoice (m : Problem) (start : Table) (i : ℕ) (q : NetPlan) : Type 0 where
+  pub setup : (t : ℕ) → 1 ≤ t → t ≤ m.periods → q.setup t ≤ 1
+  pub made : (t : ℕ) → 1 ≤ t → t ≤ m.periods → 0 < q.make t → q.setup t ≡ 1
+  pub started : (t : ℕ) → 1 ≤ t → t ≤ m.periods → start i t ≤ sum_to t q.make
+
+-- setups and quantities of an item, and what its echelon owes at the end of each period: what is made and what is owed serve what is asked of the echelon, and nothing is owed in the end
+pub record IsLateChoice (m : Problem) (weight : ℕ → ℕ → ℕ) (i : ℕ) (q : NetPlan) (owed : ℕ → ℕ) : Type 0 where
+  pub setup : (t : ℕ) → 1 ≤ t → t ≤ m.periods → q.setup t ≤ 1
+  pub made : (t : ℕ) → 1 ≤ t → t ≤ m.periods → 0 < q.make t → q.setup t ≡ 1
+  pub served : (t : ℕ) → 1 ≤ t → t ≤ m.periods → needed_to (asked_in_echelon m weight i) t ≤ sum_to t q.make + owed t
+  pub settled : owed m.periods ≡ 0
+
+-- what they cost, with the shares of what is owed
+abbrev pub late_cost : Problem → (Column → ℕ) → ℕ → List ℕ → NetPlan → (ℕ → ℕ) → ℕ
+late_cost m price i shares q owed = made_cost m price i q + sum_to m.periods (λ t. entry shares t * owed t)
+
+-- the lots of an item: its prices, what must have been started, and its largest lots
+abbrev pub lots_in : Problem → Known → (Column → ℕ) → ℕ → Lots
+lots_in m known price i = record {
+  periods = m.periods;
+  setup = λ t. price (Y i t);
+  unit = λ t. price (X i t);
+  need = known.start i;
+  largest = known.lot i;
+}
+
+-- what is asked of an item up to a period, other than for lots of the next one in its chain: its demand, the required end stock, and what other items take of which so much must have been started
+abbrev pub asked_besides : Problem → Table → (i next t : ℕ) → ℕ
+asked_besides m start i next t = asked_to (asked_of m i) t + sum_to (item_count m) (λ j. per_unit m i j * (if j == next then 0 else start j t))
+
+-- an item of a chain that goes into the next one
+abbrev pub lower_level : Problem → Table → (Column → ℕ) → ChainLink → (next : ℕ) → Level
+lower_level m start price link next = record {
+  setup_cost = λ t. price (Y link.item t);
+  unit_cost = λ t. price (X link.item t);
+  need = λ t. asked_besides m start link.item next t - asked_besides m start link.item next (t - 1);
+  opening_price = link.opening_price;
+  per_next = per_unit m link.item next;
+  lead = (item_at m link.item).lead;
+}
+
+-- the last item of a chain, by what must have been started of it
+abbrev pub last_level : Problem → Table → (Column → ℕ) → ChainLink → Level
+last_level m start price link = record {
+  setup_cost = λ t. price (Y link.item t);
+  unit_cost = λ t. price (X link.item t);
+  need = λ t. start link.item t - start link.item (t - 1);
+  opening_price = link.opening_price;
+  per_next = 1;
+  lead = 0;
+}
+
+-- the items of a chain
+abbrev pub chain_levels : Problem → Table → (Column → ℕ) → ChainLink → List ChainLink → List Level
+chain_levels m start price link [] = last_level m start price link ∷ []
+chain_levels m start price link (next ∷ rest) = lower_level m start price link next.item ∷ chain_levels m start price next rest
+
+-- what the opening stocks of all but the last item are worth at their prices; that of the last one is used up in what must have been started
+abbrev pub stocks_worth : Problem → ChainLink → List ChainLink → ℕ
+stocks_worth m link [] = 0
+stocks_worth m link (next ∷ rest) = link.opening_price * (item_at m link.item).opening + stocks_worth m next rest

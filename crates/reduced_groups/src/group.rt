@@ -1,0 +1,41 @@
+// Groups of items whose reduced costs are bounded together.
+
+/// An item of a chain.
+#[derive(Clone, Copy, Debug, PartialEq, Eq)]
+pub struct ChainLink {
+    /// The item, counted from 1.
+    pub item: u32,
+    /// The price at which units of it are bought before the first period, as many as are wanted.
+    pub opening_price: u128,
+}
+
+/// Items whose setups and quantities are bounded together, at their reduced costs.
+#[derive(Clone, Copy, Debug, PartialEq, Eq)]
+pub enum Group {
+    /// An item by what must have been started of it.
+    Item {
+        /// The item, counted from 1.
+        item: u32,
+    },
+    /// An item by what must have been started of it and its largest lots, in whole quantities.
+    Quantities {
+        /// The item, counted from 1.
+        item: u32,
+    },
+    /// An item that goes into another one.
+    Pair {
+        /// The item that goes into the other.
+        low: ChainLink,
+        /// The other.
+        top: ChainLink,
+    },
+    /// An item that goes into another one, which goes into a third.
+    Triple {
+        /// The item that goes into the second.
+        low: ChainLink,
+        /// The second, which goes into the third.
+        mid: ChainLink,
+        /// The third.
+        top: ChainLink,
+    },
+}

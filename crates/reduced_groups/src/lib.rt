@@ -1,0 +1,25 @@
+//! Groups of items, and the numbers that their parts of the reduced costs can't fall below.
+//!
+//! Family: single items. It stands on `lin_rows`, `must_start`, `quantity_dp` and `chain_dp`. Nothing stands on it yet.
+//!
+//! A sum of multiples of rows leaves of the costs a reduced cost of each column. Where none is below 0, linear
+//! duality takes them for nothing. A *group* takes those of the setups and quantities of some items, and a recursion
+//! finds a number that no feasible plan falls below with them. Groups that take no column more often than its reduced
+//! cost add their numbers to the bound (`groups_bound`).
+#![tactic(auto)]
+
+mod apart;
+mod chains;
+mod floors;
+mod group;
+mod laws;
+mod levels;
+mod needs;
+mod prices;
+mod quantities;
+
+pub use apart::{GroupFault, find_group_fault, is_group};
+pub use floors::{Floor, FloorFault, MAX_HORIZON, group_floor};
+pub use group::{ChainLink, Group};
+pub use laws::{groups_bound, numbers_are_one, reduced_costs_bound};
+pub use prices::{GroupPrices, PriceFault, price_of};
