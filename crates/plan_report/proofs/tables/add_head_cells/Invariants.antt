@@ -1,0 +1,8 @@
+use Rattle.std.proofs.Common.{◌≡◌, ◌-◌, ◌++◌, string_bytes}
+use Rattle.lot_sizing.specs.Texts.{join_to}
+use Rattle.plan_report.specs.Tables.{head_cell}
+use Rattle.plan_report.proofs.tables.add_head_cells.Given as goal
+
+-- the cells so far
+abbrev pub invariant-loop-period : goal.invariant-loop-period
+invariant-loop-period l = string_bytes l.text ≡ string_bytes l.fn.text ++ join_to (l.period - 1) (head_cell l.width)
