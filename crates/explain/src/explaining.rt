@@ -2,7 +2,9 @@
 ghost use Rattle.lot_io.specs.Outside.{OnlyReads};
 
 use crate::files::{Files, bytes_in, model_in, named_files};
-use explain_answer::{words_on_answer, words_on_certificate};
+use crate::same_file::on_same_file;
+use crate::word_words::on_words;
+use explain_answer::{Course, words_on_answer, words_on_certificate};
 use explain_lookup::word_at;
 use explain_model::words_on_model;
 use explain_plan::{words_on_plan, words_on_schedule};
@@ -11,6 +13,15 @@ use lot_model::Instance;
 use plan_file::{PlanFault, read_plan};
 use plan_rules::Plan;
 use std::alloc::{AllocError, Global};
+
+/// What was seen of a run beside its lines.
+#[derive(Clone, Copy, Debug, Default, PartialEq, Eq)]
+pub struct Seen<'a> {
+    /// An output that wasn't written, and the other name of the same file.
+    pub same: Option<(&'a str, &'a str)>,
+    /// How the search went, where there was one.
+    pub course: Option<Course>,
+}
 
 // The statuses that no printed line tells: nothing is wrong, the words were no command or asked for help, the lines could not be
 // printed, and memory ran out.
@@ -29,11 +40,24 @@ fn on_access(word: &str) -> &'static str {
             "There is no such file, seen from the folder in which the program was started.\n",
         "read" => "It may be a folder, or you may not have the right to read it.\n",
         "write" => {
-            "The folder may not be there, you may not have the right to write, or the disk may be full. The file may be half written.\n"
+            "The folder may not be there, you may not have the right to write, or the disk may be full.\n"
         }
         "long" =>
             "A model, a plan or a schedule has at most 16,777,216 bytes. It may be another file than you meant.\n",
         _ => "",
+    }
+}
+
+// Words on a line `refused ..` that names a file.
+fn on_file(
+    alloc: Global,
+    files: Option<Files<'_>>,
+    printed: &str,
+    seen: Seen<'_>,
+) -> Result<String, AllocError> {
+    match (word_at(printed, 1), seen.same) {
+        ("write", Some((name, other))) => on_same_file(alloc, files, name, other),
+        (word, _) => String::from_str(alloc, on_access(word)),
     }
 }
 
@@ -42,12 +66,13 @@ fn on_refusal<S: Shelf>(
     alloc: Global,
     files: Files<'_>,
     printed: &str,
+    seen: Seen<'_>,
     shelf: &mut S,
 ) -> Result<String, AllocError>
     ensures { OnlyReads (S.shown shelf.old) (S.shown shelf.new) }
 {
     if word_at(printed, 1) != "model" {
-        return String::from_str(alloc, on_access(word_at(printed, 1)));
+        return on_file(alloc, Some(files), printed, seen);
     }
     match bytes_in(alloc, shelf, files.model)? {
         Some(bytes) => words_on_model(alloc, files.model, bytes.as_slice(), printed.trim()),
@@ -135,6 +160,7 @@ fn on_model_read<S: Shelf>(
     instance: &Instance,
     files: Files<'_>,
     printed: &str,
+    seen: Seen<'_>,
     shelf: &mut S,
 ) -> Result<String, AllocError>
     ensures { OnlyReads (S.shown shelf.old) (S.shown shelf.new) }
@@ -148,7 +174,7 @@ fn on_model_read<S: Shelf>(
             on_plan_file(alloc, instance, files, printed, shelf)
         }
         ("rejected", _) => on_certificate_file(alloc, files, printed, shelf),
-        _ => words_on_answer(alloc, instance, files.plan, printed),
+        _ => words_on_answer(alloc, instance, files.plan, printed, seen.course),
     }
 }
 
@@ -157,15 +183,16 @@ fn on_printed<S: Shelf>(
     alloc: Global,
     files: Files<'_>,
     printed: &str,
+    seen: Seen<'_>,
     shelf: &mut S,
 ) -> Result<String, AllocError>
     ensures { OnlyReads (S.shown shelf.old) (S.shown shelf.new) }
 {
     if word_at(printed, 0) == "refused" {
-        return on_refusal(alloc, files, printed, shelf);
+        return on_refusal(alloc, files, printed, seen, shelf);
     }
     match model_in(alloc, shelf, files.model)? {
-        Some(instance) => on_model_read(alloc, &instance, files, printed, shelf),
+        Some(instance) => on_model_read(alloc, &instance, files, printed, seen, shelf),
         None => Ok(String::new(alloc)),
     }
 }
@@ -190,6 +217,7 @@ fn on_replanned<'a, S: Shelf>(
     files: Files<'a>,
     later: (&'a str, &'a str),
     printed: &str,
+    seen: Seen<'_>,
     shelf: &mut S,
 ) -> Result<String, AllocError>
     ensures { OnlyReads (S.shown shelf.old) (S.shown shelf.new) }
@@ -208,13 +236,14 @@ fn on_replanned<'a, S: Shelf>(
                 other: files.other,
                 later: None,
             };
-            on_printed(alloc, files, printed, shelf)
+            on_printed(alloc, files, printed, seen, shelf)
         }
-        _ => on_printed(alloc, files, printed, shelf),
+        _ => on_printed(alloc, files, printed, seen, shelf),
     }
 }
 
-/// Words on a run with these words, which ended with this status and printed this; none for the statuses 0 and 4.
+/// Words on a run with these words, which ended with this status and printed this, and of which this was seen; none for the
+/// status 0, and for the status 4 only where words are refused that make a command.
 ///
 /// Each sentence ends with a line feed. The files that the words name are read again, so what was changed since is seen as it is now.
 /// Where the files don't show what the line says, there are no words. The error is want of memory.
@@ -223,20 +252,23 @@ pub fn explain<S: Shelf>(
     words: &[String],
     status: u8,
     printed: &str,
+    seen: Seen<'_>,
     shelf: &mut S,
 ) -> Result<String, AllocError>
     ensures reads { OnlyReads (S.shown shelf.old) (S.shown shelf.new) }
 {
     match status {
-        DONE | NO_COMMAND => Ok(String::new(alloc)),
+        DONE => Ok(String::new(alloc)),
+        NO_COMMAND if printed.trim() == "refused words" => on_words(alloc, words),
+        NO_COMMAND => Ok(String::new(alloc)),
         UNPRINTED => String::from_str(alloc, "The lines of the answer could not be printed.\n"),
         NO_MEMORY => String::from_str(alloc, "Memory ran out. No file was changed.\n"),
-        _ => match named_files(alloc, words)? {
+        _ => match named_files(alloc, words, printed)? {
             Some(files) => match files.later {
-                Some(later) => on_replanned(alloc, files, later, printed, shelf),
-                None => on_printed(alloc, files, printed, shelf),
+                Some(later) => on_replanned(alloc, files, later, printed, seen, shelf),
+                None => on_printed(alloc, files, printed, seen, shelf),
             },
-            None => String::from_str(alloc, on_access(word_at(printed, 1))),
+            None => on_file(alloc, None, printed, seen),
         },
     }
 }

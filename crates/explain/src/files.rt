@@ -1,7 +1,8 @@
 // The files of a command, and what they hold.
 ghost use Rattle.lot_io.specs.Outside.{OnlyReads};
 
-use command_line::{Command, Reading, read_words};
+use command_line::{Command, Names, Reading, Search, read_words};
+use explain_lookup::word_at;
 use instance_reader::{ReadModelFault, read_instance};
 use lot_io::{ReadFault, Shelf, read_file};
 use lot_model::Instance;
@@ -21,16 +22,30 @@ pub(crate) struct Files<'a> {
     pub(crate) later: Option<(&'a str, &'a str)>,
 }
 
-// The files of a command that reads a model.
-fn files_of<'a>(command: Command<'a>) -> Option<Files<'a>> {
+// The plan file of a plan that what was printed is about: where it names a fault of one, the file to start from.
+fn planned_file<'a>(names: Names<'a>, search: Search<'a>, printed: &str) -> &'a str {
+    match (search.start, word_at(printed, 0)) {
+        (Some(start), "plan") | (Some(start), "broken") => start,
+        _ => names.plan,
+    }
+}
+
+// The files of a command that reads a model, and which printed this.
+fn files_of<'a>(command: Command<'a>, printed: &str) -> Option<Files<'a>> {
     match command {
-        Command::Plan { names, .. } | Command::Check(names) => Some(Files {
+        Command::Plan { names, search } => Some(Files {
+            model: names.model,
+            plan: planned_file(names, search, printed),
+            other: names.certificate,
+            later: None,
+        }),
+        Command::Check(names) => Some(Files {
             model: names.model,
             plan: names.plan,
             other: names.certificate,
             later: None,
         }),
-        Command::Judge(names) | Command::Report(names) => Some(Files {
+        Command::Judge(names) | Command::Report { names, .. } => Some(Files {
             model: names.model,
             plan: names.plan,
             other: "",
@@ -60,6 +75,13 @@ fn files_of<'a>(command: Command<'a>) -> Option<Files<'a>> {
             other: names.certificate,
             later: Some((names.next_model, names.next_plan)),
         }),
+        // What is completed is a table, and no plan file that words on plans could be about.
+        Command::Complete(names) => Some(Files {
+            model: names.model,
+            plan: "",
+            other: "",
+            later: None,
+        }),
         Command::Upgrade(names) => Some(Files {
             model: names.model,
             plan: "",
@@ -76,13 +98,14 @@ fn files_of<'a>(command: Command<'a>) -> Option<Files<'a>> {
     }
 }
 
-/// The files that words name. None where they are no command, or one that reads no model.
+/// The files that words name which printed this. None where they are no command, or one that reads no model.
 pub(crate) fn named_files<'a>(
     alloc: Global,
     words: &'a [String],
+    printed: &str,
 ) -> Result<Option<Files<'a>>, AllocError> {
     match read_words(alloc, words) {
-        Ok(Reading::Command(command)) => Ok(files_of(command)),
+        Ok(Reading::Command(command)) => Ok(files_of(command, printed)),
         Ok(Reading::Text(_)) => Ok(None),
         Err(_) => Err(AllocError),
     }

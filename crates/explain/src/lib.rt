@@ -11,6 +11,9 @@
 mod explaining;
 mod files;
 mod remembering;
+mod same_file;
+mod word_words;
 
-pub use explaining::explain;
+pub use explain_answer::Course;
+pub use explaining::{Seen, explain};
 pub use remembering::Remembering;

@@ -1,5 +1,6 @@
 // Words on what `plan`, `bound` and `check` answer.
 
+use crate::course::{Course, on_nodes};
 use crate::gap::percent;
 use crate::reasons::reason;
 use explain_lookup::{line_with, number_at, plain, word_at};
@@ -45,20 +46,6 @@ fn on_undecided(alloc: Global, file: &str, line: &str) -> Result<String, AllocEr
     Ok(words)
 }
 
-// What may be done about a search that ended open.
-fn on_nodes(alloc: Global, printed: &str, has_plan: bool) -> Result<String, AllocError> {
-    let Some(nodes) = number_at(line_with(printed, "nodes"), 1) else {
-        return Ok(String::new(alloc));
-    };
-    if has_plan {
-        format!(in alloc; "The search took {nodes} nodes; more may narrow the gap (`--nodes N`).\n")
-    } else {
-        format!(in alloc;
-            "The search took {nodes} nodes; more may find a plan (`--nodes N`), and a larger `end_max` leaves more room for one.\n"
-        )
-    }
-}
-
 // What a root line means that gives no bound.
 fn on_root(line: &str) -> &'static str {
     match word_at(line, 1) {
@@ -89,11 +76,16 @@ fn on_no_bound(word: &str) -> &'static str {
 }
 
 // Words on an answer of `plan` that leaves the search open.
-fn on_open(alloc: Global, file: &str, printed: &str) -> Result<String, AllocError> {
+fn on_open(
+    alloc: Global,
+    file: &str,
+    printed: &str,
+    course: Option<Course>,
+) -> Result<String, AllocError> {
     let line = line_with(printed, "undecided");
     let has_plan = number_at(line, 3).is_some();
     let mut words = on_undecided(alloc, file, line)?;
-    words.push_str(on_nodes(alloc, printed, has_plan)?.as_str())?;
+    words.push_str(on_nodes(alloc, printed, has_plan, course)?.as_str())?;
     words.push_str(on_root(line_with(printed, "root")))?;
     Ok(words)
 }
@@ -101,7 +93,7 @@ fn on_open(alloc: Global, file: &str, printed: &str) -> Result<String, AllocErro
 /// Words on an answer: `infeasible`, `undecided ..` with the lines above it, what `bound` prints where it has no bound, and
 /// `accepted ..` of a certificate that claims no plan's cost; none where what was printed says nothing of these.
 ///
-/// `file` is the plan file of the command. A reason why there is no plan is one that a single item or resource shows: too
+/// `file` is the plan file of the command, and `course` how its search went, where that is known. A reason why there is no plan is one that a single item or resource shows: too
 /// much opening stock, too long a lead time, a least lot without room, too little time on a resource up to some period.
 /// It takes time in the number of items times that of periods times those of items and resources.
 pub fn words_on_answer(
@@ -109,11 +101,12 @@ pub fn words_on_answer(
     instance: &Instance,
     file: &str,
     printed: &str,
+    course: Option<Course>,
 ) -> Result<String, AllocError> {
     let name = plain(alloc, file)?;
     let file = name.as_str();
     if !line_with(printed, "undecided").is_empty() {
-        return on_open(alloc, file, printed);
+        return on_open(alloc, file, printed, course);
     }
     if !line_with(printed, "infeasible").is_empty() {
         let mut words = on_infeasible(alloc, instance)?;

@@ -4,7 +4,7 @@
 //! Family: tests. It stands on `explain` for what is said, and on `lot_io` for the files; nothing stands on it.
 #![tactic(auto)]
 
-use explain::explain;
+use explain::{Course, Seen, explain};
 use lot_io::{DiskShelf, Shelf, Sink, StdSink};
 use std::alloc::{AllocError, Global};
 use std::process::ExitCode;
@@ -29,13 +29,40 @@ fn lines_of(alloc: Global, text: &str) -> Result<String, AllocError> {
     Ok(lines)
 }
 
-// What is said of a run: the words, the status and the lines, with bars between.
+// The number behind a word, if it stands there.
+fn number_behind(text: &str, wanted: &str) -> Option<u64> {
+    let mut words = text.split_whitespace();
+    words.find(|word| *word == wanted);
+    words.next().unwrap_or("").parse::<u64>().ok()
+}
+
+// The word behind a word, if it stands there.
+fn word_behind<'a>(text: &'a str, wanted: &str) -> Option<&'a str> {
+    let mut words = text.split_whitespace();
+    words.find(|word| *word == wanted);
+    words.next()
+}
+
+// What was seen of a run: `nodes N bound N plan N` of its search, or `output NAME same NAME`.
+fn seen_of(text: &str) -> Seen<'_> {
+    Seen {
+        same: word_behind(text, "output").zip(word_behind(text, "same")),
+        course: number_behind(text, "nodes").map(|nodes| Course {
+            nodes,
+            bound_since: number_behind(text, "bound"),
+            plan_since: number_behind(text, "plan"),
+        }),
+    }
+}
+
+// What is said of a run: the words, the status, the lines and what was seen, with bars between.
 fn told<S: Shelf>(alloc: Global, case: &str, shelf: &mut S) -> Result<String, AllocError> {
     let mut parts = case.split('|');
     let words = words_of(alloc, parts.next().unwrap_or(""))?;
     let status = parts.next().unwrap_or("").trim().parse::<u8>().unwrap_or(0);
     let lines = lines_of(alloc, parts.next().unwrap_or(""))?;
-    let said = explain(alloc, words.as_slice(), status, lines.as_str(), shelf)?;
+    let seen = seen_of(parts.next().unwrap_or(""));
+    let said = explain(alloc, words.as_slice(), status, lines.as_str(), seen, shelf)?;
     format!(in alloc; "{case}\n{said}\n")
 }
 
