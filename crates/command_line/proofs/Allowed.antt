@@ -1,5 +1,5 @@
 -- Commands have names that are apart, and numbers within their limits.
-use Rattle.std.proofs.Common.{◌≡◌, ◌≢◌, ◌≤◌, ◌<◌, ◌^◌, Bool, true, false, not, ◌&&◌, ℕ, List, [], ◌∷◌, Option, Some, None, if◌then◌else◌, codes, decimal, nat_le, refl, subst, arith}
+use Rattle.std.proofs.Common.{◌≡◌, ◌≢◌, ◌≤◌, ◌<◌, ◌^◌, Bool, true, false, not, ◌&&◌, ℕ, List, [], ◌∷◌, Option, Some, None, if◌then◌else◌, codes, decimal, nat_le, IfSome, refl, subst, arith}
 use Rattle.std.specs.Int.{is_in_range}
 use Rattle.std.specs.Str.{bytes_eq}
 use Rattle.std.specs.Str.Parse.{digits_value}
@@ -10,8 +10,9 @@ use Rattle.command_line.specs.Grammar.{planner_app}
 use Rattle.command_line.specs.Laws.{CommandsAreAllowed}
 use Rattle.lot_sizing.specs.declared.limits.TheConstants.{MAX_ITEMS}
 use Rattle.instance_reader.specs.declared.versions.TheConstants.{FIRST_VERSION_PERIODS}
-use Rattle.command_line.specs.declared.requests.TheConstants.{LARGEST_BUDGET, USUAL_BUDGET}
-use Rattle.command_line.specs.Words.{AreApart, AreFiveApart, AreFourApart, Request, IsAllowed, are_file_names, are_five_names, are_four_names, are_two_names, request_by_matches, request_if, request_in, bounding, bounding_from, budget_from, checking, checking_from, command_of, demonstrating, demonstrating_from, drawing, drawing_from, generated, generating, generating_from, is_budget, is_file_name, is_number, is_seed, is_start, judging, judging_from, largest_seed, largest_start, pegging, pegging_from, planned, planning, planning_from, reporting, reporting_from, replanned, replanning, replanning_from, schedule_checking, schedule_checking_from, scheduling, scheduling_from, unless_refused, upgrading, upgrading_from, version}
+use Rattle.command_line.specs.declared.requests.TheConstants.{LARGEST_BUDGET, LARGEST_GAP, LARGEST_SECONDS, USUAL_BUDGET}
+use Rattle.command_line.specs.Words.{AreApart, AreFiveApart, AreFourApart, Request, Search, IsAllowed, are_file_names, are_five_names, are_four_names, are_two_names, request_by_matches, request_if, request_in, bounding, bounding_from, budget_from, checking, checking_from, command_of, completing, completing_from, demonstrating, demonstrating_from, drawing, drawing_from, form_from, gap_from, generated, generating, generating_from, hundredths, is_budget, is_file_name, is_gap, is_number, is_percentage, is_seconds, is_seed, is_start, is_start_name, judging, judging_from, largest_seed, largest_start, pegging, pegging_from, planned, planning, planning_from, reported, reporting, reporting_from, replanned, replanning, replanning_from, schedule_checking, schedule_checking_from, scheduling, scheduling_from, search_from, search_with, seconds_from, unless_refused, upgrading, upgrading_from, version}
+use Rattle.command_line.specs.declared.commands.ReportForm.{ReportForm}
 
 -- the parts of a test that came out true
 pub first_true : (a b : Bool) → (a && b) ≡ true → a ≡ true
@@ -112,15 +113,70 @@ budget_in_range : (nodes : Option (List ℕ)) (k : ℕ) → budget_from nodes �
 budget_in_range None k is = let same : USUAL_BUDGET ≡ k = cc is in subst (λ j. (1 ≤ j) × (j ≤ LARGEST_BUDGET)) same (omega arith, omega arith)
 budget_in_range (Some text) k is = budget_if (digits_value 10 text) k text (is_budget text) (number_in_range 1 LARGEST_BUDGET text) is
 
-fine_planned : (m p c : List ℕ) (budget : Option ℕ) → ((k : ℕ) → budget ≡ Some k → (1 ≤ k) × (k ≤ LARGEST_BUDGET)) → Fine (planned m p c budget)
-fine_planned m p c None range = fine_none
-fine_planned m p c (Some k) range = fine_if (are_file_names m p c) (planning m p c k) (λ is. record { apart = are_apart m p c is; some = (range k refl).0; limit = (range k refl).1 })
+-- a gap and seconds are in their limits
+abbrev HasGap : Option ℕ → Type 0
+HasGap gap = IfSome gap (λ g. g ≤ LARGEST_GAP)
 
-fine_planning : (m p c nodes : Option (List ℕ)) → Fine (planning_from m p c nodes)
-fine_planning None p c nodes = fine_none
-fine_planning (Some m) None c nodes = fine_none
-fine_planning (Some m) (Some p) None nodes = fine_none
-fine_planning (Some m) (Some p) (Some c) nodes = fine_planned m p c (budget_from nodes) (budget_in_range nodes)
+abbrev HasSeconds : Option ℕ → Type 0
+HasSeconds seconds = IfSome seconds (λ s. (1 ≤ s) × (s ≤ LARGEST_SECONDS))
+
+gap_if : (text : List ℕ) (g : Option ℕ) (t : Bool) → (t ≡ true → hundredths text ≤ LARGEST_GAP) → (if t then Some (Some (hundredths text)) else None) ≡ Some g → HasGap g
+gap_if text g true range is = let same : Some (hundredths text) ≡ g = cc is in subst HasGap same (range refl)
+gap_if text g false range is = absurd (cc is)
+
+gap_in_range : (text : Option (List ℕ)) (g : Option ℕ) → gap_from text ≡ Some g → HasGap g
+gap_in_range None g is = let same : None ≡ g = cc is in subst HasGap same tt
+gap_in_range (Some text) g is = gap_if text g (is_gap text) (λ t. leb-true (hundredths text) LARGEST_GAP (rest_true (is_percentage text) (nat_le (hundredths text) LARGEST_GAP) t)) is
+
+seconds_if : (n : ℕ) (s : Option ℕ) (t : Bool) → (t ≡ true → (1 ≤ n) × (n ≤ LARGEST_SECONDS)) → (if t then Some (Some n) else None) ≡ Some s → HasSeconds s
+seconds_if n s true range is = let same : Some n ≡ s = cc is in subst HasSeconds same (range refl)
+seconds_if n s false range is = absurd (cc is)
+
+seconds_in_range : (text : Option (List ℕ)) (s : Option ℕ) → seconds_from text ≡ Some s → HasSeconds s
+seconds_in_range None s is = let same : None ≡ s = cc is in subst HasSeconds same tt
+seconds_in_range (Some text) s is = seconds_if (digits_value 10 text) s (is_seconds text) (number_in_range 1 LARGEST_SECONDS text) is
+
+-- the numbers of a search are in their limits
+record IsSearch (s : Search) : Type 0 where
+  some : 1 ≤ s.budget
+  limit : s.budget ≤ LARGEST_BUDGET
+  gap : HasGap s.gap
+  seconds : HasSeconds s.seconds
+
+search_within : (budget : Option ℕ) (start : Option (List ℕ)) (gap seconds : Option (Option ℕ)) (s : Search) → ((k : ℕ) → budget ≡ Some k → (1 ≤ k) × (k ≤ LARGEST_BUDGET)) → ((g : Option ℕ) → gap ≡ Some g → HasGap g) → ((t : Option ℕ) → seconds ≡ Some t → HasSeconds t) → search_with budget start gap seconds ≡ Some s → IsSearch s
+search_within None start gap seconds s b g t is = absurd (cc is)
+search_within (Some budget) start None seconds s b g t is = absurd (cc is)
+search_within (Some budget) start (Some gap) None s b g t is = absurd (cc is)
+search_within (Some budget) start (Some gap) (Some seconds) s b g t is =
+    let made : Search = record { budget = budget; start = start; gap = gap; seconds = seconds } in
+    let same : made ≡ s = cc is in
+    subst IsSearch same (record { some = (b budget refl).0; limit = (b budget refl).1; gap = g gap refl; seconds = t seconds refl })
+
+search_in_range : (nodes start gap seconds : Option (List ℕ)) (s : Search) → search_from nodes start gap seconds ≡ Some s → IsSearch s
+search_in_range nodes start gap seconds s is = search_within (budget_from nodes) start (gap_from gap) (seconds_from seconds) s (budget_in_range nodes) (gap_in_range gap) (seconds_in_range seconds) is
+
+start_apart : (m c : List ℕ) (start : Option (List ℕ)) → is_start_name m c start ≡ true → IfSome start (λ f. AreApart m f c)
+start_apart m c None is = tt
+start_apart m c (Some f) is = are_apart m f c is
+
+fine_planned : (m p c : List ℕ) (search : Option Search) → ((s : Search) → search ≡ Some s → IsSearch s) → Fine (planned m p c search)
+fine_planned m p c None range = fine_none
+fine_planned m p c (Some s) range = fine_if (is_start_name m c s.start && are_file_names m p c) (planning m p c s) (λ is.
+    let r = range s refl in
+    record {
+      apart = are_apart m p c (rest_true (is_start_name m c s.start) (are_file_names m p c) is);
+      some = r.some;
+      limit = r.limit;
+      start = start_apart m c s.start (first_true (is_start_name m c s.start) (are_file_names m p c) is);
+      gap = r.gap;
+      seconds = r.seconds;
+    })
+
+fine_planning : (m p c : Option (List ℕ)) (search : Option Search) → ((s : Search) → search ≡ Some s → IsSearch s) → Fine (planning_from m p c search)
+fine_planning None p c search range = fine_none
+fine_planning (Some m) None c search range = fine_none
+fine_planning (Some m) (Some p) None search range = fine_none
+fine_planning (Some m) (Some p) (Some c) search range = fine_planned m p c search range
 
 fine_judging : (m p : Option (List ℕ)) → Fine (judging_from m p)
 fine_judging None p = fine_none
@@ -133,10 +189,14 @@ fine_checking (Some m) None c = fine_none
 fine_checking (Some m) (Some p) None = fine_none
 fine_checking (Some m) (Some p) (Some c) = fine_if (are_file_names m p c) (checking m p c) (are_apart m p c)
 
-fine_reporting : (m p : Option (List ℕ)) → Fine (reporting_from m p)
-fine_reporting None p = fine_none
-fine_reporting (Some m) None = fine_none
-fine_reporting (Some m) (Some p) = fine_if (are_two_names m p) (reporting m p) (two_apart m p)
+fine_reported : (m p : List ℕ) (form : Option ReportForm) → Fine (reported m p form)
+fine_reported m p None = fine_none
+fine_reported m p (Some form) = fine_if (are_two_names m p) (reporting m p form) (two_apart m p)
+
+fine_reporting : (m p full table : Option (List ℕ)) → Fine (reporting_from m p full table)
+fine_reporting None p full table = fine_none
+fine_reporting (Some m) None full table = fine_none
+fine_reporting (Some m) (Some p) full table = fine_reported m p (form_from full table)
 
 fine_generated : (n items periods m : List ℕ) → Fine (generated n items periods m)
 fine_generated n items periods m = fine_if _ (generating (digits_value 10 n) (digits_value 10 items) (digits_value 10 periods) m) (λ is.
@@ -184,6 +244,12 @@ fine_pegging (Some m) None q = fine_none
 fine_pegging (Some m) (Some p) None = fine_none
 fine_pegging (Some m) (Some p) (Some q) = fine_if (are_file_names m p q) (pegging m p q) (are_apart m p q)
 
+fine_completing : (m p q : Option (List ℕ)) → Fine (completing_from m p q)
+fine_completing None p q = fine_none
+fine_completing (Some m) None q = fine_none
+fine_completing (Some m) (Some p) None = fine_none
+fine_completing (Some m) (Some p) (Some q) = fine_if (are_file_names m p q) (completing m p q) (are_apart m p q)
+
 fine_drawing : (m p h c : Option (List ℕ)) → Fine (drawing_from m p h c)
 fine_drawing None p h c = fine_none
 fine_drawing (Some m) None h c = fine_none
@@ -211,10 +277,11 @@ fine_replanning (Some m) (Some p) (Some f) (Some n) (Some q) (Some c) nodes = fi
 
 fine_in : (name : List ℕ) (rows : List Row) → Fine (request_in name rows)
 fine_in name rows =
-    fine_either (bytes_eq name (codes "plan")) _ _ (fine_planning (first_of (codes "M") rows) (first_of (codes "P") rows) (first_of (codes "C") rows) (first_of (codes "nodes") rows))
+    fine_either (bytes_eq name (codes "plan")) _ _ (fine_planning (first_of (codes "M") rows) (first_of (codes "P") rows) (first_of (codes "C") rows) (search_from (first_of (codes "nodes") rows) (first_of (codes "start") rows) (first_of (codes "gap") rows) (first_of (codes "seconds") rows))
+    (search_in_range (first_of (codes "nodes") rows) (first_of (codes "start") rows) (first_of (codes "gap") rows) (first_of (codes "seconds") rows)))
     (fine_either (bytes_eq name (codes "judge")) _ _ (fine_judging (first_of (codes "M") rows) (first_of (codes "P") rows))
     (fine_either (bytes_eq name (codes "check")) _ _ (fine_checking (first_of (codes "M") rows) (first_of (codes "P") rows) (first_of (codes "C") rows))
-    (fine_either (bytes_eq name (codes "report")) _ _ (fine_reporting (first_of (codes "M") rows) (first_of (codes "P") rows))
+    (fine_either (bytes_eq name (codes "report")) _ _ (fine_reporting (first_of (codes "M") rows) (first_of (codes "P") rows) (first_of (codes "full") rows) (first_of (codes "table") rows))
     (fine_either (bytes_eq name (codes "gen")) _ _ (fine_generating (first_of (codes "N") rows) (first_of (codes "ITEMS") rows) (first_of (codes "PERIODS") rows) (first_of (codes "M") rows))
     (fine_either (bytes_eq name (codes "demo")) _ _ (fine_demonstrating (first_of (codes "N") rows))
     (fine_either (bytes_eq name (codes "upgrade")) _ _ (fine_upgrading (first_of (codes "M") rows) (first_of (codes "M2") rows))
@@ -222,8 +289,9 @@ fine_in name rows =
     (fine_either (bytes_eq name (codes "schedule")) _ _ (fine_scheduling (first_of (codes "M") rows) (first_of (codes "P") rows) (first_of (codes "S") rows))
     (fine_either (bytes_eq name (codes "schedcheck")) _ _ (fine_schedule_checking (first_of (codes "M") rows) (first_of (codes "P") rows) (first_of (codes "S") rows))
     (fine_either (bytes_eq name (codes "peg")) _ _ (fine_pegging (first_of (codes "M") rows) (first_of (codes "P") rows) (first_of (codes "Q") rows))
+    (fine_either (bytes_eq name (codes "complete")) _ _ (fine_completing (first_of (codes "M") rows) (first_of (codes "P") rows) (first_of (codes "P2") rows))
     (fine_either (bytes_eq name (codes "draw")) _ _ (fine_drawing (first_of (codes "M") rows) (first_of (codes "P") rows) (first_of (codes "H") rows) (first_of (codes "proof") rows))
-    (fine_either (bytes_eq name (codes "replan")) _ _ (fine_replanning (first_of (codes "M") rows) (first_of (codes "P") rows) (first_of (codes "F") rows) (first_of (codes "M2") rows) (first_of (codes "P2") rows) (first_of (codes "C") rows) (first_of (codes "nodes") rows)) fine_none))))))))))))
+    (fine_either (bytes_eq name (codes "replan")) _ _ (fine_replanning (first_of (codes "M") rows) (first_of (codes "P") rows) (first_of (codes "F") rows) (first_of (codes "M2") rows) (first_of (codes "P2") rows) (first_of (codes "C") rows) (first_of (codes "nodes") rows)) fine_none)))))))))))))
 
 fine_matches : (s : Option (List ℕ × List Row)) → Fine (request_by_matches s)
 fine_matches None = fine_some version tt

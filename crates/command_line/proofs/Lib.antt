@@ -10,3 +10,4 @@ pub mod ThreeTexts
 pub mod Drawn
 pub mod Budgets
 pub mod Plain
+pub mod Gaps

@@ -7,8 +7,9 @@ use Rattle.clap.proofs.OnLiterals.{clap_on_literals}
 use Rattle.command_line.specs.Laws.{PlainWordsKeepTheirMeaning}
 use Rattle.lot_sizing.specs.declared.limits.TheConstants.{MAX_ITEMS}
 use Rattle.instance_reader.specs.declared.versions.TheConstants.{FIRST_VERSION_PERIODS}
+use Rattle.command_line.specs.declared.commands.ReportForm.TheVariants.{Summary}
 use Rattle.command_line.specs.declared.requests.TheConstants.{LARGEST_BUDGET, USUAL_BUDGET}
-use Rattle.command_line.specs.Words.{Request, are_file_names, are_two_names, request_if, bounding, checking, command_of, demonstrating, generating, is_budget, is_file_name, is_number, is_seed, judging, planned, planning, reporting, upgrading, version}
+use Rattle.command_line.specs.Words.{Request, are_file_names, are_two_names, request_if, bounding, checking, command_of, demonstrating, generating, is_budget, is_file_name, is_number, is_seed, judging, plain_search, planned, planning, reporting, search_with, upgrading, version}
 use Rattle.command_line.proofs.Allowed.{first_true, rest_true}
 use Rattle.command_line.proofs.Budgets.{nodes_words}
 use Rattle.command_line.proofs.Numbers.{number_begins, seed_begins}
@@ -62,7 +63,7 @@ are_names m p c is =
 
 -- a plan with a number of nodes
 with_nodes : (w m p c o n : List ℕ) → (bytes_eq w (codes "plan") && (are_file_names m p c && (bytes_eq o (codes "--nodes") && is_budget n))) ≡ true
-    → command_of (w ∷ m ∷ p ∷ c ∷ o ∷ n ∷ []) ≡ Some (planning m p c (digits_value 10 n))
+    → command_of (w ∷ m ∷ p ∷ c ∷ o ∷ n ∷ []) ≡ Some (planning m p c (plain_search (digits_value 10 n)))
 with_nodes w m p c o n is =
     let others : (are_file_names m p c && (bytes_eq o (codes "--nodes") && is_budget n)) ≡ true = rest_true (bytes_eq w (codes "plan")) _ is in
     let named : are_file_names m p c ≡ true = first_true (are_file_names m p c) _ others in
@@ -73,8 +74,8 @@ with_nodes w m p c o n is =
     let names = are_names m p c named in
     ap (λ x. command_of (x ∷ m ∷ p ∷ c ∷ o ∷ n ∷ [])) word ∙ ap (λ x. command_of (codes "plan" ∷ m ∷ p ∷ c ∷ x ∷ n ∷ [])) flag
     ∙ nodes_words m p c n names.first names.second names.third (number_begins 1 LARGEST_BUDGET n (omega arith) number)
-    ∙ ap (λ t. planned m p c (if t then Some (digits_value 10 n) else None)) number
-    ∙ ap (λ t. request_if t (planning m p c (digits_value 10 n))) named
+    ∙ ap (λ t. planned m p c (search_with (if t then Some (digits_value 10 n) else None) None (Some None) (Some None))) number
+    ∙ ap (λ t. request_if t (planning m p c (plain_search (digits_value 10 n)))) named
 
 -- a model that is drawn
 drawn : (w n items periods m : List ℕ) → (bytes_eq w (codes "gen") && (is_seed n && (is_number 1 MAX_ITEMS items && (is_number 1 FIRST_VERSION_PERIODS periods && is_file_name m)))) ≡ true
@@ -101,12 +102,12 @@ plain_words (w ∷ m ∷ p ∷ []) request is =
     (named w (codes "judge") (m ∷ p ∷ []) (are_two_names m p) (judging m p) (λ met. judge_words m p (first_name m p met) (second_name m p met)))
     (by_test (bytes_eq w (codes "upgrade") && are_two_names m p) (upgrading m p) request _ answer
     (named w (codes "upgrade") (m ∷ p ∷ []) (are_two_names m p) (upgrading m p) (λ met. upgrade_words m p (first_name m p met) (second_name m p met)))
-    (by_test (bytes_eq w (codes "report") && are_two_names m p) (reporting m p) request None answer
-    (named w (codes "report") (m ∷ p ∷ []) (are_two_names m p) (reporting m p) (λ met. report_words m p (first_name m p met) (second_name m p met))) (never request answer))) is
+    (by_test (bytes_eq w (codes "report") && are_two_names m p) (reporting m p Summary) request None answer
+    (named w (codes "report") (m ∷ p ∷ []) (are_two_names m p) (reporting m p Summary) (λ met. report_words m p (first_name m p met) (second_name m p met))) (never request answer))) is
 plain_words (w ∷ m ∷ p ∷ c ∷ []) request is =
     let answer = command_of (w ∷ m ∷ p ∷ c ∷ []) in
-    by_test (bytes_eq w (codes "plan") && are_file_names m p c) (planning m p c USUAL_BUDGET) request _ answer
-    (named w (codes "plan") (m ∷ p ∷ c ∷ []) (are_file_names m p c) (planning m p c USUAL_BUDGET) (λ met. let names = are_names m p c met in plan_words m p c names.first names.second names.third))
+    by_test (bytes_eq w (codes "plan") && are_file_names m p c) (planning m p c (plain_search USUAL_BUDGET)) request _ answer
+    (named w (codes "plan") (m ∷ p ∷ c ∷ []) (are_file_names m p c) (planning m p c (plain_search USUAL_BUDGET)) (λ met. let names = are_names m p c met in plan_words m p c names.first names.second names.third))
     (by_test (bytes_eq w (codes "check") && are_file_names m p c) (checking m p c) request None answer
     (named w (codes "check") (m ∷ p ∷ c ∷ []) (are_file_names m p c) (checking m p c) (λ met. let names = are_names m p c met in check_words m p c names.first names.second names.third)) (never request answer)) is
 plain_words (w ∷ n ∷ items ∷ periods ∷ m ∷ []) request is =
@@ -114,6 +115,6 @@ plain_words (w ∷ n ∷ items ∷ periods ∷ m ∷ []) request is =
     (generating (digits_value 10 n) (digits_value 10 items) (digits_value 10 periods) m) request None (command_of (w ∷ n ∷ items ∷ periods ∷ m ∷ []))
     (drawn w n items periods m) (never request (command_of (w ∷ n ∷ items ∷ periods ∷ m ∷ []))) is
 plain_words (w ∷ m ∷ p ∷ c ∷ o ∷ n ∷ []) request is =
-    by_test (bytes_eq w (codes "plan") && (are_file_names m p c && (bytes_eq o (codes "--nodes") && is_budget n))) (planning m p c (digits_value 10 n)) request None
+    by_test (bytes_eq w (codes "plan") && (are_file_names m p c && (bytes_eq o (codes "--nodes") && is_budget n))) (planning m p c (plain_search (digits_value 10 n))) request None
     (command_of (w ∷ m ∷ p ∷ c ∷ o ∷ n ∷ [])) (with_nodes w m p c o n) (never request (command_of (w ∷ m ∷ p ∷ c ∷ o ∷ n ∷ []))) is
 plain_words (w ∷ m ∷ p ∷ c ∷ o ∷ n ∷ f ∷ fs) request is = absurd (cc is)

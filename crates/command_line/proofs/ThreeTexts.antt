@@ -7,7 +7,7 @@ use Rattle.clap.specs.Faults.{level_fault}
 use Rattle.clap.proofs.OnLiterals.{clap_on_literals}
 use Rattle.command_line.specs.Grammar.{planner_app}
 use Rattle.command_line.specs.declared.requests.TheConstants.{USUAL_BUDGET}
-use Rattle.command_line.specs.Words.{request_if, request_in, command_of, is_file_name, are_file_names, checking, planning}
+use Rattle.command_line.specs.Words.{request_if, request_in, command_of, is_file_name, are_file_names, checking, plain_search, planning}
 use Rattle.command_line.proofs.Leaves.{asks, held, leaf, takes}
 use Rattle.command_line.proofs.Placed.{ArePlaced, EndsWell}
 
@@ -31,11 +31,11 @@ plan_subcommand : (a b d : Text) → subcommand_of planner_app (codes "plan" ∷
 unfolding clap_on_literals
 plan_subcommand a b d = refl
 
-plan_asks : (a b d : Text) → request_in (codes "plan") (finished (leaf (codes "plan")).rules (held (codes "plan") (a ∷ b ∷ d ∷ []))) ≡ request_if (are_file_names a b d) (planning a b d USUAL_BUDGET)
+plan_asks : (a b d : Text) → request_in (codes "plan") (finished (leaf (codes "plan")).rules (held (codes "plan") (a ∷ b ∷ d ∷ []))) ≡ request_if (are_file_names a b d) (planning a b d (plain_search USUAL_BUDGET))
 unfolding clap_on_literals
 plan_asks a b d = refl
 
-pub plan_words : (a b d : Text) → is_file_name a ≡ true → is_file_name b ≡ true → is_file_name d ≡ true → command_of (codes "plan" ∷ a ∷ b ∷ d ∷ []) ≡ request_if (are_file_names a b d) (planning a b d USUAL_BUDGET)
+pub plan_words : (a b d : Text) → is_file_name a ≡ true → is_file_name b ≡ true → is_file_name d ≡ true → command_of (codes "plan" ∷ a ∷ b ∷ d ∷ []) ≡ request_if (are_file_names a b d) (planning a b d (plain_search USUAL_BUDGET))
 plan_words a b d p q r =
     let taken = takes (codes "plan") (a ∷ b ∷ d ∷ []) refl (plan_placed a b d p q r) (plan_ends a b d) in
     asks (codes "plan") (a ∷ b ∷ d ∷ []) _ (plan_fault a b d taken.level) (plan_subcommand a b d) taken.rows ∙ plan_asks a b d

@@ -6,6 +6,7 @@ use Rattle.clap.specs.Simple.{names_of}
 use Rattle.clap.specs.Faults.{level_fault}
 use Rattle.clap.proofs.OnLiterals.{clap_on_literals}
 use Rattle.command_line.specs.Grammar.{planner_app}
+use Rattle.command_line.specs.declared.commands.ReportForm.TheVariants.{Summary}
 use Rattle.command_line.specs.Words.{request_if, request_in, command_of, is_file_name, are_two_names, judging, reporting, upgrading}
 use Rattle.command_line.proofs.Leaves.{asks, held, leaf, takes}
 use Rattle.command_line.proofs.Placed.{ArePlaced, EndsWell}
@@ -59,11 +60,11 @@ report_subcommand : (a b : Text) → subcommand_of planner_app (codes "report" �
 unfolding clap_on_literals
 report_subcommand a b = refl
 
-report_asks : (a b : Text) → request_in (codes "report") (finished (leaf (codes "report")).rules (held (codes "report") (a ∷ b ∷ []))) ≡ request_if (are_two_names a b) (reporting a b)
+report_asks : (a b : Text) → request_in (codes "report") (finished (leaf (codes "report")).rules (held (codes "report") (a ∷ b ∷ []))) ≡ request_if (are_two_names a b) (reporting a b Summary)
 unfolding clap_on_literals
 report_asks a b = refl
 
-pub report_words : (a b : Text) → is_file_name a ≡ true → is_file_name b ≡ true → command_of (codes "report" ∷ a ∷ b ∷ []) ≡ request_if (are_two_names a b) (reporting a b)
+pub report_words : (a b : Text) → is_file_name a ≡ true → is_file_name b ≡ true → command_of (codes "report" ∷ a ∷ b ∷ []) ≡ request_if (are_two_names a b) (reporting a b Summary)
 report_words a b p q =
     let taken = takes (codes "report") (a ∷ b ∷ []) refl (report_placed a b p q) (report_ends a b) in
     asks (codes "report") (a ∷ b ∷ []) _ (report_fault a b taken.level) (report_subcommand a b) taken.rows ∙ report_asks a b

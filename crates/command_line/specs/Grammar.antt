@@ -32,13 +32,21 @@ subcommand name ids options = fold (λ a o. with_rule a (choice o)) (placed name
 abbrev pub search_options : List (Text × Bool)
 search_options = (codes "nodes", true) ∷ (codes "progress", false) ∷ []
 
+-- and those of a plan, which may start from a plan and may end early
+abbrev pub plan_options : List (Text × Bool)
+plan_options = (codes "nodes", true) ∷ (codes "progress", false) ∷ (codes "start", true) ∷ (codes "gap", true) ∷ (codes "seconds", true) ∷ []
+
+-- the options of a report
+abbrev pub report_options : List (Text × Bool)
+report_options = (codes "full", false) ∷ (codes "table", false) ∷ []
+
 -- the subcommands
 abbrev pub subcommands : List App
 subcommands =
-    subcommand (codes "plan") (codes "M" ∷ codes "P" ∷ codes "C" ∷ []) search_options
+    subcommand (codes "plan") (codes "M" ∷ codes "P" ∷ codes "C" ∷ []) plan_options
     ∷ subcommand (codes "judge") (codes "M" ∷ codes "P" ∷ []) []
     ∷ subcommand (codes "check") (codes "M" ∷ codes "P" ∷ codes "C" ∷ []) []
-    ∷ subcommand (codes "report") (codes "M" ∷ codes "P" ∷ []) []
+    ∷ subcommand (codes "report") (codes "M" ∷ codes "P" ∷ []) report_options
     ∷ subcommand (codes "gen") (codes "N" ∷ codes "ITEMS" ∷ codes "PERIODS" ∷ codes "M" ∷ []) []
     ∷ subcommand (codes "demo") (codes "N" ∷ []) []
     ∷ subcommand (codes "upgrade") (codes "M" ∷ codes "M2" ∷ []) []
@@ -46,6 +54,7 @@ subcommands =
     ∷ subcommand (codes "schedule") (codes "M" ∷ codes "P" ∷ codes "S" ∷ []) []
     ∷ subcommand (codes "schedcheck") (codes "M" ∷ codes "P" ∷ codes "S" ∷ []) []
     ∷ subcommand (codes "peg") (codes "M" ∷ codes "P" ∷ codes "Q" ∷ []) []
+    ∷ subcommand (codes "complete") (codes "M" ∷ codes "P" ∷ codes "P2" ∷ []) []
     ∷ subcommand (codes "draw") (codes "M" ∷ codes "P" ∷ codes "H" ∷ []) ((codes "proof", true) ∷ [])
     ∷ subcommand (codes "replan") (codes "M" ∷ codes "P" ∷ codes "F" ∷ codes "M2" ∷ codes "P2" ∷ codes "C" ∷ []) search_options
     ∷ []

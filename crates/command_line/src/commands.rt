@@ -9,8 +9,8 @@ pub enum Command<'a> {
     Plan {
         /// The names of the files.
         names: Names<'a>,
-        /// The most nodes that the certificate's tree may have, from 1 to `LARGEST_BUDGET`.
-        budget: u64,
+        /// How the plan is searched.
+        search: Search<'a>,
     },
     /// To judge a plan file.
     Judge(TwoNames<'a>),
@@ -20,8 +20,13 @@ pub enum Command<'a> {
     Upgrade(UpgradeNames<'a>),
     /// To bound the cost of all plans of the model in the file of this name.
     Bound(&'a str),
-    /// To judge a plan file and to sum it up.
-    Report(TwoNames<'a>),
+    /// To judge a plan file and to tell of it.
+    Report {
+        /// The names of the files.
+        names: TwoNames<'a>,
+        /// What is told, and as which text.
+        form: ReportForm,
+    },
     /// To write a model that is made from a number.
     Generate {
         /// The number, from which the model's numbers are drawn.
@@ -41,6 +46,8 @@ pub enum Command<'a> {
     CheckSchedule(ScheduleNames<'a>),
     /// To say which supply serves which need.
     Peg(PegNames<'a>),
+    /// To complete a table of quantities to a plan.
+    Complete(CompleteNames<'a>),
     /// To draw a plan.
     Draw {
         /// The names of the files.
@@ -57,6 +64,32 @@ pub enum Command<'a> {
         /// The most nodes that the certificate's tree may have, from 1 to `LARGEST_BUDGET`.
         budget: u64,
     },
+}
+
+/// How a plan is searched.
+#[derive(Clone, Copy, Debug, PartialEq, Eq)]
+pub struct Search<'a> {
+    /// The most nodes that the certificate's tree may have, from 1 to `LARGEST_BUDGET`.
+    pub budget: u64,
+    /// The plan file to start from, which is read. It may be the plan file that is written, and is neither the model file
+    /// nor the certificate file.
+    pub start: Option<&'a str>,
+    /// The gap between bound and cost at which the search may end, in hundredths of a percent of the cost, from 0 to
+    /// `LARGEST_GAP`.
+    pub gap: Option<u32>,
+    /// The seconds after which the search may end, from 1 to `LARGEST_SECONDS`.
+    pub seconds: Option<u32>,
+}
+
+/// What a report tells of a plan, and as which text.
+#[derive(Clone, Copy, Debug, PartialEq, Eq)]
+pub enum ReportForm {
+    /// A summary as one line of JSON.
+    Summary,
+    /// All of the plan by periods as one line of JSON.
+    Full,
+    /// The plan as tables for a terminal.
+    Tables,
 }
 
 /// The names of the files of a plan or of a check, no two of them the same.
@@ -108,6 +141,17 @@ pub struct PegNames<'a> {
     pub plan: &'a str,
     /// The file of pegs, which is written.
     pub pegs: &'a str,
+}
+
+/// The names of the files of a plan that is completed, no two of them the same.
+#[derive(Clone, Copy, Debug, PartialEq, Eq)]
+pub struct CompleteNames<'a> {
+    /// The model file, which is read.
+    pub model: &'a str,
+    /// The table of quantities, which is read.
+    pub quantities: &'a str,
+    /// The plan file, which is written.
+    pub completed: &'a str,
 }
 
 /// The names of the files of a page, no two of them the same.

@@ -2,9 +2,10 @@
 //!
 //! Family: commands. It stands on `clap`, which matches the words, on `whole_numbers` for the numbers
 //! among them, and on `lot_sizing` and `instance_reader` for the limits of a model that is drawn;
-//! `lotplan` stands on it.
+//! `lotplan`, `lotplan_main` and `explain` stand on it.
 //!
-//! `read_words` gives the command that the words are, or the text that is printed where they are none.
+//! `read_words` gives the command that the words are, or the text that is printed where they are none. `seconds_asked` gives the
+//! seconds of a plan, for a program that has a clock.
 #![tactic(auto)]
 
 mod commands;
@@ -16,9 +17,9 @@ mod requests;
 mod table;
 
 pub use commands::{
-    Command, DrawNames, Names, PegNames, Reading, ReplanNames, ScheduleNames, TwoNames,
-    UpgradeNames,
+    Command, CompleteNames, DrawNames, Names, PegNames, Reading, ReplanNames, ReportForm,
+    ScheduleNames, Search, TwoNames, UpgradeNames,
 };
 pub use laws::{commands_are_allowed, plain_words_keep_their_meaning};
-pub use reader::read_words;
-pub use requests::{LARGEST_BUDGET, USUAL_BUDGET};
+pub use reader::{read_words, seconds_asked};
+pub use requests::{LARGEST_BUDGET, LARGEST_GAP, LARGEST_SECONDS, USUAL_BUDGET};

@@ -3,11 +3,11 @@ ghost use Rattle.std.specs.Prelude.{◌≡◌, ◌≢◌, IfOk, codes, map, opti
 ghost use Rattle.clap.specs.Words.{first_of, found_of, kind_of, rows_of, subcommand_rows_of};
 ghost use Rattle.clap.specs.declared.error.kind.ErrorKind.TheVariants.{OutOfMemory};
 ghost use Rattle.command_line.specs.Meant.{IsRefusedText, request_by, read_as};
-ghost use Rattle.command_line.specs.Words.{command_of, request_by_matches, request_in};
+ghost use Rattle.command_line.specs.Words.{command_of, request_by_matches, request_in, seconds_of};
 
 use crate::commands::{Command, Reading};
 use crate::grammar::planner;
-use crate::requests::{self, ReplanTexts};
+use crate::requests::{self, PlanTexts, ReplanTexts};
 use clap::ArgMatches;
 use clap::error::{Error, ErrorKind};
 use std::alloc::{AllocError, Global};
@@ -18,7 +18,9 @@ use std::alloc::{AllocError, Global};
 /// Names of files aren't empty, don't begin with `-`, and no two of a command are the same. Numbers are decimal
 /// digits with no sign and no 0 before others: a seed is below 2^64, items are 1 to `MAX_ITEMS`, periods 1
 /// to `FIRST_VERSION_PERIODS`, the periods that stay below 2^32, and the nodes of `--nodes` 1 to `LARGEST_BUDGET`;
-/// without that option they are `USUAL_BUDGET`. `--progress` changes no command. The text of help, of the version and of words that `clap` refuses is
+/// without that option they are `USUAL_BUDGET`. The gap of `--gap` is a percentage from 0 to 100 with at most two decimals behind
+/// a point, and the seconds of `--seconds` are 1 to `LARGEST_SECONDS`. `--progress` changes no command, and of `--full` and
+/// `--table` only one is there. The text of help, of the version and of words that `clap` refuses is
 /// its own; words that it takes, and whose names or numbers aren't in order, are refused by `refused words` and a
 /// line feed.
 ///
@@ -34,6 +36,19 @@ pub fn read_words<'a>(alloc: Global, words: &'a [String]) -> Result<Reading<'a>,
             None => Ok(Reading::Text("refused words\n".to_string(alloc)?)),
         },
         Err(error) => Ok(Reading::Text(text_of_error(alloc, &error)?)),
+    }
+}
+
+/// The seconds after which the words let the search of a plan end, if they are a plan with `--seconds`. It is for a program that
+/// has a clock.
+///
+/// `Err` comes where memory runs out.
+pub fn seconds_asked(alloc: Global, words: &[String]) -> Result<Option<u32>, AllocError>
+    ensures { IfOk result (λ seconds. seconds ≡ seconds_of (command_of (map string_bytes words.now))) }
+{
+    match read_words(alloc, words)? {
+        Reading::Command(Command::Plan { search, .. }) => Ok(search.seconds),
+        _ => Ok(None),
     }
 }
 
@@ -69,19 +84,27 @@ fn request_in<'a>(name: &str, given: &ArgMatches<'a>) -> Option<Command<'a>>
     ensures { option_map request_by result ≡ request_in name.now (rows_of (found_of given.now)) }
 {
     match name {
-        "plan" => requests::plan(
-            text_of(given, "M"),
-            text_of(given, "P"),
-            text_of(given, "C"),
-            text_of(given, "nodes"),
-        ),
+        "plan" => requests::plan(PlanTexts {
+            model: text_of(given, "M"),
+            plan: text_of(given, "P"),
+            certificate: text_of(given, "C"),
+            nodes: text_of(given, "nodes"),
+            start: text_of(given, "start"),
+            gap: text_of(given, "gap"),
+            seconds: text_of(given, "seconds"),
+        }),
         "judge" => requests::judge(text_of(given, "M"), text_of(given, "P")),
         "check" => requests::check(
             text_of(given, "M"),
             text_of(given, "P"),
             text_of(given, "C"),
         ),
-        "report" => requests::report(text_of(given, "M"), text_of(given, "P")),
+        "report" => requests::report(
+            text_of(given, "M"),
+            text_of(given, "P"),
+            text_of(given, "full"),
+            text_of(given, "table"),
+        ),
         "gen" => requests::generate(
             text_of(given, "N"),
             text_of(given, "ITEMS"),
@@ -105,6 +128,11 @@ fn request_in<'a>(name: &str, given: &ArgMatches<'a>) -> Option<Command<'a>>
             text_of(given, "M"),
             text_of(given, "P"),
             text_of(given, "Q"),
+        ),
+        "complete" => requests::complete(
+            text_of(given, "M"),
+            text_of(given, "P"),
+            text_of(given, "P2"),
         ),
         "draw" => requests::draw(
             text_of(given, "M"),

@@ -1,13 +1,15 @@
 // The commands that the texts of arguments give, where the names and numbers are in order.
 ghost use Rattle.std.specs.Prelude.{◌≡◌, option_map};
-ghost use Rattle.command_line.specs.Meant.{request_by};
-ghost use Rattle.command_line.specs.Words.{bounding_from, budget_from, checking_from, demonstrating_from, drawing_from, generated, generating_from, judging_from, pegging_from, planning_from, replanned, replanning_from, reporting_from, schedule_checking_from, scheduling_from, upgrading_from};
+ghost use Rattle.command_line.specs.Meant.{request_by, search_by};
+ghost use Rattle.command_line.specs.Words.{bounding_from, budget_from, checking_from, completing_from, demonstrating_from, drawing_from, form_from, gap_from, generated, generating_from, is_set, judging_from, pegging_from, planned, planning_from, replanned, replanning_from, reporting_from, schedule_checking_from, scheduling_from, search_from, seconds_from, upgrading_from};
 
 use crate::commands::{
-    Command, DrawNames, Names, PegNames, ReplanNames, ScheduleNames, TwoNames, UpgradeNames,
+    Command, CompleteNames, DrawNames, Names, PegNames, ReplanNames, ReportForm, ScheduleNames,
+    Search, TwoNames, UpgradeNames,
 };
 use crate::conditions::{
-    are_file_names, are_five_names, are_four_names, are_two_names, is_file_name, read_number,
+    are_file_names, are_five_names, are_four_names, are_two_names, is_file_name, is_start_name,
+    read_gap, read_number,
 };
 use instance_reader::FIRST_VERSION_PERIODS;
 use lot_sizing::limits::MAX_ITEMS;
@@ -17,6 +19,12 @@ pub const USUAL_BUDGET: u64 = 1_000;
 
 /// The most nodes that may be asked for.
 pub const LARGEST_BUDGET: u64 = 1_000_000;
+
+/// The largest gap that may be asked for, in hundredths of a percent.
+pub const LARGEST_GAP: u32 = 10_000;
+
+/// The most seconds that may be asked for.
+pub const LARGEST_SECONDS: u64 = 1_000_000;
 
 // The nodes that a plan may use.
 fn budget_of(nodes: Option<&str>) -> Option<u64>
@@ -28,28 +36,86 @@ fn budget_of(nodes: Option<&str>) -> Option<u64>
     }
 }
 
-pub(crate) fn plan<'a>(
-    model: Option<&'a str>,
-    plan: Option<&'a str>,
-    certificate: Option<&'a str>,
-    nodes: Option<&'a str>,
-) -> Option<Command<'a>>
-    ensures { option_map request_by result ≡ planning_from (option_map (λ s. s.now) model.entry) (option_map (λ s. s.now) plan.entry) (option_map (λ s. s.now) certificate.entry) (option_map (λ s. s.now) nodes.entry) }
+// The gap at which a search may end, if one is given.
+fn gap_of(gap: Option<&str>) -> Option<Option<u32>>
+    ensures { result ≡ gap_from (option_map (λ s. s.now) gap.entry) }
 {
-    let (Some(model), Some(plan), Some(certificate)) = (model, plan, certificate) else {
+    match gap {
+        Some(text) => match read_gap(text) {
+            Some(hundredths) => Some(Some(hundredths)),
+            None => None,
+        },
+        None => Some(None),
+    }
+}
+
+// The seconds after which a search may end, if they are given.
+fn seconds_of(seconds: Option<&str>) -> Option<Option<u32>>
+    ensures { result ≡ seconds_from (option_map (λ s. s.now) seconds.entry) }
+{
+    match seconds {
+        Some(text) => match read_number(text, 1, LARGEST_SECONDS) {
+            Some(number) => Some(Some(number as u32)),
+            None => None,
+        },
+        None => Some(None),
+    }
+}
+
+// The texts of the arguments of a plan, where they are given.
+#[derive(Clone, Copy)]
+pub(crate) struct PlanTexts<'a> {
+    pub(crate) model: Option<&'a str>,
+    pub(crate) plan: Option<&'a str>,
+    pub(crate) certificate: Option<&'a str>,
+    pub(crate) nodes: Option<&'a str>,
+    pub(crate) start: Option<&'a str>,
+    pub(crate) gap: Option<&'a str>,
+    pub(crate) seconds: Option<&'a str>,
+}
+
+// How a plan is searched, where the numbers are in order.
+fn search_of<'a>(given: PlanTexts<'a>) -> Option<Search<'a>>
+    ensures { option_map search_by result ≡ search_from (option_map (λ s. s.now) given.entry.nodes) (option_map (λ s. s.now) given.entry.start) (option_map (λ s. s.now) given.entry.gap) (option_map (λ s. s.now) given.entry.seconds) }
+{
+    let budget = budget_of(given.nodes)?;
+    let gap = gap_of(given.gap)?;
+    let seconds = seconds_of(given.seconds)?;
+    Some(Search {
+        budget,
+        start: given.start,
+        gap,
+        seconds,
+    })
+}
+
+// A plan, where its names are in order.
+fn planned<'a>(names: Names<'a>, search: Option<Search<'a>>) -> Option<Command<'a>>
+    ensures { option_map request_by result ≡ planned names.entry.model.now names.entry.plan.now names.entry.certificate.now (option_map search_by search.entry) }
+{
+    let search = search?;
+    if !is_start_name(names.model, names.certificate, search.start)
+        || !are_file_names(names.model, names.plan, names.certificate)
+    {
+        return None;
+    }
+    Some(Command::Plan { names, search })
+}
+
+pub(crate) fn plan<'a>(given: PlanTexts<'a>) -> Option<Command<'a>>
+    ensures { option_map request_by result ≡ planning_from (option_map (λ s. s.now) given.entry.model) (option_map (λ s. s.now) given.entry.plan) (option_map (λ s. s.now) given.entry.certificate)
+        (search_from (option_map (λ s. s.now) given.entry.nodes) (option_map (λ s. s.now) given.entry.start) (option_map (λ s. s.now) given.entry.gap) (option_map (λ s. s.now) given.entry.seconds)) }
+{
+    let (Some(model), Some(plan), Some(certificate)) = (given.model, given.plan, given.certificate)
+    else {
         return None;
     };
-    match budget_of(nodes) {
-        Some(budget) if are_file_names(model, plan, certificate) => Some(Command::Plan {
-            names: Names {
-                model,
-                plan,
-                certificate,
-            },
-            budget,
-        }),
-        _ => None,
-    }
+    let names = Names {
+        model,
+        plan,
+        certificate,
+    };
+    planned(names, search_of(given))
 }
 
 pub(crate) fn judge<'a>(model: Option<&'a str>, plan: Option<&'a str>) -> Option<Command<'a>>
@@ -84,14 +150,49 @@ pub(crate) fn check<'a>(
     }
 }
 
-pub(crate) fn report<'a>(model: Option<&'a str>, plan: Option<&'a str>) -> Option<Command<'a>>
-    ensures { option_map request_by result ≡ reporting_from (option_map (λ s. s.now) model.entry) (option_map (λ s. s.now) plan.entry) }
+// Whether an option without a text is there: its text is then `true`.
+fn is_set(flag: Option<&str>) -> bool
+    ensures { result ≡ is_set (option_map (λ s. s.now) flag.entry) }
 {
-    match (model, plan) {
-        (Some(model), Some(plan)) if are_two_names(model, plan) => Some(Command::Report(TwoNames {
-            model,
-            plan,
-        })),
+    match flag {
+        Some(text) => text == "true",
+        None => false,
+    }
+}
+
+// What a report tells, by its two options, of which one is there at most.
+fn form_of(full: Option<&str>, table: Option<&str>) -> Option<ReportForm>
+    ensures { result ≡ form_from (option_map (λ s. s.now) full.entry) (option_map (λ s. s.now) table.entry) }
+{
+    if is_set(full) {
+        if is_set(table) {
+            None
+        } else {
+            Some(ReportForm::Full)
+        }
+    } else if is_set(table) {
+        Some(ReportForm::Tables)
+    } else {
+        Some(ReportForm::Summary)
+    }
+}
+
+pub(crate) fn report<'a>(
+    model: Option<&'a str>,
+    plan: Option<&'a str>,
+    full: Option<&'a str>,
+    table: Option<&'a str>,
+) -> Option<Command<'a>>
+    ensures { option_map request_by result ≡ reporting_from (option_map (λ s. s.now) model.entry) (option_map (λ s. s.now) plan.entry) (option_map (λ s. s.now) full.entry) (option_map (λ s. s.now) table.entry) }
+{
+    let (Some(model), Some(plan)) = (model, plan) else {
+        return None;
+    };
+    match form_of(full, table) {
+        Some(form) if are_two_names(model, plan) => Some(Command::Report {
+            names: TwoNames { model, plan },
+            form,
+        }),
         _ => None,
     }
 }
@@ -207,6 +308,26 @@ pub(crate) fn peg<'a>(
     match (model, plan, pegs) {
         (Some(model), Some(plan), Some(pegs)) if are_file_names(model, plan, pegs) => {
             Some(Command::Peg(PegNames { model, plan, pegs }))
+        }
+        _ => None,
+    }
+}
+
+pub(crate) fn complete<'a>(
+    model: Option<&'a str>,
+    quantities: Option<&'a str>,
+    completed: Option<&'a str>,
+) -> Option<Command<'a>>
+    ensures { option_map request_by result ≡ completing_from (option_map (λ s. s.now) model.entry) (option_map (λ s. s.now) quantities.entry) (option_map (λ s. s.now) completed.entry) }
+{
+    match (model, quantities, completed) {
+        (Some(model), Some(quantities), Some(completed))
+            if are_file_names(model, quantities, completed) => {
+            Some(Command::Complete(CompleteNames {
+                model,
+                quantities,
+                completed,
+            }))
         }
         _ => None,
     }

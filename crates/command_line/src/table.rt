@@ -101,6 +101,16 @@ const PAGE_WRITTEN: Argument = Argument {
     help: "The page, which is written",
 };
 
+const QUANTITIES_READ: Argument = Argument {
+    id: "P",
+    help: "The table of quantities, which is read",
+};
+
+const PLAN_COMPLETED: Argument = Argument {
+    id: "P2",
+    help: "The plan file, which is written",
+};
+
 const STAYING: Argument = Argument {
     id: "F",
     help: "How many periods stay as they are, from 0 on",
@@ -135,6 +145,49 @@ const SEARCH_OPTIONS: [Choice; 2] = [
     },
 ];
 
+// The options of a plan: those of a search, a plan to start from, and where the search may end early.
+const PLAN_OPTIONS: [Choice; 5] = [
+    Choice {
+        id: "nodes",
+        text: Some("N"),
+        help: "The most nodes of the certificate's tree, 1 to 1000000 [usually 1000]",
+    },
+    Choice {
+        id: "progress",
+        text: None,
+        help: "Tells on the error stream how far the search is",
+    },
+    Choice {
+        id: "start",
+        text: Some("P0"),
+        help: "A plan file to start from, which is read: what is written costs no more",
+    },
+    Choice {
+        id: "gap",
+        text: Some("PERCENT"),
+        help: "Lets the search end where the bound is so close to the cost, 0 to 100, as 0.5",
+    },
+    Choice {
+        id: "seconds",
+        text: Some("S"),
+        help: "Lets the search end after so many seconds, 1 to 1000000",
+    },
+];
+
+// The options of a report, of which one is there at most.
+const REPORT_OPTIONS: [Choice; 2] = [
+    Choice {
+        id: "full",
+        text: None,
+        help: "Prints all of the plan by periods, as one line of JSON",
+    },
+    Choice {
+        id: "table",
+        text: None,
+        help: "Prints the plan as tables for a terminal",
+    },
+];
+
 // The option of a page that says what is proved.
 const PROOF_OPTIONS: [Choice; 1] = [Choice {
     id: "proof",
@@ -143,18 +196,19 @@ const PROOF_OPTIONS: [Choice; 1] = [Choice {
 }];
 
 // The commands, in the order in which help lists them.
-pub(crate) const COMMANDS: [Row; 13] = [
+pub(crate) const COMMANDS: [Row; 14] = [
     Row {
         name: "plan",
         about: "Plans a model at the least cost, or proves that it has no plan",
         prints: "Prints the root's line, `nodes N`, and then `optimal N`, `infeasible`, `undecided B plan N` or
 `undecided B`, where B is a bound of the cost of every plan and N the cost of the plan that was
 written. Ends with 0 where it is optimal, with 1 where there is no plan, and with 2 where it is
-undecided; `lotplan --help` has the other statuses.
+undecided. With `--start` the plan file P0 is judged first: where it is no plan or breaks a rule it
+prints what `judge` prints, and ends with 3. P0 may be P. `lotplan --help` has the other statuses.
 
-Example: lotplan plan model.toml plan.csv plan.cert --nodes 500",
+Example: lotplan plan model.toml plan.csv plan.cert --start old.csv --gap 0.5 --seconds 60",
         arguments: &[MODEL_READ, PLAN_WRITTEN, CERTIFICATE_WRITTEN],
-        options: &SEARCH_OPTIONS,
+        options: &PLAN_OPTIONS,
     },
     Row {
         name: "judge",
@@ -180,17 +234,20 @@ Example: lotplan check model.toml plan.csv plan.cert",
         name: "report",
         about: "Judges a plan and sums it up",
         prints: "Prints one line of JSON: costs, quantities made and setups by item, time used by resource and
-period. Of a plan that breaks a rule it prints that rule. Ends with 0 or with 3; `lotplan --help`
-has the other statuses.
+period. With `--full` the line also has capacities and free times, and lots, setups, stocks and
+backlogs by period; with `--table` it prints tables of lots, stocks, loads in percent and free times
+instead. Only one of the two may be given. Of a plan that breaks a rule it prints that rule. Ends
+with 0 or with 3; `lotplan --help` has the other statuses.
 
-Example: lotplan report model.toml plan.csv",
+Example: lotplan report model.toml plan.csv --table",
         arguments: &[MODEL_READ, PLAN_READ],
-        options: &[],
+        options: &REPORT_OPTIONS,
     },
     Row {
         name: "gen",
         about: "Writes a model that is drawn from a number",
-        prints: "Prints `written M`. Ends with 0; `lotplan --help` has the other statuses.
+        prints: "The model is of version 1, without lead times and bounds on lots.
+Prints `written M`. Ends with 0; `lotplan --help` has the other statuses.
 
 Example: lotplan gen 7 12 24 model.toml",
         arguments: &[SEED, ITEMS, PERIODS, MODEL_WRITTEN],
@@ -259,6 +316,19 @@ file of pegs is a peg: item, from, to, quantity, where a supply is `opening` or 
 
 Example: lotplan peg model.toml plan.csv pegs.csv",
         arguments: &[MODEL_READ, PLAN_READ, PEGS_WRITTEN],
+        options: &[],
+    },
+    Row {
+        name: "complete",
+        about: "Completes quantities to a plan with the least stocks and backlogs",
+        prints: "Reads a table with the columns `item`, `period`, `make` and maybe `setup`, in any order and among any
+others, and a row for each item and period as in a plan file; a plan file is one. Without `setup`
+there is a setup where something is made. Prints `completed N` with the cost of the plan, or the
+first rule that is broken where no plan has these quantities and setups. Ends with 0, or with 3 and
+no plan; `lotplan --help` has the other statuses.
+
+Example: lotplan complete model.toml changed.csv plan.csv",
+        arguments: &[MODEL_READ, QUANTITIES_READ, PLAN_COMPLETED],
         options: &[],
     },
     Row {

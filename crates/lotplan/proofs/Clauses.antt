@@ -1,19 +1,21 @@
 -- What a command's number says, in the command's own words.
 use Rattle.std.proofs.Common.{◌≡◌, ◌≢◌, ◌<◌, ◌⊎◌, ⊎_elim, ℕ, List, [], ◌∷◌, Option, Some, IsTrue, inl, inr, refl, subst, arith}
 use Rattle.lot_io.specs.Outside.{OnlyReads, Printed, Shelved}
-use Rattle.command_line.specs.Words.{Request, IsAllowed, planning, judging, checking, reporting, generating, demonstrating, upgrading, bounding, scheduling, schedule_checking, pegging, drawing, replanning}
+use Rattle.command_line.specs.Words.{Request, Search, IsAllowed, planning, judging, checking, reporting, generating, demonstrating, upgrading, bounding, scheduling, schedule_checking, pegging, completing, drawing, replanning}
 use Rattle.lotplan.specs.Writing.{StartsAmong}
-use Rattle.lotplan.specs.Planning.{FailsToWrite, FindsNoPlan, LeavesOpen, PlanAnswer, PlanExplains, PlansBest, plan_line, plan_status}
+use Rattle.lotplan.specs.Planning.{FailsToWrite, FindsNoPlan, FindsStartFault, KeepsStart, LeavesOpen, OutcomeExplains, PlanOutcome, PlansBest, outcome_line, outcome_status}
 use Rattle.lotplan.specs.Judging.{FindsFault, FindsFeasible, JudgeAnswer, JudgeExplains, judge_line, judge_status}
 use Rattle.lotplan.specs.Checking.{Accepts, CallsForDone, CheckAnswer, CheckCallsFor, CheckExplains, FindsRefused, check_line, check_status}
 use Rattle.lotplan.specs.Upgrading.{FailsToUpgrade, UpgradeAnswer, UpgradeExplains, Upgrades, upgrade_line, upgrade_status}
 use Rattle.lotplan.specs.Bounding.{BoundAnswer, BoundExplains, FindsBound, FindsNoBound, FindsNoPoint, bound_line, bound_status}
+use Rattle.command_line.specs.declared.commands.ReportForm.{ReportForm}
 use Rattle.lotplan.specs.Reporting.{ReportAnswer, ReportExplains, SumsUp, report_line, report_status}
 use Rattle.lotplan.specs.Generating.{FailsToGenerate, GenerateAnswer, GenerateExplains, Generates, generate_line, generate_status}
 use Rattle.lotplan.specs.Showing.{Shows}
 use Rattle.lotplan.specs.Extracting.{ExtractAnswer, ExtractExplains, FailsToExtract, WritesExtract, extract_line, extract_status}
 use Rattle.lotplan.specs.Scheduling.{AcceptsSchedule, FindsSlotsFault, Laid, SchedcheckAnswer, SchedcheckExplains, schedcheck_line, schedcheck_status, scheduled_word}
 use Rattle.lotplan.specs.Pegging.{Pegged, pegged_word}
+use Rattle.lotplan.specs.Completing.{CompleteAnswer, CompleteExplains, Completes, FailsToComplete, FindsIncomplete, FindsNoTable, complete_line, complete_status}
 use Rattle.lotplan.specs.Drawing.{DrawAnswer, DrawExplains, Draws, FailsToDraw, FindsDrawFault, draw_line, draw_status}
 use Rattle.lotplan.specs.Replanning.{CallsForDoneIfShort, FailsToReplan, FindsNoRest, FindsPlanFault, ReplanAnswer, ReplanExplains, ReplansBest, FindsNoneLater, FindsNoStart, LeavesRestOpen, replan_line, replan_status}
 use Rattle.lotplan.specs.Laws.{StatusesAreOne}
@@ -33,6 +35,7 @@ use Rattle.lotplan.proofs.Bounded as of_bounded
 use Rattle.lotplan.proofs.Reported as of_reported
 use Rattle.lotplan.proofs.Generated as of_generated
 use Rattle.lotplan.proofs.Extracted.{fault_at, unwritten_at, written_at}
+use Rattle.lotplan.proofs.Completed as of_completed
 use Rattle.lotplan.proofs.Schedchecked as of_schedchecked
 use Rattle.lotplan.proofs.Paged as of_paged
 use Rattle.lotplan.proofs.Replanned as of_replanned
@@ -47,8 +50,8 @@ module _ (request : Option Request) (code : ℕ) (old new : Shelved) (out_old ou
       let d = to e.line e.status e.does in
       (d.answer, d.why, number_is A Why line_of status_of e.line e.status code d e.number, line_is A Why line_of status_of e.line e.status out_old out_new d e.gains)
 
-  plan_ending : (m p c : List ℕ) (budget : ℕ) → request ≡ Some (planning m p c budget) → EndsAs request code old new out_old out_new → Ending PlanAnswer (PlanExplains m p c budget old new) plan_line plan_status
-  plan_ending m p c budget is e = ending PlanAnswer (PlanExplains m p c budget old new) plan_line plan_status (λ line status d. subst (λ r. Does r old new line status) is d) e
+  plan_ending : (m p c : List ℕ) (search : Search) → request ≡ Some (planning m p c search) → EndsAs request code old new out_old out_new → Ending PlanOutcome (OutcomeExplains m p c search old new) outcome_line outcome_status
+  plan_ending m p c search is e = ending PlanOutcome (OutcomeExplains m p c search old new) outcome_line outcome_status (λ line status d. subst (λ r. Does r old new line status) is d) e
 
   judge_ending : (m p : List ℕ) → request ≡ Some (judging m p) → EndsAs request code old new out_old out_new → Ending JudgeAnswer (λ answer. JudgeExplains m p old new answer × OnlyReads old new) judge_line judge_status
   judge_ending m p is e = ending JudgeAnswer (λ answer. JudgeExplains m p old new answer × OnlyReads old new) judge_line judge_status (λ line status d. subst (λ r. Does r old new line status) is d) e
@@ -56,8 +59,8 @@ module _ (request : Option Request) (code : ℕ) (old new : Shelved) (out_old ou
   check_ending : (m p c : List ℕ) → request ≡ Some (checking m p c) → EndsAs request code old new out_old out_new → Ending CheckAnswer (λ answer. CheckExplains m p c old new answer × OnlyReads old new) check_line check_status
   check_ending m p c is e = ending CheckAnswer (λ answer. CheckExplains m p c old new answer × OnlyReads old new) check_line check_status (λ line status d. subst (λ r. Does r old new line status) is d) e
 
-  report_ending : (m p : List ℕ) → request ≡ Some (reporting m p) → EndsAs request code old new out_old out_new → Ending ReportAnswer (λ answer. ReportExplains m p old new answer × OnlyReads old new) report_line report_status
-  report_ending m p is e = ending ReportAnswer (λ answer. ReportExplains m p old new answer × OnlyReads old new) report_line report_status (λ line status d. subst (λ r. Does r old new line status) is d) e
+  report_ending : (m p : List ℕ) (form : ReportForm) → request ≡ Some (reporting m p form) → EndsAs request code old new out_old out_new → Ending ReportAnswer (λ answer. ReportExplains m p form old new answer × OnlyReads old new) report_line report_status
+  report_ending m p form is e = ending ReportAnswer (λ answer. ReportExplains m p form old new answer × OnlyReads old new) report_line report_status (λ line status d. subst (λ r. Does r old new line status) is d) e
 
   generate_ending : (seed items periods : ℕ) (m : List ℕ) → request ≡ Some (generating seed items periods m) → EndsAs request code old new out_old out_new → Ending GenerateAnswer (GenerateExplains seed items periods m old new) generate_line generate_status
   generate_ending seed items periods m is e = ending GenerateAnswer (GenerateExplains seed items periods m old new) generate_line generate_status (λ line status d. subst (λ r. Does r old new line status) is d) e
@@ -74,6 +77,9 @@ module _ (request : Option Request) (code : ℕ) (old new : Shelved) (out_old ou
   schedcheck_ending : (m p s : List ℕ) → request ≡ Some (schedule_checking m p s) → EndsAs request code old new out_old out_new → Ending SchedcheckAnswer (λ answer. SchedcheckExplains m p s old new answer × OnlyReads old new) schedcheck_line schedcheck_status
   schedcheck_ending m p s is e = ending SchedcheckAnswer (λ answer. SchedcheckExplains m p s old new answer × OnlyReads old new) schedcheck_line schedcheck_status (λ line status d. subst (λ r. Does r old new line status) is d) e
 
+  complete_ending : (m p q : List ℕ) → request ≡ Some (completing m p q) → EndsAs request code old new out_old out_new → Ending CompleteAnswer (CompleteExplains m p q old new) complete_line complete_status
+  complete_ending m p q is e = ending CompleteAnswer (CompleteExplains m p q old new) complete_line complete_status (λ line status d. subst (λ r. Does r old new line status) is d) e
+
   peg_ending : (m p q : List ℕ) → request ≡ Some (pegging m p q) → EndsAs request code old new out_old out_new → Ending ExtractAnswer (ExtractExplains (Pegged q) m p q old new) (extract_line pegged_word) extract_status
   peg_ending m p q is e = ending ExtractAnswer (ExtractExplains (Pegged q) m p q old new) (extract_line pegged_word) extract_status (λ line status d. subst (λ r. Does r old new line status) is d) e
 
@@ -85,35 +91,45 @@ module _ (request : Option Request) (code : ℕ) (old new : Shelved) (out_old ou
 
   module _ (run : IsProgramRun request code old new out_old out_new) where
     -- ---- `plan`
-    pub optimal : (m p c : List ℕ) (budget : ℕ) → request ≡ Some (planning m p c budget) → code ≡ DONE → IsTrue old.told → PlansBest old.file new.file m p c budget out_old out_new
-    optimal m p c budget is is_code t =
-        let (answer, why, number, line) = plan_ending m p c budget is (ended request code old new out_old out_new run (λ e. omega (arith, e, is_code)) (λ e. omega (arith, e, is_code))) in
-        of_planned.optimal_at m p c budget code old new out_old out_new answer why number line is_code t
+    pub optimal : (m p c : List ℕ) (search : Search) → request ≡ Some (planning m p c search) → code ≡ DONE → IsTrue old.told → PlansBest old.file new.file m p c search out_old out_new
+    optimal m p c search is is_code t =
+        let (answer, why, number, line) = plan_ending m p c search is (ended request code old new out_old out_new run (λ e. omega (arith, e, is_code)) (λ e. omega (arith, e, is_code))) in
+        of_planned.optimal_of m p c search code old new out_old out_new answer why number line is_code t
 
-    pub plan_infeasible : (m p c : List ℕ) (budget : ℕ) → request ≡ Some (planning m p c budget) → code ≡ NO_PLAN → IsTrue old.told → FindsNoPlan old.file new.file m p c budget out_old out_new
-    plan_infeasible m p c budget is is_code t =
-        let (answer, why, number, line) = plan_ending m p c budget is (ended request code old new out_old out_new run (λ e. omega (arith, e, is_code)) (λ e. omega (arith, e, is_code))) in
-        (of_planned.impossible_at m p c budget code old new out_old out_new answer why number line is_code).0 t
+    pub plan_infeasible : (m p c : List ℕ) (search : Search) → request ≡ Some (planning m p c search) → code ≡ NO_PLAN → IsTrue old.told → FindsNoPlan old.file new.file m p c search out_old out_new
+    plan_infeasible m p c search is is_code t =
+        let (answer, why, number, line) = plan_ending m p c search is (ended request code old new out_old out_new run (λ e. omega (arith, e, is_code)) (λ e. omega (arith, e, is_code))) in
+        (of_planned.impossible_of m p c search code old new out_old out_new answer why number line is_code).0 t
 
-    pub wrote_certificate : (m p c : List ℕ) (budget : ℕ) → request ≡ Some (planning m p c budget) → code ≡ NO_PLAN → StartsAmong (c ∷ []) 1 old new
-    wrote_certificate m p c budget is is_code =
-        let (answer, why, number, line) = plan_ending m p c budget is (ended request code old new out_old out_new run (λ e. omega (arith, e, is_code)) (λ e. omega (arith, e, is_code))) in
-        (of_planned.impossible_at m p c budget code old new out_old out_new answer why number line is_code).1
+    pub wrote_certificate : (m p c : List ℕ) (search : Search) → request ≡ Some (planning m p c search) → code ≡ NO_PLAN → StartsAmong (c ∷ []) 1 old new
+    wrote_certificate m p c search is is_code =
+        let (answer, why, number, line) = plan_ending m p c search is (ended request code old new out_old out_new run (λ e. omega (arith, e, is_code)) (λ e. omega (arith, e, is_code))) in
+        (of_planned.impossible_of m p c search code old new out_old out_new answer why number line is_code).1
 
-    pub plan_undecided : (m p c : List ℕ) (budget : ℕ) → request ≡ Some (planning m p c budget) → code ≡ UNDECIDED → IsTrue old.told → LeavesOpen old.file new.file m p c budget out_old out_new
-    plan_undecided m p c budget is is_code t =
-        let (answer, why, number, line) = plan_ending m p c budget is (ended request code old new out_old out_new run (λ e. omega (arith, e, is_code)) (λ e. omega (arith, e, is_code))) in
-        (of_planned.open_at m p c budget code old new out_old out_new answer why number line is_code).0 t
+    pub plan_undecided : (m p c : List ℕ) (search : Search) → request ≡ Some (planning m p c search) → code ≡ UNDECIDED → IsTrue old.told → LeavesOpen old.file new.file m p c search out_old out_new
+    plan_undecided m p c search is is_code t =
+        let (answer, why, number, line) = plan_ending m p c search is (ended request code old new out_old out_new run (λ e. omega (arith, e, is_code)) (λ e. omega (arith, e, is_code))) in
+        (of_planned.open_of m p c search code old new out_old out_new answer why number line is_code).0 t
 
-    pub wrote_some : (m p c : List ℕ) (budget : ℕ) → request ≡ Some (planning m p c budget) → code ≡ UNDECIDED → StartsAmong (p ∷ c ∷ []) 2 old new ⊎ StartsAmong (c ∷ []) 1 old new
-    wrote_some m p c budget is is_code =
-        let (answer, why, number, line) = plan_ending m p c budget is (ended request code old new out_old out_new run (λ e. omega (arith, e, is_code)) (λ e. omega (arith, e, is_code))) in
-        (of_planned.open_at m p c budget code old new out_old out_new answer why number line is_code).1
+    pub wrote_some : (m p c : List ℕ) (search : Search) → request ≡ Some (planning m p c search) → code ≡ UNDECIDED → StartsAmong (p ∷ c ∷ []) 2 old new ⊎ StartsAmong (c ∷ []) 1 old new
+    wrote_some m p c search is is_code =
+        let (answer, why, number, line) = plan_ending m p c search is (ended request code old new out_old out_new run (λ e. omega (arith, e, is_code)) (λ e. omega (arith, e, is_code))) in
+        (of_planned.open_of m p c search code old new out_old out_new answer why number line is_code).1
 
-    pub plan_unwritten : (m p c : List ℕ) (budget : ℕ) → request ≡ Some (planning m p c budget) → code ≡ UNWRITTEN → FailsToWrite old new m p c out_old out_new
-    plan_unwritten m p c budget is is_code =
-        let (answer, why, number, line) = plan_ending m p c budget is (ended request code old new out_old out_new run (λ e. omega (arith, e, is_code)) (λ e. omega (arith, e, is_code))) in
-        of_planned.unwritten_at m p c budget code old new out_old out_new answer why number line is_code
+    pub plan_unwritten : (m p c : List ℕ) (search : Search) → request ≡ Some (planning m p c search) → code ≡ UNWRITTEN → FailsToWrite old new m p c out_old out_new
+    plan_unwritten m p c search is is_code =
+        let (answer, why, number, line) = plan_ending m p c search is (ended request code old new out_old out_new run (λ e. omega (arith, e, is_code)) (λ e. omega (arith, e, is_code))) in
+        of_planned.unwritten_of m p c search code old new out_old out_new answer why number line is_code
+
+    pub plan_kept : (m p c start : List ℕ) (search : Search) → request ≡ Some (planning m p c search) → search.start ≡ Some start → (code ≡ DONE) ⊎ (code ≡ UNDECIDED) → IsTrue old.told → KeepsStart old.file new.file m p start
+    plan_kept m p c start search is named done t =
+        let (answer, why, number, line) = plan_ending m p c search is (ended request code old new out_old out_new run (λ e. ⊎_elim (λ d. omega (arith, e, d)) (λ d. omega (arith, e, d)) done) (λ e. ⊎_elim (λ d. omega (arith, e, d)) (λ d. omega (arith, e, d)) done)) in
+        of_planned.kept_of m p c search start named code old new t answer why number done
+
+    pub plan_faulty : (m p c : List ℕ) (search : Search) → request ≡ Some (planning m p c search) → code ≡ FAULTY → IsTrue old.told → FindsStartFault old.file m search out_old out_new
+    plan_faulty m p c search is is_code t =
+        let (answer, why, number, line) = plan_ending m p c search is (ended request code old new out_old out_new run (λ e. omega (arith, e, is_code)) (λ e. omega (arith, e, is_code))) in
+        of_planned.faulty_of m p c search code old new out_old out_new answer why number line is_code t
 
     -- ---- `judge`
     pub judged : (m p : List ℕ) → request ≡ Some (judging m p) → code ≡ DONE → IsTrue old.told → FindsFeasible old.file m p out_old out_new
@@ -138,15 +154,15 @@ module _ (request : Option Request) (code : ℕ) (old new : Shelved) (out_old ou
         of_checked.refused_at m p c code old new out_old out_new answer why.0 number line is_code t
 
     -- ---- `report`
-    pub summed : (m p : List ℕ) → request ≡ Some (reporting m p) → code ≡ DONE → IsTrue old.told → SumsUp old.file m p out_old out_new
-    summed m p is is_code t =
-        let (answer, why, number, line) = report_ending m p is (ended request code old new out_old out_new run (λ e. omega (arith, e, is_code)) (λ e. omega (arith, e, is_code))) in
-        of_reported.summed_at m p code old new out_old out_new answer why.0 number line is_code t
+    pub summed : (m p : List ℕ) (form : ReportForm) → request ≡ Some (reporting m p form) → code ≡ DONE → IsTrue old.told → SumsUp old.file m p form out_old out_new
+    summed m p form is is_code t =
+        let (answer, why, number, line) = report_ending m p form is (ended request code old new out_old out_new run (λ e. omega (arith, e, is_code)) (λ e. omega (arith, e, is_code))) in
+        of_reported.summed_at m p form code old new out_old out_new answer why.0 number line is_code t
 
-    pub report_faulty : (m p : List ℕ) → request ≡ Some (reporting m p) → code ≡ FAULTY → IsTrue old.told → FindsFault old.file m p out_old out_new
-    report_faulty m p is is_code t =
-        let (answer, why, number, line) = report_ending m p is (ended request code old new out_old out_new run (λ e. omega (arith, e, is_code)) (λ e. omega (arith, e, is_code))) in
-        of_reported.fault_at m p code old new out_old out_new answer why.0 number line is_code t
+    pub report_faulty : (m p : List ℕ) (form : ReportForm) → request ≡ Some (reporting m p form) → code ≡ FAULTY → IsTrue old.told → FindsFault old.file m p out_old out_new
+    report_faulty m p form is is_code t =
+        let (answer, why, number, line) = report_ending m p form is (ended request code old new out_old out_new run (λ e. omega (arith, e, is_code)) (λ e. omega (arith, e, is_code))) in
+        of_reported.fault_at m p form code old new out_old out_new answer why.0 number line is_code t
 
     -- ---- `gen`
     pub generated : (seed items periods : ℕ) (m : List ℕ) → request ≡ Some (generating seed items periods m) → code ≡ DONE → IsTrue old.told → Generates new.file seed items periods m out_old out_new
@@ -212,6 +228,22 @@ module _ (request : Option Request) (code : ℕ) (old new : Shelved) (out_old ou
     schedcheck_faulty m p s is is_code t =
         let (answer, why, number, line) = schedcheck_ending m p s is (ended request code old new out_old out_new run (λ e. omega (arith, e, is_code)) (λ e. omega (arith, e, is_code))) in
         of_schedchecked.fault_at m p s code old new out_old out_new answer why.0 number line is_code t
+
+    -- ---- `complete`
+    pub completed : (m p q : List ℕ) → request ≡ Some (completing m p q) → code ≡ DONE → IsTrue old.told → Completes old.file new.file m p q out_old out_new
+    completed m p q is is_code t =
+        let (answer, why, number, line) = complete_ending m p q is (ended request code old new out_old out_new run (λ e. omega (arith, e, is_code)) (λ e. omega (arith, e, is_code))) in
+        of_completed.completed_at m p q code old new out_old out_new answer why number line is_code t
+
+    pub complete_faulty : (m p q : List ℕ) → request ≡ Some (completing m p q) → code ≡ FAULTY → IsTrue old.told → FindsIncomplete old.file m p out_old out_new ⊎ FindsNoTable old.file m p out_old out_new
+    complete_faulty m p q is is_code t =
+        let (answer, why, number, line) = complete_ending m p q is (ended request code old new out_old out_new run (λ e. omega (arith, e, is_code)) (λ e. omega (arith, e, is_code))) in
+        of_completed.faulty_at m p q code old new out_old out_new answer why number line is_code t
+
+    pub complete_unwritten : (m p q : List ℕ) → request ≡ Some (completing m p q) → code ≡ UNWRITTEN → FailsToComplete old new m p q out_old out_new
+    complete_unwritten m p q is is_code =
+        let (answer, why, number, line) = complete_ending m p q is (ended request code old new out_old out_new run (λ e. omega (arith, e, is_code)) (λ e. omega (arith, e, is_code))) in
+        of_completed.unwritten_at m p q code old new out_old out_new answer why number line is_code
 
     -- ---- `peg`
     pub pegged : (m p q : List ℕ) → request ≡ Some (pegging m p q) → code ≡ DONE → IsTrue old.told → WritesExtract (Pegged q) pegged_word old.file new.file m p out_old out_new
@@ -303,10 +335,10 @@ module _ (request : Option Request) (code : ℕ) (old new : Shelved) (out_old ou
         let calls_for : CheckCallsFor (new.file n) (new.file q) (new.file c) DONE = of_checked.accepted_called n q c DONE new claim all refl in
         record { done = calls_for; alone = λ status calls. ⊎_elim (λ same. same) (λ may. absurd may.0) (one (Some (checking n q c)) new.file status DONE calls calls_for) }
 
-    pub checks : StatusesAreOne → ((a : Request) → request ≡ Some a → IsAllowed a) → (m p c : List ℕ) (budget : ℕ) → request ≡ Some (planning m p c budget) → EndsSearch code → IsTrue old.told → CallsForDone new.file m p c
-    checks one allowed m p c budget is done t =
-        let (answer, why, number, lines) = plan_ending m p c budget is (ended request code old new out_old out_new run (neither NO_MEMORY (omega arith) done) (neither UNPRINTED (omega arith) done)) in
-        done_if one m p c (of_planned.accepted_at m p c budget code old new (allowed (planning m p c budget) is).apart t answer why number done)
+    pub checks : StatusesAreOne → ((a : Request) → request ≡ Some a → IsAllowed a) → (m p c : List ℕ) (search : Search) → request ≡ Some (planning m p c search) → EndsSearch code → IsTrue old.told → CallsForDone new.file m p c
+    checks one allowed m p c search is done t =
+        let (answer, why, number, lines) = plan_ending m p c search is (ended request code old new out_old out_new run (neither NO_MEMORY (omega arith) done) (neither UNPRINTED (omega arith) done)) in
+        done_if one m p c (of_planned.accepted_of m p c search code old new (allowed (planning m p c search) is).apart t answer why number done)
 
     -- and on what `replan` wrote, where the new model file isn't too long
     pub replan_checks : StatusesAreOne → (m p n q c : List ℕ) (first budget : ℕ) → request ≡ Some (replanning m p first n q c budget) → EndsSearch code → IsTrue old.told → CallsForDoneIfShort new.file n q c ⊎ ((code ≡ NO_PLAN) × OnlyReads old new)

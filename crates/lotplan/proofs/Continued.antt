@@ -27,7 +27,7 @@ use Rattle.replan.specs.Whole.{total_claimed}
 use Rattle.replan.specs.declared.fault.RestFault.{RestFault}
 use Rattle.replan.specs.declared.fault.RestFault.TheVariants.{First, Lead, Draft, Memory}
 use Rattle.replan.specs.declared.found.Rest.{Rest}
-use Rattle.lotplan.specs.Finding.{IsFound}
+use Rattle.lotplan.specs.Finding.{IsFound, only}
 use Rattle.lotplan.specs.Reading.{file_limit}
 use Rattle.lotplan.specs.Writing.{IsNoneOf, IsUnwritten, IsWritten, StartsAmong, StopsAt, WritesAll}
 use Rattle.lotplan.specs.Planning.{FailsAt, IsAnswerTo, PlanAnswer, WriteExplains, above, between, infeasible, optimal, plan_line, plan_status, unwritten}
@@ -87,7 +87,7 @@ module _ (joins : JoinsAreFeasible) (none : NoneAgrees) (floors : FloorsGoOn) (b
         more)
         x
 
-    after : (answer : PlanAnswer) → WriteExplains rest.instance budget q c mid new answer → StartExplains OfThese first n q c budget old new (searched answer rest.spent)
+    after : (answer : PlanAnswer) → WriteExplains rest.instance (only budget) q c mid new answer → StartExplains OfThese first n q c budget old new (searched answer rest.spent)
     after (optimal says nodes amount) x = (
       λ t.
           let w = x.0 (told_mid t) in
@@ -153,7 +153,7 @@ module _ (joins : JoinsAreFeasible) (none : NoneAgrees) (floors : FloorsGoOn) (b
   says_next said (answer, x, says) = (searched answer rest.spent, next_on answer x, says)
 
 -- ---- what is written, after the model file
-module _ (rest : Rest) (budget : ℕ) (found : Found) (is_found : IsFound rest.instance budget found) (n q c : List ℕ) (apart : AreApart n q c) (model : List ℕ) (is_text : IsModelText rest.instance model) (means : BytesMean model (Ok rest.instance)) (proof : List ℕ) (text : IsTextOf proof (shape_of found.certificate)) (short : length proof < too_many) (old new : Shelved) where
+module _ (rest : Rest) (budget : ℕ) (found : Found) (is_found : IsFound rest.instance (only budget) found) (n q c : List ℕ) (apart : AreApart n q c) (model : List ℕ) (is_text : IsModelText rest.instance model) (means : BytesMean model (Ok rest.instance)) (proof : List ℕ) (text : IsTextOf proof (shape_of found.certificate)) (short : length proof < too_many) (old new : Shelved) where
   pub model_lost : (said : Said) → IsSaid (plan_line (unwritten n)) (plan_status (unwritten n)) said → IsUnwritten n old new → NextSays rest n q c budget old new said
   model_lost said says lost = (unwritten n, inl (refl, lost), says)
 
@@ -162,31 +162,31 @@ module _ (rest : Rest) (budget : ℕ) (found : Found) (is_found : IsFound rest.i
     pub two_written : (said : Said) → IsFoundLine rest found said → WritesAll ((n, model) ∷ (c, proof) ∷ []) old new → NextSays rest n q c budget old new said
     two_written said (answer, answers, says) all =
         let (mid, first, last) = written_two n model c proof old new all in
-        (answer, inr (model, is_text, means, mid, first, proved rest.instance budget found is_found q c apart.written proof text short none mid new answer answers last), says)
+        (answer, inr (model, is_text, means, mid, first, proved rest.instance (only budget) found is_found q c apart.written proof text short none mid new answer answers last), says)
 
     pub proof_lost : (place : ℕ) (said : Said) → IsSaid (plan_line (unwritten c)) (plan_status (unwritten c)) said → (place ≡ 0 → ⊥) → StopsAt place ((n, model) ∷ (c, proof) ∷ []) old new → NextSays rest n q c budget old new said
     proof_lost place said says later stops =
         let (mid, first, lost) = stopped_second place n model c proof old new later stops in
-        (unwritten c, inr (model, is_text, means, mid, first, unproved_at rest.instance budget found is_found q c apart.written proof text short none mid new lost), says)
+        (unwritten c, inr (model, is_text, means, mid, first, unproved_at rest.instance (only budget) found is_found q c apart.written proof text short none mid new lost), says)
 
   -- where there is one, and its text
   module _ (plan : Grids) (is_plan : found.plan ≡ Some plan) (records : List ℕ) (are : records ≡ plan_text rest.instance (plan_of plan)) (read : IsPlanOf rest.instance (records_of records) (plan_of plan)) (few : length records ≤ file_limit) where
     pub three_written : (said : Said) → IsFoundLine rest found said → WritesAll ((n, model) ∷ (q, records) ∷ (c, proof) ∷ []) old new → NextSays rest n q c budget old new said
     three_written said (answer, answers, says) (mid, first, more) =
         let (later, second, last) = written_two q records c proof mid new more in
-        (answer, inr (model, is_text, means, mid, first, planned rest.instance budget found is_found q c apart.written proof text short plan is_plan records are read few mid later new second answer answers last), says)
+        (answer, inr (model, is_text, means, mid, first, planned rest.instance (only budget) found is_found q c apart.written proof text short plan is_plan records are read few mid later new second answer answers last), says)
 
     pub plan_lost : (place : ℕ) (said : Said) → IsSaid (plan_line (unwritten q)) (plan_status (unwritten q)) said → place ≡ 1 → StopsAt place ((n, model) ∷ (q, records) ∷ (c, proof) ∷ []) old new → NextSays rest n q c budget old new said
     plan_lost place said says is_one stops =
         let (mid, first, more) = stops_later place n model ((q, records) ∷ (c, proof) ∷ []) old new (λ e. omega (arith, e, is_one)) stops in
         let lost = stopped_first (place - 1) q records c proof mid new (omega (arith, is_one)) more in
-        (unwritten q, inr (model, is_text, means, mid, first, unplanned_at rest.instance budget found is_found q c apart.written proof text short plan is_plan records are read few mid new lost), says)
+        (unwritten q, inr (model, is_text, means, mid, first, unplanned_at rest.instance (only budget) found is_found q c apart.written proof text short plan is_plan records are read few mid new lost), says)
 
     pub last_lost : (place : ℕ) (said : Said) → IsSaid (plan_line (unwritten c)) (plan_status (unwritten c)) said → (place ≡ 0 → ⊥) → (place ≡ 1 → ⊥) → StopsAt place ((n, model) ∷ (q, records) ∷ (c, proof) ∷ []) old new → NextSays rest n q c budget old new said
     last_lost place said says not_first not_second stops =
         let (mid, first, more) = stops_later place n model ((q, records) ∷ (c, proof) ∷ []) old new not_first stops in
         let (later, second, lost) = stopped_second (place - 1) q records c proof mid new (λ e. third place not_first not_second e) more in
-        (unwritten c, inr (model, is_text, means, mid, first, uncertified_at rest.instance budget found is_found q c apart.written proof text short plan is_plan records are read few mid later new second lost), says)
+        (unwritten c, inr (model, is_text, means, mid, first, uncertified_at rest.instance (only budget) found is_found q c apart.written proof text short plan is_plan records are read few mid later new second lost), says)
       where
         third : (k : ℕ) → (k ≡ 0 → ⊥) → (k ≡ 1 → ⊥) → k - 1 ≡ 0 → ⊥
         third zero not_zero not_one e = not_zero refl

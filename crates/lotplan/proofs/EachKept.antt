@@ -1,6 +1,6 @@
 -- What is known of each command: the one place of the proofs with an arm a command.
 use Rattle.std.proofs.Common.{◌≡◌, ◌∙◌, ℕ, inl, refl, sym, subst, Option, Some, None, arith}
-use Rattle.command_line.specs.Words.{Request, version, planning, judging, checking, reporting, generating, demonstrating, upgrading, bounding, scheduling, schedule_checking, pegging, drawing, replanning}
+use Rattle.command_line.specs.Words.{Request, version, planning, judging, checking, reporting, generating, demonstrating, upgrading, bounding, scheduling, schedule_checking, pegging, completing, drawing, replanning}
 use Rattle.lotplan.specs.Status.{code_of}
 use Rattle.lotplan.specs.Showing.{demo_meaning}
 use Rattle.lotplan.specs.Run.{meaning_of, no_meaning, version_meaning}
@@ -19,6 +19,7 @@ use Rattle.lotplan.specs.Scheduling.{Laid, scheduled_word}
 use Rattle.lotplan.specs.Pegging.{Pegged, pegged_word}
 use Rattle.lotplan.proofs.Extracted.{extract_kept}
 use Rattle.lotplan.proofs.Schedchecked.{schedcheck_kept}
+use Rattle.lotplan.proofs.Completed.{complete_kept}
 use Rattle.lotplan.proofs.Paged.{draw_kept}
 use Rattle.lotplan.proofs.Replanned.{replan_kept}
 
@@ -67,10 +68,10 @@ none_kept = record {
 
 pub command_kept : (request : Request) → IsCommand (meaning_of (Some request))
 command_kept version = version_kept
-command_kept (planning m p c budget) = plan_kept m p c budget
+command_kept (planning m p c search) = plan_kept m p c search
 command_kept (judging m p) = judge_kept m p
 command_kept (checking m p c) = check_kept m p c
-command_kept (reporting m p) = report_kept m p
+command_kept (reporting m p form) = report_kept m p form
 command_kept (generating seed items periods m) = generate_kept seed items periods m
 command_kept (demonstrating seed) = demo_kept seed
 command_kept (upgrading m n) = upgrade_kept m n
@@ -78,6 +79,7 @@ command_kept (bounding m) = bound_kept m
 command_kept (scheduling m p s) = extract_kept (Laid s) scheduled_word m p s
 command_kept (schedule_checking m p s) = schedcheck_kept m p s
 command_kept (pegging m p q) = extract_kept (Pegged q) pegged_word m p q
+command_kept (completing m p q) = complete_kept m p q
 command_kept (drawing m p h c) = draw_kept m p h c
 command_kept (replanning m p first n q c budget) = replan_kept m p first n q c budget
 

@@ -3,12 +3,14 @@ pub mod Outputs
 pub mod Readings
 pub mod Writings
 pub mod Proved
+pub mod Searched
 pub mod Calls
 pub mod PlanCalls
 pub mod JudgeCalls
 pub mod CheckCalls
 pub mod UpgradeCalls
 pub mod BoundCalls
+pub mod CompleteCalls
 pub mod ReplanCalls
 pub mod Kept
 pub mod Planned
@@ -18,6 +20,7 @@ pub mod Upgraded
 pub mod Bounded
 pub mod Reported
 pub mod Extracted
+pub mod Completed
 pub mod Schedchecked
 pub mod SamePages
 pub mod PageCalls

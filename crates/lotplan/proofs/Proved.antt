@@ -23,6 +23,7 @@ use Rattle.branching.specs.declared.found.Found.{Found}
 use Rattle.branching.specs.declared.found.RootSays.TheVariants as at_root
 use Rattle.branch_and_cut.specs.Search.{GoesTogether, IsDecided, IsGoodPlan, KeepsOwn, UsesRoot, cost_of}
 use Rattle.lotplan.specs.declared.said.Said.{Said}
+use Rattle.lotplan.specs.declared.sought.Sought.{Sought}
 use Rattle.lotplan.specs.Proving.{IsGiven}
 use Rattle.lotplan.specs.Finding.{IsFound, PlanCosts}
 use Rattle.lotplan.specs.Writing.{IsUnwritten, IsWritten, StartsAmong}
@@ -60,7 +61,7 @@ left_alone found bound claims is uses =
     absurd (subst IsDecided claims by.decided)
 
 -- what was found, and the text of its certificate
-module _ (m : Problem) (budget : ℕ) (found : Found) (is_found : IsFound m budget found) (p c : List ℕ) (apart : p ≢ c) (bytes : List ℕ) (text : IsTextOf bytes (shape_of found.certificate)) (short : length bytes < too_many) where
+module _ (m : Problem) (sought : Sought) (found : Found) (is_found : IsFound m sought found) (p c : List ℕ) (apart : p ≢ c) (bytes : List ℕ) (text : IsTextOf bytes (shape_of found.certificate)) (short : length bytes < too_many) where
   claim_true : (claim : Claim) → found.certificate.claim ≡ claim → IsTrueOf m claim (plan_given found.plan)
   claim_true claim is = subst (λ k. IsTrueOf m k (plan_given found.plan)) is is_found.proved.claim
 
@@ -101,7 +102,7 @@ module _ (m : Problem) (budget : ℕ) (found : Found) (is_found : IsFound m budg
     counted = is_found.proved.nodes;
   }
 
-  shows : (after : Files) (claim : Claim) (costs : Option ℕ) → found.certificate.claim ≡ claim → PlanCosts m found.plan costs → after c ≡ Some bytes → ShowsFound after m c budget found.root found.nodes claim costs
+  shows : (after : Files) (claim : Claim) (costs : Option ℕ) → found.certificate.claim ≡ claim → PlanCosts m found.plan costs → after c ≡ Some bytes → ShowsFound after m c sought found.root found.nodes claim costs
   shows after claim costs is plan written = record {
     found = found;
     is = is_found;
@@ -126,9 +127,9 @@ module _ (m : Problem) (budget : ℕ) (found : Found) (is_found : IsFound m budg
     certified_none : IsGoodCertificate m (shape_of found.certificate) None
     certified_none = subst (λ g. IsGoodCertificate m (shape_of found.certificate) g) none is_found.proved.certified
 
-    proved_at : (claim : Claim) → found.certificate.claim ≡ claim → (answer : PlanAnswer) → IsAnswerTo m claim None found.root found.nodes answer → IsWritten c bytes old new → WriteExplains m budget p c old new answer
+    proved_at : (claim : Claim) → found.certificate.claim ≡ claim → (answer : PlanAnswer) → IsAnswerTo m claim None found.root found.nodes answer → IsWritten c bytes old new → WriteExplains m sought p c old new answer
     proved_at (Optimal amount) is answer answers w = no_plan m amount None (claim_goes (Optimal amount) None is none) refl
-    proved_at Infeasible is answer answers w = subst (WriteExplains m budget p c old new) (sym answers) (
+    proved_at Infeasible is answer answers w = subst (WriteExplains m sought p c old new) (sym answers) (
       λ t. record {
         impossible = given_none Infeasible is;
         proof = proves new.file Infeasible None is (w.written t) refl (given_none Infeasible is) certified_none;
@@ -137,7 +138,7 @@ module _ (m : Problem) (budget : ℕ) (found : Found) (is_found : IsFound m budg
       },
       w.touches,
     )
-    proved_at (BoundOf bound) is answer answers w = subst (WriteExplains m budget p c old new) (sym answers) (
+    proved_at (BoundOf bound) is answer answers w = subst (WriteExplains m sought p c old new) (sym answers) (
       λ t. record {
         floor = given_none (BoundOf bound) is;
         own = no_own;
@@ -153,16 +154,16 @@ module _ (m : Problem) (budget : ℕ) (found : Found) (is_found : IsFound m budg
     none_alone Infeasible is alone = given_none Infeasible is
     none_alone (BoundOf bound) is alone = never_alone bound is alone
 
-    pub proved : (answer : PlanAnswer) → IsAnswerTo m found.certificate.claim found.plan found.root found.nodes answer → IsWritten c bytes old new → WriteExplains m budget p c old new answer
+    pub proved : (answer : PlanAnswer) → IsAnswerTo m found.certificate.claim found.plan found.root found.nodes answer → IsWritten c bytes old new → WriteExplains m sought p c old new answer
     proved answer answers w = proved_at found.certificate.claim refl answer (subst (λ g. IsAnswerTo m found.certificate.claim g found.root found.nodes answer) none answers) w
 
-    pub unproved_at : IsUnwritten c old new → WriteExplains m budget p c old new (unwritten c)
+    pub unproved_at : IsUnwritten c old new → WriteExplains m sought p c old new (unwritten c)
     unproved_at w = (w.failed, inr (inr (refl, λ t. record { own = no_own; impossible = none_alone found.certificate.claim refl }, w.touches)))
 
-    pub says_proved : (answer : PlanAnswer) (said : Said) → IsAnswerTo m found.certificate.claim found.plan found.root found.nodes answer → IsSaid (plan_line answer) (plan_status answer) said → IsWritten c bytes old new → WriteSays m budget p c old new said
+    pub says_proved : (answer : PlanAnswer) (said : Said) → IsAnswerTo m found.certificate.claim found.plan found.root found.nodes answer → IsSaid (plan_line answer) (plan_status answer) said → IsWritten c bytes old new → WriteSays m sought p c old new said
     says_proved answer said answers says w = (answer, proved answer answers w, says)
 
-    pub says_unproved : (said : Said) → IsSaid (plan_line (unwritten c)) (plan_status (unwritten c)) said → IsUnwritten c old new → WriteSays m budget p c old new said
+    pub says_unproved : (said : Said) → IsSaid (plan_line (unwritten c)) (plan_status (unwritten c)) said → IsUnwritten c old new → WriteSays m sought p c old new said
     says_unproved said says w = (unwritten c, unproved_at w, says)
 
   -- ---- where there is one, and its text
@@ -196,10 +197,10 @@ module _ (m : Problem) (budget : ℕ) (found : Found) (is_found : IsFound m budg
       written = writes_plan after written;
     }
 
-    pub unplanned_at : (old new : Shelved) → IsUnwritten p old new → WriteExplains m budget p c old new (unwritten p)
+    pub unplanned_at : (old new : Shelved) → IsUnwritten p old new → WriteExplains m sought p c old new (unwritten p)
     unplanned_at old new w = (w.failed, inl (refl, λ t. record { chosen = plan_of plan; feasible = good.feasible; best = best_alone found.certificate.claim refl }, w.touches))
 
-    pub says_unplanned : (old new : Shelved) (said : Said) → IsSaid (plan_line (unwritten p)) (plan_status (unwritten p)) said → IsUnwritten p old new → WriteSays m budget p c old new said
+    pub says_unplanned : (old new : Shelved) (said : Said) → IsSaid (plan_line (unwritten p)) (plan_status (unwritten p)) said → IsUnwritten p old new → WriteSays m sought p c old new said
     says_unplanned old new said says w = (unwritten p, unplanned_at old new w, says)
 
     -- the plan file was written before the certificate file
@@ -210,8 +211,8 @@ module _ (m : Problem) (budget : ℕ) (found : Found) (is_found : IsFound m budg
       plan_stays : StartsAmong (c ∷ []) 1 mid new → IsTrue old.told → new.file p ≡ Some records
       plan_stays touches t = touches.others (told_between t) p (apart, tt) ∙ first.written t
 
-      planned_at : (claim : Claim) → found.certificate.claim ≡ claim → (answer : PlanAnswer) → IsAnswerTo m claim (Some plan) found.root found.nodes answer → IsWritten c bytes mid new → WriteExplains m budget p c old new answer
-      planned_at (Optimal amount) is answer answers w = subst (WriteExplains m budget p c old new) (sym answers) (
+      planned_at : (claim : Claim) → found.certificate.claim ≡ claim → (answer : PlanAnswer) → IsAnswerTo m claim (Some plan) found.root found.nodes answer → IsWritten c bytes mid new → WriteExplains m sought p c old new answer
+      planned_at (Optimal amount) is answer answers w = subst (WriteExplains m sought p c old new) (sym answers) (
         λ t.
             let stays = plan_stays w.touches t in
             let best = best_plan amount is in
@@ -225,7 +226,7 @@ module _ (m : Problem) (budget : ℕ) (found : Found) (is_found : IsFound m budg
         starts_both p c old mid new first.touches w.touches,
       )
       planned_at Infeasible is answer answers w = some_plan m (Some plan) plan (claim_goes Infeasible (Some plan) is is_plan) refl
-      planned_at (BoundOf bound) is answer answers w = subst (WriteExplains m budget p c old new) (sym answers) (
+      planned_at (BoundOf bound) is answer answers w = subst (WriteExplains m sought p c old new) (sym answers) (
         λ t.
             let stays = plan_stays w.touches t in
             record {
@@ -239,15 +240,15 @@ module _ (m : Problem) (budget : ℕ) (found : Found) (is_found : IsFound m budg
         starts_both p c old mid new first.touches w.touches,
       )
 
-      pub planned : (answer : PlanAnswer) → IsAnswerTo m found.certificate.claim found.plan found.root found.nodes answer → IsWritten c bytes mid new → WriteExplains m budget p c old new answer
+      pub planned : (answer : PlanAnswer) → IsAnswerTo m found.certificate.claim found.plan found.root found.nodes answer → IsWritten c bytes mid new → WriteExplains m sought p c old new answer
       planned answer answers w = planned_at found.certificate.claim refl answer (subst (λ g. IsAnswerTo m found.certificate.claim g found.root found.nodes answer) is_plan answers) w
 
-      pub uncertified_at : IsUnwritten c mid new → WriteExplains m budget p c old new (unwritten c)
+      pub uncertified_at : IsUnwritten c mid new → WriteExplains m sought p c old new (unwritten c)
       uncertified_at w =
           (omega (arith, w.failed, first.fine), inr (inl (refl, λ t. (cost_of m plan, writes_feasible new.file (plan_stays w.touches t)), starts_both p c old mid new first.touches w.touches)))
 
-      pub says_planned : (answer : PlanAnswer) (said : Said) → IsAnswerTo m found.certificate.claim found.plan found.root found.nodes answer → IsSaid (plan_line answer) (plan_status answer) said → IsWritten c bytes mid new → WriteSays m budget p c old new said
+      pub says_planned : (answer : PlanAnswer) (said : Said) → IsAnswerTo m found.certificate.claim found.plan found.root found.nodes answer → IsSaid (plan_line answer) (plan_status answer) said → IsWritten c bytes mid new → WriteSays m sought p c old new said
       says_planned answer said answers says w = (answer, planned answer answers w, says)
 
-      pub says_uncertified : (said : Said) → IsSaid (plan_line (unwritten c)) (plan_status (unwritten c)) said → IsUnwritten c mid new → WriteSays m budget p c old new said
+      pub says_uncertified : (said : Said) → IsSaid (plan_line (unwritten c)) (plan_status (unwritten c)) said → IsUnwritten c mid new → WriteSays m sought p c old new said
       says_uncertified said says w = (unwritten c, uncertified_at w, says)

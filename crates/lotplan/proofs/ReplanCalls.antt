@@ -24,6 +24,7 @@ use Rattle.frozen_start.proofs.Parts.{arriving_start, time_start, used_up_start}
 use Rattle.replan.specs.Answers.{IsFirstLead, LeavesRest, MayGoOn, RestMeans}
 use Rattle.replan.specs.declared.fault.RestFault.{RestFault}
 use Rattle.replan.specs.declared.fault.RestFault.TheVariants.{First, Lead, Draft, Memory}
+use Rattle.lotplan.specs.Finding.{only}
 use Rattle.lotplan.specs.Planning.{MayBeLeft, ProblemCallsFor}
 use Rattle.lotplan.specs.Reading.{AreNoPlan, file_limit}
 use Rattle.lotplan.specs.Replanning.{GivenCallsFor, IsNoRest, IsRestMeant, MayLeaveAfter, MayLeaveRest, ReplanCallsFor, StartCallsFor}
@@ -122,7 +123,7 @@ module _ (laws : AreLaws) (m : Problem) (first budget : ℕ) where
 
     -- what may be left open after the start
     abbrev MayLeave : Type 0
-    MayLeave = (rest : Problem) × IsRestMeant m p first rest × MayBeLeft rest budget
+    MayLeave = (rest : Problem) × IsRestMeant m p first rest × MayBeLeft rest (only budget)
 
     start_one : (s t : ℕ) → StartCallsFor m p first budget s → StartCallsFor m p first budget t → (s ≡ t) ⊎ (MayLeave × OneIsUndecided s t)
     start_one s t (inl x) (inl y) = inl (x.2 ∙ sym y.2)
@@ -136,7 +137,7 @@ module _ (laws : AreLaws) (m : Problem) (first budget : ℕ) where
     start_one s t (inr (inr x)) (inr (inr y)) = ⊎_elim
         (λ same. inl same)
         (λ left. inr ((x.0, x.1, left.0), left.1))
-        (problem_one x.0 budget s t x.2 (subst (λ k. ProblemCallsFor k budget t) (one_rest x.0 y.0 x.1 y.1) y.2))
+        (problem_one x.0 (only budget) s t x.2 (subst (λ k. ProblemCallsFor k (only budget) t) (one_rest x.0 y.0 x.1 y.1) y.2))
 
   -- what the bytes of a plan file may be
   abbrev HasPlan : List ℕ → ℕ → Type 0
@@ -240,7 +241,7 @@ module _ (by : Grounds) (first budget : ℕ) where
     rest_some : LeavesRest m p first → (r : Result Problem ModelFault) → RestMeans m p first r → (status : ℕ) × StartCallsFor m p first budget status
     rest_some leaves (Ok rest) means =
         let rank = ranked_rest m p first rest means in
-        let call = ranked_some by rest budget rank.0 rank.1 in
+        let call = ranked_some by rest (only budget) rank.0 rank.1 in
         (call.0, inr (inr (rest, record { leaves = leaves; means = means }, call.1)))
     rest_some leaves (Err fault) means = (NO_REST, inl (Draft fault, (leaves, means), refl))
 

@@ -17,6 +17,7 @@ use Rattle.lotplan.specs.Status.{code_of}
 use Rattle.lotplan.specs.Reading.{AreNoPlan, ExplainsPlanStop, FileExplains, HoldsProblem, ModelExplains, OfFile, ReadAnswer, refused, missing, unread, too_long, file_limit, read_meant, read_status}
 use Rattle.lotplan.specs.Judging.{HoldsBoth}
 use Rattle.lotplan.specs.Writing.{StartsAmong, StartsAtMost}
+use Rattle.lotplan.specs.Finding.{only}
 use Rattle.lotplan.specs.Planning.{HasNone, HasPlan, WritesFeasible, optimal, infeasible, between, above, unwritten}
 use Rattle.lotplan.specs.Planning.{no_input as no_model}
 use Rattle.lotplan.specs.Proving.{HoldsProof}
@@ -309,8 +310,8 @@ module _ (m p : List ℕ) (first : ℕ) (n q c : List ℕ) (budget code : ℕ) (
     called_at : (answer : ReplanAnswer) → Why answer → code ≡ code_of (replan_status answer) → ReplanCallsFor first budget (old.file m) (old.file p) code
     called_at (searched (optimal says nodes amount) spent) x is = by_start (λ m p. ReplansOptimal new.file m p first n q c budget says nodes amount spent) (x.0 t) (λ problem plan w. inr (inr (w.rest.instance, meant new.file problem plan w.rest w.goes_on, inl (is, w.later.best.chosen, w.later.best.best.feasible))))
     called_at (searched (infeasible says nodes) spent) x is = by_start (λ m p. ReplansInfeasible old.file new.file m p first n q c budget says nodes) (x.0 t) (λ problem plan w. inr (inr (w.rest.instance, meant new.file problem plan w.rest w.goes_on, inr (inl (is, w.later.impossible)))))
-    called_at (searched (between says nodes bound amount) spent) x is = by_start (λ m p. ReplansBetween new.file m p first n q c budget says nodes bound amount spent) (x.0 t) (λ problem plan w. let s = w.later.shows in inr (inr (w.rest.instance, meant new.file problem plan w.rest w.goes_on, inr (inr (is, open_calls w.rest.instance budget bound s.found s.is s.claims)))))
-    called_at (searched (above says nodes bound) spent) x is = by_start (λ m p. ReplansAbove old.file new.file m p first n q c budget says nodes bound spent) (x.0 t) (λ problem plan w. let s = w.later.shows in inr (inr (w.rest.instance, meant new.file problem plan w.rest w.goes_on, inr (inr (is, open_calls w.rest.instance budget bound s.found s.is s.claims)))))
+    called_at (searched (between says nodes bound amount) spent) x is = by_start (λ m p. ReplansBetween new.file m p first n q c budget says nodes bound amount spent) (x.0 t) (λ problem plan w. let s = w.later.shows in inr (inr (w.rest.instance, meant new.file problem plan w.rest w.goes_on, inr (inr (is, open_calls w.rest.instance (only budget) bound s.found s.is s.claims)))))
+    called_at (searched (above says nodes bound) spent) x is = by_start (λ m p. ReplansAbove old.file new.file m p first n q c budget says nodes bound spent) (x.0 t) (λ problem plan w. let s = w.later.shows in inr (inr (w.rest.instance, meant new.file problem plan w.rest w.goes_on, inr (inr (is, open_calls w.rest.instance (only budget) bound s.found s.is s.claims)))))
     called_at (searched (unwritten file) spent) x is = absurd (fine.written x.0)
     called_at (searched (no_model why) spent) x is = absurd x
     called_at no_start x is = by_start (λ m p. HasNoStart m p first) (x.0 t) (λ problem plan w. inr (inl (w.may, w.falls, is)))

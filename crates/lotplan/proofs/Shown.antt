@@ -1,5 +1,5 @@
 -- What was found of a model that has a feasible own-period plan proves what is shown of it.
-use Rattle.std.proofs.Common.{◌≡◌, ◌≤◌, ◌<◌, ◌*◌, ◌/◌, ◌^◌, ◌+◌, ◌∙◌, ⊎_elim, ℕ, zero, suc, Option, Some, None, refl, sym, ap, subst, arith}
+use Rattle.std.proofs.Common.{◌≡◌, ◌≤◌, ◌<◌, ◌*◌, ◌/◌, ◌^◌, ◌+◌, ◌∙◌, ⊎_elim, ℕ, zero, suc, false, Option, Some, None, refl, sym, ap, subst, arith}
 use Rattle.std.proofs.Math.Nat.{pow-suc}
 use Rattle.lot_sizing.specs.Problem.{IsUncoupled, Problem, item_count}
 use Rattle.lot_sizing.specs.Sums.{sum_to}
@@ -19,8 +19,8 @@ use Rattle.branch_and_bound.specs.Whole.{whole_height}
 use Rattle.branch_and_bound.proofs.Halves.{digits-half, digits-zero}
 use Rattle.branching.specs.declared.found.Found.{Found}
 use Rattle.branching.specs.declared.found.RootSays.TheVariants as at_root
-use Rattle.branch_and_cut.specs.Search.{GoesTogether, IfBound, IsDecided, IsGoodPlan, IsUndecided, KeepsOwn, UsesRoot, WithRows}
-use Rattle.lotplan.specs.Finding.{IsFound}
+use Rattle.branch_and_cut.specs.Search.{GoesTogether, IfBound, IsDecided, IsGoodPlan, IsPlanNear, IsUndecided, KeepsOwn, UsesRoot, WithRows, no_limits}
+use Rattle.lotplan.specs.Finding.{IsFound, only}
 use Rattle.lotplan.specs.Planning.{IsAnswerTo, PlanAnswer, optimal}
 use Rattle.lotplan.specs.Showing.{IsBestAlone, IsShort, IsShown, IsSpent, IsTrueAnswer, entry_branches}
 use Rattle.std.specs.Prelude.{IfSome}
@@ -48,8 +48,15 @@ not_deep m instance short deep =
     let assoc : item_count m * (m.periods * entry_branches) ≡ (item_count m * m.periods) * entry_branches = grind arith in
     omega (arith, height, few, assoc, short)
 
+-- no plan is within a gap where none is given
+never_near : (m : Problem) (claim : Claim) (given : Option Plan) → IsPlanNear m None claim given → ⊥
+never_near m (Optimal amount) given near = near
+never_near m Infeasible given near = near
+never_near m (BoundOf amount) None near = near
+never_near m (BoundOf amount) (Some plan) near = near
+
 -- ---- what was found
-module _ (m : Problem) (budget : ℕ) (found : Found) (is : IsFound m budget found) (own : HasOwnPeriod m) (instance : IsInstance m) where
+module _ (m : Problem) (budget : ℕ) (found : Found) (is : IsFound m (only budget) found) (own : HasOwnPeriod m) (instance : IsInstance m) where
   -- some plan was
   some_found : {A : Type 0} → found.plan ≡ None → A
   some_found none = absurd (subst (KeepsOwn m) none is.own own.0 own.1 own.2)
@@ -91,8 +98,8 @@ module _ (m : Problem) (budget : ℕ) (found : Found) (is : IsFound m budget fou
   -- with few items and periods a bound has spent the budget
   spends : (bound : ℕ) → found.certificate.claim ≡ BoundOf bound → IsShort m → budget < found.nodes + 2
   spends bound e short =
-      let (rows, good, undecided) = subst (λ k. IfBound k (λ amount. WithRows m found (IsUndecided m budget found))) e is.cause in
-      ⊎_elim (λ spent. spent) (λ deep. absurd (not_deep m instance short deep.height)) undecided
+      let (rows, good, undecided) = subst (λ k. IfBound k (λ amount. WithRows m found (IsUndecided m budget no_limits false found))) e is.cause in
+      ⊎_elim (λ left. ⊎_elim (λ spent. spent) (λ deep. absurd (not_deep m instance short deep.height)) left) (λ early. ⊎_elim (λ near. absurd (never_near m found.certificate.claim found.plan near)) (λ stopped. absurd (cc stopped)) early) undecided
 
   spent_at : (claim : Claim) (given : Option Plan) → found.certificate.claim ≡ claim → found.plan ≡ given → (answer : PlanAnswer) → IsAnswerTo m claim given found.root found.nodes answer → IsShort m → IsSpent budget answer
   spent_at (Optimal amount) given e same answer answers short = subst (IsSpent budget) (sym answers) tt

@@ -15,6 +15,7 @@ pub mod Generating
 pub mod Extracting
 pub mod Scheduling
 pub mod Pegging
+pub mod Completing
 pub mod Replanning
 pub mod Drawing
 pub mod Showing

@@ -1,5 +1,5 @@
 -- What `plan` answers, why, and what it leaves.
-use Rattle.std.specs.Prelude.{◌≡◌, ◌⊎◌, ◌<◌, ◌≤◌, ℕ, List, [], ◌∷◌, ◌++◌, length, codes, decimal, IsTrue, Option, Some, None, Ok, Err}
+use Rattle.std.specs.Prelude.{◌≡◌, ◌≢◌, ◌⊎◌, ◌<◌, ◌≤◌, ℕ, false, List, [], ◌∷◌, ◌++◌, length, codes, decimal, IsTrue, Option, Some, None, Ok, Err, is_some}
 use Rattle.lot_sizing.specs.Problem.{IsUncoupled, Problem}
 use Rattle.lot_sizing.specs.Plan.{IsFeasible, Plan, cost}
 use Rattle.lot_sizing.specs.Best.{IsBest, IsFloor, IsImpossible}
@@ -22,7 +22,9 @@ use Rattle.branching.specs.declared.found.RootSays.{RootSays}
 use Rattle.branching.specs.declared.found.RootSays.TheVariants as at_root
 use Rattle.branch_and_cut.specs.Search.{HasBudgetForAll, cost_of}
 use Rattle.lotplan.specs.Writing.{StartsAmong, unwritten_line}
-use Rattle.lotplan.specs.Reading.{read_meant, ModelExplains, OfModel, ReadAnswer, file_limit, read_line, read_status}
+use Rattle.command_line.specs.Words.{Search}
+use Rattle.lotplan.specs.Judging.{FindsFault, FindsNone, JudgeAnswer, JudgeCallsFor, JudgeExplains, OfFeasible, judge_line, judge_status}
+use Rattle.lotplan.specs.Reading.{FilesStop, read_meant, ModelExplains, OfModel, ReadAnswer, file_limit, read_line, read_status}
 use Rattle.lotplan.specs.Proving.{HoldsProof}
 use Rattle.lotplan.specs.Finding.{IsFound, PlanCosts}
 use Rattle.lotplan.specs.Meaning.{Meaning}
@@ -30,6 +32,7 @@ use Rattle.lotplan.specs.Saying.{Answered, Gains, IsSaid}
 use Rattle.lotplan.specs.declared.commands.plan.PlanAnswer.{PlanAnswer as HeldAnswer}
 use Rattle.lotplan.specs.declared.commands.plan.PlanAnswer.TheVariants as held
 use Rattle.lotplan.specs.declared.said.Said.{Said}
+use Rattle.lotplan.specs.declared.sought.Sought.{Sought}
 use Rattle.lotplan.specs.declared.status.TheConstants.{DONE, NO_PLAN, UNDECIDED, REFUSED, MISSING, TOO_LONG}
 use Rattle.lotplan.specs.declared.status.Status.{Status}
 use Rattle.lotplan.specs.declared.status.Status.TheVariants as status
@@ -109,9 +112,9 @@ IsAnswerTo problem (BoundOf bound) None says nodes answer = answer ≡ above say
 
 -- ---- causes
 -- the certificate file has the text of the certificate that was found, with this claim and beside a plan of this cost or none; the lines have what was said at the root and the number of nodes
-pub record ShowsFound (after : Files) (problem : Problem) (certificate_file : List ℕ) (budget : ℕ) (says : RootSays) (nodes : ℕ) (claim : Claim) (costs : Option ℕ) : Type 0 where
+pub record ShowsFound (after : Files) (problem : Problem) (certificate_file : List ℕ) (sought : Sought) (says : RootSays) (nodes : ℕ) (claim : Claim) (costs : Option ℕ) : Type 0 where
   pub found : Found
-  pub is : IsFound problem budget found
+  pub is : IsFound problem sought found
   pub root : found.root ≡ says
   pub counted : found.nodes ≡ nodes
   pub claims : found.certificate.claim ≡ claim
@@ -146,38 +149,38 @@ pub record WritesFeasible (after : Files) (problem : Problem) (plan_file : List 
   pub written : WritesPlan after problem plan_file chosen
 
 -- a best plan of the problem was written, which costs this amount, and a certificate that no plan costs less
-pub record WritesOptimal (after : Files) (problem : Problem) (plan_file certificate_file : List ℕ) (budget : ℕ) (says : RootSays) (nodes amount : ℕ) : Type 0 where
+pub record WritesOptimal (after : Files) (problem : Problem) (plan_file certificate_file : List ℕ) (sought : Sought) (says : RootSays) (nodes amount : ℕ) : Type 0 where
   pub best : WritesBest after problem plan_file amount
   pub proof : WritesProof after problem plan_file certificate_file (Optimal amount) nodes
-  pub shows : ShowsFound after problem certificate_file budget says nodes (Optimal amount) (Some amount)
+  pub shows : ShowsFound after problem certificate_file sought says nodes (Optimal amount) (Some amount)
 
 -- no plan of the problem is feasible, a certificate of that was written, and the plan file is as it was
-pub record WritesInfeasible (before after : Files) (problem : Problem) (plan_file certificate_file : List ℕ) (budget : ℕ) (says : RootSays) (nodes : ℕ) : Type 0 where
+pub record WritesInfeasible (before after : Files) (problem : Problem) (plan_file certificate_file : List ℕ) (sought : Sought) (says : RootSays) (nodes : ℕ) : Type 0 where
   pub impossible : IsImpossible problem
   pub proof : WritesProof after problem plan_file certificate_file Infeasible nodes
   pub kept : after plan_file ≡ before plan_file
-  pub shows : ShowsFound after problem certificate_file budget says nodes Infeasible None
+  pub shows : ShowsFound after problem certificate_file sought says nodes Infeasible None
 
 -- no feasible own-period plan costs less than this
 abbrev pub IsWithinOwn : Problem → ℕ → Type 0
 IsWithinOwn problem amount = (own : Plan) → IsOwnPeriod problem own → IsFeasible problem own → amount ≤ cost problem own
 
 -- each plan costs at least the bound, a certificate of that was written, and a plan that costs this amount, which is above the bound
-pub record WritesBetween (after : Files) (problem : Problem) (plan_file certificate_file : List ℕ) (budget : ℕ) (says : RootSays) (nodes bound amount : ℕ) : Type 0 where
+pub record WritesBetween (after : Files) (problem : Problem) (plan_file certificate_file : List ℕ) (sought : Sought) (says : RootSays) (nodes bound amount : ℕ) : Type 0 where
   pub floor : IsFloor problem bound
   pub below : bound < amount
   pub own : IsWithinOwn problem amount
   pub plan : WritesFeasible after problem plan_file amount
   pub proof : WritesProof after problem plan_file certificate_file (BoundOf bound) nodes
-  pub shows : ShowsFound after problem certificate_file budget says nodes (BoundOf bound) (Some amount)
+  pub shows : ShowsFound after problem certificate_file sought says nodes (BoundOf bound) (Some amount)
 
 -- each plan costs at least the bound, a certificate of that was written, no own-period plan is feasible, and the plan file is as it was
-pub record WritesAbove (before after : Files) (problem : Problem) (plan_file certificate_file : List ℕ) (budget : ℕ) (says : RootSays) (nodes bound : ℕ) : Type 0 where
+pub record WritesAbove (before after : Files) (problem : Problem) (plan_file certificate_file : List ℕ) (sought : Sought) (says : RootSays) (nodes bound : ℕ) : Type 0 where
   pub floor : IsFloor problem bound
   pub own : HasOwnPeriod problem → ⊥
   pub proof : WritesProof after problem plan_file certificate_file (BoundOf bound) nodes
   pub kept : after plan_file ≡ before plan_file
-  pub shows : ShowsFound after problem certificate_file budget says nodes (BoundOf bound) None
+  pub shows : ShowsFound after problem certificate_file sought says nodes (BoundOf bound) None
 
 -- a plan was found of the problem; without coupling it is best
 pub record HasPlan (problem : Problem) : Type 0 where
@@ -198,100 +201,165 @@ FailsAt Of p c old new file =
     ⊎ (((file ≡ c) × Of (λ problem. (amount : ℕ) × WritesFeasible new.file problem p amount) × StartsAmong (p ∷ c ∷ []) 2 old new)
     ⊎ ((file ≡ c) × Of HasNone × StartsAmong (c ∷ []) 1 old new))
 
--- why planning a problem with a budget of nodes ends in this answer, and what it leaves
-abbrev pub WriteExplains : Problem → ℕ → List ℕ → List ℕ → Shelved → Shelved → PlanAnswer → Type 0
-WriteExplains problem budget p c old new (optimal says nodes amount) =
-    (IsTrue old.told → WritesOptimal new.file problem p c budget says nodes amount) × StartsAmong (p ∷ c ∷ []) 2 old new
-WriteExplains problem budget p c old new (infeasible says nodes) =
-    (IsTrue old.told → WritesInfeasible old.file new.file problem p c budget says nodes) × StartsAmong (c ∷ []) 1 old new
-WriteExplains problem budget p c old new (between says nodes bound amount) =
-    (IsTrue old.told → WritesBetween new.file problem p c budget says nodes bound amount) × StartsAmong (p ∷ c ∷ []) 2 old new
-WriteExplains problem budget p c old new (above says nodes bound) =
-    (IsTrue old.told → WritesAbove old.file new.file problem p c budget says nodes bound) × StartsAmong (c ∷ []) 1 old new
-WriteExplains problem budget p c old new (unwritten file) =
+-- why planning a problem ends in this answer, and what it leaves
+abbrev pub WriteExplains : Problem → Sought → List ℕ → List ℕ → Shelved → Shelved → PlanAnswer → Type 0
+WriteExplains problem sought p c old new (optimal says nodes amount) =
+    (IsTrue old.told → WritesOptimal new.file problem p c sought says nodes amount) × StartsAmong (p ∷ c ∷ []) 2 old new
+WriteExplains problem sought p c old new (infeasible says nodes) =
+    (IsTrue old.told → WritesInfeasible old.file new.file problem p c sought says nodes) × StartsAmong (c ∷ []) 1 old new
+WriteExplains problem sought p c old new (between says nodes bound amount) =
+    (IsTrue old.told → WritesBetween new.file problem p c sought says nodes bound amount) × StartsAmong (p ∷ c ∷ []) 2 old new
+WriteExplains problem sought p c old new (above says nodes bound) =
+    (IsTrue old.told → WritesAbove old.file new.file problem p c sought says nodes bound) × StartsAmong (c ∷ []) 1 old new
+WriteExplains problem sought p c old new (unwritten file) =
     Rose old.write_faults new.write_faults × FailsAt (λ P. IsTrue old.told → P problem) p c old new file
-WriteExplains problem budget p c old new (no_input why) = ⊥
+WriteExplains problem sought p c old new (no_input why) = ⊥
 
--- why planning these files ends in this answer, and what it leaves
-abbrev pub PlanExplains : List ℕ → List ℕ → List ℕ → ℕ → Shelved → Shelved → PlanAnswer → Type 0
-PlanExplains m p c budget old new (optimal says nodes amount) =
-    (IsTrue old.told → OfModel old.file m (λ problem. WritesOptimal new.file problem p c budget says nodes amount)) × StartsAmong (p ∷ c ∷ []) 2 old new
-PlanExplains m p c budget old new (infeasible says nodes) =
-    (IsTrue old.told → OfModel old.file m (λ problem. WritesInfeasible old.file new.file problem p c budget says nodes)) × StartsAmong (c ∷ []) 1 old new
-PlanExplains m p c budget old new (between says nodes bound amount) =
-    (IsTrue old.told → OfModel old.file m (λ problem. WritesBetween new.file problem p c budget says nodes bound amount)) × StartsAmong (p ∷ c ∷ []) 2 old new
-PlanExplains m p c budget old new (above says nodes bound) =
-    (IsTrue old.told → OfModel old.file m (λ problem. WritesAbove old.file new.file problem p c budget says nodes bound)) × StartsAmong (c ∷ []) 1 old new
-PlanExplains m p c budget old new (unwritten file) =
+-- ---- what the words give to the search
+-- of these words, from a plan of this cost or from none
+abbrev pub sought_by : Search → Option ℕ → Sought
+sought_by search begins = record { budget = search.budget; begins = begins; gap = search.gap; may_stop = is_some search.seconds }
+
+-- something holds of the problem in the model file and of what its search is given; where a file to start from is named, that holds a feasible plan of the problem, and the search starts from it
+abbrev pub OfStart : Files → List ℕ → Search → Option (List ℕ) → (Problem → Sought → Type 0) → Type 0
+OfStart before m search None P = OfModel before m (λ problem. P problem (sought_by search None))
+OfStart before m search (Some start) P = OfFeasible before m start (λ problem plan. P problem (sought_by search (Some (cost problem plan))))
+
+abbrev pub OfSearch : Files → List ℕ → Search → (Problem → Sought → Type 0) → Type 0
+OfSearch before m search P = OfStart before m search search.start P
+
+-- the files to start from
+abbrev pub start_files : Option (List ℕ) → List (List ℕ)
+start_files None = []
+start_files (Some start) = start ∷ []
+
+-- why planning these files, the search of which was begun if there is a problem, ends in this answer, and what it leaves
+abbrev pub PlanExplains : List ℕ → List ℕ → List ℕ → Search → Shelved → Shelved → PlanAnswer → Type 0
+PlanExplains m p c search old new (optimal says nodes amount) =
+    (IsTrue old.told → OfSearch old.file m search (λ problem sought. WritesOptimal new.file problem p c sought says nodes amount)) × StartsAmong (p ∷ c ∷ []) 2 old new
+PlanExplains m p c search old new (infeasible says nodes) =
+    (IsTrue old.told → OfSearch old.file m search (λ problem sought. WritesInfeasible old.file new.file problem p c sought says nodes)) × StartsAmong (c ∷ []) 1 old new
+PlanExplains m p c search old new (between says nodes bound amount) =
+    (IsTrue old.told → OfSearch old.file m search (λ problem sought. WritesBetween new.file problem p c sought says nodes bound amount)) × StartsAmong (p ∷ c ∷ []) 2 old new
+PlanExplains m p c search old new (above says nodes bound) =
+    (IsTrue old.told → OfSearch old.file m search (λ problem sought. WritesAbove old.file new.file problem p c sought says nodes bound)) × StartsAmong (c ∷ []) 1 old new
+PlanExplains m p c search old new (unwritten file) =
     Rose old.write_faults new.write_faults × FailsAt (λ P. IsTrue old.told → OfModel old.file m P) p c old new file
-PlanExplains m p c budget old new (no_input why) = ModelExplains m old new why × OnlyReads old new
+PlanExplains m p c search old new (no_input why) = (search.start ≡ None) × ModelExplains m old new why × OnlyReads old new
+
+-- what a run of `plan` comes to
+pub data PlanOutcome : Type 0 where
+  -- the answer of the search, or that there is no problem to search
+  of_search : PlanAnswer → PlanOutcome
+  -- there is no plan to start from: what `judge` answers of the model file and the file to start from
+  of_start : JudgeAnswer → PlanOutcome
+
+abbrev pub outcome_status : PlanOutcome → Status
+outcome_status (of_search answer) = plan_status answer
+outcome_status (of_start answer) = judge_status answer
+
+abbrev pub outcome_line : PlanOutcome → List ℕ
+outcome_line (of_search answer) = plan_line answer
+outcome_line (of_start answer) = judge_line answer
+
+-- why it comes to that
+abbrev pub OutcomeExplains : List ℕ → List ℕ → List ℕ → Search → Shelved → Shelved → PlanOutcome → Type 0
+OutcomeExplains m p c search old new (of_search answer) = PlanExplains m p c search old new answer
+OutcomeExplains m p c search old new (of_start answer) =
+    (start : List ℕ) × (search.start ≡ Some start) × FindsNone answer × JudgeExplains m start old new answer × OnlyReads old new
 
 -- what is said is an answer that has its cause
-abbrev pub WriteSays : Problem → ℕ → List ℕ → List ℕ → Shelved → Shelved → Said → Type 0
-WriteSays problem budget p c old new said = (answer : PlanAnswer) × WriteExplains problem budget p c old new answer × IsSaid (plan_line answer) (plan_status answer) said
+abbrev pub WriteSays : Problem → Sought → List ℕ → List ℕ → Shelved → Shelved → Said → Type 0
+WriteSays problem sought p c old new said = (answer : PlanAnswer) × WriteExplains problem sought p c old new answer × IsSaid (plan_line answer) (plan_status answer) said
 
--- what planning these files does: an answer that has its cause
-abbrev pub PlanDoes : List ℕ → List ℕ → List ℕ → ℕ → Shelved → Shelved → List ℕ → Status → Type 0
-PlanDoes m p c budget old new = Answered PlanAnswer (PlanExplains m p c budget old new) plan_line plan_status
+-- what planning these files does: an outcome that has its cause
+abbrev pub PlanDoes : List ℕ → List ℕ → List ℕ → Search → Shelved → Shelved → List ℕ → Status → Type 0
+PlanDoes m p c search old new = Answered PlanOutcome (OutcomeExplains m p c search old new) outcome_line outcome_status
 
-abbrev pub PlanSays : List ℕ → List ℕ → List ℕ → ℕ → Shelved → Shelved → Said → Type 0
-PlanSays m p c budget old new said = PlanDoes m p c budget old new said.line.items said.status
+abbrev pub PlanSays : List ℕ → List ℕ → List ℕ → Search → Shelved → Shelved → Said → Type 0
+PlanSays m p c search old new said = PlanDoes m p c search old new said.line.items said.status
 
--- ---- the status that the model file calls for, faults and out of memory aside
--- the search may leave the problem open: it is coupled, and the budget isn't enough for all choices
-pub record MayBeLeft (problem : Problem) (budget : ℕ) : Type 0 where
+-- ---- the status that the files call for, faults and out of memory aside
+-- the search may leave the problem open: it is coupled, and the budget isn't enough for all choices, or the search may end before that
+pub record MayBeLeft (problem : Problem) (sought : Sought) : Type 0 where
   pub coupled : IsUncoupled problem → ⊥
-  pub large : WithTotals problem (λ total. HasBudgetForAll problem budget total → ⊥)
+  pub large : sought.gap ≡ None → sought.may_stop ≡ false → WithTotals problem (λ total. HasBudgetForAll problem sought.budget total → ⊥)
 
 -- for a problem `DONE` where a plan is feasible and `NO_PLAN` where none is; `UNDECIDED` only where it may be left open
-abbrev pub ProblemCallsFor : Problem → ℕ → ℕ → Type 0
-ProblemCallsFor problem budget status =
-    ((status ≡ DONE) × (p : Plan) × IsFeasible problem p) ⊎ (((status ≡ NO_PLAN) × IsImpossible problem) ⊎ ((status ≡ UNDECIDED) × MayBeLeft problem budget))
+abbrev pub ProblemCallsFor : Problem → Sought → ℕ → Type 0
+ProblemCallsFor problem sought status =
+    ((status ≡ DONE) × (p : Plan) × IsFeasible problem p) ⊎ (((status ≡ NO_PLAN) × IsImpossible problem) ⊎ ((status ≡ UNDECIDED) × MayBeLeft problem sought))
 
-abbrev pub BytesCallFor : List ℕ → ℕ → ℕ → Type 0
-BytesCallFor bytes budget status =
-    ((problem : Problem) × BytesMean bytes (Ok problem) × ProblemCallsFor problem budget status)
+abbrev pub BytesCallFor : List ℕ → Sought → ℕ → Type 0
+BytesCallFor bytes sought status =
+    ((problem : Problem) × BytesMean bytes (Ok problem) × ProblemCallsFor problem sought status)
     ⊎ ((fault : ModelFault) × BytesMean bytes (Err fault) × (status ≡ REFUSED))
 
-abbrev pub FileCallsFor : Option (List ℕ) → ℕ → ℕ → Type 0
-FileCallsFor None budget status = status ≡ MISSING
-FileCallsFor (Some bytes) budget status = ((file_limit < length bytes) × (status ≡ TOO_LONG)) ⊎ ((length bytes ≤ file_limit) × BytesCallFor bytes budget status)
+abbrev pub FileCallsFor : Option (List ℕ) → Sought → ℕ → Type 0
+FileCallsFor None sought status = status ≡ MISSING
+FileCallsFor (Some bytes) sought status = ((file_limit < length bytes) × (status ≡ TOO_LONG)) ⊎ ((length bytes ≤ file_limit) × BytesCallFor bytes sought status)
+
+-- where a file to start from is named: what `judge` calls for of it, if that isn't `DONE`; and else what the model file calls for
+abbrev pub PlanCallFor : List ℕ → Sought → Option (List ℕ) → Files → ℕ → Type 0
+PlanCallFor m sought None file status = FileCallsFor (file m) sought status
+PlanCallFor m sought (Some start) file status =
+    ((status ≢ DONE) × JudgeCallsFor (file m) (file start) status) ⊎ (JudgeCallsFor (file m) (file start) DONE × FileCallsFor (file m) sought status)
 
 -- the file means a problem that the search may leave open, so that `UNDECIDED` is called for, beside `DONE` or `NO_PLAN`
-abbrev pub MayLeave : Option (List ℕ) → ℕ → Type 0
-MayLeave None budget = ⊥
-MayLeave (Some bytes) budget = (problem : Problem) × BytesMean bytes (Ok problem) × MayBeLeft problem budget
+abbrev pub MayLeave : Option (List ℕ) → Sought → Type 0
+MayLeave None sought = ⊥
+MayLeave (Some bytes) sought = (problem : Problem) × BytesMean bytes (Ok problem) × MayBeLeft problem sought
+
+-- and the file to start from, if one is named, holds a feasible plan of it
+abbrev pub PlanMayLeave : List ℕ → Sought → Option (List ℕ) → Files → Type 0
+PlanMayLeave m sought None file = MayLeave (file m) sought
+PlanMayLeave m sought (Some start) file = JudgeCallsFor (file m) (file start) DONE × MayLeave (file m) sought
+
+-- why the files give nothing to go on with: the model file, or, where one is named, the file to start from
+abbrev pub PlanStops : List ℕ → Option (List ℕ) → Shelved → Shelved → ReadAnswer → Type 0
+PlanStops m None = ModelExplains m
+PlanStops m (Some start) = FilesStop m start
 
 -- ---- what each status says
 -- the plan file holds a best plan of the problem in the model file, the certificate file proves that it is, and the lines have its cost
-pub record PlansBest (before after : Files) (model_file plan_file certificate_file : List ℕ) (budget : ℕ) (out_old out_new : Printed) : Type 0 where
+pub record PlansBest (before after : Files) (model_file plan_file certificate_file : List ℕ) (search : Search) (out_old out_new : Printed) : Type 0 where
   pub says : RootSays
   pub nodes : ℕ
   pub amount : ℕ
-  pub holds : OfModel before model_file (λ problem. WritesOptimal after problem plan_file certificate_file budget says nodes amount)
+  pub holds : OfSearch before model_file search (λ problem sought. WritesOptimal after problem plan_file certificate_file sought says nodes amount)
   pub lines : Gains (three_lines says nodes (optimal_line amount)) out_old out_new
 
 -- no plan of the problem in the model file is feasible, the certificate file proves it, and the lines say so
-pub record FindsNoPlan (before after : Files) (model_file plan_file certificate_file : List ℕ) (budget : ℕ) (out_old out_new : Printed) : Type 0 where
+pub record FindsNoPlan (before after : Files) (model_file plan_file certificate_file : List ℕ) (search : Search) (out_old out_new : Printed) : Type 0 where
   pub says : RootSays
   pub nodes : ℕ
-  pub holds : OfModel before model_file (λ problem. WritesInfeasible before after problem plan_file certificate_file budget says nodes)
+  pub holds : OfSearch before model_file search (λ problem sought. WritesInfeasible before after problem plan_file certificate_file sought says nodes)
   pub lines : Gains (three_lines says nodes infeasible_line) out_old out_new
 
 -- the best cost was left open: between the bound and what the plan in the plan file costs, or above the bound
-abbrev pub IsLeftOpen : Files → Files → Problem → List ℕ → List ℕ → ℕ → PlanAnswer → Type 0
-IsLeftOpen before after problem p c budget (optimal says nodes amount) = ⊥
-IsLeftOpen before after problem p c budget (infeasible says nodes) = ⊥
-IsLeftOpen before after problem p c budget (between says nodes bound amount) = WritesBetween after problem p c budget says nodes bound amount
-IsLeftOpen before after problem p c budget (above says nodes bound) = WritesAbove before after problem p c budget says nodes bound
-IsLeftOpen before after problem p c budget (unwritten file) = ⊥
-IsLeftOpen before after problem p c budget (no_input why) = ⊥
+abbrev pub IsLeftOpen : Files → Files → Problem → List ℕ → List ℕ → Sought → PlanAnswer → Type 0
+IsLeftOpen before after problem p c sought (optimal says nodes amount) = ⊥
+IsLeftOpen before after problem p c sought (infeasible says nodes) = ⊥
+IsLeftOpen before after problem p c sought (between says nodes bound amount) = WritesBetween after problem p c sought says nodes bound amount
+IsLeftOpen before after problem p c sought (above says nodes bound) = WritesAbove before after problem p c sought says nodes bound
+IsLeftOpen before after problem p c sought (unwritten file) = ⊥
+IsLeftOpen before after problem p c sought (no_input why) = ⊥
 
 -- the best cost of the problem in the model file was left open, the certificate file proves the bound, and the lines say so
-pub record LeavesOpen (before after : Files) (model_file plan_file certificate_file : List ℕ) (budget : ℕ) (out_old out_new : Printed) : Type 0 where
+pub record LeavesOpen (before after : Files) (model_file plan_file certificate_file : List ℕ) (search : Search) (out_old out_new : Printed) : Type 0 where
   pub answer : PlanAnswer
-  pub holds : OfModel before model_file (λ problem. IsLeftOpen before after problem plan_file certificate_file budget answer)
+  pub holds : OfSearch before model_file search (λ problem sought. IsLeftOpen before after problem plan_file certificate_file sought answer)
   pub lines : Gains (plan_line answer) out_old out_new
+
+-- the file to start from held a feasible plan, and the plan file holds one that costs no more
+abbrev pub KeepsStart : Files → Files → (model_file plan_file start_file : List ℕ) → Type 0
+KeepsStart before after m p start = OfFeasible before m start (λ problem given. (amount : ℕ) × WritesFeasible after problem p amount × (amount ≤ cost problem given))
+
+-- the file to start from holds no plan, or one that breaks a rule, and the line names the first fault
+pub record FindsStartFault (before : Files) (model_file : List ℕ) (search : Search) (out_old out_new : Printed) : Type 0 where
+  pub start : List ℕ
+  pub named : search.start ≡ Some start
+  pub finds : FindsFault before model_file start out_old out_new
 
 -- the plan file or the certificate file could not be written, and the line names it
 pub record FailsToWrite (old new : Shelved) (model_file plan_file certificate_file : List ℕ) (out_old out_new : Printed) : Type 0 where
@@ -301,14 +369,14 @@ pub record FailsToWrite (old new : Shelved) (model_file plan_file certificate_fi
   pub line : Gains (unwritten_line file) out_old out_new
 
 -- ---- the command
-abbrev pub plan_meaning : List ℕ → List ℕ → List ℕ → ℕ → Meaning
-plan_meaning m p c budget = record {
-  does = PlanDoes m p c budget;
-  reads = m ∷ [];
+abbrev pub plan_meaning : List ℕ → List ℕ → List ℕ → Search → Meaning
+plan_meaning m p c search = record {
+  does = PlanDoes m p c search;
+  reads = m ∷ start_files search.start;
   passes = [];
   writes = p ∷ c ∷ [];
-  stops = ModelExplains m;
+  stops = PlanStops m search.start;
   overlong = λ old. ⊥;
-  calls_for = λ file. FileCallsFor (file m) budget;
-  may_be_left = λ file. MayLeave (file m) budget;
+  calls_for = PlanCallFor m (sought_by search None) search.start;
+  may_be_left = PlanMayLeave m (sought_by search None) search.start;
 }

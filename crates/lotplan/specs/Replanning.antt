@@ -22,6 +22,7 @@ use Rattle.replan.specs.declared.fault.RestFault.TheVariants.{First, Lead, Draft
 use Rattle.replan.specs.declared.found.Rest.{Rest}
 use Rattle.lotplan.specs.Writing.{IsUnwritten, IsWritten, StartsAmong, unwritten_line}
 use Rattle.lotplan.specs.Reading.{AreNoPlan, FilesStop, OfFile, OfModel, ReadAnswer, file_limit, no_plan_line, read_line, read_meant, read_status}
+use Rattle.lotplan.specs.Finding.{only}
 use Rattle.lotplan.specs.Upgrading.{WritesModel}
 use Rattle.lotplan.specs.Planning.{HasNone, HasPlan, IsAnswerTo, MayBeLeft, PlanAnswer, ProblemCallsFor, WriteExplains, WritesAbove, WritesBetween, WritesFeasible, WritesInfeasible, WritesOptimal, above, above_line, between, between_line, infeasible, infeasible_line, optimal, plan_status, three_lines, unwritten}
 use Rattle.lotplan.specs.Planning.{no_input as no_model}
@@ -122,14 +123,14 @@ pub record ReplansOptimal (after : Files) (problem : Problem) (plan : Plan) (fir
   pub rest : Rest
   pub goes_on : GoesOn after problem plan first new_model_file rest
   pub is_spent : rest.spent ≡ spent
-  pub later : WritesOptimal after rest.instance new_plan_file certificate_file budget says nodes amount
+  pub later : WritesOptimal after rest.instance new_plan_file certificate_file (only budget) says nodes amount
   pub best : IsBestJoined problem plan first later.best.chosen (spent + amount)
 
 -- no plan of the rest is feasible, the certificate of that was written, and no feasible plan agrees with the start
 pub record ReplansInfeasible (before after : Files) (problem : Problem) (plan : Plan) (first : ℕ) (new_model_file new_plan_file certificate_file : List ℕ) (budget : ℕ) (says : RootSays) (nodes : ℕ) : Type 0 where
   pub rest : Rest
   pub goes_on : GoesOn after problem plan first new_model_file rest
-  pub later : WritesInfeasible before after rest.instance new_plan_file certificate_file budget says nodes
+  pub later : WritesInfeasible before after rest.instance new_plan_file certificate_file (only budget) says nodes
   pub none : NoneAgreesWith problem plan first
 
 -- a plan of the rest was written with the certificate of a bound; behind the start it is feasible, and every plan that agrees with the start costs at least the floor
@@ -137,7 +138,7 @@ pub record ReplansBetween (after : Files) (problem : Problem) (plan : Plan) (fir
   pub rest : Rest
   pub goes_on : GoesOn after problem plan first new_model_file rest
   pub is_spent : rest.spent ≡ spent
-  pub later : WritesBetween after rest.instance new_plan_file certificate_file budget says nodes bound amount
+  pub later : WritesBetween after rest.instance new_plan_file certificate_file (only budget) says nodes bound amount
   pub joined : IsJoined problem plan first rest later.plan.chosen
   pub floor : IsFloorAfter problem plan first (spent + bound)
 
@@ -146,7 +147,7 @@ pub record ReplansAbove (before after : Files) (problem : Problem) (plan : Plan)
   pub rest : Rest
   pub goes_on : GoesOn after problem plan first new_model_file rest
   pub is_spent : rest.spent ≡ spent
-  pub later : WritesAbove before after rest.instance new_plan_file certificate_file budget says nodes bound
+  pub later : WritesAbove before after rest.instance new_plan_file certificate_file (only budget) says nodes bound
   pub floor : IsFloorAfter problem plan first (spent + bound)
 
 -- some period is left, no item has a lead time, the start doesn't stand, and no feasible plan agrees with it
@@ -183,7 +184,7 @@ FailsOn Of first n q c old new file =
 abbrev pub NextExplains : Problem → (new_model_file new_plan_file certificate_file : List ℕ) (budget : ℕ) → Shelved → Shelved → PlanAnswer → Type 0
 NextExplains rest n q c budget old new answer =
     ((answer ≡ unwritten n) × IsUnwritten n old new)
-    ⊎ ((bytes : List ℕ) × IsModelText rest bytes × BytesMean bytes (Ok rest) × (mid : Shelved) × IsWritten n bytes old mid × WriteExplains rest budget q c mid new answer)
+    ⊎ ((bytes : List ℕ) × IsModelText rest bytes × BytesMean bytes (Ok rest) × (mid : Shelved) × IsWritten n bytes old mid × WriteExplains rest (only budget) q c mid new answer)
 
 -- what is said is the answer to what was found of the rest, with the total
 abbrev pub IsFoundLine : Rest → Found → Said → Type 0
@@ -251,7 +252,7 @@ abbrev pub StartCallsFor : Problem → Plan → (first budget status : ℕ) → 
 StartCallsFor problem plan first budget status =
     ((fault : RestFault) × IsNoRest problem plan first fault × (status ≡ NO_REST))
     ⊎ ((MayGoOn problem first × (StartStands problem plan first → ⊥) × (status ≡ NO_PLAN))
-    ⊎ ((rest : Problem) × IsRestMeant problem plan first rest × ProblemCallsFor rest budget status))
+    ⊎ ((rest : Problem) × IsRestMeant problem plan first rest × ProblemCallsFor rest (only budget) status))
 
 -- for a plan file of a problem `MISSING` where it is absent, `TOO_LONG` where it is too long, and `FAULTY` where it holds no plan
 abbrev pub GivenCallsFor : Problem → (first budget : ℕ) → Option (List ℕ) → ℕ → Type 0
@@ -275,7 +276,7 @@ pub record MayLeaveRest (problem : Problem) (first budget : ℕ) (bytes : List �
   pub is : IsPlanOf problem (records_of bytes) plan
   pub rest : Problem
   pub meant : IsRestMeant problem plan first rest
-  pub left : MayBeLeft rest budget
+  pub left : MayBeLeft rest (only budget)
 
 -- the files mean a problem and a plan of it, after whose start `UNDECIDED` is called for, beside `DONE` or `NO_PLAN`
 abbrev pub MayLeaveAfter : (first budget : ℕ) → Option (List ℕ) → Option (List ℕ) → Type 0

@@ -3,7 +3,11 @@ use Rattle.std.specs.Prelude.{◌≡◌, ℕ, List, [], ◌∷◌, IsTrue}
 use Rattle.lot_sizing.specs.Problem.{Problem}
 use Rattle.lot_sizing.specs.Plan.{Plan}
 use Rattle.lot_io.specs.Outside.{Files, OnlyReads, Printed, Shelved}
+use Rattle.command_line.specs.declared.commands.ReportForm.{ReportForm}
+use Rattle.command_line.specs.declared.commands.ReportForm.TheVariants.{Summary, Full, Tables}
 use Rattle.report.specs.Summary.{summary_text}
+use Rattle.plan_report.specs.Full.{full_text}
+use Rattle.plan_report.specs.Tables.{table_text}
 use Rattle.lotplan.specs.Judging.{FindsNone, JudgeAnswer, JudgeCallsFor, JudgeExplains, OfFeasible, judge_line, judge_status}
 use Rattle.lotplan.specs.Meaning.{Meaning}
 use Rattle.lotplan.specs.Reading.{FilesStop}
@@ -14,9 +18,9 @@ use Rattle.lotplan.specs.declared.status.Status.TheVariants as status
 
 -- ---- answers
 pub data ReportAnswer : Type 0 where
-  -- the plan is feasible, and this is its summary
+  -- the plan is feasible, and this is what is told of it
   summed : List ℕ → ReportAnswer
-  -- no plan is summed up: what `judge` answers
+  -- nothing is told of a plan: what `judge` answers
   judged : JudgeAnswer → ReportAnswer
 
 abbrev pub report_status : ReportAnswer → Status
@@ -28,33 +32,39 @@ report_line (summed text) = text
 report_line (judged answer) = judge_line answer
 
 -- ---- causes
--- the text is the summary of a plan
-abbrev pub IsSummary : List ℕ → Problem → Plan → Type 0
-IsSummary text problem plan = text ≡ summary_text problem plan
+-- what is told of a plan: its summary as a line of JSON, all of it by periods as a line of JSON, or its tables
+abbrev pub report_text : ReportForm → Problem → Plan → List ℕ
+report_text Summary problem plan = summary_text problem plan
+report_text Full problem plan = full_text problem plan
+report_text Tables problem plan = table_text problem plan
+
+-- the text is what is told of a plan in this form
+abbrev pub IsReport : ReportForm → List ℕ → Problem → Plan → Type 0
+IsReport form text problem plan = text ≡ report_text form problem plan
 
 -- why reporting on these files ends in this answer
-abbrev pub ReportExplains : List ℕ → List ℕ → Shelved → Shelved → ReportAnswer → Type 0
-ReportExplains m p old new (summed text) = IsTrue old.told → OfFeasible old.file m p (IsSummary text)
-ReportExplains m p old new (judged answer) = FindsNone answer × JudgeExplains m p old new answer
+abbrev pub ReportExplains : List ℕ → List ℕ → ReportForm → Shelved → Shelved → ReportAnswer → Type 0
+ReportExplains m p form old new (summed text) = IsTrue old.told → OfFeasible old.file m p (IsReport form text)
+ReportExplains m p form old new (judged answer) = FindsNone answer × JudgeExplains m p old new answer
 
 -- what reporting on these files does: an answer that has its cause, and nothing is written
-abbrev pub ReportDoes : List ℕ → List ℕ → Shelved → Shelved → List ℕ → Status → Type 0
-ReportDoes m p old new = Answered ReportAnswer (λ answer. ReportExplains m p old new answer × OnlyReads old new) report_line report_status
+abbrev pub ReportDoes : List ℕ → List ℕ → ReportForm → Shelved → Shelved → List ℕ → Status → Type 0
+ReportDoes m p form old new = Answered ReportAnswer (λ answer. ReportExplains m p form old new answer × OnlyReads old new) report_line report_status
 
-abbrev pub ReportSays : List ℕ → List ℕ → Shelved → Shelved → Said → Type 0
-ReportSays m p old new said = ReportDoes m p old new said.line.items said.status
+abbrev pub ReportSays : List ℕ → List ℕ → ReportForm → Shelved → Shelved → Said → Type 0
+ReportSays m p form old new said = ReportDoes m p form old new said.line.items said.status
 
 -- ---- what `DONE` says
--- the plan in the plan file is feasible, and the line is its summary
-pub record SumsUp (before : Files) (model_file plan_file : List ℕ) (out_old out_new : Printed) : Type 0 where
+-- the plan in the plan file is feasible, and what is printed is what is told of it in this form
+pub record SumsUp (before : Files) (model_file plan_file : List ℕ) (form : ReportForm) (out_old out_new : Printed) : Type 0 where
   pub text : List ℕ
-  pub holds : OfFeasible before model_file plan_file (IsSummary text)
+  pub holds : OfFeasible before model_file plan_file (IsReport form text)
   pub line : Gains text out_old out_new
 
 -- ---- the command
-abbrev pub report_meaning : List ℕ → List ℕ → Meaning
-report_meaning m p = record {
-  does = ReportDoes m p;
+abbrev pub report_meaning : List ℕ → List ℕ → ReportForm → Meaning
+report_meaning m p form = record {
+  does = ReportDoes m p form;
   reads = m ∷ p ∷ [];
   passes = [];
   writes = [];

@@ -2,7 +2,7 @@
 use Rattle.std.specs.Prelude.{◌≡◌, ◌+◌, ◌*◌, ℕ, List, [], ◌∷◌, length, codes, Option, Some, None}
 use Rattle.lot_io.specs.Outside.{Files, OnlyReads, Printed, Rose, Shelved, piece_size}
 use Rattle.stream_check.specs.Streams.{pass_size}
-use Rattle.command_line.specs.Words.{Request, version, planning, judging, checking, reporting, generating, demonstrating, upgrading, bounding, scheduling, schedule_checking, pegging, drawing, replanning}
+use Rattle.command_line.specs.Words.{Request, version, planning, judging, checking, reporting, generating, demonstrating, upgrading, bounding, scheduling, schedule_checking, pegging, completing, drawing, replanning}
 use Rattle.lotplan.specs.Status.{code_of}
 use Rattle.lotplan.specs.Saying.{Gains, Prints}
 use Rattle.lotplan.specs.Reading.{ReadAnswer, file_limit, read_line}
@@ -17,6 +17,7 @@ use Rattle.lotplan.specs.Generating.{generate_meaning}
 use Rattle.lotplan.specs.Showing.{demo_meaning}
 use Rattle.lotplan.specs.Scheduling.{schedule_meaning, schedcheck_meaning}
 use Rattle.lotplan.specs.Pegging.{peg_meaning}
+use Rattle.lotplan.specs.Completing.{complete_meaning}
 use Rattle.lotplan.specs.Drawing.{draw_meaning}
 use Rattle.lotplan.specs.Replanning.{replan_meaning}
 use Rattle.lotplan.specs.declared.said.Said.{Said}
@@ -69,10 +70,10 @@ no_meaning = record {
 abbrev pub meaning_of : Option Request → Meaning
 meaning_of None = no_meaning
 meaning_of (Some version) = version_meaning
-meaning_of (Some (planning m p c budget)) = plan_meaning m p c budget
+meaning_of (Some (planning m p c search)) = plan_meaning m p c search
 meaning_of (Some (judging m p)) = judge_meaning m p
 meaning_of (Some (checking m p c)) = check_meaning m p c
-meaning_of (Some (reporting m p)) = report_meaning m p
+meaning_of (Some (reporting m p form)) = report_meaning m p form
 meaning_of (Some (generating seed items periods m)) = generate_meaning seed items periods m
 meaning_of (Some (demonstrating seed)) = demo_meaning seed
 meaning_of (Some (upgrading m n)) = upgrade_meaning m n
@@ -80,6 +81,7 @@ meaning_of (Some (bounding m)) = bound_meaning m
 meaning_of (Some (scheduling m p s)) = schedule_meaning m p s
 meaning_of (Some (schedule_checking m p s)) = schedcheck_meaning m p s
 meaning_of (Some (pegging m p q)) = peg_meaning m p q
+meaning_of (Some (completing m p q)) = complete_meaning m p q
 meaning_of (Some (drawing m p h c)) = draw_meaning m p h c
 meaning_of (Some (replanning m p first n q c budget)) = replan_meaning m p first n q c budget
 

@@ -8,7 +8,7 @@ use Rattle.cert_lines.specs.declared.limits.TheConstants.{MAX_BRANCHES}
 use Rattle.branching.specs.declared.found.Found.{Found}
 use Rattle.branching.specs.declared.found.RootSays.TheVariants as at_root
 use Rattle.report.specs.Generated.{generated}
-use Rattle.lotplan.specs.Finding.{IsFound}
+use Rattle.lotplan.specs.Finding.{IsFound, only}
 use Rattle.lotplan.specs.Planning.{IsAnswerTo, IsWithinOwn, PlanAnswer, above, between, infeasible, optimal, plan_line, no_input, unwritten}
 use Rattle.lotplan.specs.Meaning.{Meaning}
 use Rattle.lotplan.specs.Saying.{Gains}
@@ -80,7 +80,7 @@ IsShort problem = item_count problem * problem.periods * entry_branches ≤ MAX_
 -- `plan` with this budget answers so, once it is written: what was found, that the answer is to it and that what it says is so
 pub record IsShown (problem : Problem) (budget : ℕ) (answer : PlanAnswer) : Type 0 where
   pub found : Found
-  pub is : IsFound problem budget found
+  pub is : IsFound problem (only budget) found
   pub answers : IsAnswerTo problem found.certificate.claim found.plan found.root found.nodes answer
   pub holds : IsTrueAnswer problem answer
   pub alone : IsUncoupled problem → IsBestAlone answer

@@ -1,6 +1,7 @@
 // The commands, a file each.
 pub mod bound;
 pub mod check;
+pub mod complete;
 pub mod demo;
 pub mod draw;
 pub mod generate;

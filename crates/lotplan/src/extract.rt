@@ -18,7 +18,8 @@ pub fn write_extract<S: Shelf>(
     bytes: &[u8],
     shelf: &mut S,
 ) -> Result<Said, AllocError>
-    ensures said { IfOk result (WritesAndSays word.now count file.now bytes.now (S.shown shelf.old) (S.shown shelf.new)) }
+    ensures said { IfOk result (WritesAndSays word.now count file.now bytes.now (S.shown shelf.old)
+        (S.shown shelf.new)) }
     ensures memory { OnErr result (S.shown shelf.new ≡ S.shown shelf.old) }
     ensures given { (S.shown shelf.new).given ≡ (S.shown shelf.old).given }
 {

@@ -84,11 +84,14 @@ pub fn read_bytes<'a, S: Shelf>(
     name: &'a str,
     shelf: &mut S,
 ) -> Result<Vec<u8>, Stop<'a>>
-    ensures bytes { IfOk result (λ bytes. IsTrue (S.shown shelf.old).told → (S.shown shelf.old).file name.entry.now ≡ Some bytes.items) }
+    ensures bytes { IfOk result (λ bytes. IsTrue (S.shown shelf.old).told
+        → (S.shown shelf.old).file name.entry.now ≡ Some bytes.items) }
     ensures short { IfOk result (λ bytes. length bytes.items ≤ file_limit) }
-    ensures stop { IfErr result (ExplainsStop (FileExplains name.entry.now (S.shown shelf.old) (S.shown shelf.new))) }
+    ensures stop { IfErr result (ExplainsStop
+        (FileExplains name.entry.now (S.shown shelf.old) (S.shown shelf.new))) }
     ensures reads { OnlyReads (S.shown shelf.old) (S.shown shelf.new) }
-    ensures given { (S.shown shelf.new).given ≤ (S.shown shelf.old).given + (file_limit + piece_size) }
+    ensures given { (S.shown shelf.new).given
+        ≤ (S.shown shelf.old).given + (file_limit + piece_size) }
 {
     match read_file(alloc, shelf, name, MAX_FILE) {
         Ok(bytes) => Ok(bytes),
@@ -105,10 +108,13 @@ pub fn read_model<'a, S: Shelf>(
     model: &'a str,
     shelf: &mut S,
 ) -> Result<Instance, Stop<'a>>
-    ensures ok { IfOk result (λ instance. IsTrue (S.shown shelf.old).told → HoldsProblem (S.shown shelf.old).file model.entry.now instance) }
-    ensures stop { IfErr result (ExplainsStop (ModelExplains model.entry.now (S.shown shelf.old) (S.shown shelf.new))) }
+    ensures ok { IfOk result (λ instance. IsTrue (S.shown shelf.old).told
+        → HoldsProblem (S.shown shelf.old).file model.entry.now instance) }
+    ensures stop { IfErr result (ExplainsStop
+        (ModelExplains model.entry.now (S.shown shelf.old) (S.shown shelf.new))) }
     ensures reads { OnlyReads (S.shown shelf.old) (S.shown shelf.new) }
-    ensures given { (S.shown shelf.new).given ≤ (S.shown shelf.old).given + (file_limit + piece_size) }
+    ensures given { (S.shown shelf.new).given
+        ≤ (S.shown shelf.old).given + (file_limit + piece_size) }
 {
     let bytes = match read_bytes(alloc, model, shelf) {
         Ok(bytes) => bytes,
@@ -127,10 +133,13 @@ pub fn read_first_model<'a, S: Shelf>(
     model: &'a str,
     shelf: &mut S,
 ) -> Result<Instance, Stop<'a>>
-    ensures ok { IfOk result (λ instance. IsTrue (S.shown shelf.old).told → HoldsFirst (S.shown shelf.old).file model.entry.now instance) }
-    ensures stop { IfErr result (ExplainsStop (FirstExplains model.entry.now (S.shown shelf.old) (S.shown shelf.new))) }
+    ensures ok { IfOk result (λ instance. IsTrue (S.shown shelf.old).told
+        → HoldsFirst (S.shown shelf.old).file model.entry.now instance) }
+    ensures stop { IfErr result (ExplainsStop
+        (FirstExplains model.entry.now (S.shown shelf.old) (S.shown shelf.new))) }
     ensures reads { OnlyReads (S.shown shelf.old) (S.shown shelf.new) }
-    ensures given { (S.shown shelf.new).given ≤ (S.shown shelf.old).given + (file_limit + piece_size) }
+    ensures given { (S.shown shelf.new).given
+        ≤ (S.shown shelf.old).given + (file_limit + piece_size) }
 {
     let bytes = match read_bytes(alloc, model, shelf) {
         Ok(bytes) => bytes,
@@ -151,10 +160,13 @@ pub fn read_plan_file<'a, S: Shelf>(
     shelf: &mut S,
 ) -> Result<Plan, PlanStop<'a>>
     ensures fits { IfOk result (AllFit instance.now) }
-    ensures plan { IfOk result (λ given. IsTrue (S.shown shelf.old).told → HoldsPlan (S.shown shelf.old).file plan.entry.now instance.now given) }
-    ensures stop { IfErr result (ExplainsPlanStop instance.now plan.entry.now (S.shown shelf.old) (S.shown shelf.new)) }
+    ensures plan { IfOk result (λ given. IsTrue (S.shown shelf.old).told
+        → HoldsPlan (S.shown shelf.old).file plan.entry.now instance.now given) }
+    ensures stop { IfErr result (ExplainsPlanStop instance.now plan.entry.now (S.shown shelf.old)
+        (S.shown shelf.new)) }
     ensures reads { OnlyReads (S.shown shelf.old) (S.shown shelf.new) }
-    ensures given { (S.shown shelf.new).given ≤ (S.shown shelf.old).given + (file_limit + piece_size) }
+    ensures given { (S.shown shelf.new).given
+        ≤ (S.shown shelf.old).given + (file_limit + piece_size) }
 {
     let bytes = match read_bytes(alloc, plan, shelf) {
         Ok(bytes) => bytes,

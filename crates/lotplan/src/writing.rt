@@ -15,8 +15,10 @@ pub struct Output<'a, 'b> {
 /// Writes files one after the other, and takes no memory. The error is the place of the one that could not be written,
 /// counted from 0: those before it are whole, and none after it was started.
 pub fn write_all<S: Shelf>(shelf: &mut S, outputs: &[Output<'_, '_>]) -> Result<(), usize>
-    ensures all { OnOk result (WritesAll (map output_of outputs.now) (S.shown shelf.old) (S.shown shelf.new)) }
-    ensures stops { IfErr result (λ place. StopsAt place (map output_of outputs.now) (S.shown shelf.old) (S.shown shelf.new)) }
+    ensures all { OnOk result (WritesAll (map output_of outputs.now) (S.shown shelf.old)
+        (S.shown shelf.new)) }
+    ensures stops { IfErr result (λ place.
+        StopsAt place (map output_of outputs.now) (S.shown shelf.old) (S.shown shelf.new)) }
     ensures place { IfErr result (λ place. place < length outputs.now) }
     ensures given { (S.shown shelf.new).given ≡ (S.shown shelf.old).given }
 {

@@ -1,4 +1,6 @@
-// What tells on the error stream how far a search is. It changes nothing, and nothing is claimed of it.
+// What tells on the error stream how far a search is, and ends it where its time is over. Nothing else is claimed of it.
+ghost use Rattle.std.specs.Prelude.{◌≡◌, is_some};
+
 use search_plugins::Watch;
 use std::io::IsTerminal;
 use std::rt::Stderr;
@@ -9,7 +11,7 @@ const TERMINAL_PACE: u64 = 200;
 
 const FILE_PACE: u64 = 5_000;
 
-// It tells how many nodes of the tree have a leaf, what the root's leaf says, and what the best plan costs.
+// It tells how many nodes of the tree have a leaf, what no plan costs less than, and what the best plan costs.
 #[derive(Drop)]
 pub(crate) struct Teller {
     rt: HostRuntime,
@@ -17,28 +19,35 @@ pub(crate) struct Teller {
     // Whether it tells anything.
     is_asked: bool,
     is_terminal: bool,
+    // When it was made, and the seconds after that in which a search may go on, if there is such a limit.
+    begun: Option<Instant>,
+    seconds: Option<u32>,
     // What it was told so far.
     nodes: u64,
-    root: Option<u128>,
+    bound: Option<u128>,
     last: Option<Instant>,
 }
 
 impl Teller {
-    pub(crate) fn new(rt: &HostRuntime, is_asked: bool) -> Teller {
+    pub(crate) fn new(rt: &HostRuntime, is_asked: bool, seconds: Option<u32>) -> Teller {
         let to = rt.stderr();
         Teller {
             rt: *rt,
             to,
             is_asked,
             is_terminal: to.is_terminal(),
+            begun: Instant::now(rt).ok(),
+            seconds,
             nodes: 0,
-            root: None,
+            bound: None,
             last: None,
         }
     }
 
     // Whether it is time for a line, which is then the last one. Without a clock it is silent.
-    fn is_due(&mut self) -> bool {
+    fn is_due(&mut self) -> bool
+        ensures { self.new.seconds ≡ self.old.seconds }
+    {
         let Ok(now) = Instant::now(&self.rt) else {
             return false;
         };
@@ -52,10 +61,18 @@ impl Teller {
             Some(last) => now.saturating_duration_since(last) >= pace,
             None => true,
         };
-        if is_due {
-            self.last = Some(now);
-        }
+        self.last = if is_due { Some(now) } else { self.last };
         is_due
+    }
+
+    // Whether so many seconds have gone since it was made.
+    fn is_over(&self, seconds: u32) -> bool {
+        match (self.begun, Instant::now(&self.rt)) {
+            (Some(begun), Ok(now)) => {
+                now.saturating_duration_since(begun) >= Duration::from_secs(u64::from(seconds))
+            }
+            _ => false,
+        }
     }
 
     // A line, on a terminal in the place of the one before. What can't be written is lost.
@@ -64,13 +81,13 @@ impl Teller {
             let _ = self.to.eprint("\x1b[A\r\x1b[K");
         }
         let _ = self.to.eprint(format_args!("nodes {}", self.nodes));
-        if let Some(root) = self.root {
-            let _ = self.to.eprint(format_args!(", root {}", root));
+        if let Some(bound) = self.bound {
+            let _ = self.to.eprint(format_args!(", bound {}", bound));
         }
         if let Some(best) = best {
             let _ = self.to.eprint(format_args!(", plan {}", best));
         }
-        match tenths_of_percent(self.root, best) {
+        match tenths_of_percent(self.bound, best) {
             Some(tenths) => {
                 let _ = self
                     .to
@@ -83,25 +100,37 @@ impl Teller {
     }
 }
 
-// What of the best plan's cost lies above the root's bound, in tenths of a percent, where that is counted.
-fn tenths_of_percent(root: Option<u128>, best: Option<u128>) -> Option<u128> {
+// What of the best plan's cost lies above the bound, in tenths of a percent, where that is counted.
+fn tenths_of_percent(bound: Option<u128>, best: Option<u128>) -> Option<u128> {
     let best = best?;
-    let above = best.checked_sub(root?)?;
+    let above = best.checked_sub(bound?)?;
     above.checked_mul(1_000)?.checked_div(best)
 }
 
 impl Watch for Teller {
+    ghost may_stop = { λ t. is_some t.seconds };
+
     fn node(&mut self, depth: usize, says: Option<u128>, best: Option<u128>) {
         if !self.is_asked {
             return;
         }
         self.nodes = self.nodes.saturating_add(1);
-        if depth == 0 {
-            self.root = says;
-        }
+        self.bound = if depth == 0 { says } else { self.bound };
         let is_first = self.last.is_none();
         if self.is_due() {
             self.tell(is_first, best);
+        }
+    }
+
+    fn pass(&mut self, bound: Option<u128>, _best: Option<u128>) {
+        self.bound = bound;
+    }
+
+    // Without a clock no time is over.
+    fn stops(&mut self) -> bool {
+        match self.seconds {
+            Some(seconds) => self.is_over(seconds),
+            None => false,
         }
     }
 }

@@ -31,7 +31,8 @@ pub enum BoundAnswer<'a> {
 impl BoundAnswer<'_> {
     /// The line and the status.
     pub fn answer_line(&self, alloc: Global) -> Result<Said, AllocError>
-        ensures { IfOk result (IsSaid (bound_line (bound_meant self.now)) (bound_status (bound_meant self.now))) }
+        ensures { IfOk result (IsSaid (bound_line (bound_meant self.now))
+            (bound_status (bound_meant self.now))) }
     {
         Ok(Said::of(self.line(alloc)?, self.status()))
     }
@@ -78,7 +79,8 @@ fn bound_instance(alloc: Global, instance: &Instance) -> Result<BoundAnswer<'sta
 pub fn bound_files<S: Shelf>(alloc: Global, model: &str, shelf: &mut S) -> Result<Said, AllocError>
     ensures said { IfOk result (BoundIsSaid model.now (S.shown shelf.old) (S.shown shelf.new)) }
     ensures reads { OnlyReads (S.shown shelf.old) (S.shown shelf.new) }
-    ensures given { (S.shown shelf.new).given ≤ (S.shown shelf.old).given + (file_limit + piece_size) }
+    ensures given { (S.shown shelf.new).given
+        ≤ (S.shown shelf.old).given + (file_limit + piece_size) }
 {
     match read_model(alloc, model, shelf) {
         Ok(instance) => {

@@ -37,7 +37,8 @@ pub enum CheckAnswer<'a> {
 impl CheckAnswer<'_> {
     /// The line and the status.
     pub fn answer_line(&self, alloc: Global) -> Result<Said, AllocError>
-        ensures { IfOk result (IsSaid (check_line (check_meant self.now)) (check_status (check_meant self.now))) }
+        ensures { IfOk result (IsSaid (check_line (check_meant self.now))
+            (check_status (check_meant self.now))) }
     {
         Ok(Said::of(self.line(alloc)?, self.status()))
     }
@@ -96,7 +97,8 @@ fn line_of_text(alloc: Global, fault: &CertTextFault) -> Result<String, AllocErr
 // The line of a refused certificate. Those that the plan refuses are all on the line of the claim,
 // which isn't printed.
 fn line_of_refusal(alloc: Global, rejected: &Rejected) -> Result<String, AllocError>
-    ensures { IfOk result (λ line. string_bytes line ≡ rejected_line rejected.now.line rejected.now.why) }
+    ensures { IfOk result (λ line. string_bytes line
+        ≡ rejected_line rejected.now.line rejected.now.why) }
 {
     let line = rejected.line;
     match rejected.why {
@@ -140,7 +142,9 @@ fn check_given<'a, S: Shelf>(
     certificate: &'a str,
     shelf: &mut S,
 ) -> Result<CheckAnswer<'a>, AllocError>
-    ensures answer { IfOk result (λ answer. GivenExplains instance.now (option_copied given.entry) certificate.entry.now (S.shown shelf.old) (S.shown shelf.new) (check_meant answer)) }
+    ensures answer { IfOk result (λ answer.
+        GivenExplains instance.now (option_copied given.entry) certificate.entry.now
+        (S.shown shelf.old) (S.shown shelf.new) (check_meant answer)) }
     ensures reads { OnlyReads (S.shown shelf.old) (S.shown shelf.new) }
     ensures given { (S.shown shelf.new).given ≤ (S.shown shelf.old).given + 2 * pass_size }
 {
@@ -158,9 +162,12 @@ fn check_planned<'a, S: Shelf>(
     certificate: &'a str,
     shelf: &mut S,
 ) -> Result<CheckAnswer<'a>, AllocError>
-    ensures answer { IfOk result (λ answer. PlannedExplains instance.now plan.entry.now certificate.entry.now (S.shown shelf.old) (S.shown shelf.new) (check_meant answer)) }
+    ensures answer { IfOk result (λ answer.
+        PlannedExplains instance.now plan.entry.now certificate.entry.now (S.shown shelf.old)
+        (S.shown shelf.new) (check_meant answer)) }
     ensures reads { OnlyReads (S.shown shelf.old) (S.shown shelf.new) }
-    ensures given { (S.shown shelf.new).given ≤ (S.shown shelf.old).given + ((file_limit + piece_size) + 2 * pass_size) }
+    ensures given { (S.shown shelf.new).given
+        ≤ (S.shown shelf.old).given + ((file_limit + piece_size) + 2 * pass_size) }
 {
     match read_plan_file(alloc, instance, plan, shelf) {
         Ok(given) => check_given(alloc, instance, Some(&given), certificate, shelf),
@@ -178,7 +185,9 @@ pub fn check_with<'a, S: Shelf>(
     certificate: &'a str,
     shelf: &mut S,
 ) -> Result<CheckAnswer<'a>, AllocError>
-    ensures answer { IfOk result (λ answer. WithPlanExplains instance.now plan.now certificate.entry.now (S.shown shelf.old) (S.shown shelf.new) (check_meant answer)) }
+    ensures answer { IfOk result (λ answer.
+        WithPlanExplains instance.now plan.now certificate.entry.now (S.shown shelf.old)
+        (S.shown shelf.new) (check_meant answer)) }
     ensures reads { OnlyReads (S.shown shelf.old) (S.shown shelf.new) }
     ensures given { (S.shown shelf.new).given ≤ (S.shown shelf.old).given + 3 * pass_size }
 {
@@ -199,9 +208,12 @@ fn check_claim<'a, S: Shelf>(
     certificate: &'a str,
     shelf: &mut S,
 ) -> Result<CheckAnswer<'a>, AllocError>
-    ensures answer { IfOk result (λ answer. ProofExplains instance.now plan.entry.now certificate.entry.now (S.shown shelf.old) (S.shown shelf.new) (check_meant answer)) }
+    ensures answer { IfOk result (λ answer.
+        ProofExplains instance.now plan.entry.now certificate.entry.now (S.shown shelf.old)
+        (S.shown shelf.new) (check_meant answer)) }
     ensures reads { OnlyReads (S.shown shelf.old) (S.shown shelf.new) }
-    ensures given { (S.shown shelf.new).given ≤ (S.shown shelf.old).given + ((file_limit + piece_size) + 3 * pass_size) }
+    ensures given { (S.shown shelf.new).given
+        ≤ (S.shown shelf.old).given + ((file_limit + piece_size) + 3 * pass_size) }
 {
     texts_mean_one_thing();
     match read_claim(alloc, shelf, certificate) {
@@ -220,9 +232,11 @@ pub fn check_files<S: Shelf>(
     certificate: &str,
     shelf: &mut S,
 ) -> Result<Said, AllocError>
-    ensures said { IfOk result (CheckSays model.now plan.now certificate.now (S.shown shelf.old) (S.shown shelf.new)) }
+    ensures said { IfOk result (CheckSays model.now plan.now certificate.now (S.shown shelf.old)
+        (S.shown shelf.new)) }
     ensures reads { OnlyReads (S.shown shelf.old) (S.shown shelf.new) }
-    ensures given { (S.shown shelf.new).given ≤ (S.shown shelf.old).given + (2 * (file_limit + piece_size) + 3 * pass_size) }
+    ensures given { (S.shown shelf.new).given
+        ≤ (S.shown shelf.old).given + (2 * (file_limit + piece_size) + 3 * pass_size) }
 {
     match read_model(alloc, model, shelf) {
         Ok(instance) => {

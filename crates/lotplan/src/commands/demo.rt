@@ -9,6 +9,7 @@ ghost use Rattle.lotplan.specs.Showing.{DemoSays, IsShown};
 
 use crate::commands::plan::{PlanAnswer, answer_of, found_of};
 use crate::said::Said;
+use crate::sought::only;
 use crate::status::Status;
 use instance_reader::{ReadModelFault, read_instance};
 use lot_model::{Instance, an_instance_breaks_no_rule};
@@ -79,7 +80,15 @@ fn plan_shown<P: Proposer, H: Heuristic<P::Hint>, W: Watch>(
     ensures { IfOk result (λ answer. IsShown instance.now budget (plan_meant answer)) }
 {
     an_instance_breaks_no_rule(instance);
-    let found = found_of(alloc, proposer, heuristic, watch, instance, budget)?;
+    let found = found_of(
+        alloc,
+        proposer,
+        heuristic,
+        watch,
+        instance,
+        only(budget),
+        None,
+    )?;
     Ok(answer_of(instance, &found))
 }
 
@@ -97,7 +106,8 @@ fn plan_generated<P: Proposer, H: Heuristic<P::Hint>, W: Watch>(
 ) -> Result<PlanAnswer<'static>, AllocError>
     requires size { IsModelSize items periods }
     requires budget { 1 ≤ budget }
-    ensures { IfOk result (λ answer. IsShown (generated seed items periods coupled) budget (plan_meant answer)) }
+    ensures { IfOk result (λ answer. IsShown (generated seed items periods coupled) budget
+        (plan_meant answer)) }
 {
     let instance = generated_instance(alloc, seed, items, periods, coupled)?;
     plan_shown(alloc, proposer, heuristic, watch, &instance, budget)

@@ -63,11 +63,15 @@ fn read_proved<'a, S: Shelf>(
 ) -> Result<Proved, NotDrawn<'a>>
     requires feasible { IsFeasible instance.now (plan_of plan.now) }
     ensures shown { IfOk result (λ proved. IsTrue (S.shown shelf.old).told
-        → IsShown (S.shown shelf.old).file (option_map (λ c. c.now) certificate.entry) instance.now plan.now proved) }
+        → IsShown (S.shown shelf.old).file
+        (option_map (λ c. c.now) certificate.entry) instance.now plan.now proved) }
     ensures so { IfOk result (IsSo instance.now (plan_of plan.now)) }
-    ensures stop { IfErr result (ExplainsNoProof instance.now plan.now (option_map (λ c. c.now) certificate.entry) (S.shown shelf.old) (S.shown shelf.new)) }
+    ensures stop { IfErr result (ExplainsNoProof instance.now plan.now
+        (option_map (λ c. c.now) certificate.entry) (S.shown shelf.old) (S.shown shelf.new)) }
     ensures reads { OnlyReads (S.shown shelf.old) (S.shown shelf.new) }
-    ensures given { (S.shown shelf.new).given ≤ (S.shown shelf.old).given + length (proof_files (option_map (λ c. c.now) certificate.entry)) * (3 * pass_size) }
+    ensures given { (S.shown shelf.new).given
+        ≤ (S.shown shelf.old).given + length
+        (proof_files (option_map (λ c. c.now) certificate.entry)) * (3 * pass_size) }
 {
     let Some(name) = certificate else {
         return Ok(Proved::Nothing);
@@ -92,9 +96,11 @@ fn read_drawing<'a, S: Shelf>(
     ensures fits { IfOk result (λ read. AllFit read.instance read.plan) }
     ensures feasible { IfOk result (λ read. IsFeasible read.instance (plan_of read.plan)) }
     ensures shown { IfOk result (λ read. IsTrue (S.shown shelf.old).told
-        → IsShown (S.shown shelf.old).file (option_map (λ c. c.now) certificate.entry) read.instance read.plan read.proved) }
+        → IsShown (S.shown shelf.old).file
+        (option_map (λ c. c.now) certificate.entry) read.instance read.plan read.proved) }
     ensures so { IfOk result (λ read. IsSo read.instance (plan_of read.plan) read.proved) }
-    ensures stop { IfErr result (ExplainsNotDrawn model.entry.now plan.entry.now (option_map (λ c. c.now) certificate.entry) (S.shown shelf.old) (S.shown shelf.new)) }
+    ensures stop { IfErr result (ExplainsNotDrawn model.entry.now plan.entry.now
+        (option_map (λ c. c.now) certificate.entry) (S.shown shelf.old) (S.shown shelf.new)) }
     ensures reads { OnlyReads (S.shown shelf.old) (S.shown shelf.new) }
     ensures given { (S.shown shelf.new).given
         ≤ (S.shown shelf.old).given + (2 * (file_limit + piece_size) + length (proof_files (option_map (λ c. c.now) certificate.entry)) * (3 * pass_size)) }
@@ -124,7 +130,8 @@ fn write_page<S: Shelf>(
     shelf: &mut S,
 ) -> Result<Said, AllocError>
     requires fits { AllFit instance.now plan.now }
-    ensures said { IfOk result (PageSays instance.now (plan_of plan.now) proved file.now (S.shown shelf.old) (S.shown shelf.new)) }
+    ensures said { IfOk result (PageSays instance.now (plan_of plan.now) proved file.now
+        (S.shown shelf.old) (S.shown shelf.new)) }
     ensures memory { OnErr result (S.shown shelf.new ≡ S.shown shelf.old) }
     ensures given { (S.shown shelf.new).given ≡ (S.shown shelf.old).given }
 {
@@ -150,7 +157,9 @@ pub fn draw_files<S: Shelf>(
     certificate: Option<&str>,
     shelf: &mut S,
 ) -> Result<Said, AllocError>
-    ensures said { IfOk result (DrawSays names.entry.model.now names.entry.plan.now names.entry.page.now (option_map (λ c. c.now) certificate.entry) (S.shown shelf.old) (S.shown shelf.new)) }
+    ensures said { IfOk result (DrawSays names.entry.model.now names.entry.plan.now
+        names.entry.page.now (option_map (λ c. c.now) certificate.entry) (S.shown shelf.old)
+        (S.shown shelf.new)) }
     ensures memory { OnErr result (OnlyReads (S.shown shelf.old) (S.shown shelf.new)) }
     ensures given { (S.shown shelf.new).given
         ≤ (S.shown shelf.old).given + (2 * (file_limit + piece_size) + length (proof_files (option_map (λ c. c.now) certificate.entry)) * (3 * pass_size)) }

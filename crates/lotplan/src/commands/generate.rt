@@ -23,7 +23,8 @@ pub enum GenerateAnswer<'a> {
 impl GenerateAnswer<'_> {
     /// The line and the status.
     pub fn answer_line(&self, alloc: Global) -> Result<Said, AllocError>
-        ensures { IfOk result (IsSaid (generate_line (generate_meant self.now)) (generate_status (generate_meant self.now))) }
+        ensures { IfOk result (IsSaid (generate_line (generate_meant self.now))
+            (generate_status (generate_meant self.now))) }
     {
         Ok(Said::of(self.line(alloc)?, self.status()))
     }
@@ -40,7 +41,8 @@ impl GenerateAnswer<'_> {
 
     /// The line that is printed, with its line feed.
     pub fn line(&self, alloc: Global) -> Result<String, AllocError>
-        ensures { IfOk result (λ line. string_bytes line ≡ generate_line (generate_meant self.now)) }
+        ensures { IfOk result (λ line. string_bytes line
+            ≡ generate_line (generate_meant self.now)) }
     {
         match self {
             GenerateAnswer::Written(file) => written_line(alloc, *file),
@@ -72,7 +74,8 @@ pub fn generate_file<S: Shelf>(
     shelf: &mut S,
 ) -> Result<Said, AllocError>
     requires { IsModelSize items periods }
-    ensures said { IfOk result (GenerateSays seed items periods model.now (S.shown shelf.old) (S.shown shelf.new)) }
+    ensures said { IfOk result (GenerateSays seed items periods model.now (S.shown shelf.old)
+        (S.shown shelf.new)) }
     ensures memory { OnErr result (S.shown shelf.new ≡ S.shown shelf.old) }
     ensures given { (S.shown shelf.new).given ≡ (S.shown shelf.old).given }
 {

@@ -30,7 +30,8 @@ pub enum JudgeAnswer<'a> {
 impl JudgeAnswer<'_> {
     /// The line and the status.
     pub fn answer_line(&self, alloc: Global) -> Result<Said, AllocError>
-        ensures { IfOk result (IsSaid (judge_line (judge_meant self.now)) (judge_status (judge_meant self.now))) }
+        ensures { IfOk result (IsSaid (judge_line (judge_meant self.now))
+            (judge_status (judge_meant self.now))) }
     {
         Ok(Said::of(self.line(alloc)?, self.status()))
     }
@@ -90,11 +91,14 @@ fn read_judged<'a, S: Shelf>(
     plan: &'a str,
     shelf: &mut S,
 ) -> Result<JudgedPlan, NotFeasible<'a>>
-    ensures plan { IfOk result (λ read. IsTrue (S.shown shelf.old).told → HoldsPlan (S.shown shelf.old).file plan.entry.now instance.now read.plan) }
+    ensures plan { IfOk result (λ read. IsTrue (S.shown shelf.old).told
+        → HoldsPlan (S.shown shelf.old).file plan.entry.now instance.now read.plan) }
     ensures feasible { IfOk result (λ read. HoldFeasible instance.now read.plan read.cost) }
-    ensures stop { IfErr result (ExplainsNone (PlanFileExplains instance.now plan.entry.now (S.shown shelf.old) (S.shown shelf.new))) }
+    ensures stop { IfErr result (ExplainsNone
+        (PlanFileExplains instance.now plan.entry.now (S.shown shelf.old) (S.shown shelf.new))) }
     ensures reads { OnlyReads (S.shown shelf.old) (S.shown shelf.new) }
-    ensures given { (S.shown shelf.new).given ≤ (S.shown shelf.old).given + (file_limit + piece_size) }
+    ensures given { (S.shown shelf.new).given
+        ≤ (S.shown shelf.old).given + (file_limit + piece_size) }
 {
     let given = match read_plan_file(alloc, instance, plan, shelf) {
         Ok(given) => given,
@@ -118,9 +122,11 @@ pub fn read_feasible<'a, S: Shelf>(
     ensures holds { IfOk result (λ read. IsTrue (S.shown shelf.old).told
         → HoldsBoth (S.shown shelf.old).file model.entry.now plan.entry.now read.instance read.plan) }
     ensures feasible { IfOk result (λ read. HoldFeasible read.instance read.plan read.cost) }
-    ensures stop { IfErr result (ExplainsNone (JudgeExplains model.entry.now plan.entry.now (S.shown shelf.old) (S.shown shelf.new))) }
+    ensures stop { IfErr result (ExplainsNone
+        (JudgeExplains model.entry.now plan.entry.now (S.shown shelf.old) (S.shown shelf.new))) }
     ensures reads { OnlyReads (S.shown shelf.old) (S.shown shelf.new) }
-    ensures given { (S.shown shelf.new).given ≤ (S.shown shelf.old).given + 2 * (file_limit + piece_size) }
+    ensures given { (S.shown shelf.new).given
+        ≤ (S.shown shelf.old).given + 2 * (file_limit + piece_size) }
 {
     let instance = match read_model(alloc, model, shelf) {
         Ok(instance) => instance,
@@ -144,9 +150,11 @@ pub fn judge_files<S: Shelf>(
     plan: &str,
     shelf: &mut S,
 ) -> Result<Said, AllocError>
-    ensures said { IfOk result (JudgeSays model.now plan.now (S.shown shelf.old) (S.shown shelf.new)) }
+    ensures said { IfOk result (JudgeSays model.now plan.now (S.shown shelf.old)
+        (S.shown shelf.new)) }
     ensures reads { OnlyReads (S.shown shelf.old) (S.shown shelf.new) }
-    ensures given { (S.shown shelf.new).given ≤ (S.shown shelf.old).given + 2 * (file_limit + piece_size) }
+    ensures given { (S.shown shelf.new).given
+        ≤ (S.shown shelf.old).given + 2 * (file_limit + piece_size) }
 {
     match read_feasible(alloc, model, plan, shelf) {
         Ok(read) => JudgeAnswer::Feasible(read.cost).answer_line(alloc),

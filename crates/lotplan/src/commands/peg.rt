@@ -26,7 +26,8 @@ fn write_pegged<S: Shelf>(
 ) -> Result<Said, AllocError>
     requires fits { AllFit instance.now given.now }
     requires feasible { IsFeasible instance.now (plan_of given.now) }
-    ensures said { IfOk result (GivenSays (Pegged file.now) pegged_word instance.now (plan_of given.now) file.now (S.shown shelf.old) (S.shown shelf.new)) }
+    ensures said { IfOk result (GivenSays (Pegged file.now) pegged_word instance.now
+        (plan_of given.now) file.now (S.shown shelf.old) (S.shown shelf.new)) }
     ensures memory { OnErr result (S.shown shelf.new ≡ S.shown shelf.old) }
     ensures given { (S.shown shelf.new).given ≡ (S.shown shelf.old).given }
 {
@@ -50,9 +51,12 @@ pub fn peg_files<S: Shelf>(
     file: &str,
     shelf: &mut S,
 ) -> Result<Said, AllocError>
-    ensures said { IfOk result (ExtractSays (Pegged file.now) pegged_word model.now plan.now file.now (S.shown shelf.old) (S.shown shelf.new)) }
+    ensures said { IfOk result (ExtractSays
+        (Pegged file.now) pegged_word model.now plan.now file.now (S.shown shelf.old)
+        (S.shown shelf.new)) }
     ensures memory { OnErr result (OnlyReads (S.shown shelf.old) (S.shown shelf.new)) }
-    ensures given { (S.shown shelf.new).given ≤ (S.shown shelf.old).given + 2 * (file_limit + piece_size) }
+    ensures given { (S.shown shelf.new).given
+        ≤ (S.shown shelf.old).given + 2 * (file_limit + piece_size) }
 {
     match read_feasible(alloc, model, plan, shelf) {
         Ok(read) => write_pegged(alloc, &read.instance, &read.plan, file, shelf),

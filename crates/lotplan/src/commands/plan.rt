@@ -1,25 +1,29 @@
 // `plan`: plans the model in a file, and writes the plan that was found and the certificate of what is claimed to two
 // others.
-ghost use Rattle.std.specs.Prelude.{◌≡◌, ◌≢◌, ◌≤◌, ◌+◌, string_bytes, Some, None, IfOk, IfSome, OnErr};
+ghost use Rattle.std.specs.Prelude.{◌≡◌, ◌≢◌, ◌≤◌, ◌+◌, ◌*◌, length, string_bytes, Some, None, IfOk, IfSome, OnErr, option_map};
 ghost use Rattle.lot_io.specs.Outside.{OnlyReads, piece_size};
 ghost use Rattle.branch_and_cut.specs.Search.{IsGoodPlan, cost_of};
+ghost use Rattle.command_line.specs.Meant.{search_by};
 ghost use Rattle.lotplan.specs.Finding.{IsFound};
-ghost use Rattle.lotplan.specs.Planning.{IsAnswerTo, PlanSays, WriteSays, plan_line, plan_meant, plan_status, root_line};
+ghost use Rattle.lotplan.specs.Planning.{IsAnswerTo, PlanSays, WriteSays, plan_line, plan_meant, plan_status, root_line, start_files};
 ghost use Rattle.lotplan.specs.Reading.{file_limit};
 ghost use Rattle.lotplan.specs.Saying.{IsSaid};
 
+use crate::commands::judge::{FeasiblePlan, NotFeasible, read_feasible};
 use crate::model_file::{ReadAnswer, Stop, read_model};
 use crate::said::Said;
+use crate::sought::{Sought, sought_by};
 use crate::status::Status;
 use crate::writing::{Output, unwritten_line, write_all};
-use branch_and_cut::search_all;
+use branch_and_cut::{Limits, search_all};
 use branching::{Found, RootSays};
 use certificate::{Claim, write_certificate};
+use command_line::{Names, Search};
 use lot_io::Shelf;
 use lot_model::Instance;
 use plan_file::write_plan;
 use plan_rules::{Plan, judge};
-use search_plugins::{Heuristic, Proposer, Watch};
+use search_plugins::{Heuristic, Limited, Proposer, Watch};
 use std::alloc::{AllocError, Global};
 
 /// What `plan` answers.
@@ -70,7 +74,8 @@ pub enum PlanAnswer<'a> {
 impl PlanAnswer<'_> {
     /// The lines and the status.
     pub fn answer_line(&self, alloc: Global) -> Result<Said, AllocError>
-        ensures { IfOk result (IsSaid (plan_line (plan_meant self.now)) (plan_status (plan_meant self.now))) }
+        ensures { IfOk result (IsSaid (plan_line (plan_meant self.now))
+            (plan_status (plan_meant self.now))) }
     {
         Ok(Said::of(self.line(alloc)?, self.status()))
     }
@@ -148,7 +153,8 @@ fn cost_of(instance: &Instance, plan: &Plan) -> u128
 /// What is answered once what was found is written.
 pub fn answer_of(instance: &Instance, found: &Found) -> PlanAnswer<'static>
     requires { IfSome found.now.plan (IsGoodPlan instance.now) }
-    ensures { IsAnswerTo instance.now found.now.certificate.claim found.now.plan found.now.root found.now.nodes (plan_meant result) }
+    ensures { IsAnswerTo instance.now found.now.certificate.claim found.now.plan found.now.root
+        found.now.nodes (plan_meant result) }
 {
     let (root, nodes) = (found.root, found.nodes);
     match found.certificate.claim {
@@ -170,17 +176,18 @@ pub fn answer_of(instance: &Instance, found: &Found) -> PlanAnswer<'static>
 fn write_both<'a, S: Shelf>(
     alloc: Global,
     instance: &Instance,
-    budget: u64,
+    sought: Sought,
     found: &Found,
     chosen: &Plan,
     plan: &'a str,
     certificate: &'a str,
     shelf: &mut S,
 ) -> Result<Said, AllocError>
-    requires found { IsFound instance.now budget found.now }
+    requires found { IsFound instance.now sought found.now }
     requires chosen { found.now.plan ≡ Some chosen.now }
     requires apart { plan.now ≢ certificate.now }
-    ensures said { IfOk result (WriteSays instance.now budget plan.now certificate.now (S.shown shelf.old) (S.shown shelf.new)) }
+    ensures said { IfOk result (WriteSays instance.now sought plan.now certificate.now
+        (S.shown shelf.old) (S.shown shelf.new)) }
     ensures memory { OnErr result (S.shown shelf.new ≡ S.shown shelf.old) }
     ensures given { (S.shown shelf.new).given ≡ (S.shown shelf.old).given }
 {
@@ -210,16 +217,17 @@ fn write_both<'a, S: Shelf>(
 fn write_proof<S: Shelf>(
     alloc: Global,
     instance: &Instance,
-    budget: u64,
+    sought: Sought,
     found: &Found,
     plan: &str,
     certificate: &str,
     shelf: &mut S,
 ) -> Result<Said, AllocError>
-    requires found { IsFound instance.now budget found.now }
+    requires found { IsFound instance.now sought found.now }
     requires none { found.now.plan ≡ None }
     requires apart { plan.now ≢ certificate.now }
-    ensures said { IfOk result (WriteSays instance.now budget plan.now certificate.now (S.shown shelf.old) (S.shown shelf.new)) }
+    ensures said { IfOk result (WriteSays instance.now sought plan.now certificate.now
+        (S.shown shelf.old) (S.shown shelf.new)) }
     ensures memory { OnErr result (S.shown shelf.new ≡ S.shown shelf.old) }
     ensures given { (S.shown shelf.new).given ≡ (S.shown shelf.old).given }
 {
@@ -236,19 +244,20 @@ fn write_proof<S: Shelf>(
     }
 }
 
-// Writes what was found with a budget of nodes: the plan file, where there is a plan, and then the certificate file.
+// Writes what was found: the plan file, where there is a plan, and then the certificate file.
 fn write_found<S: Shelf>(
     alloc: Global,
     instance: &Instance,
-    budget: u64,
+    sought: Sought,
     found: &Found,
     plan: &str,
     certificate: &str,
     shelf: &mut S,
 ) -> Result<Said, AllocError>
-    requires found { IsFound instance.now budget found.now }
+    requires found { IsFound instance.now sought found.now }
     requires apart { plan.now ≢ certificate.now }
-    ensures said { IfOk result (WriteSays instance.now budget plan.now certificate.now (S.shown shelf.old) (S.shown shelf.new)) }
+    ensures said { IfOk result (WriteSays instance.now sought plan.now certificate.now
+        (S.shown shelf.old) (S.shown shelf.new)) }
     ensures memory { OnErr result (S.shown shelf.new ≡ S.shown shelf.old) }
     ensures given { (S.shown shelf.new).given ≡ (S.shown shelf.old).given }
 {
@@ -256,30 +265,48 @@ fn write_found<S: Shelf>(
         Some(chosen) => write_both(
             alloc,
             instance,
-            budget,
+            sought,
             found,
             chosen,
             plan,
             certificate,
             shelf,
         ),
-        None => write_proof(alloc, instance, budget, found, plan, certificate, shelf),
+        None => write_proof(alloc, instance, sought, found, plan, certificate, shelf),
     }
 }
 
-/// What the search finds of an instance with a budget of nodes.
+/// What the search finds of an instance, from a plan of it or from none. The watcher is told of it, and asked whether it is to end
+/// only where it may be.
 pub fn found_of<P: Proposer, H: Heuristic<P::Hint>, W: Watch>(
     alloc: Global,
     proposer: &P,
     heuristic: &H,
     watch: &mut W,
     instance: &Instance,
-    budget: u64,
+    sought: Sought,
+    first: Option<Plan>,
 ) -> Result<Found, AllocError>
-    requires { 1 ≤ budget }
-    ensures { IfOk result (IsFound instance.now budget) }
+    requires budget { 1 ≤ sought.budget }
+    requires first { IfSome first (IsGoodPlan instance.now) }
+    requires begins { sought.begins ≡ option_map (cost_of instance.now) first }
+    ensures { IfOk result (IsFound instance.now sought) }
 {
-    let found = search_all(alloc, proposer, heuristic, watch, instance, budget, None)?;
+    let limits = Limits { gap: sought.gap };
+    let watch = Limited {
+        told: watch,
+        is_limited: sought.may_stop,
+    };
+    let found = search_all(
+        alloc,
+        proposer,
+        heuristic,
+        watch,
+        instance,
+        sought.budget,
+        first,
+        limits,
+    )?;
     Ok(found)
 }
 
@@ -290,53 +317,135 @@ fn plan_instance<S: Shelf, P: Proposer, H: Heuristic<P::Hint>, W: Watch>(
     heuristic: &H,
     watch: &mut W,
     instance: &Instance,
-    budget: u64,
-    plan: &str,
-    certificate: &str,
+    sought: Sought,
+    first: Option<Plan>,
+    names: Names<'_>,
     shelf: &mut S,
 ) -> Result<Said, AllocError>
-    requires budget { 1 ≤ budget }
-    requires apart { plan.now ≢ certificate.now }
-    ensures said { IfOk result (WriteSays instance.now budget plan.now certificate.now (S.shown shelf.old) (S.shown shelf.new)) }
+    requires budget { 1 ≤ sought.budget }
+    requires first { IfSome first (IsGoodPlan instance.now) }
+    requires begins { sought.begins ≡ option_map (cost_of instance.now) first }
+    requires apart { names.plan.now ≢ names.certificate.now }
+    ensures said { IfOk result (WriteSays instance.now sought names.entry.plan.now
+        names.entry.certificate.now (S.shown shelf.old) (S.shown shelf.new)) }
     ensures memory { OnErr result (S.shown shelf.new ≡ S.shown shelf.old) }
     ensures given { (S.shown shelf.new).given ≡ (S.shown shelf.old).given }
 {
-    let found = found_of(alloc, proposer, heuristic, watch, instance, budget)?;
-    write_found(alloc, instance, budget, &found, plan, certificate, shelf)
+    let found = found_of(alloc, proposer, heuristic, watch, instance, sought, first)?;
+    write_found(
+        alloc,
+        instance,
+        sought,
+        &found,
+        names.plan,
+        names.certificate,
+        shelf,
+    )
 }
 
-/// Plans the model in a file with a budget of nodes, and writes the plan that was found and the certificate of what is
-/// claimed to two others.
-pub fn plan_files<S: Shelf, P: Proposer, H: Heuristic<P::Hint>, W: Watch>(
+// Plans the model in a file, from no plan.
+fn plan_model<S: Shelf, P: Proposer, H: Heuristic<P::Hint>, W: Watch>(
     alloc: Global,
     proposer: &P,
     heuristic: &H,
     watch: &mut W,
-    model: &str,
-    plan: &str,
-    certificate: &str,
-    budget: u64,
+    names: Names<'_>,
+    search: Search<'_>,
     shelf: &mut S,
 ) -> Result<Said, AllocError>
-    requires budget { 1 ≤ budget }
-    requires apart { plan.now ≢ certificate.now }
-    ensures said { IfOk result (PlanSays model.now plan.now certificate.now budget (S.shown shelf.old) (S.shown shelf.new)) }
+    requires budget { 1 ≤ search.budget }
+    requires start { search.start ≡ None }
+    requires apart { names.plan.now ≢ names.certificate.now }
+    ensures said { IfOk result (PlanSays names.entry.model.now names.entry.plan.now
+        names.entry.certificate.now (search_by search.entry) (S.shown shelf.old)
+        (S.shown shelf.new)) }
     ensures memory { OnErr result (OnlyReads (S.shown shelf.old) (S.shown shelf.new)) }
-    ensures given { (S.shown shelf.new).given ≤ (S.shown shelf.old).given + (file_limit + piece_size) }
+    ensures given { (S.shown shelf.new).given
+        ≤ (S.shown shelf.old).given + (file_limit + piece_size) }
 {
-    match read_model(alloc, model, shelf) {
+    match read_model(alloc, names.model, shelf) {
         Ok(instance) => plan_instance(
             alloc,
             proposer,
             heuristic,
             watch,
             &instance,
-            budget,
-            plan,
-            certificate,
+            sought_by(search, None),
+            None,
+            names,
             shelf,
         ),
         Err(Stop::Answered(why)) => PlanAnswer::NoInput(why).answer_line(alloc),
         Err(Stop::Memory) => Err(AllocError),
+    }
+}
+
+// Plans the model in a file, from the plan in another, which is judged first.
+fn plan_from<S: Shelf, P: Proposer, H: Heuristic<P::Hint>, W: Watch>(
+    alloc: Global,
+    proposer: &P,
+    heuristic: &H,
+    watch: &mut W,
+    names: Names<'_>,
+    search: Search<'_>,
+    start: &str,
+    shelf: &mut S,
+) -> Result<Said, AllocError>
+    requires budget { 1 ≤ search.budget }
+    requires start { option_map (λ f. f.now) search.start ≡ Some start.now }
+    requires apart { names.plan.now ≢ names.certificate.now }
+    ensures said { IfOk result (PlanSays names.entry.model.now names.entry.plan.now
+        names.entry.certificate.now (search_by search.entry) (S.shown shelf.old)
+        (S.shown shelf.new)) }
+    ensures memory { OnErr result (OnlyReads (S.shown shelf.old) (S.shown shelf.new)) }
+    ensures given { (S.shown shelf.new).given
+        ≤ (S.shown shelf.old).given + 2 * (file_limit + piece_size) }
+{
+    match read_feasible(alloc, names.model, start, shelf) {
+        Ok(read) => {
+            let sought = sought_by(search, Some(read.cost));
+            let FeasiblePlan { instance, plan, .. } = read;
+            plan_instance(
+                alloc,
+                proposer,
+                heuristic,
+                watch,
+                &instance,
+                sought,
+                Some(plan),
+                names,
+                shelf,
+            )
+        }
+        Err(NotFeasible::Judged(answer)) => answer.answer_line(alloc),
+        Err(NotFeasible::Memory) => Err(AllocError),
+    }
+}
+
+/// Plans the model in a file, and writes the plan that was found and the certificate of what is claimed to two others. Where
+/// a file to start from is named, its plan is judged before anything is written, and the search starts from it.
+pub fn plan_files<S: Shelf, P: Proposer, H: Heuristic<P::Hint>, W: Watch>(
+    alloc: Global,
+    proposer: &P,
+    heuristic: &H,
+    watch: &mut W,
+    names: Names<'_>,
+    search: Search<'_>,
+    shelf: &mut S,
+) -> Result<Said, AllocError>
+    requires budget { 1 ≤ search.budget }
+    requires apart { names.plan.now ≢ names.certificate.now }
+    ensures said { IfOk result (PlanSays names.entry.model.now names.entry.plan.now
+        names.entry.certificate.now (search_by search.entry) (S.shown shelf.old)
+        (S.shown shelf.new)) }
+    ensures memory { OnErr result (OnlyReads (S.shown shelf.old) (S.shown shelf.new)) }
+    ensures given { (S.shown shelf.new).given
+        ≤ (S.shown shelf.old).given + (1 + length (start_files (option_map (λ f. f.now) search.entry.start))) * (file_limit + piece_size) }
+{
+    match search.start {
+        Some(start) => plan_from(
+            alloc, proposer, heuristic, watch, names, search, start, shelf,
+        ),
+        None => plan_model(alloc, proposer, heuristic, watch, names, search, shelf),
     }
 }

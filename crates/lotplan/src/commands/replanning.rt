@@ -6,7 +6,7 @@ ghost use Rattle.plan_rules.specs.Held.{AllFit, plan_of};
 ghost use Rattle.command_line.specs.Words.{AreApart};
 ghost use Rattle.replan.specs.Whole.{total_claimed};
 ghost use Rattle.branch_and_cut.specs.Search.{IsGoodPlan};
-ghost use Rattle.lotplan.specs.Finding.{IsFound};
+ghost use Rattle.lotplan.specs.Finding.{IsFound, only};
 ghost use Rattle.lotplan.specs.Judging.{HoldsBoth};
 ghost use Rattle.lotplan.specs.Reading.{file_limit};
 ghost use Rattle.lotplan.specs.Replanning.{ExplainsGivenStop, IsFoundLine, NextSays, ReplanSays, StartSays, replan_line, replan_meant, replan_status, whole_line};
@@ -47,7 +47,8 @@ pub enum ReplanAnswer<'a> {
 impl ReplanAnswer<'_> {
     /// The line and the status.
     pub fn answer_line(&self, alloc: Global) -> Result<Said, AllocError>
-        ensures { IfOk result (IsSaid (replan_line (replan_meant self.now)) (replan_status (replan_meant self.now))) }
+        ensures { IfOk result (IsSaid (replan_line (replan_meant self.now))
+            (replan_status (replan_meant self.now))) }
     {
         Ok(Said::of(self.line(alloc)?, self.status()))
     }
@@ -79,8 +80,11 @@ impl ReplanAnswer<'_> {
 
 // The line of what the plans cost that agree with the start, where a cost or a bound of the later periods is claimed.
 fn line_of_whole(alloc: Global, rest: &Rest, found: &Found) -> Result<String, AllocError>
-    requires { IfSome (total_claimed rest.now.spent found.now.certificate.claim) (λ amount. amount < 2 ^ 128) }
-    ensures { IfOk result (λ line. string_bytes line ≡ whole_line found.now.certificate.claim (total_claimed rest.now.spent found.now.certificate.claim)) }
+    requires { IfSome (total_claimed rest.now.spent found.now.certificate.claim) (λ amount.
+        amount < 2 ^ 128) }
+    ensures { IfOk result (λ line. string_bytes line
+        ≡ whole_line found.now.certificate.claim
+        (total_claimed rest.now.spent found.now.certificate.claim)) }
 {
     let Some(amount) = total(rest, found) else {
         return String::from_str(alloc, "");
@@ -95,7 +99,8 @@ fn line_of_whole(alloc: Global, rest: &Rest, found: &Found) -> Result<String, Al
 // The lines of what was found of the later periods: what `plan` prints of them, and the line of the whole.
 fn found_line(alloc: Global, rest: &Rest, found: &Found) -> Result<Said, AllocError>
     requires plan { IfSome found.now.plan (IsGoodPlan rest.now.instance) }
-    requires small { IfSome (total_claimed rest.now.spent found.now.certificate.claim) (λ amount. amount < 2 ^ 128) }
+    requires small { IfSome (total_claimed rest.now.spent found.now.certificate.claim) (λ amount.
+        amount < 2 ^ 128) }
     ensures { IfOk result (IsFoundLine rest.now found.now) }
 {
     let answer = answer_of(&rest.instance, found);
@@ -115,11 +120,14 @@ fn write_three<S: Shelf>(
     names: ReplanNames<'_>,
     shelf: &mut S,
 ) -> Result<Said, AllocError>
-    requires found { IsFound rest.now.instance budget found.now }
-    requires small { IfSome (total_claimed rest.now.spent found.now.certificate.claim) (λ amount. amount < 2 ^ 128) }
+    requires found { IsFound rest.now.instance (only budget) found.now }
+    requires small { IfSome (total_claimed rest.now.spent found.now.certificate.claim) (λ amount.
+        amount < 2 ^ 128) }
     requires chosen { found.now.plan ≡ Some chosen.now }
     requires apart { AreApart names.next_model.now names.next_plan.now names.certificate.now }
-    ensures said { IfOk result (NextSays rest.now names.entry.next_model.now names.entry.next_plan.now names.entry.certificate.now budget (S.shown shelf.old) (S.shown shelf.new)) }
+    ensures said { IfOk result (NextSays rest.now names.entry.next_model.now
+        names.entry.next_plan.now names.entry.certificate.now budget (S.shown shelf.old)
+        (S.shown shelf.new)) }
     ensures memory { OnErr result (S.shown shelf.new ≡ S.shown shelf.old) }
     ensures given { (S.shown shelf.new).given ≡ (S.shown shelf.old).given }
 {
@@ -162,11 +170,14 @@ fn write_two<S: Shelf>(
     names: ReplanNames<'_>,
     shelf: &mut S,
 ) -> Result<Said, AllocError>
-    requires found { IsFound rest.now.instance budget found.now }
-    requires small { IfSome (total_claimed rest.now.spent found.now.certificate.claim) (λ amount. amount < 2 ^ 128) }
+    requires found { IsFound rest.now.instance (only budget) found.now }
+    requires small { IfSome (total_claimed rest.now.spent found.now.certificate.claim) (λ amount.
+        amount < 2 ^ 128) }
     requires none { found.now.plan ≡ None }
     requires apart { AreApart names.next_model.now names.next_plan.now names.certificate.now }
-    ensures said { IfOk result (NextSays rest.now names.entry.next_model.now names.entry.next_plan.now names.entry.certificate.now budget (S.shown shelf.old) (S.shown shelf.new)) }
+    ensures said { IfOk result (NextSays rest.now names.entry.next_model.now
+        names.entry.next_plan.now names.entry.certificate.now budget (S.shown shelf.old)
+        (S.shown shelf.new)) }
     ensures memory { OnErr result (S.shown shelf.new ≡ S.shown shelf.old) }
     ensures given { (S.shown shelf.new).given ≡ (S.shown shelf.old).given }
 {
@@ -202,10 +213,13 @@ fn write_next<S: Shelf>(
     names: ReplanNames<'_>,
     shelf: &mut S,
 ) -> Result<Said, AllocError>
-    requires found { IsFound rest.now.instance budget found.now }
-    requires small { IfSome (total_claimed rest.now.spent found.now.certificate.claim) (λ amount. amount < 2 ^ 128) }
+    requires found { IsFound rest.now.instance (only budget) found.now }
+    requires small { IfSome (total_claimed rest.now.spent found.now.certificate.claim) (λ amount.
+        amount < 2 ^ 128) }
     requires apart { AreApart names.next_model.now names.next_plan.now names.certificate.now }
-    ensures said { IfOk result (NextSays rest.now names.entry.next_model.now names.entry.next_plan.now names.entry.certificate.now budget (S.shown shelf.old) (S.shown shelf.new)) }
+    ensures said { IfOk result (NextSays rest.now names.entry.next_model.now
+        names.entry.next_plan.now names.entry.certificate.now budget (S.shown shelf.old)
+        (S.shown shelf.new)) }
     ensures memory { OnErr result (S.shown shelf.new ≡ S.shown shelf.old) }
     ensures given { (S.shown shelf.new).given ≡ (S.shown shelf.old).given }
 {
@@ -231,7 +245,9 @@ fn replan_instance<S: Shelf, P: Proposer, H: Heuristic<P::Hint>, W: Watch>(
     requires plan { AllFit instance.now plan.now }
     requires budget { 1 ≤ budget }
     requires apart { AreApart names.next_model.now names.next_plan.now names.certificate.now }
-    ensures said { IfOk result (StartSays instance.now (plan_of plan.now) first names.entry.next_model.now names.entry.next_plan.now names.entry.certificate.now budget (S.shown shelf.old) (S.shown shelf.new)) }
+    ensures said { IfOk result (StartSays instance.now
+        (plan_of plan.now) first names.entry.next_model.now names.entry.next_plan.now
+        names.entry.certificate.now budget (S.shown shelf.old) (S.shown shelf.new)) }
     ensures memory { OnErr result (S.shown shelf.new ≡ S.shown shelf.old) }
     ensures given { (S.shown shelf.new).given ≡ (S.shown shelf.old).given }
 {
@@ -266,9 +282,11 @@ fn read_given<'a, S: Shelf>(
     ensures holds { IfOk result (λ read. IsTrue (S.shown shelf.old).told
         → HoldsBoth (S.shown shelf.old).file model.entry.now plan.entry.now read.instance read.plan) }
     ensures fits { IfOk result (λ read. AllFit read.instance read.plan) }
-    ensures stop { IfErr result (ExplainsGivenStop model.entry.now plan.entry.now (S.shown shelf.old) (S.shown shelf.new)) }
+    ensures stop { IfErr result (ExplainsGivenStop model.entry.now plan.entry.now
+        (S.shown shelf.old) (S.shown shelf.new)) }
     ensures reads { OnlyReads (S.shown shelf.old) (S.shown shelf.new) }
-    ensures given { (S.shown shelf.new).given ≤ (S.shown shelf.old).given + 2 * (file_limit + piece_size) }
+    ensures given { (S.shown shelf.new).given
+        ≤ (S.shown shelf.old).given + 2 * (file_limit + piece_size) }
 {
     let instance = match read_model(alloc, model, shelf) {
         Ok(instance) => instance,
@@ -296,9 +314,12 @@ pub fn replan_files<S: Shelf, P: Proposer, H: Heuristic<P::Hint>, W: Watch>(
 ) -> Result<Said, AllocError>
     requires budget { 1 ≤ budget }
     requires apart { AreApart names.next_model.now names.next_plan.now names.certificate.now }
-    ensures said { IfOk result (ReplanSays names.entry.model.now names.entry.plan.now first names.entry.next_model.now names.entry.next_plan.now names.entry.certificate.now budget (S.shown shelf.old) (S.shown shelf.new)) }
+    ensures said { IfOk result (ReplanSays names.entry.model.now names.entry.plan.now first
+        names.entry.next_model.now names.entry.next_plan.now names.entry.certificate.now budget
+        (S.shown shelf.old) (S.shown shelf.new)) }
     ensures memory { OnErr result (OnlyReads (S.shown shelf.old) (S.shown shelf.new)) }
-    ensures given { (S.shown shelf.new).given ≤ (S.shown shelf.old).given + 2 * (file_limit + piece_size) }
+    ensures given { (S.shown shelf.new).given
+        ≤ (S.shown shelf.old).given + 2 * (file_limit + piece_size) }
 {
     match read_given(alloc, names.model, names.plan, shelf) {
         Ok(read) => replan_instance(

@@ -33,7 +33,8 @@ pub enum SchedcheckAnswer<'a> {
 impl SchedcheckAnswer<'_> {
     /// The line and the status.
     pub fn answer_line(&self, alloc: Global) -> Result<Said, AllocError>
-        ensures { IfOk result (IsSaid (schedcheck_line (schedcheck_meant self.now)) (schedcheck_status (schedcheck_meant self.now))) }
+        ensures { IfOk result (IsSaid (schedcheck_line (schedcheck_meant self.now))
+            (schedcheck_status (schedcheck_meant self.now))) }
     {
         Ok(Said::of(self.line(alloc)?, self.status()))
     }
@@ -51,7 +52,8 @@ impl SchedcheckAnswer<'_> {
 
     /// The line that is printed, with its line feed.
     pub fn line(&self, alloc: Global) -> Result<String, AllocError>
-        ensures { IfOk result (λ line. string_bytes line ≡ schedcheck_line (schedcheck_meant self.now)) }
+        ensures { IfOk result (λ line. string_bytes line
+            ≡ schedcheck_line (schedcheck_meant self.now)) }
     {
         match self {
             SchedcheckAnswer::Accepted => String::from_str(alloc, "accepted schedule\n"),
@@ -95,9 +97,11 @@ fn check_file<S: Shelf>(
 ) -> Result<Said, AllocError>
     requires fits { AllFit instance.now given.now }
     requires feasible { IsFeasible instance.now (plan_of given.now) }
-    ensures said { IfOk result (SlotFileSays instance.now (plan_of given.now) file.now (S.shown shelf.old) (S.shown shelf.new)) }
+    ensures said { IfOk result (SlotFileSays instance.now (plan_of given.now) file.now
+        (S.shown shelf.old) (S.shown shelf.new)) }
     ensures reads { OnlyReads (S.shown shelf.old) (S.shown shelf.new) }
-    ensures given { (S.shown shelf.new).given ≤ (S.shown shelf.old).given + (file_limit + piece_size) }
+    ensures given { (S.shown shelf.new).given
+        ≤ (S.shown shelf.old).given + (file_limit + piece_size) }
 {
     match read_bytes(alloc, file, shelf) {
         Ok(bytes) => check_bytes(alloc, instance, given, bytes.as_slice()),
@@ -115,9 +119,11 @@ pub fn schedcheck_files<S: Shelf>(
     file: &str,
     shelf: &mut S,
 ) -> Result<Said, AllocError>
-    ensures said { IfOk result (SchedcheckSays model.now plan.now file.now (S.shown shelf.old) (S.shown shelf.new)) }
+    ensures said { IfOk result (SchedcheckSays model.now plan.now file.now (S.shown shelf.old)
+        (S.shown shelf.new)) }
     ensures reads { OnlyReads (S.shown shelf.old) (S.shown shelf.new) }
-    ensures given { (S.shown shelf.new).given ≤ (S.shown shelf.old).given + 3 * (file_limit + piece_size) }
+    ensures given { (S.shown shelf.new).given
+        ≤ (S.shown shelf.old).given + 3 * (file_limit + piece_size) }
 {
     match read_feasible(alloc, model, plan, shelf) {
         Ok(read) => check_file(alloc, &read.instance, &read.plan, file, shelf),

@@ -30,7 +30,8 @@ pub enum UpgradeAnswer<'a> {
 impl UpgradeAnswer<'_> {
     /// The line and the status.
     pub fn answer_line(&self, alloc: Global) -> Result<Said, AllocError>
-        ensures { IfOk result (IsSaid (upgrade_line (upgrade_meant self.now)) (upgrade_status (upgrade_meant self.now))) }
+        ensures { IfOk result (IsSaid (upgrade_line (upgrade_meant self.now))
+            (upgrade_status (upgrade_meant self.now))) }
     {
         Ok(Said::of(self.line(alloc)?, self.status()))
     }
@@ -60,7 +61,8 @@ impl UpgradeAnswer<'_> {
 
 /// Each text of an instance means its problem. It computes nothing.
 pub fn texts_mean_it(instance: &Instance)
-    ensures { (bytes : List ℕ) → IsModelText instance.now bytes → BytesMean bytes (Ok instance.now) }
+    ensures { (bytes : List ℕ) → IsModelText instance.now bytes
+        → BytesMean bytes (Ok instance.now) }
 {
     an_instance_breaks_no_rule(instance);
     model_texts_are_read();
@@ -73,7 +75,8 @@ fn write_upgraded<S: Shelf>(
     upgraded: &str,
     shelf: &mut S,
 ) -> Result<Said, AllocError>
-    ensures said { IfOk result (RewriteSays instance.now upgraded.now (S.shown shelf.old) (S.shown shelf.new)) }
+    ensures said { IfOk result (RewriteSays instance.now upgraded.now (S.shown shelf.old)
+        (S.shown shelf.new)) }
     ensures memory { OnErr result (S.shown shelf.new ≡ S.shown shelf.old) }
     ensures given { (S.shown shelf.new).given ≡ (S.shown shelf.old).given }
 {
@@ -94,9 +97,11 @@ pub fn upgrade_files<S: Shelf>(
     upgraded: &str,
     shelf: &mut S,
 ) -> Result<Said, AllocError>
-    ensures said { IfOk result (UpgradeSays model.now upgraded.now (S.shown shelf.old) (S.shown shelf.new)) }
+    ensures said { IfOk result (UpgradeSays model.now upgraded.now (S.shown shelf.old)
+        (S.shown shelf.new)) }
     ensures memory { OnErr result (OnlyReads (S.shown shelf.old) (S.shown shelf.new)) }
-    ensures given { (S.shown shelf.new).given ≤ (S.shown shelf.old).given + (file_limit + piece_size) }
+    ensures given { (S.shown shelf.new).given
+        ≤ (S.shown shelf.old).given + (file_limit + piece_size) }
 {
     match read_first_model(alloc, model, shelf) {
         Ok(instance) => write_upgraded(alloc, &instance, upgraded, shelf),

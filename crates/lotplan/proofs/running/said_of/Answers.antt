@@ -61,6 +61,10 @@ pub returns-in-Peg-clause-said : goal.returns-in-Peg-clause-said
 returns-in-Peg-clause-said g c =
     subst (λ k. IfOk c.peg_files.result (SaysFor (Some (request_by k)) (g.S.Shelf.shown c.args.shelf.now) (g.S.Shelf.shown c.peg_files.new.shelf))) (sym c.in-Peg.is) c.peg_files.ensures.said
 
+pub returns-in-Complete-clause-said : goal.returns-in-Complete-clause-said
+returns-in-Complete-clause-said g c =
+    subst (λ k. IfOk c.complete_files.result (SaysFor (Some (request_by k)) (g.S.Shelf.shown c.args.shelf.now) (g.S.Shelf.shown c.complete_files.new.shelf))) (sym c.in-Complete.is) c.complete_files.ensures.said
+
 pub returns-in-Replan-clause-said : goal.returns-in-Replan-clause-said
 returns-in-Replan-clause-said g c =
     subst (λ k. IfOk c.replan_files.result (SaysFor (Some (request_by k)) (g.S.Shelf.shown c.args.shelf.now) (g.S.Shelf.shown c.replan_files.new.shelf))) (sym c.in-Replan.is) c.replan_files.ensures.said

@@ -29,7 +29,7 @@ returns-in-Ok-clause-said g c =
     let read = subst (λ b. IsPlanOf m (records_of b) (plan_of plan)) (sym value) c.in_ok-bytes.ensures.read in
     let few = subst (λ b. length b ≤ file_limit) (sym value) c.in_ok-bytes.ensures.short in
     let (mid, first, second) = written_two p records name bytes old new c.in-Ok.ensures.all in
-    says_planned m c.args.budget found is p name c.requires.apart bytes text short plan c.requires.chosen records are read few old mid new first (plan_meant c.answer_of.result) c.in_ok-written.written c.answer_of.ensures c.in_ok-written.ensures second
+    says_planned m c.args.sought found is p name c.requires.apart bytes text short plan c.requires.chosen records are read few old mid new first (plan_meant c.answer_of.result) c.in_ok-written.written c.answer_of.ensures c.in_ok-written.ensures second
 
 pub returns-in-Err-eq0-clause-said : goal.returns-in-Err-eq0-clause-said
 returns-in-Err-eq0-clause-said g c =
@@ -49,7 +49,7 @@ returns-in-Err-eq0-clause-said g c =
     let are = value ∙ c.in_ok-bytes.ensures.text in
     let read = subst (λ b. IsPlanOf m (records_of b) (plan_of plan)) (sym value) c.in_ok-bytes.ensures.read in
     let few = subst (λ b. length b ≤ file_limit) (sym value) c.in_ok-bytes.ensures.short in
-    says_unplanned m c.args.budget found is p name c.requires.apart bytes text short plan c.requires.chosen records are read few old new c.in_ok-unplanned.unplanned c.in_ok-unplanned.ensures (stopped_first c.in-Err-eq0.field-0 p records name bytes old new (omega arith) c.in-Err-eq0.ensures.stops)
+    says_unplanned m c.args.sought found is p name c.requires.apart bytes text short plan c.requires.chosen records are read few old new c.in_ok-unplanned.unplanned c.in_ok-unplanned.ensures (stopped_first c.in-Err-eq0.field-0 p records name bytes old new (omega arith) c.in-Err-eq0.ensures.stops)
 
 pub returns-clause-said : goal.returns-clause-said
 returns-clause-said g c =
@@ -70,4 +70,4 @@ returns-clause-said g c =
     let read = subst (λ b. IsPlanOf m (records_of b) (plan_of plan)) (sym value) c.in_ok-bytes.ensures.read in
     let few = subst (λ b. length b ≤ file_limit) (sym value) c.in_ok-bytes.ensures.short in
     let (mid, first, lost) = stopped_second c.in-Err.field-0 p records name bytes old new (λ e. omega (arith, e)) c.in-Err.ensures.stops in
-    says_uncertified m c.args.budget found is p name c.requires.apart bytes text short plan c.requires.chosen records are read few old mid new first c.in_ok-unproved.unproved c.in_ok-unproved.ensures lost
+    says_uncertified m c.args.sought found is p name c.requires.apart bytes text short plan c.requires.chosen records are read few old mid new first c.in_ok-unproved.unproved c.in_ok-unproved.ensures lost

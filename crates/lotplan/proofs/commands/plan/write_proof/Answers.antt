@@ -16,7 +16,7 @@ returns-in-Ok-clause-said g c =
     let new = g.S.Shelf.shown c.write_all.new.shelf in
     let text = subst (λ b. IsTextOf b (shape_of found.certificate)) (sym c.as_slice.ensures.value) (c.in_ok-proof.ensures.means is.proved.writable) in
     let short : length bytes < too_many = omega arith in
-    says_proved c.args.instance.now c.args.budget found is c.args.plan.now c.args.certificate.now c.requires.apart bytes text short c.requires.none old new (plan_meant c.answer_of.result) c.in_ok-written.written c.answer_of.ensures c.in_ok-written.ensures (written_one c.args.certificate.now bytes old new c.in-Ok.ensures.all)
+    says_proved c.args.instance.now c.args.sought found is c.args.plan.now c.args.certificate.now c.requires.apart bytes text short c.requires.none old new (plan_meant c.answer_of.result) c.in_ok-written.written c.answer_of.ensures c.in_ok-written.ensures (written_one c.args.certificate.now bytes old new c.in-Ok.ensures.all)
 
 pub returns-clause-said : goal.returns-clause-said
 returns-clause-said g c =
@@ -27,4 +27,4 @@ returns-clause-said g c =
     let new = g.S.Shelf.shown c.write_all.new.shelf in
     let text = subst (λ b. IsTextOf b (shape_of found.certificate)) (sym c.as_slice.ensures.value) (c.in_ok-proof.ensures.means is.proved.writable) in
     let short : length bytes < too_many = omega arith in
-    says_unproved c.args.instance.now c.args.budget found is c.args.plan.now c.args.certificate.now c.requires.apart bytes text short c.requires.none old new c.in_ok-unproved.unproved c.in_ok-unproved.ensures (stopped_one c.in-Err.field-0 c.args.certificate.now bytes old new c.in-Err.ensures.stops)
+    says_unproved c.args.instance.now c.args.sought found is c.args.plan.now c.args.certificate.now c.requires.apart bytes text short c.requires.none old new c.in_ok-unproved.unproved c.in_ok-unproved.ensures (stopped_one c.in-Err.field-0 c.args.certificate.now bytes old new c.in-Err.ensures.stops)

@@ -8,6 +8,27 @@ use Rattle.lotplan.proofs.Continued.{no_rest_of, says_next}
 use Rattle.lotplan.proofs.Readings.{same_reads}
 use Rattle.lotplan.proofs.commands.replanning.replan_instance.Goals as goal
 
+pub write_next-requires-clause-found : goal.write_next-requires-clause-found
+write_next-requires-clause-found g c =
+    let e = c.in-Ok-Planned.ensures in
+    let is = c.in-Ok-Planned.field-0-is in
+    record {
+      proved = rw (is) at e.proved;
+      version = rw (is) at e.version;
+      within = rw (is) at e.within;
+      plan = rw (is) at e.plan;
+      together = rw (is) at e.goes;
+      kept = tt;
+      own = rw (is) at e.own;
+      cause = rw (is) at e.cause;
+      evidence = rw (is) at e.evidence;
+      small = rw (is) at e.complete;
+      root = rw (is) at e.root;
+      uncoupled = rw (is) at e.uncoupled;
+      used = rw (is) at e.uses;
+      apart = rw (is) at e.apart;
+    }
+
 pub returns-in-Ok-Planned-clause-said : goal.returns-in-Ok-Planned-clause-said
 returns-in-Ok-Planned-clause-said g c =
     let m = c.args.instance.now in

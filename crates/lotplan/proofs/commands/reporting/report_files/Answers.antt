@@ -5,9 +5,10 @@ use Rattle.lotplan.proofs.commands.reporting.report_files.Goals as goal
 pub returns-in-Ok-clause-said : goal.returns-in-Ok-clause-said
 returns-in-Ok-clause-said g c =
     let read = c.in-Ok.read in
-    says_summed c.args.model.now c.args.plan.now read.instance read.plan read.cost (g.S.Shelf.shown c.args.shelf.now) (g.S.Shelf.shown c.read_feasible.new.shelf) c.report_given.result c.in-Ok.ensures.holds c.in-Ok.ensures.feasible c.read_feasible.ensures.reads c.report_given.ensures
+    says_summed c.args.model.now c.args.plan.now c.args.form read.instance read.plan read.cost (g.S.Shelf.shown c.args.shelf.now) (g.S.Shelf.shown c.read_feasible.new.shelf) c.report_given.result c.in-Ok.ensures.holds c.in-Ok.ensures.feasible c.read_feasible.ensures.reads c.report_given.ensures
 
 pub returns-in-Err-Judged-clause-said : goal.returns-in-Err-Judged-clause-said
 returns-in-Err-Judged-clause-said g c =
     let none = rw (c.in-Err-Judged.field-0-is) at c.in-Err-Judged.ensures.stop in
-    says_none c.args.model.now c.args.plan.now (g.S.Shelf.shown c.args.shelf.now) (g.S.Shelf.shown c.read_feasible.new.shelf) (judge_meant c.in-Err-Judged.answer) c.answer_line.result none c.read_feasible.ensures.reads c.answer_line.ensures
+    let says = rw (c.in-Err-Judged.field-0-is) at c.answer_line.ensures in
+    says_none c.args.model.now c.args.plan.now c.args.form (g.S.Shelf.shown c.args.shelf.now) (g.S.Shelf.shown c.read_feasible.new.shelf) (judge_meant c.in-Err-Judged.answer) c.answer_line.result none c.read_feasible.ensures.reads says
