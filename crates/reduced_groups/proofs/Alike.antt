@@ -17,13 +17,14 @@ use Rattle.lin_rows.specs.Columns.{IsColumn}
 use Rattle.must_start.specs.MustStart.{MustStartIsOne}
 use Rattle.must_start.specs.Lots.{IsLargestLot, IsPossibleLot}
 use Rattle.quantity_dp.specs.Lots.{HasNoChoice, IsChoice, IsLeastPrice}
-use Rattle.reduced_groups.specs.declared.group.ChainLink.{ChainLink}
+use Rattle.item_groups.specs.declared.group.ChainLink.{ChainLink}
 use Rattle.reduced_groups.specs.Groups.{AreKnown, ChainGroup, GroupShape, IsItemChoice, IsLateChoice, ItemGroup, Known, LateGroup, QuantityGroup, asked_besides, chain_levels, last_level, lots_in, lower_level, made_cost}
 use Rattle.reduced_groups.specs.Numbers.{AreNumbersOf, IsNumberOf, LacksChoice, SomeLacksChoice}
 use Rattle.reduced_groups.specs.Apart.{AreApart, IsAllowed, IsGroupHere, IsItem, items_in, items_of, share_of, shared_by}
 use Rattle.reduced_groups.specs.Laws.{AreAlike, AreSamePrices}
+use Rattle.reduced_groups.specs.Floors.{HasSmallPricesOf, HaveSmallPrices, IsWithinWork}
 use Rattle.reduced_groups.specs.Levels.{AreAlikeLevels, IsAlikeLevel}
-use Rattle.reduced_groups.proofs.AlikeLevels.{least_same}
+use Rattle.reduced_groups.proofs.AlikeLevels.{least_same, opening_same}
 
 -- lots that are the largest by totals that are the same
 lot_below : (m : Problem) (total more : ℕ → ℕ) (i t a b : ℕ) → total i ≡ more i → IsLargestLot m total i t a → IsLargestLot m more i t b → a ≤ b
@@ -162,6 +163,28 @@ module _ (m : Problem) (a b : Known) (price other : Column → ℕ) (same : AreA
   levels_same link (next ∷ rest) items = (
     lower_same link next.item (All-head (IsItem m) link.item (next.item ∷ items_of rest) items),
     levels_same next rest (All-tail (IsItem m) link.item (next.item ∷ items_of rest) items),
+  )
+
+  small_same : (i : ℕ) → IsItem m i → HasSmallPricesOf m price i → HasSmallPricesOf m other i
+  small_same i item small = λ t low high.
+      let equal = prices i t item.0 item.1 low high in
+      let old = small t low high in
+      (omega (arith, old.0, equal.1), omega (arith, old.1, equal.0))
+
+  all_small_same : (items : List ℕ) → All (IsItem m) items → HaveSmallPrices m price items → HaveSmallPrices m other items
+  all_small_same [] are small = tt
+  all_small_same (i ∷ items) are small = (small_same i (All-head (IsItem m) i items are) small.0, all_small_same items (All-tail (IsItem m) i items are) small.1)
+
+  pub work_same : (s : GroupShape) → IsGroupHere m a s → IsWithinWork m a.start price s → IsWithinWork m b.start other s
+  work_same (ItemGroup i) here is = small_same i (All-head (IsItem m) i [] here.items) is
+  work_same (LateGroup i shares) here is = tt
+  work_same (QuantityGroup i) here is =
+      let item = All-head (IsItem m) i [] here.items in
+      (small_same i item is.0, λ t low high. omega (arith, is.1 t low high, ap (λ n. m.periods * (n + 1)) (same.start i item.0 item.1 t high)))
+  work_same (ChainGroup low rest) here is = (
+    all_small_same (low.item ∷ items_of rest) here.items is.0,
+    is.1,
+    omega (arith, is.2, opening_same m.periods (chain_levels m a.start price low rest) (chain_levels m b.start other low rest) (levels_same low rest here.items)),
   )
 
 module _ (m : Problem) (a b : Known) (price other : Column → ℕ) (same : AreAlike m a b) (prices : AreSamePrices m price other) where

@@ -2,7 +2,7 @@
 use Rattle.std.proofs.Common.{◌≡◌, ◌≤◌, ◌+◌, ◌-◌, ◌*◌, ◌∙◌, ℕ, refl, sym, ap, arith, List, [], ◌∷◌}
 use Rattle.lot_sizing.specs.Sums.{sum_to}
 use Rattle.lot_sizing.proofs.Sums.{sum_to-same}
-use Rattle.chain_dp.specs.Chains.{IsChainMade, IsLeastChainCost, IsMade, Level, Lots, chain_cost, lots_cost, made, used_by_next}
+use Rattle.chain_dp.specs.Chains.{IsChainMade, IsLeastChainCost, IsMade, Level, Lots, chain_cost, lots_cost, made, opening_cost, used_by_next}
 use Rattle.reduced_groups.specs.Levels.{AreAlikeLevels, IsAlikeLevel}
 
 level_turned : (n : ℕ) (k l : Level) → IsAlikeLevel n k l → IsAlikeLevel n l k
@@ -68,3 +68,16 @@ one_least n ls a b is_a is_b =
     let (va, made_a, cost_a) = is_a.some in
     let (vb, made_b, cost_b) = is_b.some in
     omega (arith, is_a.least vb made_b, cost_b, is_b.least va made_a, cost_a)
+
+-- and their opening stocks cost the same
+pub opening_same : (n : ℕ) (ks ls : List Level) → AreAlikeLevels n ks ls → opening_cost n ks ≡ opening_cost n ls
+opening_same n [] [] same = refl
+opening_same n [] (l ∷ ls) same = absurd same
+opening_same n (k ∷ ks) [] same = absurd same
+opening_same n (k ∷ ks) (l ∷ ls) same =
+    omega (
+      arith,
+      ap (λ p. p * sum_to n k.need) (same.0).opening_price,
+      ap (λ s. l.opening_price * s) (sum_to-same n k.need l.need (same.0).need),
+      opening_same n ks ls same.1,
+    )

@@ -16,7 +16,7 @@ use Rattle.lin_rows.specs.declared.column.Column.TheVariants.{X, Y}
 use Rattle.must_start.specs.MustStart.{AllHaveStarted, AreMustStart, may_be_late, must_arrive, taken_by_others, with_made}
 use Rattle.must_start.proofs.Starts.{end_later}
 use Rattle.chain_dp.specs.Chains.{IsChainMade, IsMade, Level, Lots, chain_cost, lots_cost, made, used_by_next}
-use Rattle.reduced_groups.specs.declared.group.ChainLink.{ChainLink}
+use Rattle.item_groups.specs.declared.group.ChainLink.{ChainLink}
 use Rattle.reduced_groups.specs.Groups.{asked_besides, chain_levels, last_level, lower_level, made_cost, stocks_worth}
 use Rattle.reduced_groups.specs.Apart.{AreLinked, IsItem, items_of}
 use Rattle.reduced_groups.proofs.Items.{one_term, over}

@@ -29,7 +29,7 @@ use Rattle.chain_dp.specs.declared.error.ChainError.TheVariants.{Memory, TooDear
 use Rattle.chain_dp.specs.Chains.{IsChainMade, IsLeastChainCost, Level, Lots, chain_cost, made, opening_cost}
 use Rattle.chain_dp.specs.Numbers.{IsCapped, most}
 use Rattle.chain_dp.specs.Stocks.{NoStocks, StocksAreUnused}
-use Rattle.reduced_groups.specs.declared.group.ChainLink.{ChainLink}
+use Rattle.item_groups.specs.declared.group.ChainLink.{ChainLink}
 use Rattle.reduced_groups.specs.declared.floors.Floor.{Floor}
 use Rattle.reduced_groups.specs.declared.floors.Floor.TheVariants.{Least, NoChoice}
 use Rattle.reduced_groups.specs.Groups.{AreKnown, ChainGroup, GroupShape, IsItemChoice, ItemGroup, Known, QuantityGroup, chain_levels, last_level, lots_in, made_cost, stocks_worth}
@@ -39,7 +39,7 @@ use Rattle.reduced_groups.specs.Laws.{AreAlike}
 use Rattle.reduced_groups.specs.Prices.{AreSmall, ArePricesFor, PriceLists, price_in}
 use Rattle.reduced_groups.specs.Floors.{AreLotsFor, HasManyEntries, IsFloorFrom, IsFloorOf, IsGroupOf, WhateverIsKnown}
 use Rattle.reduced_groups.specs.Levels.{AreAlikeLevels, IsAlikeLevel}
-use Rattle.reduced_groups.proofs.AlikeLevels.{least_same}
+use Rattle.reduced_groups.proofs.AlikeLevels.{least_same, opening_same}
 use Rattle.reduced_groups.proofs.Alike.{number_same}
 use Rattle.reduced_groups.proofs.ChainPlans.{own_cost, stock_some, stock_sum, telescope, with_stock}
 
@@ -200,18 +200,6 @@ entries_fault m start prices i lots (Need t) few item sizes setups units are is 
     (t, (is.0).low, high, omega (arith, is.2, ap (λ n. n * ((lot_at lots t).need + 1)) are.size, ap (λ n. m.periods * (n + 1)) (are.need t (is.0).low high)))
 
 -- CHAINS
-
-pub opening_same : (n : ℕ) (ks ls : List Level) → AreAlikeLevels n ks ls → opening_cost n ks ≡ opening_cost n ls
-opening_same n [] [] same = refl
-opening_same n [] (l ∷ ls) same = absurd same
-opening_same n (k ∷ ks) [] same = absurd same
-opening_same n (k ∷ ks) (l ∷ ls) same =
-    omega (
-      arith,
-      ap (λ p. p * sum_to n k.need) (same.0).opening_price,
-      ap (λ s. l.opening_price * s) (sum_to-same n k.need l.need (same.0).need),
-      opening_same n ks ls same.1,
-    )
 
 -- a number past 128 bits is worth more than any cost
 capped_left : (cost number x result : ℕ) → cost ≤ most → IsCapped number x → result ≡ cost - x → result ≡ cost - number

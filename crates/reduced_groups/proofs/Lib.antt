@@ -6,6 +6,7 @@ mod Priced
 mod AlikeLevels
 mod Alike
 mod Once
-mod Starting
+pub mod Starting
 mod Found
-mod Placed
+mod Limits
+pub mod Placed

@@ -7,8 +7,8 @@ use Rattle.std.proofs.lemmas.List.{get_or_default, take_more}
 use Rattle.std.proofs.lemmas.List.Elements.{All-append, All-cons, All-head, All-nil, All-tail}
 use Rattle.lot_sizing.specs.Problem.{Problem, item_count}
 use Rattle.lot_sizing.specs.Bill.{one_if_same}
-use Rattle.reduced_groups.specs.declared.group.ChainLink.{ChainLink}
-use Rattle.reduced_groups.specs.declared.group.Group.{Group}
+use Rattle.item_groups.specs.declared.group.ChainLink.{ChainLink}
+use Rattle.item_groups.specs.declared.group.Group.{Group}
 use Rattle.reduced_groups.specs.Groups.{ChainGroup, GroupShape, ItemGroup, QuantityGroup}
 use Rattle.reduced_groups.specs.Apart.{IsItem, items_in, times_in, times_of}
 use Rattle.reduced_groups.specs.Floors.{AreGroupsOf, AreOnceTo, GoesInto, IsGroupOf, LieApart, no_group, shape_of}

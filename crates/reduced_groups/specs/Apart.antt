@@ -7,7 +7,7 @@ use Rattle.lot_sizing.specs.Echelon.{IsLeadFree}
 use Rattle.lin_rows.specs.declared.column.Column.{Column}
 use Rattle.lin_rows.specs.declared.column.Column.TheVariants.{R}
 use Rattle.lin_rows.specs.Columns.{IsColumn}
-use Rattle.reduced_groups.specs.declared.group.ChainLink.{ChainLink}
+use Rattle.item_groups.specs.declared.group.ChainLink.{ChainLink}
 use Rattle.reduced_groups.specs.Groups.{ChainGroup, GroupShape, ItemGroup, Known, LateGroup, QuantityGroup}
 
 -- the items of a chain

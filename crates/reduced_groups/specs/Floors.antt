@@ -1,5 +1,5 @@
 -- What is found of a group.
-use Rattle.std.specs.Prelude.{◌≡◌, ◌⊎◌, ℕ, ◌+◌, ◌-◌, ◌*◌, ◌≤◌, ◌<◌, IsNone, List, [], ◌∷◌, length, map, slice_index_or, take, Option, Some, None, ⊤}
+use Rattle.std.specs.Prelude.{◌≡◌, ◌≢◌, ◌⊎◌, ℕ, ◌+◌, ◌-◌, ◌*◌, ◌≤◌, ◌<◌, IsNone, List, [], ◌∷◌, length, map, slice_index_or, take, Option, Some, None, ⊤}
 use Rattle.std.specs.List.{All}
 use Rattle.lot_sizing.specs.Problem.{Problem, entry, item_at, item_count, per_unit}
 use Rattle.lot_sizing.specs.Plan.{Table}
@@ -15,8 +15,9 @@ use Rattle.chain_dp.specs.declared.error.ChainError.{ChainError}
 use Rattle.chain_dp.specs.declared.error.ChainError.TheVariants as error
 use Rattle.chain_dp.specs.Chains.{opening_cost}
 use Rattle.chain_dp.specs.Numbers.{most}
-use Rattle.reduced_groups.specs.declared.group.Group.{Group}
-use Rattle.reduced_groups.specs.declared.group.Group.TheVariants as group
+use Rattle.item_groups.specs.declared.group.ChainLink.{ChainLink}
+use Rattle.item_groups.specs.declared.group.Group.{Group}
+use Rattle.item_groups.specs.declared.group.Group.TheVariants as group
 use Rattle.reduced_groups.specs.declared.apart.GroupFault.{GroupFault}
 use Rattle.reduced_groups.specs.declared.apart.GroupFault.TheVariants as fault
 use Rattle.reduced_groups.specs.declared.floors.Floor.{Floor}
@@ -26,7 +27,7 @@ use Rattle.reduced_groups.specs.declared.floors.FloorFault.TheVariants.{Entries,
 use Rattle.reduced_groups.specs.declared.floors.TheConstants.{MAX_HORIZON}
 use Rattle.reduced_groups.specs.Groups.{AreKnown, ChainGroup, GroupShape, ItemGroup, Known, LateGroup, QuantityGroup, chain_levels}
 use Rattle.reduced_groups.specs.Numbers.{IsNumberOf, LacksChoice}
-use Rattle.reduced_groups.specs.Apart.{AreLinked, IsItem, items_in, times_in, times_of}
+use Rattle.reduced_groups.specs.Apart.{AreLinked, IsItem, items_in, items_of, times_in, times_of}
 use Rattle.reduced_groups.specs.Prices.{AreSmall, PriceLists, price_in}
 
 -- the group that is meant
@@ -60,6 +61,32 @@ IsFloorOf m prices s NoChoice = WhateverIsKnown m (λ known. LacksChoice m known
 abbrev pub HasSmallPrices : PriceLists → ℕ → Type 0
 HasSmallPrices prices i = AreSmall (row_in prices.setups i) × AreSmall (row_in prices.units i)
 
+-- the same of prices of columns, over all periods
+abbrev pub HasSmallPricesOf : Problem → (Column → ℕ) → ℕ → Type 0
+HasSmallPricesOf m price i = (t : ℕ) → 1 ≤ t → t ≤ m.periods → (price (Y i t) ≤ MAX_PRICE) × (price (X i t) ≤ MAX_PRICE)
+
+-- of each of some items
+abbrev pub HaveSmallPrices : Problem → (Column → ℕ) → List ℕ → Type 0
+HaveSmallPrices m price [] = ⊤
+HaveSmallPrices m price (i ∷ items) = HasSmallPricesOf m price i × HaveSmallPrices m price items
+
+-- the table of whole quantities of an item is small enough
+abbrev pub HasFewEntries : Problem → Table → ℕ → Type 0
+HasFewEntries m start i = (t : ℕ) → 1 ≤ t → t ≤ m.periods → m.periods * (start i t + 1) ≤ MAX_ENTRIES
+
+-- of three items or more, with the lead time of the second there are few enough periods; these are the items after the lowest
+abbrev pub HasFewPeriods : Problem → List ChainLink → Type 0
+HasFewPeriods m [] = ⊤
+HasFewPeriods m (top ∷ []) = ⊤
+HasFewPeriods m (mid ∷ (top ∷ rest)) = m.periods + (item_at m mid.item).lead ≤ MAX_HORIZON
+
+-- the work of finding the number of a group, and the numbers in it, stay within the limits; there is no work for a late item yet
+abbrev pub IsWithinWork : Problem → Table → (Column → ℕ) → GroupShape → Type 0
+IsWithinWork m start price (ItemGroup i) = HasSmallPricesOf m price i
+IsWithinWork m start price (LateGroup i shares) = ⊤
+IsWithinWork m start price (QuantityGroup i) = HasSmallPricesOf m price i × HasFewEntries m start i
+IsWithinWork m start price (ChainGroup low rest) = HaveSmallPrices m price (low.item ∷ items_of rest) × HasFewPeriods m rest × (opening_cost m.periods (chain_levels m start price low rest) < most)
+
 -- a price of the item is
 abbrev pub HasLargePrice : Problem → PriceLists → ℕ → ℕ → Type 0
 HasLargePrice m prices i t = (1 ≤ t) × (t ≤ m.periods) × ((MAX_PRICE < entry (row_in prices.setups i) t) ⊎ (MAX_PRICE < entry (row_in prices.units i) t))
@@ -85,7 +112,8 @@ IsTooLong m (ItemGroup i) = ⊥
 IsTooLong m (LateGroup i shares) = ⊥
 IsTooLong m (QuantityGroup i) = ⊥
 IsTooLong m (ChainGroup low []) = ⊥
-IsTooLong m (ChainGroup low (mid ∷ rest)) = MAX_HORIZON < m.periods + (item_at m mid.item).lead
+IsTooLong m (ChainGroup low (top ∷ [])) = ⊥
+IsTooLong m (ChainGroup low (mid ∷ (top ∷ rest))) = MAX_HORIZON < m.periods + (item_at m mid.item).lead
 
 -- it costs too much to buy all that is asked of a chain before the first period
 abbrev pub IsTooDear : Problem → Table → PriceLists → GroupShape → Type 0
@@ -101,6 +129,10 @@ IsFloorFaultOf m start prices s Entries = HasManyEntries m start s
 IsFloorFaultOf m start prices s Horizon = IsTooLong m s
 IsFloorFaultOf m start prices s TooDear = IsTooDear m start prices s
 IsFloorFaultOf m start prices s Memory = ⊤
+
+-- then the group is past the limits, but where memory ran out
+abbrev pub IsPastLimits : Problem → Table → PriceLists → GroupShape → FloorFault → Type 0
+IsPastLimits m start prices s fault = fault ≢ Memory → IsWithinWork m start (price_in prices) s → ⊥
 
 -- the same fault
 abbrev pub IsFaultFrom : ChainError → FloorFault → Type 0

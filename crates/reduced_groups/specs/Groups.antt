@@ -13,7 +13,7 @@ use Rattle.must_start.specs.MustStart.{AreMustStart}
 use Rattle.must_start.specs.Lots.{IsLargestLot}
 use Rattle.quantity_dp.specs.Lots.{Lots}
 use Rattle.chain_dp.specs.Chains.{Level}
-use Rattle.reduced_groups.specs.declared.group.ChainLink.{ChainLink}
+use Rattle.item_groups.specs.declared.group.ChainLink.{ChainLink}
 
 -- an item by what must have been started of it; a lead-free item whose echelon may be late, with a share of its backlogs for each period; an item by what must have been started and its largest lots, in whole quantities; and a chain of items, the lowest first, each of which goes into the next one
 pub data GroupShape : Type 0 where

@@ -13,6 +13,7 @@ use Rattle.reduced_groups.specs.Groups.{AreKnown, GroupShape, Known}
 use Rattle.reduced_groups.specs.Numbers.{AreNumbersOf, SomeLacksChoice, sum_of}
 use Rattle.reduced_groups.specs.Apart.{AreApart, IsGroupHere}
 use Rattle.reduced_groups.specs.Rows.{AreReduced, paid}
+use Rattle.reduced_groups.specs.Floors.{IsWithinWork}
 
 -- of each problem in which no item is its own component, with what is known of it
 abbrev pub OfKnown : ((m : Problem) (known : Known) → Type 0) → Type 0
@@ -98,3 +99,10 @@ ChoicesByBoth =
     (m : Problem) (a b : Known) (price other : Column → ℕ) (shapes : List GroupShape)
     → AreAlike m a b → All (IsGroupHere m a) shapes
     → SomeLacksChoice m a price shapes → SomeLacksChoice m b other shapes
+
+-- and the work of finding the number of a group stays within the limits by both
+abbrev pub WorkByBoth : Type 0
+WorkByBoth =
+    (m : Problem) (a b : Known) (price other : Column → ℕ) (s : GroupShape)
+    → AreAlike m a b → AreSamePrices m price other → IsGroupHere m a s
+    → IsWithinWork m a.start price s → IsWithinWork m b.start other s

@@ -6,7 +6,7 @@ use Rattle.lot_sizing.specs.Single.{NetPlan}
 use Rattle.lin_rows.specs.declared.column.Column.{Column}
 use Rattle.quantity_dp.specs.Lots.{HasNoChoice, IsLeastPrice}
 use Rattle.chain_dp.specs.Chains.{IsLeastChainCost}
-use Rattle.reduced_groups.specs.declared.group.ChainLink.{ChainLink}
+use Rattle.item_groups.specs.declared.group.ChainLink.{ChainLink}
 use Rattle.reduced_groups.specs.Groups.{ChainGroup, GroupShape, IsItemChoice, IsLateChoice, ItemGroup, Known, LateGroup, QuantityGroup, chain_levels, late_cost, lots_in, made_cost, stocks_worth}
 
 -- some setups and quantities of the item cost this, and none cost less

@@ -5,7 +5,7 @@ ghost use Rattle.lot_sizing.specs.Bill.{one_if_same};
 ghost use Rattle.reduced_groups.specs.Apart.{IsItem, items_in, times_in, times_of};
 ghost use Rattle.reduced_groups.specs.Floors.{AreGroupsOf, AreOnceTo, GoesInto, IsFirstOther, IsFirstTwice, IsGroupFaultOf, IsGroupOf, LieApart, shape_of};
 
-use crate::group::{ChainLink, Group};
+use item_groups::{ChainLink, Group};
 use lot_model::Instance;
 
 /// What is wrong with a list of groups.

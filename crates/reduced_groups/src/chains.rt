@@ -1,5 +1,5 @@
 // The numbers of items and of chains.
-ghost use Rattle.std.specs.Prelude.{◌≡◌, ◌≤◌, ◌+◌, ◌-◌, ◌*◌, [], ◌∷◌, Err, IfErr, IfOk};
+ghost use Rattle.std.specs.Prelude.{◌≡◌, ◌≤◌, ◌<◌, ◌+◌, ◌-◌, ◌*◌, [], ◌∷◌, Err, IfErr, IfOk};
 ghost use Rattle.lot_sizing.specs.Problem.{item_at, item_count};
 ghost use Rattle.lin_rows.specs.declared.column.Column.TheVariants.{X, Y};
 ghost use Rattle.must_start.specs.Rows.{IsMustStartOf, row_in, start_in};
@@ -11,11 +11,11 @@ ghost use Rattle.reduced_groups.specs.Groups.{chain_levels};
 ghost use Rattle.reduced_groups.specs.Numbers.{IsChainFloor, IsLeastItem};
 ghost use Rattle.reduced_groups.specs.Prices.{AreSmall, ArePricesFor, price_in};
 
-use crate::group::ChainLink;
 use crate::levels::{last_level, lower_level};
 use crate::prices::GroupPrices;
 use chain_dp::laws::stocks_are_unused;
 use chain_dp::{ChainError, ChainTables};
+use item_groups::ChainLink;
 use lot_model::{Instance, an_instance_breaks_no_rule};
 use must_start::{MustStart, must_start_holds};
 use std::alloc::Global;
@@ -107,6 +107,9 @@ pub(crate) fn pair_floor(
     ensures too_dear { (result ≡ Err TooDear) → most ≤ opening_cost instance.now.periods
         (chain_levels instance.now (start_in started.now) (price_in prices.now)
         low.now (top.now ∷ [])) }
+    ensures fits { IfOk result (λ _. opening_cost instance.now.periods
+        (chain_levels instance.now (start_in started.now) (price_in prices.now)
+        low.now (top.now ∷ [])) < most) }
 {
     let lower = lower_level(alloc, instance, started, prices, low, top.item)?;
     let upper = last_level(alloc, instance, started, prices, top)?;
@@ -140,6 +143,9 @@ pub(crate) fn triple_floor(
     ensures too_dear { (result ≡ Err TooDear) → most ≤ opening_cost instance.now.periods
         (chain_levels instance.now (start_in started.now) (price_in prices.now)
         low.now (mid.now ∷ (top.now ∷ []))) }
+    ensures fits { IfOk result (λ _. opening_cost instance.now.periods
+        (chain_levels instance.now (start_in started.now) (price_in prices.now)
+        low.now (mid.now ∷ (top.now ∷ []))) < most) }
 {
     let lower = lower_level(alloc, instance, started, prices, low, mid.item)?;
     let middle = lower_level(alloc, instance, started, prices, mid, top.item)?;

@@ -3,14 +3,14 @@ ghost use Rattle.std.specs.Prelude.{◌≤◌, [], ◌∷◌, IfErr, IfOk};
 ghost use Rattle.lot_sizing.specs.Problem.{item_count};
 ghost use Rattle.must_start.specs.Rows.{IsMustStartOf, start_in};
 ghost use Rattle.reduced_groups.specs.Groups.{ChainGroup, ItemGroup, QuantityGroup};
-ghost use Rattle.reduced_groups.specs.Floors.{HasLargePriceAs, HasSmallPrices, IsFaultFrom, IsFloorFaultOf, IsFloorOf, IsGroupOf, shape_of};
-ghost use Rattle.reduced_groups.specs.Prices.{ArePricesFor};
+ghost use Rattle.reduced_groups.specs.Floors.{HasLargePriceAs, HasSmallPrices, HasSmallPricesOf, IsFaultFrom, IsFloorFaultOf, IsFloorOf, IsGroupOf, IsPastLimits, IsWithinWork, shape_of};
+ghost use Rattle.reduced_groups.specs.Prices.{ArePricesFor, price_in};
 
 use crate::chains::{item_floor, pair_floor, triple_floor};
-use crate::group::{ChainLink, Group};
 use crate::prices::{GroupPrices, first_large};
 use crate::quantities::quantity_floor;
 use chain_dp::{ChainError, ChainTables};
+use item_groups::{ChainLink, Group};
 use lot_model::{Instance, an_instance_breaks_no_rule};
 use must_start::{MustStart, must_start_holds};
 use std::alloc::{AllocError, Global};
@@ -81,6 +81,8 @@ fn test_prices(instance: &Instance, prices: &GroupPrices, item: u32) -> Result<(
     requires low { 1 ≤ item }
     requires high { item ≤ item_count instance.now }
     ensures small { IfOk result (λ _. HasSmallPrices prices.now item) }
+    ensures within { IfOk result
+        (λ _. HasSmallPricesOf instance.now (price_in prices.now) item) }
     ensures large { IfErr result (HasLargePriceAs instance.now prices.now item) }
 {
     an_instance_breaks_no_rule(instance);
@@ -107,6 +109,9 @@ fn item_group(
     requires low { 1 ≤ item }
     requires high { item ≤ item_count instance.now }
     ensures floor { IfOk result (IsFloorOf instance.now prices.now (ItemGroup item)) }
+    ensures within { IfOk result
+        (λ _. IsWithinWork instance.now (start_in started.now) (price_in prices.now)
+        (ItemGroup item)) }
     ensures fault { IfErr result
         (IsFloorFaultOf instance.now (start_in started.now) prices.now
         (ItemGroup item)) }
@@ -135,6 +140,9 @@ fn quantity_group(
     requires low { 1 ≤ item }
     requires high { item ≤ item_count instance.now }
     ensures floor { IfOk result (IsFloorOf instance.now prices.now (QuantityGroup item)) }
+    ensures within { IfOk result
+        (λ _. IsWithinWork instance.now (start_in started.now) (price_in prices.now)
+        (QuantityGroup item)) }
     ensures fault { IfErr result
         (IsFloorFaultOf instance.now (start_in started.now) prices.now
         (QuantityGroup item)) }
@@ -180,6 +188,9 @@ fn pair_group(
     requires group { IsGroupOf instance.now (ChainGroup low.now (top.now ∷ [])) }
     ensures floor { IfOk result
         (IsFloorOf instance.now prices.now (ChainGroup low.now (top.now ∷ []))) }
+    ensures within { IfOk result
+        (λ _. IsWithinWork instance.now (start_in started.now) (price_in prices.now)
+        (ChainGroup low.now (top.now ∷ []))) }
     ensures fault { IfErr result
         (IsFloorFaultOf instance.now (start_in started.now) prices.now
         (ChainGroup low.now (top.now ∷ []))) }
@@ -215,6 +226,9 @@ fn triple_group(
     requires group { IsGroupOf instance.now (ChainGroup low.now (mid.now ∷ (top.now ∷ []))) }
     ensures floor { IfOk result
         (IsFloorOf instance.now prices.now (ChainGroup low.now (mid.now ∷ (top.now ∷ [])))) }
+    ensures within { IfOk result
+        (λ _. IsWithinWork instance.now (start_in started.now) (price_in prices.now)
+        (ChainGroup low.now (mid.now ∷ (top.now ∷ [])))) }
     ensures fault { IfErr result
         (IsFloorFaultOf instance.now (start_in started.now) prices.now
         (ChainGroup low.now (mid.now ∷ (top.now ∷ [])))) }
@@ -262,8 +276,14 @@ pub fn group_floor(
     requires prices { ArePricesFor instance.now prices.now }
     requires group { IsGroupOf instance.now (shape_of group.now) }
     ensures floor { IfOk result (IsFloorOf instance.now prices.now (shape_of group.now)) }
+    ensures within { IfOk result
+        (λ _. IsWithinWork instance.now (start_in started.now) (price_in prices.now)
+        (shape_of group.now)) }
     ensures fault { IfErr result
         (IsFloorFaultOf instance.now (start_in started.now) prices.now
+        (shape_of group.now)) }
+    ensures past { IfErr result
+        (IsPastLimits instance.now (start_in started.now) prices.now
         (shape_of group.now)) }
 {
     match group {

@@ -1,5 +1,5 @@
 // Laws, each the contract of a function that does nothing.
-ghost use Rattle.reduced_groups.specs.Laws.{ApartByBoth, ChoicesByBoth, GroupsBound, GroupsRefute, KnownAreAlike, NumbersAreChoices, NumbersAreOne, NumbersByBoth, ReducedCostsBound, RowsAndGroupsBound};
+ghost use Rattle.reduced_groups.specs.Laws.{ApartByBoth, ChoicesByBoth, GroupsBound, GroupsRefute, KnownAreAlike, NumbersAreChoices, NumbersAreOne, NumbersByBoth, ReducedCostsBound, RowsAndGroupsBound, WorkByBoth};
 
 use lin_rows::sums_bound;
 use lot_sizing::echelons_balance;
@@ -30,7 +30,8 @@ pub fn reduced_costs_bound()
 
 /// Groups have one list of numbers (`one`), and none where one of them has no choice (`choices`). Whichever weights,
 /// starts and lots are taken of a problem (`known`), groups lie apart by all of them or by none (`apart`), have the same
-/// numbers (`both`), and have no choice by all of them or by none (`none`).
+/// numbers (`both`), have no choice by all of them or by none (`none`), and are within the limits of work by all of them
+/// or by none (`work`).
 pub fn numbers_are_one()
     ensures one { NumbersAreOne }
     ensures choices { NumbersAreChoices }
@@ -38,6 +39,7 @@ pub fn numbers_are_one()
     ensures apart { ApartByBoth }
     ensures both { NumbersByBoth }
     ensures none { ChoicesByBoth }
+    ensures work { WorkByBoth }
 {
     must_start_holds();
     lots_hold();

@@ -7,10 +7,10 @@ ghost use Rattle.reduced_groups.specs.Groups.{last_level, lower_level};
 ghost use Rattle.reduced_groups.specs.Levels.{IsAlikeLevel};
 ghost use Rattle.reduced_groups.specs.Prices.{ArePricesFor, price_in};
 
-use crate::group::ChainLink;
 use crate::needs::{needs_of_last, needs_of_lower};
 use crate::prices::GroupPrices;
 use chain_dp::ChainLevel;
+use item_groups::ChainLink;
 use lot_model::{Instance, an_instance_breaks_no_rule};
 use must_start::MustStart;
 use std::alloc::{AllocError, Global};

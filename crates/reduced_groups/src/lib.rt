@@ -11,7 +11,6 @@
 mod apart;
 mod chains;
 mod floors;
-mod group;
 mod laws;
 mod levels;
 mod needs;
@@ -20,6 +19,5 @@ mod quantities;
 
 pub use apart::{GroupFault, find_group_fault, is_group};
 pub use floors::{Floor, FloorFault, MAX_HORIZON, group_floor};
-pub use group::{ChainLink, Group};
 pub use laws::{groups_bound, numbers_are_one, reduced_costs_bound};
 pub use prices::{GroupPrices, PriceFault, price_of};

@@ -3,7 +3,7 @@ ghost use Rattle.std.specs.Prelude.{◌≤◌, ◌-◌, IfErr, IfOk};
 ghost use Rattle.lot_sizing.specs.Problem.{item_count};
 ghost use Rattle.must_start.specs.Rows.{IsMustStartOf, row_in, start_in};
 ghost use Rattle.reduced_groups.specs.Groups.{QuantityGroup};
-ghost use Rattle.reduced_groups.specs.Floors.{AreLotsFor, IsFloorFaultOf, IsFloorFrom, IsFloorOf};
+ghost use Rattle.reduced_groups.specs.Floors.{AreLotsFor, HasFewEntries, IsFloorFaultOf, IsFloorFrom, IsFloorOf};
 ghost use Rattle.reduced_groups.specs.Prices.{AreSmall, ArePricesFor, price_in};
 
 use crate::floors::{Floor, FloorFault};
@@ -69,6 +69,7 @@ pub(crate) fn quantity_floor(
     requires setups { AreSmall (row_in prices.now.setups item) }
     requires units { AreSmall (row_in prices.now.units item) }
     ensures floor { IfOk result (IsFloorOf instance.now prices.now (QuantityGroup item)) }
+    ensures few { IfOk result (λ _. HasFewEntries instance.now (start_in started.now) item) }
     ensures fault { IfErr result
         (IsFloorFaultOf instance.now (start_in started.now) prices.now
         (QuantityGroup item)) }

@@ -4,7 +4,7 @@ use Rattle.lin_rows.specs.declared.column.Column.TheVariants.{X, Y}
 use Rattle.must_start.specs.Rows.{start_in}
 use Rattle.chain_dp.specs.Chains.{level_of}
 use Rattle.quantity_dp.specs.declared.limits.TheConstants.{MAX_PRICE}
-use Rattle.reduced_groups.specs.declared.group.ChainLink.{ChainLink}
+use Rattle.item_groups.specs.declared.group.ChainLink.{ChainLink}
 use Rattle.reduced_groups.specs.Prices.{price_in}
 use Rattle.reduced_groups.proofs.Found.{item_found, item_not_dear, memory_only}
 use Rattle.reduced_groups.proofs.chains.item_floor.Goals as goal

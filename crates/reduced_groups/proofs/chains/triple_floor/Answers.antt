@@ -4,6 +4,7 @@ use Rattle.chain_dp.specs.Chains.{level_of}
 use Rattle.reduced_groups.specs.Groups.{chain_levels}
 use Rattle.reduced_groups.specs.Prices.{price_in}
 use Rattle.reduced_groups.proofs.Found.{capped_sum, chain_floor, too_dear_same}
+use Rattle.reduced_groups.proofs.Limits.{fits_same}
 use Rattle.reduced_groups.proofs.chains.triple_floor.Goals as goal
 
 pub returns-in-Ok-clause-floor : goal.returns-in-Ok-clause-floor
@@ -26,3 +27,13 @@ returns-clause-too_dear c = λ e.
     too_dear_same m.periods (length upper.need.items) (level_of lower ∷ (level_of middle ∷ (level_of upper ∷ [])))
     (chain_levels m (start_in c.args.started.now) (price_in c.args.prices.now) c.args.low.now (c.args.mid.now ∷ (c.args.top.now ∷ [])))
     c.in_ok-upper.ensures.sizes.need (c.in_ok-lower.ensures.level, (c.in_ok-middle.ensures.level, (c.in_ok-upper.ensures.level, tt))) (c.solve_three.ensures.too_dear.0 (c.in-Err.is ∙ e))
+
+pub returns-in-Ok-clause-fits : goal.returns-in-Ok-clause-fits
+returns-in-Ok-clause-fits c =
+    let m = c.args.instance.now in
+    let lower = c.in_ok-lower.lower in
+    let middle = c.in_ok-middle.middle in
+    let upper = c.in_ok-upper.upper in
+    fits_same m.periods (length upper.need.items) (level_of lower ∷ (level_of middle ∷ (level_of upper ∷ [])))
+    (chain_levels m (start_in c.args.started.now) (price_in c.args.prices.now) c.args.low.now (c.args.mid.now ∷ (c.args.top.now ∷ [])))
+    c.in_ok-upper.ensures.sizes.need (c.in_ok-lower.ensures.level, (c.in_ok-middle.ensures.level, (c.in_ok-upper.ensures.level, tt))) (λ dear. cc (sym c.in-Ok.is ∙ c.solve_three.ensures.too_dear.1 dear))

@@ -1,4 +1,4 @@
-use Rattle.reduced_groups.proofs.Alike.{apart_same, known_alike, numbers_same, some_lacks_same}
+use Rattle.reduced_groups.proofs.Alike.{apart_same, known_alike, numbers_same, some_lacks_same, work_same}
 use Rattle.reduced_groups.proofs.Once.{numbers_lack, one_list}
 use Rattle.reduced_groups.proofs.laws.numbers_are_one.Goals as goal
 
@@ -19,3 +19,6 @@ returns-clause-both c = λ m a b price other shapes amounts same prices here are
 
 pub returns-clause-none : goal.returns-clause-none
 returns-clause-none c = λ m a b price other shapes same here lacks. some_lacks_same m a b price other same shapes here lacks
+
+pub returns-clause-work : goal.returns-clause-work
+returns-clause-work c = λ m a b price other s same prices here is. work_same m a b price other same prices s here is

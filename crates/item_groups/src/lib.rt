@@ -1,0 +1,12 @@
+//! Groups of items whose reduced costs are bounded together, as plain data.
+//!
+//! Family: single items. It stands on nothing. The lines of certificates name groups (`cert_lines`), and `reduced_groups`
+//! says what the number of each is.
+//!
+//! A `Group` is an item, an item in whole quantities, or a chain of two or three items, each of which goes into the next
+//! one; a chain has a `ChainLink` for each.
+#![tactic(auto)]
+
+mod group;
+
+pub use group::{ChainLink, Group};

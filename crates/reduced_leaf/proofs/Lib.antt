@@ -1,0 +1,6 @@
+mod Known
+mod Same
+mod Faulty
+mod Adding
+mod Pricing
+mod Answering

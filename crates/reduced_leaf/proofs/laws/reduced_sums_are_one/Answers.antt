@@ -1,0 +1,18 @@
+use Rattle.reduced_leaf.proofs.Same.{choices_one, sums_one}
+use Rattle.reduced_leaf.proofs.Faulty.{faults_exclude}
+use Rattle.reduced_leaf.proofs.laws.reduced_sums_are_one.Goals as goal
+
+pub returns-clause-one : goal.returns-clause-one
+returns-clause-one c = λ m rank total more rows times den shapes ranks totals others a b is also.
+    let laws = c.numbers_are_one.ensures in
+    sums_one m rank total more rows times den shapes ranks totals others laws.known laws.both laws.one a b is also
+
+pub returns-clause-choices : goal.returns-clause-choices
+returns-clause-choices c = λ m rank total more rows times den shapes ranks totals others sum is lacks.
+    let laws = c.numbers_are_one.ensures in
+    choices_one m rank total more rows times den shapes ranks totals others laws.known laws.both laws.choices sum is lacks
+
+pub returns-clause-faults : goal.returns-clause-faults
+returns-clause-faults c = λ m rank total rows times den groups fault answer ranks totals told is has.
+    let laws = c.numbers_are_one.ensures in
+    faults_exclude m rank total rows times den groups (record { alike = laws.known; both = laws.both; one = laws.one; choices = laws.choices; work = laws.work }) ranks totals fault answer told is has

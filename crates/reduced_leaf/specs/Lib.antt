@@ -1,0 +1,4 @@
+pub mod Leaf
+pub mod Faults
+pub mod Laws
+pub mod Found
