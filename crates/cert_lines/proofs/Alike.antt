@@ -1,5 +1,5 @@
 -- A line has one value.
-use Rattle.std.proofs.Common.{◌≡◌, ◌≢◌, ◌<◌, ◌+◌, ◌^◌, ◌∙◌, ℕ, suc, refl, rules, sym, ap, subst, arith, List, [], ◌∷◌, ◌++◌, codes, decimal, length, Bool, true, false, slice_index_or}
+use Rattle.std.proofs.Common.{◌≡◌, ◌≢◌, ◌<◌, ◌+◌, ◌^◌, ◌∙◌, ℕ, suc, refl, rules, sym, ap, subst, arith, List, [], ◌∷◌, ◌++◌, codes, decimal, length, map, Bool, true, false, slice_index_or}
 use Rattle.std.proofs.lemmas.Fmt.{decimal_is_IsNumeral_wide}
 use Rattle.std.specs.Prelude.{ℤ, pos, negsuc, unsigned_abs}
 use Rattle.std.specs.Fmt.{signed_decimal}
@@ -7,11 +7,19 @@ use Rattle.lin_rows.specs.declared.column.Column.{Column}
 use Rattle.lin_rows.specs.declared.column.Column.TheVariants.{X, Y, S, R}
 use Rattle.lin_rows.specs.declared.base.RowName.{RowName}
 use Rattle.lin_rows.specs.declared.base.RowName.TheVariants.{Balance, Link, Capacity, EndMin, EndMax, Top, Least, Late, Path, Cut as CutRow}
+use Rattle.std.specs.List.{All}
+use Rattle.std.proofs.lemmas.List.Elements.{All-head, All-tail}
+use Rattle.item_groups.specs.declared.group.ChainLink.{ChainLink}
+use Rattle.item_groups.specs.declared.group.Group.{Group}
+use Rattle.item_groups.specs.declared.group.Group.TheVariants as group
+use Rattle.cert_lines.specs.declared.parts.ListKind.{ListKind}
+use Rattle.cert_lines.specs.declared.parts.ListKind.TheVariants as kind
 use Rattle.cert_lines.specs.declared.parts.Part.{Part}
-use Rattle.cert_lines.specs.Text.{Lines, bits_text}
-use Rattle.cert_lines.specs.Limits.{Is32}
-use Rattle.cert_lines.specs.Line.{IsFirstName, IsKnown, IsLine, IsSmallColumn, IsSmallCut, IsSmallLine, IsSmallName, later_line}
-use Rattle.cert_lines.specs.Words.{column_words, name_words, words_text}
+use Rattle.cert_lines.specs.declared.parts.PartList.{PartList}
+use Rattle.cert_lines.specs.Text.{Lines, bits_text, kind_text}
+use Rattle.cert_lines.specs.Limits.{Is32, IsSmallTimes}
+use Rattle.cert_lines.specs.Line.{IsFirstName, IsKnown, IsLine, IsSmallColumn, IsSmallCut, IsSmallGroup, IsSmallLine, IsSmallLink, IsSmallName, later_line}
+use Rattle.cert_lines.specs.Words.{column_words, group_words, link_words, name_words, words_text}
 use Rattle.cert_lines.proofs.Numerals.{digit_read}
 use Rattle.cert_lines.proofs.Splits.{same_number, same_words, tail}
 use Rattle.cert_lines.proofs.Stands.{visible_words}
@@ -22,7 +30,7 @@ use Rattle.cert_lines.proofs.Meant.{cut_form}
 use Rattle.cert_lines.proofs.Spelled.{spelled, visible, words_of, words_of_cut}
 use Rattle.cert_lines.specs.declared.line.CertLine.{CertLine}
 use Rattle.cert_lines.specs.declared.line.CertLine.TheVariants as line
-use Rattle.cert_lines.specs.Shapes.{line_shape, BlockLists, PriceLists, BlockCut, BranchLine, CutLine, CutShape, EndLine, FarkasLine, LineShape, LinearLine, LsCut, PartLine, PointLine, PriceCut, RoundCut, RoundLine}
+use Rattle.cert_lines.specs.Shapes.{line_shape, BlockLists, PriceLists, BlockCut, BranchLine, CutLine, CutShape, EndLine, FarkasLine, GroupLine, LineShape, LinearLine, ListLine, ListShape, LsCut, PartLine, PointLine, PriceCut, ReducedLine, RoundCut, RoundLine}
 
 abbrev first : List ℕ → ℕ
 first [] = 0
@@ -145,8 +153,79 @@ other_line c (PartLine part) e a b none = cut_apart c (codes "part") _ (λ f. se
 other_line c (BranchLine column at) e a b none = cut_apart c (codes "branch") _ (λ f. search (rules, f)) (λ f. search (rules, f)) (λ f. search (rules, f)) e a
 other_line c (LinearLine den parts) e a b none = cut_apart c (codes "linear") _ (λ f. search (rules, f)) (λ f. search (rules, f)) (λ f. search (rules, f)) e a
 other_line c (FarkasLine parts) e a b none = cut_apart c (codes "farkas") _ (λ f. search (rules, f)) (λ f. search (rules, f)) (λ f. search (rules, f)) e a
+other_line c (ReducedLine den parts lists groups) e a b none = cut_apart c (codes "reduced") _ (λ f. search (rules, f)) (λ f. search (rules, f)) (λ f. search (rules, f)) e a
+other_line c (ListLine l) e a b none = cut_apart c (codes "parts") _ (λ f. search (rules, f)) (λ f. search (rules, f)) (λ f. search (rules, f)) e a
+other_line c (GroupLine (group.Item i)) e a b none = cut_apart c (codes "item") _ (λ f. search (rules, f)) (λ f. search (rules, f)) (λ f. search (rules, f)) e a
+other_line c (GroupLine (group.Quantities i)) e a b none = cut_apart c (codes "quantities") _ (λ f. search (rules, f)) (λ f. search (rules, f)) (λ f. search (rules, f)) e a
+other_line c (GroupLine (group.Pair low top)) e a b none = cut_apart c (codes "pair") _ (λ f. search (rules, f)) (λ f. search (rules, f)) (λ f. search (rules, f)) e a
+other_line c (GroupLine (group.Triple low mid top)) e a b none = cut_apart c (codes "triple") _ (λ f. search (rules, f)) (λ f. search (rules, f)) (λ f. search (rules, f)) e a
 other_line c PointLine e a b none = cut_apart c (codes "point") _ (λ f. search (rules, f)) (λ f. search (rules, f)) (λ f. search (rules, f)) e a
 other_line c EndLine e a b none = cut_apart c (codes "end") _ (λ f. search (rules, f)) (λ f. search (rules, f)) (λ f. search (rules, f)) e a
+
+-- a list of multiples
+same_kind : (k l : ListKind) → kind_text k ≡ kind_text l → k ≡ l
+same_kind kind.Balance kind.Balance e = refl
+same_kind kind.Link kind.Link e = refl
+same_kind kind.Capacity kind.Capacity e = refl
+same_kind kind.Top kind.Top e = refl
+same_kind kind.Least kind.Least e = refl
+same_kind kind.Late kind.Late e = refl
+same_kind _ _ e = search (rules, e)
+
+same_times : (xs ys : List ℤ) → All IsSmallTimes xs → All IsSmallTimes ys → map signed_decimal xs ≡ map signed_decimal ys → xs ≡ ys
+same_times [] [] a b e = refl
+same_times [] (y ∷ ys) a b e = cc e
+same_times (x ∷ xs) [] a b e = cc e
+same_times (x ∷ xs) (y ∷ ys) a b e =
+    let first = same_signed x y (All-head IsSmallTimes x xs a) (All-head IsSmallTimes y ys b) (ap (λ ws. word ws 0) e) in
+    ap (λ z. z ∷ xs) first ∙ ap (λ zs. y ∷ zs) (same_times xs ys (All-tail IsSmallTimes x xs a) (All-tail IsSmallTimes y ys b) (ap after_one e))
+
+same_list : (l m : ListShape) → l.kind ≡ m.kind → l.index ≡ m.index → l.times ≡ m.times → l ≡ m
+same_list l m k i t = ap (λ x. list_of x l.index l.times) k ∙ ap (λ x. list_of m.kind x l.times) i ∙ ap (list_of m.kind m.index) t
+  where
+    list_of : ListKind → ℕ → List ℤ → ListShape
+    list_of k i t = record { kind = k; index = i; times = t }
+
+-- an item of a chain and the words after it
+same_link : (l m : ChainLink) (us vs : Lines) → IsSmallLink l → IsSmallLink m → link_words l ++ us ≡ link_words m ++ vs → (l ≡ m) × (us ≡ vs)
+same_link l m us vs a b e =
+    let item = same_32 l.item m.item a.0 b.0 (ap (λ ws. word ws 0) e) in
+    let price = same_number l.opening_price m.opening_price (omega (arith, a.1)) (omega (arith, b.1)) (ap (λ ws. word ws 1) e) in
+    (ap (λ i. link_of i l.opening_price) item ∙ ap (link_of m.item) price, ap after_two e)
+  where
+    link_of : ℕ → ℕ → ChainLink
+    link_of i p = record { item = i; opening_price = p }
+
+same_group : (g h : Group) → group_words g ≡ group_words h → IsSmallGroup g → IsSmallGroup h → g ≡ h
+same_group (group.Item i) (group.Item j) e a b = ap group.Item (same_32 i j a b (ap (λ ws. word ws 1) e))
+same_group (group.Quantities i) (group.Quantities j) e a b = ap group.Quantities (same_32 i j a b (ap (λ ws. word ws 1) e))
+same_group (group.Pair low top) (group.Pair one other) e a b =
+    let (first, rest) = same_link low one (link_words top) (link_words other) a.0 b.0 (ap after_one e) in
+    cc (first, (same_link top other [] [] a.1 b.1 rest).0)
+same_group (group.Triple low mid top) (group.Triple one two other) e a b =
+    let (first, rest) = same_link low one (link_words mid ++ link_words top) (link_words two ++ link_words other) a.0 b.0 (ap after_one e) in
+    let (second, end) = same_link mid two (link_words top) (link_words other) a.1 b.1 rest in
+    cc (first, second, (same_link top other [] [] a.2 b.2 end).0)
+same_group _ _ e a b = search (rules, ap (λ ws. word ws 0) e)
+
+group_apart : (g : Group) (w : List ℕ) (rest : Lines) → w ≢ codes "item" → w ≢ codes "quantities" → w ≢ codes "pair" → w ≢ codes "triple" → group_words g ≡ w ∷ rest → ⊥
+group_apart (group.Item i) w rest item quantities pair triple e = item (sym (ap (λ ws. word ws 0) e))
+group_apart (group.Quantities i) w rest item quantities pair triple e = quantities (sym (ap (λ ws. word ws 0) e))
+group_apart (group.Pair low top) w rest item quantities pair triple e = pair (sym (ap (λ ws. word ws 0) e))
+group_apart (group.Triple low mid top) w rest item quantities pair triple e = triple (sym (ap (λ ws. word ws 0) e))
+
+other_group : (g : Group) (m : LineShape) → group_words g ≡ words_of m → IsSmallGroup g → IsSmallLine m → ((h : Group) → m ≢ GroupLine h) → ⊥
+other_group g (CutLine c) e a b none = other_line c (GroupLine g) (sym e) b a (λ d f. search (rules, f))
+other_group g (RoundLine divisor parts) e a b none = group_apart g (codes "round") _ (λ f. search (rules, f)) (λ f. search (rules, f)) (λ f. search (rules, f)) (λ f. search (rules, f)) e
+other_group g (PartLine part) e a b none = group_apart g (codes "part") _ (λ f. search (rules, f)) (λ f. search (rules, f)) (λ f. search (rules, f)) (λ f. search (rules, f)) e
+other_group g (BranchLine column at) e a b none = group_apart g (codes "branch") _ (λ f. search (rules, f)) (λ f. search (rules, f)) (λ f. search (rules, f)) (λ f. search (rules, f)) e
+other_group g (LinearLine den parts) e a b none = group_apart g (codes "linear") _ (λ f. search (rules, f)) (λ f. search (rules, f)) (λ f. search (rules, f)) (λ f. search (rules, f)) e
+other_group g (FarkasLine parts) e a b none = group_apart g (codes "farkas") _ (λ f. search (rules, f)) (λ f. search (rules, f)) (λ f. search (rules, f)) (λ f. search (rules, f)) e
+other_group g PointLine e a b none = group_apart g (codes "point") _ (λ f. search (rules, f)) (λ f. search (rules, f)) (λ f. search (rules, f)) (λ f. search (rules, f)) e
+other_group g (ReducedLine den parts lists groups) e a b none = group_apart g (codes "reduced") _ (λ f. search (rules, f)) (λ f. search (rules, f)) (λ f. search (rules, f)) (λ f. search (rules, f)) e
+other_group g (ListLine l) e a b none = group_apart g (codes "parts") _ (λ f. search (rules, f)) (λ f. search (rules, f)) (λ f. search (rules, f)) (λ f. search (rules, f)) e
+other_group g (GroupLine h) e a b none = none h refl
+other_group g EndLine e a b none = group_apart g (codes "end") _ (λ f. search (rules, f)) (λ f. search (rules, f)) (λ f. search (rules, f)) (λ f. search (rules, f)) e
 
 -- lines with the same words
 same_values : (l m : LineShape) → words_of l ≡ words_of m → IsSmallLine l → IsSmallLine m → l ≡ m
@@ -162,6 +241,17 @@ same_values (LinearLine den parts) (LinearLine q n) e a b = cc (same_signed den 
 same_values (FarkasLine parts) (FarkasLine n) e a b = ap FarkasLine (same_number parts n (omega (arith, a)) (omega (arith, b)) (ap (λ ws. word ws 1) e))
 same_values PointLine PointLine e a b = refl
 same_values EndLine EndLine e a b = refl
+same_values (ReducedLine den parts lists groups) (ReducedLine q n k h) e a b = cc (
+  same_number den q (omega (arith, a.0)) (omega (arith, b.0)) (ap (λ ws. word ws 1) e),
+  same_number parts n (omega (arith, a.1)) (omega (arith, b.1)) (ap (λ ws. word ws 2) e),
+  same_number lists k (omega (arith, a.2)) (omega (arith, b.2)) (ap (λ ws. word ws 3) e),
+  same_number groups h (omega (arith, a.3)) (omega (arith, b.3)) (ap (λ ws. word ws 4) e),
+)
+same_values (ListLine x) (ListLine y) e a b =
+    ap ListLine (same_list x y (same_kind x.kind y.kind (ap (λ ws. word ws 1) e)) (same_32 x.index y.index a.0 b.0 (ap (λ ws. word ws 2) e)) (same_times x.times y.times a.1 b.1 (ap after_three e)))
+same_values (GroupLine g) (GroupLine h) e a b = ap GroupLine (same_group g h e a b)
+same_values (GroupLine g) m e a b = absurd (other_group g m e a b (λ h is. search (rules, is)))
+same_values l (GroupLine g) e a b = absurd (other_group g l (sym e) b a (λ h is. search (rules, is)))
 same_values (CutLine c) m e a b = absurd (other_line c m e a b (λ d is. search (rules, is)))
 same_values l (CutLine d) e a b = absurd (other_line d l (sym e) b a (λ c is. search (rules, is)))
 same_values _ _ e a b = search (rules, ap (λ ws. word ws 0) e)
@@ -179,16 +269,21 @@ one_value version bytes l m a b = only_value bytes l m a.text a.form.small b.tex
 pub unknown : (version : ℕ) (bytes : List ℕ) (l m : LineShape) → bytes ≡ later_line l → IsSmallLine l → (IsKnown version l → ⊥) → IsLine version bytes m → ⊥
 unknown version bytes l m is small lacks line = lacks (subst (IsKnown version) (sym (only_value bytes l m is small line.text line.form.small)) line.known)
 
--- a line that is no part is known to each version
-pub others_known : (version : ℕ) (l : CertLine) → ((part : Part) → l ≢ line.Part part) → IsKnown version (line_shape l)
-others_known version (line.Part part) other = absurd (other part refl)
-others_known version (line.Cut c) other = tt
-others_known version (line.Round divisor parts) other = tt
-others_known version (line.Branch column at) other = tt
-others_known version (line.Linear den parts) other = tt
-others_known version (line.Farkas parts) other = tt
-others_known version line.Point other = tt
-others_known version line.End other = tt
+-- a line that is no part, no leaf over reduced costs, no list and no group is known to each version
+pub others_known : (version : ℕ) (l : CertLine) → ((part : Part) → l ≢ line.Part part)
+    → ((den parts lists groups : ℕ) → l ≢ line.Reduced den parts lists groups)
+    → ((a : PartList) → l ≢ line.List a) → ((g : Group) → l ≢ line.Group g) → IsKnown version (line_shape l)
+others_known version (line.Part part) a b c d = absurd (a part refl)
+others_known version (line.Reduced den parts lists groups) a b c d = absurd (b den parts lists groups refl)
+others_known version (line.List x) a b c d = absurd (c x refl)
+others_known version (line.Group g) a b c d = absurd (d g refl)
+others_known version (line.Cut x) a b c d = tt
+others_known version (line.Round divisor parts) a b c d = tt
+others_known version (line.Branch column at) a b c d = tt
+others_known version (line.Linear den parts) a b c d = tt
+others_known version (line.Farkas parts) a b c d = tt
+others_known version line.Point a b c d = tt
+others_known version line.End a b c d = tt
 
 pub other_first : (row : RowName) → ((i t : ℕ) → row ≢ Least i t) → ((i t : ℕ) → row ≢ Late i t) → IsFirstName row
 other_first (Least i t) least late = absurd (least i t refl)

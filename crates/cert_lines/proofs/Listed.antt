@@ -1,9 +1,11 @@
 -- Lists in a line are read word by word.
 use Rattle.std.proofs.Common.{◌≡◌, ◌≢◌, ◌<◌, ◌≤◌, ◌+◌, ◌^◌, ◌∙◌, ℕ, zero, suc, refl, sym, ap, subst, List, [], ◌∷◌, ◌++◌, Bool, Bor, arith, codes, decimal, length, map, slice_index_or, take, true, false}
-use Rattle.std.specs.Prelude.{Option, None, Some, IfSome, IsNone}
+use Rattle.std.specs.Fmt.{signed_decimal}
+use Rattle.std.specs.Prelude.{ℤ, Option, None, Some, IfSome, IsNone}
 use Rattle.std.specs.List.{All, flat_map}
 use Rattle.std.proofs.lemmas.List.{length-append, length-map, map-append, take_more}
 use Rattle.std.proofs.lemmas.List.Elements.{All-head, All-nil, All-push, All-tail}
+use Rattle.cert_lines.specs.Limits.{IsSmallTimes}
 use Rattle.cert_lines.specs.Text.{Lines, bit_text, bits_text}
 use Rattle.cert_lines.specs.Words.{HasNoNumber, IsFour, IsListFrom, StandFrom, word_at}
 use Rattle.cert_lines.proofs.Splits.{no_word, not_empty, same_number, words_in}
@@ -40,6 +42,26 @@ list_end ws limit from k xs none l = record {
   small = l.small;
   end = subst (λ j. HasNoNumber ws limit j) l.place none;
 }
+
+-- the numbers with their signs that were read before a place
+pub record AreTimesTo (ws : Lines) (from k : ℕ) (xs : List ℤ) : Type 0 where
+  pub stand : StandFrom ws from (map signed_decimal xs)
+  pub small : All IsSmallTimes xs
+  pub place : k ≡ from + length xs
+
+pub times_more : (ws : Lines) (from k : ℕ) (xs : List ℤ) (x : ℤ) → word_at ws k ≡ signed_decimal x → IsSmallTimes x → AreTimesTo ws from k xs → AreTimesTo ws from (k + 1) (xs ++ x ∷ [])
+times_more ws from k xs x is small l = record {
+  stand = subst (λ vs. StandFrom ws from vs) (sym (map-append signed_decimal xs (x ∷ []))) (stand_more ws from (map signed_decimal xs) (signed_decimal x) l.stand (subst (λ j. word_at ws j ≡ signed_decimal x) (l.place ∙ ap (λ n. from + n) (sym (length-map xs signed_decimal))) is));
+  small = All-push IsSmallTimes xs x l.small small;
+  place = omega (arith, l.place, length-append xs (x ∷ []));
+}
+
+-- a word that is no number with its sign
+pub no_times : (ws : Lines) (from j : ℕ) (xs : List ℤ) → All IsSmallTimes xs → StandFrom ws from (map signed_decimal xs) → j < length xs → ((z : ℤ) → IsSmallTimes z → word_at ws (from + j) ≡ signed_decimal z → ⊥) → ⊥
+no_times ws from j [] all s less none = omega (arith, less)
+no_times ws from zero (x ∷ xs) all s less none = none x (All-head IsSmallTimes x xs all) (subst (λ k. word_at ws k ≡ signed_decimal x) (omega arith) s.0)
+no_times ws from (suc j) (x ∷ xs) all s less none =
+    no_times ws (from + 1) j xs (All-tail IsSmallTimes x xs all) s.1 (omega (arith, less)) (λ z small is. none z small (subst (λ k. word_at ws k ≡ signed_decimal z) (omega arith) is))
 
 pub no_number : (words : List (Bor (List ℕ))) (limit place : ℕ) → limit ≤ 10 ^ 64 → length words ≤ place → HasNoNumber (words_in words) limit place
 no_number words limit place wide high = λ n small is. not_empty n (omega (arith, small, wide)) (sym (no_word words place high) ∙ is)

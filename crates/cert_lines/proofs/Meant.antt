@@ -11,7 +11,7 @@ use Rattle.cert_lines.proofs.Numerals.{digit_read}
 use Rattle.cert_lines.proofs.Splits.{tail, not_empty, same_words}
 use Rattle.cert_lines.proofs.Stands.{list_words, same_lines, stand_join, stand_split, stand_whole, visible_words}
 use Rattle.cert_lines.proofs.Spelled.{block_words, price_words, spelled, visible, words_of, words_of_cut}
-use Rattle.cert_lines.specs.Shapes.{BlockCut, BranchLine, CutLine, CutShape, EndLine, FarkasLine, LineShape, LinearLine, LsCut, PartLine, PointLine, PriceCut, RoundCut, RoundLine}
+use Rattle.cert_lines.specs.Shapes.{BlockCut, BranchLine, CutLine, CutShape, EndLine, FarkasLine, GroupLine, LineShape, LinearLine, ListLine, LsCut, PartLine, PointLine, PriceCut, ReducedLine, RoundCut, RoundLine}
 
 list_length : (letter xs : List ℕ) (rest : Lines) → length (list_words letter xs ++ rest) ≡ 1 + length xs + length rest
 list_length letter xs rest = omega (arith, length-append (map decimal xs) rest, length-map xs decimal)
@@ -138,6 +138,9 @@ line_words ws (BranchLine column at) h = (same_lines ws _ h.0, (h.1, h.2))
 line_words ws (LinearLine den parts) h = (same_lines ws _ h.0, (h.1, h.2, h.3))
 line_words ws (FarkasLine parts) h = (same_lines ws _ h.0, h.1)
 line_words ws PointLine h = (same_lines ws _ h, tt)
+line_words ws (ReducedLine den parts lists groups) h = (same_lines ws _ h.0, (h.1, h.2, h.3, h.4))
+line_words ws (ListLine a) h = (same_lines ws _ h.0, h.1)
+line_words ws (GroupLine g) h = (same_lines ws _ h.0, h.1)
 line_words ws EndLine h = (same_lines ws _ h, tt)
 
 pub cut_form : (c : CutShape) → IsSmallCut c → IsCutOf (words_of_cut c) c
@@ -154,6 +157,9 @@ line_form (BranchLine column at) small = (stand_whole (words_of (BranchLine colu
 line_form (LinearLine den parts) small = (stand_whole (words_of (LinearLine den parts)), small.0, small.1, small.2)
 line_form (FarkasLine parts) small = (stand_whole (words_of (FarkasLine parts)), small)
 line_form PointLine small = stand_whole (words_of PointLine)
+line_form (ReducedLine den parts lists groups) small = (stand_whole (words_of (ReducedLine den parts lists groups)), small.0, small.1, small.2, small.3)
+line_form (ListLine a) small = (stand_whole (words_of (ListLine a)), small)
+line_form (GroupLine g) small = (stand_whole (words_of (GroupLine g)), small)
 line_form EndLine small = stand_whole (words_of EndLine)
 
 -- what the words say is what the bytes say

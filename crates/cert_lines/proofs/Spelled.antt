@@ -1,4 +1,5 @@
 -- Each line has its words, and they its text.
+use Rattle.std.specs.Prelude.{ℤ}
 use Rattle.std.proofs.Common.{◌≡◌, ◌<◌, ◌≤◌, ◌^◌, ◌∙◌, ℕ, refl, rules, sym, ap, List, [], ◌∷◌, ◌++◌, append_assoc, append-nil, arith, codes, decimal, map}
 use Rattle.std.specs.Fmt.{signed_decimal}
 use Rattle.std.specs.List.{All}
@@ -7,12 +8,17 @@ use Rattle.lin_rows.specs.declared.column.Column.TheVariants.{X, Y, S, R}
 use Rattle.lin_rows.specs.declared.base.RowName.{RowName}
 use Rattle.lin_rows.specs.declared.base.RowName.TheVariants.{Balance, Link, Capacity, EndMin, EndMax, Top, Least, Late, Path, Cut as CutRow}
 use Rattle.lin_rows.specs.Texts.{column_text, name_text, one_text, two_text}
-use Rattle.cert_lines.specs.Text.{Lines, bits_text, list_text}
-use Rattle.cert_lines.specs.Line.{IsSmallColumn, IsSmallCut, IsSmallLine, IsSmallName, cut_line, later_line}
-use Rattle.cert_lines.specs.Words.{branch_words, column_words, farkas_words, linear_words, ls_words, name_words, one_words, part_words, round_words, two_words, word_text, words_text}
+use Rattle.item_groups.specs.declared.group.ChainLink.{ChainLink}
+use Rattle.item_groups.specs.declared.group.Group.{Group}
+use Rattle.item_groups.specs.declared.group.Group.TheVariants as group
+use Rattle.cert_lines.specs.declared.parts.ListKind.{ListKind}
+use Rattle.cert_lines.specs.declared.parts.ListKind.TheVariants as kind
+use Rattle.cert_lines.specs.Text.{Lines, bits_text, group_line, kind_text, link_text, list_text, signed_list_text}
+use Rattle.cert_lines.specs.Line.{IsSmallColumn, IsSmallCut, IsSmallGroup, IsSmallLine, IsSmallLink, IsSmallName, cut_line, later_line}
+use Rattle.cert_lines.specs.Words.{branch_words, column_words, farkas_words, group_words, linear_words, link_words, ls_words, name_words, one_words, part_words, parts_words, reduced_words, round_words, two_words, word_text, words_text}
 use Rattle.std.proofs.lemmas.Grind.{flat_map-append}
-use Rattle.cert_lines.proofs.Stands.{AreVisible, IsVisible, bits_visible, decimal_visible, list_last, list_part, list_words, numbers_visible, signed_visible, visible_append}
-use Rattle.cert_lines.specs.Shapes.{BlockCut, BranchLine, CutLine, CutShape, EndLine, FarkasLine, LineShape, LinearLine, LsCut, PartLine, PointLine, PriceCut, RoundCut, RoundLine}
+use Rattle.cert_lines.proofs.Stands.{AreVisible, IsVisible, bits_visible, decimal_visible, list_last, list_part, list_words, numbers_visible, signed_numbers_visible, signed_visible, visible_append}
+use Rattle.cert_lines.specs.Shapes.{BlockCut, BranchLine, CutLine, CutShape, EndLine, FarkasLine, GroupLine, LineShape, LinearLine, ListLine, LsCut, PartLine, PointLine, PriceCut, ReducedLine, RoundCut, RoundLine}
 
 -- the words of the lines that end in lists
 abbrev pub price_words : ℕ → List ℕ → List ℕ → List ℕ → List ℕ → Lines
@@ -36,6 +42,9 @@ words_of (BranchLine column at) = branch_words column at
 words_of (LinearLine den parts) = linear_words den parts
 words_of (FarkasLine parts) = farkas_words parts
 words_of PointLine = codes "point" ∷ []
+words_of (ReducedLine den parts lists groups) = reduced_words den parts lists groups
+words_of (ListLine a) = parts_words a
+words_of (GroupLine g) = group_words g
 words_of EndLine = codes "end" ∷ []
 
 one_spelled : (word : List ℕ) (a : ℕ) → words_text (one_words word a) ≡ word_text word ++ one_text a
@@ -88,6 +97,26 @@ cut_spelled (PriceCut item a) small = price_spelled item a.price a.unit a.hold a
 cut_spelled (BlockCut item a) small = block_spelled item a.setup a.unit a.hold a.back a.steps ∙ ap (λ t. word_text (codes "block") ++ t) (sym (append_assoc (one_text item) (codes " f") _))
 cut_spelled (RoundCut divisor parts) small = absurd small
 
+-- the text of numbers with their signs
+signed_spelled : (xs : List ℤ) → words_text (map signed_decimal xs) ≡ signed_list_text xs
+signed_spelled [] = refl
+signed_spelled (x ∷ xs) = ap (λ t. word_text (signed_decimal x) ++ t) (signed_spelled xs)
+
+-- the text of an item of a chain before other words, and at the end
+link_spelled : (link : ChainLink) (rest : Lines) → words_text (link_words link ++ rest) ≡ link_text link ++ words_text rest
+link_spelled link rest = sym (append_assoc (one_text link.item) (one_text link.opening_price) (words_text rest))
+
+last_spelled : (link : ChainLink) → words_text (link_words link) ≡ link_text link
+last_spelled link = ap (λ t. one_text link.item ++ t) (append-nil (one_text link.opening_price))
+
+group_spelled : (g : Group) → words_text (group_words g) ≡ 32 ∷ group_line g
+group_spelled (group.Item item) = one_spelled (codes "item") item
+group_spelled (group.Quantities item) = one_spelled (codes "quantities") item
+group_spelled (group.Pair low top) = ap (λ t. word_text (codes "pair") ++ t) (link_spelled low (link_words top) ∙ ap (λ t. link_text low ++ t) (last_spelled top))
+group_spelled (group.Triple low mid top) =
+    ap (λ t. word_text (codes "triple") ++ t)
+    (link_spelled low (link_words mid ++ link_words top) ∙ ap (λ t. link_text low ++ t) (link_spelled mid (link_words top) ∙ ap (λ t. link_text mid ++ t) (last_spelled top)))
+
 pub spelled : (l : LineShape) → IsSmallLine l → words_text (words_of l) ≡ 32 ∷ later_line l
 spelled (CutLine c) small = cut_spelled c small
 spelled (RoundLine divisor parts) small = two_spelled (codes "round") divisor parts
@@ -96,6 +125,9 @@ spelled (BranchLine column at) small = around (codes "branch") (column_words col
 spelled (LinearLine den parts) small = ap (λ t. word_text (codes "linear") ++ (word_text (signed_decimal den) ++ t)) (append-nil (one_text parts))
 spelled (FarkasLine parts) small = one_spelled (codes "farkas") parts
 spelled PointLine small = refl
+spelled (ReducedLine den parts lists groups) small = ap (λ t. word_text (codes "reduced") ++ (one_text den ++ (one_text parts ++ (one_text lists ++ t)))) (append-nil (one_text groups))
+spelled (ListLine a) small = ap (λ t. word_text (codes "parts") ++ (word_text (kind_text a.kind) ++ (one_text a.index ++ t))) (signed_spelled a.times)
+spelled (GroupLine g) small = group_spelled g
 spelled EndLine small = refl
 
 one_visible : (word : List ℕ) (a : ℕ) → IsVisible word → a < 10 ^ 64 → AreVisible (one_words word a)
@@ -153,6 +185,23 @@ cut_visible (BlockCut item a) small = (
 )
 cut_visible (RoundCut divisor parts) small = absurd small
 
+kind_visible : (k : ListKind) → IsVisible (kind_text k)
+kind_visible kind.Balance = search rules
+kind_visible kind.Link = search rules
+kind_visible kind.Capacity = search rules
+kind_visible kind.Top = search rules
+kind_visible kind.Least = search rules
+kind_visible kind.Late = search rules
+
+link_visible : (link : ChainLink) (rest : Lines) → IsSmallLink link → AreVisible rest → AreVisible (link_words link ++ rest)
+link_visible link rest small r = (decimal_visible link.item (omega (arith, small.0)), (decimal_visible link.opening_price (omega (arith, small.1)), r))
+
+group_visible : (g : Group) → IsSmallGroup g → AreVisible (group_words g)
+group_visible (group.Item item) small = one_visible (codes "item") item (search rules) (omega (arith, small))
+group_visible (group.Quantities item) small = one_visible (codes "quantities") item (search rules) (omega (arith, small))
+group_visible (group.Pair low top) small = (search rules, link_visible low (link_words top) small.0 (link_visible top [] small.1 tt))
+group_visible (group.Triple low mid top) small = (search rules, link_visible low (link_words mid ++ link_words top) small.0 (link_visible mid (link_words top) small.1 (link_visible top [] small.2 tt)))
+
 -- no word has a space or a byte before it
 pub visible : (l : LineShape) → IsSmallLine l → AreVisible (words_of l)
 visible (CutLine c) small = cut_visible c small
@@ -162,4 +211,16 @@ visible (BranchLine column at) small = (search rules, visible_append (column_wor
 visible (LinearLine den parts) small = (search rules, (signed_visible den (omega (arith, small.1)), (decimal_visible parts (omega (arith, small.2)), tt)))
 visible (FarkasLine parts) small = one_visible (codes "farkas") parts (search rules) (omega (arith, small))
 visible PointLine small = (search rules, tt)
+visible (ReducedLine den parts lists groups) small = (
+  search rules,
+  (
+    decimal_visible den (omega (arith, small.0)),
+    (
+      decimal_visible parts (omega (arith, small.1)),
+      (decimal_visible lists (omega (arith, small.2)), (decimal_visible groups (omega (arith, small.3)), tt)),
+    ),
+  ),
+)
+visible (ListLine a) small = (search rules, (kind_visible a.kind, (decimal_visible a.index (omega (arith, small.0)), signed_numbers_visible a.times small.1)))
+visible (GroupLine g) small = group_visible g small
 visible EndLine small = (search rules, tt)

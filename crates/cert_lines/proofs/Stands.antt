@@ -8,6 +8,7 @@ use Rattle.std.proofs.lemmas.List.Elements.{All-head, All-tail}
 use Rattle.std.proofs.lemmas.Str.{digit_value_digit}
 use Rattle.std.proofs.lemmas.Str.Parse.{digit_at}
 use Rattle.std.proofs.lemmas.List.{ext_get_or, get_or-append-add, length-append}
+use Rattle.cert_lines.specs.Limits.{IsSmallTimes}
 use Rattle.cert_lines.specs.Text.{Lines, bits_text, list_text}
 use Rattle.cert_lines.specs.Words.{AreWords, HasNoSpace, HasWords, StandFrom, word_at, word_text, words_text}
 
@@ -98,3 +99,7 @@ bits_visible (false ∷ bits) = (omega arith, bits_visible bits)
 pub numbers_visible : (xs : List ℕ) (limit : ℕ) → limit ≤ 10 ^ 64 → All (λ x. x < limit) xs → AreVisible (map decimal xs)
 numbers_visible [] limit wide a = tt
 numbers_visible (x ∷ xs) limit wide a = (decimal_visible x (omega (arith, wide, All-head (λ n. n < limit) x xs a)), numbers_visible xs limit wide (All-tail (λ n. n < limit) x xs a))
+
+pub signed_numbers_visible : (xs : List ℤ) → All IsSmallTimes xs → AreVisible (map signed_decimal xs)
+signed_numbers_visible [] a = tt
+signed_numbers_visible (x ∷ xs) a = (signed_visible x (omega (arith, All-head IsSmallTimes x xs a)), signed_numbers_visible xs (All-tail IsSmallTimes x xs a))

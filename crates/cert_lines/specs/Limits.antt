@@ -1,5 +1,5 @@
 -- The limits on the numbers of lines.
-use Rattle.std.specs.Prelude.{◌<◌, ◌≤◌, ◌^◌, ℕ, unsigned_abs, ⊤}
+use Rattle.std.specs.Prelude.{◌<◌, ◌≤◌, ◌^◌, ℕ, ℤ, unsigned_abs, ⊤}
 use Rattle.cert_lines.specs.declared.limits.TheConstants.{FIRST_CERT_VERSION, MAX_CERT_VERSION}
 use Rattle.cert_lines.specs.declared.parts.Claim.{Claim}
 use Rattle.cert_lines.specs.declared.parts.Claim.TheVariants as claim
@@ -35,5 +35,8 @@ IsSmallClaim claim.Infeasible = ⊤
 IsSmallClaim (claim.Bound bound) = Is127 bound
 
 -- a multiplier, by its absolute value
+abbrev pub IsSmallTimes : ℤ → Type 0
+IsSmallTimes times = Is127 (unsigned_abs times)
+
 abbrev pub IsSmallPart : Part → Type 0
 IsSmallPart part = Is127 (unsigned_abs part.times)

@@ -5,10 +5,13 @@ use Rattle.lin_rows.specs.declared.column.Column.{Column}
 use Rattle.lin_rows.specs.declared.column.Column.TheVariants.{X, Y, S, R}
 use Rattle.lin_rows.specs.declared.base.RowName.{RowName}
 use Rattle.lin_rows.specs.declared.base.RowName.TheVariants.{Balance, Link, Capacity, EndMin, EndMax, Top, Least, Late, Path, Cut as CutRow}
-use Rattle.cert_lines.specs.Text.{block_line, branch_line, farkas_line, linear_line, ls_line, part_line, price_line, round_line}
-use Rattle.cert_lines.specs.Limits.{Is32, Is64, IsSmallPart}
-use Rattle.cert_lines.specs.Shapes.{BlockCut, BlockLists, BranchLine, CutLine, CutShape, EndLine, FarkasLine, LineShape, LinearLine, LsCut, PartLine, PointLine, PriceCut, PriceLists, RoundCut, RoundLine}
-use Rattle.cert_lines.specs.declared.limits.TheConstants.{FIRST_CERT_VERSION, MAX_LINE, MAX_PARTS, MAX_ROUND_PARTS}
+use Rattle.cert_lines.specs.Text.{block_line, branch_line, farkas_line, group_line, linear_line, list_line, ls_line, part_line, price_line, reduced_line, round_line}
+use Rattle.cert_lines.specs.Limits.{Is32, Is64, IsSmallPart, IsSmallTimes}
+use Rattle.item_groups.specs.declared.group.ChainLink.{ChainLink}
+use Rattle.item_groups.specs.declared.group.Group.{Group}
+use Rattle.item_groups.specs.declared.group.Group.TheVariants as group
+use Rattle.cert_lines.specs.Shapes.{BlockCut, BlockLists, BranchLine, CutLine, CutShape, EndLine, FarkasLine, GroupLine, LineShape, LinearLine, ListLine, ListShape, LsCut, PartLine, PointLine, PriceCut, PriceLists, ReducedLine, RoundCut, RoundLine}
+use Rattle.cert_lines.specs.declared.limits.TheConstants.{FIRST_CERT_VERSION, MAX_GROUPS, MAX_LINE, MAX_LISTS, MAX_PARTS, MAX_ROUND_PARTS, REDUCED_CERT_VERSION}
 use Rattle.round_cuts.specs.declared.rounding.TheConstants.{MAX_DIVISOR}
 use Rattle.cert_lines.specs.Limits.{Is127}
 
@@ -27,6 +30,9 @@ later_line (BranchLine column at) = branch_line column at
 later_line (LinearLine den parts) = linear_line den parts
 later_line (FarkasLine parts) = farkas_line parts
 later_line PointLine = codes "point"
+later_line (ReducedLine den parts lists groups) = reduced_line den parts lists groups
+later_line (ListLine a) = list_line a
+later_line (GroupLine g) = group_line g
 later_line EndLine = codes "end"
 
 abbrev pub ArePriceLists : PriceLists → Type 0
@@ -63,6 +69,18 @@ IsSmallCut (PriceCut item prices) = Is32 item × ArePriceLists prices
 IsSmallCut (BlockCut item potentials) = Is32 item × AreBlockLists potentials
 IsSmallCut (RoundCut divisor parts) = ⊥
 
+abbrev pub IsSmallList : ListShape → Type 0
+IsSmallList a = Is32 a.index × All IsSmallTimes a.times
+
+abbrev pub IsSmallLink : ChainLink → Type 0
+IsSmallLink link = Is32 link.item × Is127 link.opening_price
+
+abbrev pub IsSmallGroup : Group → Type 0
+IsSmallGroup (group.Item item) = Is32 item
+IsSmallGroup (group.Quantities item) = Is32 item
+IsSmallGroup (group.Pair low top) = IsSmallLink low × IsSmallLink top
+IsSmallGroup (group.Triple low mid top) = IsSmallLink low × IsSmallLink mid × IsSmallLink top
+
 -- the limits on numbers
 abbrev pub IsSmallLine : LineShape → Type 0
 IsSmallLine (CutLine c) = IsSmallCut c
@@ -72,6 +90,9 @@ IsSmallLine (BranchLine column at) = IsSmallColumn column × Is64 at
 IsSmallLine (LinearLine den parts) = (pos 1 ≤ℤ den) × (Is127 (unsigned_abs den)) × (parts ≤ MAX_PARTS)
 IsSmallLine (FarkasLine parts) = parts ≤ MAX_PARTS
 IsSmallLine PointLine = ⊤
+IsSmallLine (ReducedLine den parts lists groups) = Is64 den × (parts ≤ MAX_PARTS) × (lists ≤ MAX_LISTS) × (groups ≤ MAX_GROUPS)
+IsSmallLine (ListLine a) = IsSmallList a
+IsSmallLine (GroupLine g) = IsSmallGroup g
 IsSmallLine EndLine = ⊤
 
 -- the line of the value is within the limits
@@ -92,6 +113,9 @@ IsFirstName _ = ⊤
 -- the version has the form
 abbrev pub IsKnown : ℕ → LineShape → Type 0
 IsKnown version (PartLine part) = version ≡ FIRST_CERT_VERSION → IsFirstName part.row
+IsKnown version (ReducedLine den parts lists groups) = REDUCED_CERT_VERSION ≤ version
+IsKnown version (ListLine a) = REDUCED_CERT_VERSION ≤ version
+IsKnown version (GroupLine g) = REDUCED_CERT_VERSION ≤ version
 IsKnown version _ = ⊤
 
 -- the line of a text of this version has this value

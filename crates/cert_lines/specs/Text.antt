@@ -7,7 +7,12 @@ use Rattle.lin_rows.specs.Texts.{column_text, name_text, one_text}
 use Rattle.cert_lines.specs.declared.parts.Claim.{Claim}
 use Rattle.cert_lines.specs.declared.parts.Claim.TheVariants as claim
 use Rattle.cert_lines.specs.declared.parts.Part.{Part}
-use Rattle.cert_lines.specs.Shapes.{BlockLists, PriceLists}
+use Rattle.item_groups.specs.declared.group.ChainLink.{ChainLink}
+use Rattle.item_groups.specs.declared.group.Group.{Group}
+use Rattle.item_groups.specs.declared.group.Group.TheVariants as group
+use Rattle.cert_lines.specs.declared.parts.ListKind.{ListKind}
+use Rattle.cert_lines.specs.declared.parts.ListKind.TheVariants as kind
+use Rattle.cert_lines.specs.Shapes.{BlockLists, ListShape, PriceLists}
 
 -- lines without their line feeds
 abbrev pub Lines : Type 0
@@ -59,6 +64,38 @@ linear_line den count = codes "linear " ++ (signed_decimal den ++ one_text count
 
 abbrev pub farkas_line : ℕ → List ℕ
 farkas_line count = codes "farkas" ++ one_text count
+
+-- numbers that may be below 0, each after a space
+abbrev pub signed_text : ℤ → List ℕ
+signed_text a = codes " " ++ signed_decimal a
+
+abbrev pub signed_list_text : List ℤ → List ℕ
+signed_list_text xs = flat_map signed_text xs
+
+-- a leaf over reduced costs: its denominator, and how many parts, lists and groups follow
+abbrev pub reduced_line : ℕ → ℕ → ℕ → ℕ → List ℕ
+reduced_line den parts lists groups = codes "reduced" ++ (one_text den ++ (one_text parts ++ (one_text lists ++ one_text groups)))
+
+abbrev pub kind_text : ListKind → List ℕ
+kind_text kind.Balance = codes "balance"
+kind_text kind.Link = codes "link"
+kind_text kind.Capacity = codes "capacity"
+kind_text kind.Top = codes "top"
+kind_text kind.Least = codes "least"
+kind_text kind.Late = codes "late"
+
+abbrev pub list_line : ListShape → List ℕ
+list_line a = codes "parts " ++ (kind_text a.kind ++ (one_text a.index ++ signed_list_text a.times))
+
+-- an item of a chain, and the price at which it is bought before the first period
+abbrev pub link_text : ChainLink → List ℕ
+link_text link = one_text link.item ++ one_text link.opening_price
+
+abbrev pub group_line : Group → List ℕ
+group_line (group.Item item) = codes "item" ++ one_text item
+group_line (group.Quantities item) = codes "quantities" ++ one_text item
+group_line (group.Pair low top) = codes "pair" ++ (link_text low ++ link_text top)
+group_line (group.Triple low mid top) = codes "triple" ++ (link_text low ++ (link_text mid ++ link_text top))
 
 abbrev pub branch_line : Column → ℕ → List ℕ
 branch_line column at = codes "branch " ++ (column_text column ++ one_text at)

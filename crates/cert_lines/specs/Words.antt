@@ -6,7 +6,11 @@ use Rattle.lin_rows.specs.declared.column.Column.{Column}
 use Rattle.lin_rows.specs.declared.column.Column.TheVariants.{X, Y, S, R}
 use Rattle.lin_rows.specs.declared.base.RowName.{RowName}
 use Rattle.lin_rows.specs.declared.base.RowName.TheVariants.{Balance, Link, Capacity, EndMin, EndMax, Top, Least, Late, Path, Cut}
-use Rattle.cert_lines.specs.Text.{Lines, bits_text}
+use Rattle.item_groups.specs.declared.group.ChainLink.{ChainLink}
+use Rattle.item_groups.specs.declared.group.Group.{Group}
+use Rattle.item_groups.specs.declared.group.Group.TheVariants as group
+use Rattle.cert_lines.specs.Shapes.{ListShape}
+use Rattle.cert_lines.specs.Text.{Lines, bits_text, kind_text}
 use Rattle.cert_lines.specs.Limits.{bound_127, bound_32, bound_64}
 
 -- a word after a space
@@ -86,6 +90,22 @@ linear_words den parts = codes "linear" ∷ signed_decimal den ∷ decimal parts
 
 abbrev pub farkas_words : ℕ → Lines
 farkas_words parts = one_words (codes "farkas") parts
+
+abbrev pub reduced_words : ℕ → ℕ → ℕ → ℕ → Lines
+reduced_words den parts lists groups = codes "reduced" ∷ decimal den ∷ decimal parts ∷ decimal lists ∷ decimal groups ∷ []
+
+abbrev pub link_words : ChainLink → Lines
+link_words link = decimal link.item ∷ decimal link.opening_price ∷ []
+
+abbrev pub group_words : Group → Lines
+group_words (group.Item item) = one_words (codes "item") item
+group_words (group.Quantities item) = one_words (codes "quantities") item
+group_words (group.Pair low top) = codes "pair" ∷ (link_words low ++ link_words top)
+group_words (group.Triple low mid top) = codes "triple" ∷ (link_words low ++ (link_words mid ++ link_words top))
+
+-- the words of a list of multiples, which are as many as it has periods
+abbrev pub parts_words : ListShape → Lines
+parts_words a = codes "parts" ∷ kind_text a.kind ∷ decimal a.index ∷ map signed_decimal a.times
 
 -- this word and a number after it don't stand at this place
 abbrev pub HasNoOne : Lines → ℕ → List ℕ → Type 0

@@ -1,8 +1,8 @@
 // Copies of cuts and leaves.
-ghost use Rattle.std.specs.Prelude.{◌≡◌, IfOk};
-ghost use Rattle.cert_lines.specs.Shapes.{block_lists, cut_shape, leaf_shape, price_lists};
+ghost use Rattle.std.specs.Prelude.{◌≡◌, IfOk, map};
+ghost use Rattle.cert_lines.specs.Shapes.{block_lists, cut_shape, leaf_shape, list_shape, price_lists};
 
-use crate::{Cut, Leaf};
+use crate::{Cut, Leaf, PartList};
 use lin_rows::{Potentials, Prices};
 use std::alloc::{AllocError, Global};
 
@@ -56,6 +56,28 @@ pub fn copy_cut(alloc: Global, cut: &Cut) -> Result<Cut, AllocError>
     }
 }
 
+// A copy of a list of multiples.
+fn copy_list(alloc: Global, list: &PartList) -> Result<PartList, AllocError>
+    ensures { IfOk result (λ copy. list_shape copy ≡ list_shape list.now) }
+{
+    Ok(PartList {
+        kind: list.kind,
+        index: list.index,
+        times: list.times.to_vec(alloc)?,
+    })
+}
+
+// A copy of lists of multiples.
+fn copy_lists(alloc: Global, lists: &[PartList]) -> Result<Vec<PartList>, AllocError>
+    ensures { IfOk result (λ copy. map list_shape copy.items ≡ map list_shape lists.now) }
+{
+    let mut copy = Vec::new(alloc);
+    for list in lists {
+        copy.push(copy_list(alloc, list)?)?;
+    }
+    Ok(copy)
+}
+
 /// A copy of a leaf. The error is out of memory.
 pub fn copy_leaf(alloc: Global, leaf: &Leaf) -> Result<Leaf, AllocError>
     ensures { IfOk result (λ copy. leaf_shape copy ≡ leaf_shape leaf.now) }
@@ -69,5 +91,16 @@ pub fn copy_leaf(alloc: Global, leaf: &Leaf) -> Result<Leaf, AllocError>
             parts: parts.to_vec(alloc)?,
         }),
         Leaf::Point => Ok(Leaf::Point),
+        Leaf::Reduced {
+            den,
+            parts,
+            lists,
+            groups,
+        } => Ok(Leaf::Reduced {
+            den: *den,
+            parts: parts.to_vec(alloc)?,
+            lists: copy_lists(alloc, lists)?,
+            groups: groups.to_vec(alloc)?,
+        }),
     }
 }

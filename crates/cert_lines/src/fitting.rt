@@ -1,17 +1,23 @@
 // Whether values are those of lines.
 ghost use Rattle.std.specs.Prelude.{◌≡◌, ◌↔◌, IsTrue, unsigned_abs, length};
+ghost use Rattle.cert_lines.specs.Limits.{IsSmallTimes};
+ghost use Rattle.cert_lines.specs.Line.{IsSmallGroup, IsSmallLink};
 ghost use Rattle.std.specs.List.{All};
 ghost use Rattle.cert_lines.specs.declared.limits.TheConstants.{FIRST_CERT_VERSION};
-ghost use Rattle.cert_lines.specs.Shapes.{BlockCut, BranchLine, CutLine, FarkasLine, LinearLine, LsCut, PartLine, PriceCut, RoundLine, block_lists, cut_first, cut_shape, leaf_first, leaf_shape, price_lists};
+ghost use Rattle.cert_lines.specs.Shapes.{BlockCut, BranchLine, CutLine, FarkasLine, GroupLine, LinearLine, ListLine, LsCut, PartLine, PriceCut, ReducedLine, RoundLine, block_lists, cut_first, cut_shape, leaf_first, leaf_shape, list_shape, price_lists};
 ghost use Rattle.cert_lines.specs.Limits.{Is127, IsSmallClaim};
 ghost use Rattle.cert_lines.specs.Line.{HasForm, HasLine, IsFirstName};
 
 use crate::lengths::{
-    block_length, branch_length, farkas_length, linear_length, ls_length, part_length,
-    price_length, round_length,
+    block_length, branch_length, farkas_length, group_length, linear_length, ls_length,
+    part_length, parts_length, price_length, reduced_length, round_length,
 };
-use crate::limits::{FIRST_CERT_VERSION, MAX_PARTS, MAX_ROUND_PARTS, MOST_127};
-use crate::{Claim, Cut, Leaf, Part};
+use crate::limits::{
+    FIRST_CERT_VERSION, MAX_GROUPS, MAX_LISTS, MAX_PARTS, MAX_ROUND_PARTS, MOST_127,
+    REDUCED_CERT_VERSION,
+};
+use crate::{Claim, Cut, Leaf, Part, PartList};
+use item_groups::{ChainLink, Group};
 use lin_rows::{Column, Potentials, Prices, RowName};
 use round_cuts::MAX_DIVISOR;
 
@@ -134,13 +140,72 @@ fn is_farkas_line(parts: &[Part]) -> bool
     parts.len() <= MAX_PARTS as usize && farkas_length(parts) <= LONGEST
 }
 
-/// Whether the first line of a leaf is within the limits.
-pub fn is_leaf_line(leaf: &Leaf) -> bool
-    ensures { IsTrue result ↔ HasForm (leaf_first (leaf_shape leaf.now)) }
+// Whether the first line of a leaf over reduced costs is within the limits.
+fn is_reduced_line(den: u64, parts: &[Part], lists: &[PartList], groups: &[Group]) -> bool
+    ensures { IsTrue result
+        ↔ HasForm (ReducedLine den (length parts.now) (length lists.now) (length groups.now)) }
+{
+    parts.len() <= MAX_PARTS as usize
+        && lists.len() <= MAX_LISTS as usize
+        && groups.len() <= MAX_GROUPS as usize
+        && reduced_length(den, parts, lists, groups) <= LONGEST
+}
+
+/// Whether a leaf has a first line in texts of this version: whether that line is within the limits,
+/// and the version has leaves of this kind.
+pub fn is_leaf_line(leaf: &Leaf, version: u32) -> bool
+    ensures { IsTrue result ↔ HasLine version (leaf_first (leaf_shape leaf.now)) }
 {
     match leaf {
         Leaf::Linear { den, parts } => is_linear_line(*den, parts),
         Leaf::Farkas { parts } => is_farkas_line(parts),
         Leaf::Point => true,
+        Leaf::Reduced {
+            den,
+            parts,
+            lists,
+            groups,
+        } => { version >= REDUCED_CERT_VERSION && is_reduced_line(*den, parts, lists, groups) }
     }
+}
+
+// Whether all multipliers are below 2^127 in absolute value.
+fn are_small_times(times: &[i128]) -> bool
+    ensures { IsTrue result ↔ All IsSmallTimes times.now }
+{
+    times.iter().all(|number| is_small(*number))
+}
+
+/// Whether a list of multiples has a line in texts of this version.
+pub fn is_list_line(list: &PartList, version: u32) -> bool
+    ensures { IsTrue result ↔ HasLine version (ListLine (list_shape list.now)) }
+{
+    version >= REDUCED_CERT_VERSION && are_small_times(&list.times) && parts_length(list) <= LONGEST
+}
+
+// Whether the numbers of an item of a chain are within the limits.
+fn is_small_link(link: ChainLink) -> bool
+    ensures { IsTrue result ↔ IsSmallLink link }
+{
+    link.opening_price <= MOST_127
+}
+
+// Whether the numbers of a group are within the limits.
+fn is_small_group(group: Group) -> bool
+    ensures { IsTrue result ↔ IsSmallGroup group }
+{
+    match group {
+        Group::Item { .. } | Group::Quantities { .. } => true,
+        Group::Pair { low, top } => is_small_link(low) && is_small_link(top),
+        Group::Triple { low, mid, top } => {
+            is_small_link(low) && is_small_link(mid) && is_small_link(top)
+        }
+    }
+}
+
+/// Whether a group has a line in texts of this version.
+pub fn is_group_line(group: &Group, version: u32) -> bool
+    ensures { IsTrue result ↔ HasLine version (GroupLine group.now) }
+{
+    version >= REDUCED_CERT_VERSION && is_small_group(*group) && group_length(*group) <= LONGEST
 }

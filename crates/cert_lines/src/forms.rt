@@ -18,7 +18,7 @@ use lin_rows::{Column, RowName};
 use round_cuts::MAX_DIVISOR;
 
 // The number after this word.
-fn one_after(words: &[&[u8]], place: usize, text: &[u8]) -> Option<u32>
+pub(crate) fn one_after(words: &[&[u8]], place: usize, text: &[u8]) -> Option<u32>
     requires low { place ≤ 1 }
     requires some { 0 < length text.now }
     ensures some { IfSome result (λ a. StandFrom (map (λ w. w.now) words.now) place (one_words text.now a) × Is32 a) }

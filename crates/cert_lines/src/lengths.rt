@@ -3,12 +3,13 @@ ghost use Rattle.std.specs.Prelude.{◌≡◌, ◌≤◌, ◌<◌, ◌*◌, ◌^
 ghost use Rattle.std.specs.Fmt.{signed_decimal};
 ghost use Rattle.lin_rows.specs.Texts.{column_text, name_text, one_text, two_text};
 ghost use Rattle.std.specs.List.{All};
-ghost use Rattle.cert_lines.specs.Text.{bits_text, block_line, branch_line, farkas_line, linear_line, list_text, ls_line, part_line, price_line, round_line};
-ghost use Rattle.cert_lines.specs.Limits.{Is64};
+ghost use Rattle.cert_lines.specs.Text.{bits_text, block_line, branch_line, farkas_line, group_line, kind_text, linear_line, link_text, list_line, list_text, ls_line, part_line, price_line, reduced_line, round_line, signed_list_text};
+ghost use Rattle.cert_lines.specs.Limits.{Is32, Is64};
 ghost use Rattle.cert_lines.specs.Line.{AreCosts, ArePriceLists, IsSmallColumn, IsSmallName};
-ghost use Rattle.cert_lines.specs.Shapes.{block_lists, price_lists};
+ghost use Rattle.cert_lines.specs.Shapes.{block_lists, list_shape, price_lists};
 
-use crate::Part;
+use crate::{ListKind, Part, PartList};
+use item_groups::{ChainLink, Group};
 use lin_rows::{Column, Potentials, Prices, RowName};
 
 // How many digits a number has.
@@ -183,4 +184,73 @@ pub fn farkas_length(parts: &[Part]) -> u128
     ensures { result ≡ length (farkas_line (length parts.now)) }
 {
     6 + one_length(parts.len() as u128)
+}
+
+/// The length of the first line of a leaf over reduced costs.
+pub fn reduced_length(den: u64, parts: &[Part], lists: &[PartList], groups: &[Group]) -> u128
+    ensures { result
+        ≡ length (reduced_line den (length parts.now) (length lists.now) (length groups.now)) }
+{
+    7 + one_length(u128::from(den))
+        + one_length(parts.len() as u128)
+        + one_length(lists.len() as u128)
+        + one_length(groups.len() as u128)
+}
+
+// The length of the name of a kind of rows.
+fn kind_length(kind: ListKind) -> u128
+    ensures value { result ≡ length (kind_text kind) }
+    ensures small { result ≤ 8 }
+{
+    match kind {
+        ListKind::Balance => 7,
+        ListKind::Link => 4,
+        ListKind::Capacity => 8,
+        ListKind::Top => 3,
+        ListKind::Least => 5,
+        ListKind::Late => 4,
+    }
+}
+
+// The length of numbers with their signs, each after a space.
+fn signed_list_length(list: &[i128]) -> u128
+    ensures value { result ≡ length (signed_list_text list.now) }
+    ensures small { result ≤ 41 * length list.now }
+{
+    let mut sum = 0u128;
+    for number in list {
+        sum += 1 + signed_length(*number);
+    }
+    sum
+}
+
+/// The length of the line of a list of multiples.
+pub fn parts_length(list: &PartList) -> u128
+    ensures value { result ≡ length (list_line (list_shape list.now)) }
+    ensures fits { Is32 list.now.index }
+{
+    let index = list.index;
+    6 + kind_length(list.kind) + one_length(u128::from(index)) + signed_list_length(&list.times)
+}
+
+// The length of an item of a chain with its opening price.
+fn link_length(link: ChainLink) -> u128
+    ensures value { result ≡ length (link_text link) }
+    ensures small { result ≤ 80 }
+{
+    one_length(u128::from(link.item)) + one_length(link.opening_price)
+}
+
+/// The length of the line of a group.
+pub fn group_length(group: Group) -> u128
+    ensures { result ≡ length (group_line group) }
+{
+    match group {
+        Group::Item { item } => 4 + one_length(u128::from(item)),
+        Group::Quantities { item } => 10 + one_length(u128::from(item)),
+        Group::Pair { low, top } => 4 + link_length(low) + link_length(top),
+        Group::Triple { low, mid, top } => {
+            6 + link_length(low) + link_length(mid) + link_length(top)
+        }
+    }
 }

@@ -1,6 +1,7 @@
 // The later lines of a certificate's text.
-ghost use Rattle.std.specs.Prelude.{◌↔◌, IfOk, IfSome, IsErrOf, IsNone, IsTrue, length, map};
-ghost use Rattle.cert_lines.specs.Shapes.{CutShape, LineShape, cut_shape, line_shape};
+ghost use Rattle.std.specs.Prelude.{◌↔◌, ℕ, IfOk, IfSome, IsErrOf, IsNone, IsTrue, length, map};
+ghost use Rattle.item_groups.specs.declared.group.Group.{Group};
+ghost use Rattle.cert_lines.specs.Shapes.{CutShape, GroupLine, LineShape, ListLine, ListShape, ReducedLine, cut_shape, line_shape};
 ghost use Rattle.cert_lines.specs.Forms.{IsCutOf, IsLineOf};
 ghost use Rattle.cert_lines.specs.declared.line.LineFault.TheVariants.{NoForm};
 ghost use Rattle.cert_lines.specs.Limits.{IsVersion};
@@ -8,10 +9,12 @@ ghost use Rattle.cert_lines.specs.Line.{IsKnown, IsLine, IsWritten};
 
 use crate::fitting::is_known_name;
 use crate::forms::{read_branch, read_farkas, read_linear, read_part, read_round};
-use crate::limits::MAX_LINE;
+use crate::limits::{MAX_LINE, REDUCED_CERT_VERSION};
 use crate::lists::{read_block, read_ls, read_price};
+use crate::reduced::{read_group, read_parts_list, read_reduced};
 use crate::words::{is_word, split};
-use crate::{Cut, Part};
+use crate::{Cut, Part, PartList};
+use item_groups::Group;
 use lin_rows::Column;
 use std::alloc::{AllocError, Global};
 use thiserror::Error;
@@ -51,6 +54,21 @@ pub enum CertLine {
     },
     /// A leaf that is left to the plan at hand.
     Point,
+    /// A leaf over reduced costs, whose parts, lists and groups are the lines after it.
+    Reduced {
+        /// The common denominator of the multipliers.
+        den: u64,
+        /// The number of parts.
+        parts: u32,
+        /// The number of lists of parts.
+        lists: u32,
+        /// The number of groups.
+        groups: u32,
+    },
+    /// Multiples of rows of one kind, one for each period.
+    List(PartList),
+    /// A group of items.
+    Group(Group),
     /// The last line.
     End,
 }
@@ -94,6 +112,34 @@ fn read_cut(alloc: Global, words: &[&[u8]]) -> Result<Option<Cut>, AllocError>
     }
 }
 
+// The words of a line of a leaf over reduced costs: its first one, a list of multiples, or a group.
+fn read_reduced_words(alloc: Global, words: &[&[u8]]) -> Result<Option<CertLine>, AllocError>
+    ensures some { IfOk result (λ read. IfSome read (λ l.
+        IsLineOf (map (λ w. w.now) words.now) (line_shape l))) }
+    ensures no_leaf { IfOk result (λ read. IsNone read → (den parts lists groups : ℕ)
+        → IsLineOf (map (λ w. w.now) words.now) (ReducedLine den parts lists groups) → ⊥) }
+    ensures no_list { IfOk result (λ read. IsNone read → (a : ListShape)
+        → IsLineOf (map (λ w. w.now) words.now) (ListLine a) → ⊥) }
+    ensures no_group { IfOk result (λ read. IsNone read → (g : Group)
+        → IsLineOf (map (λ w. w.now) words.now) (GroupLine g) → ⊥) }
+{
+    if let Some((den, parts, lists, groups)) = read_reduced(words) {
+        return Ok(Some(CertLine::Reduced {
+            den,
+            parts,
+            lists,
+            groups,
+        }));
+    }
+    if let Some(list) = read_parts_list(alloc, words)? {
+        return Ok(Some(CertLine::List(list)));
+    }
+    match read_group(words) {
+        Some(group) => Ok(Some(CertLine::Group(group))),
+        None => Ok(None),
+    }
+}
+
 // The words of a line are tried against each form.
 fn read_words(alloc: Global, words: &[&[u8]]) -> Result<Option<CertLine>, AllocError>
     ensures some { IfOk result (λ read. IfSome read (λ l. IsLineOf (map (λ w. w.now) words.now) (line_shape l))) }
@@ -126,13 +172,16 @@ fn read_words(alloc: Global, words: &[&[u8]]) -> Result<Option<CertLine>, AllocE
         }
         return Ok(None);
     }
+    if let Some(line) = read_reduced_words(alloc, words)? {
+        return Ok(Some(line));
+    }
     match read_cut(alloc, words)? {
         Some(cut) => Ok(Some(CertLine::Cut(cut))),
         None => Ok(None),
     }
 }
 
-// The value of a line after the first three, of either version.
+// The value of a line after the first three, of any version.
 fn read_any(alloc: Global, line: &[u8]) -> Result<CertLine, LineFault>
     ensures value { IfOk result (λ l. IsWritten line.now (line_shape l)) }
     ensures no_form { IsErrOf result NoForm → (l : LineShape) → IsWritten line.now l → ⊥ }
@@ -153,11 +202,14 @@ fn is_known(line: &CertLine, version: u32) -> bool
 {
     match line {
         CertLine::Part(part) => is_known_name(part.row, version),
+        CertLine::Reduced { .. } => version >= REDUCED_CERT_VERSION,
+        CertLine::List(_) => version >= REDUCED_CERT_VERSION,
+        CertLine::Group(_) => version >= REDUCED_CERT_VERSION,
         _ => true,
     }
 }
 
-/// The value of a line after the first three of a text of this version, 1 or 2, whose bytes, the line feed not
+/// The value of a line after the first three of a text of this version, 1 to 3, whose bytes, the line feed not
 /// counted, these are. `NoForm` exactly where they are more than `MAX_LINE` or have none of the version's forms.
 /// Time and memory grow with the line.
 pub fn read_line(alloc: Global, line: &[u8], version: u32) -> Result<CertLine, LineFault>

@@ -1,12 +1,14 @@
 // The lines of a certificate as texts.
 ghost use Rattle.std.specs.Prelude.{◌≡◌, ◌++◌, OnOk, string_bytes};
-ghost use Rattle.cert_lines.specs.Text.{bit_text, bits_text, block_head, block_line, branch_line, claim_line, count_line, line_text, list_text, part_line, price_head, price_line};
+ghost use Rattle.cert_lines.specs.Text.{bit_text, bits_text, block_head, block_line, branch_line, claim_line, count_line, kind_text, line_text, link_text, list_text, part_line, price_head, price_line, signed_list_text};
 ghost use Rattle.cert_lines.specs.declared.head.HeadLine.TheVariants.{Mark};
 ghost use Rattle.cert_lines.specs.Head.{head_line};
 ghost use Rattle.cert_lines.specs.Line.{later_line};
-ghost use Rattle.cert_lines.specs.Shapes.{block_lists, cut_first, cut_shape, leaf_first, leaf_shape, price_lists};
+ghost use Rattle.cert_lines.specs.Shapes.{GroupLine, ListLine, block_lists, cut_first, cut_shape, leaf_first, leaf_shape, list_shape, price_lists};
+ghost use Rattle.item_groups.specs.declared.group.Group.TheVariants as group;
 
-use crate::{Claim, Cut, Leaf, Part};
+use crate::{Claim, Cut, Leaf, ListKind, Part, PartList};
+use item_groups::{ChainLink, Group};
 use lin_rows::{Column, Potentials, Prices};
 use std::alloc::AllocError;
 
@@ -173,6 +175,113 @@ pub fn add_leaf_line(text: &mut String, leaf: &Leaf) -> Result<(), AllocError>
             write!(text, "farkas {count}\n")?;
         }
         Leaf::Point => write!(text, "point\n")?,
+        Leaf::Reduced {
+            den,
+            parts,
+            lists,
+            groups,
+        } => {
+            let parts = parts.len();
+            let lists = lists.len();
+            let groups = groups.len();
+            write!(text, "reduced {den} {parts} {lists} {groups}\n")?;
+        }
+    }
+    Ok(())
+}
+
+// Adds the name of a kind of rows.
+fn add_kind(text: &mut String, kind: ListKind) -> Result<(), AllocError>
+    ensures { OnOk result (string_bytes text.new ≡ string_bytes text.old ++ kind_text kind) }
+{
+    match kind {
+        ListKind::Balance => write!(text, "balance")?,
+        ListKind::Link => write!(text, "link")?,
+        ListKind::Capacity => write!(text, "capacity")?,
+        ListKind::Top => write!(text, "top")?,
+        ListKind::Least => write!(text, "least")?,
+        ListKind::Late => write!(text, "late")?,
+    }
+    Ok(())
+}
+
+// Adds numbers that may be below 0, each after a space.
+fn add_signed_list(text: &mut String, list: &[i128]) -> Result<(), AllocError>
+    ensures { OnOk result (string_bytes text.new
+        ≡ string_bytes text.old ++ signed_list_text list.now) }
+{
+    for number in list {
+        write!(text, " {number}")?;
+    }
+    Ok(())
+}
+
+/// Adds the line of a list of multiples.
+pub fn add_list_line(text: &mut String, list: &PartList) -> Result<(), AllocError>
+    ensures { OnOk result (string_bytes text.new
+        ≡ string_bytes text.old ++ line_text (later_line (ListLine (list_shape list.now)))) }
+{
+    let index = list.index;
+    write!(text, "parts ")?;
+    add_kind(text, list.kind)?;
+    write!(text, " {index}")?;
+    add_signed_list(text, &list.times)?;
+    write!(text, "\n")?;
+    Ok(())
+}
+
+// Adds an item of a chain, and the price at which it is bought before the first period.
+fn add_link(text: &mut String, link: ChainLink) -> Result<(), AllocError>
+    ensures { OnOk result (string_bytes text.new ≡ string_bytes text.old ++ link_text link) }
+{
+    let ChainLink {
+        item,
+        opening_price,
+    } = link;
+    write!(text, " {item} {opening_price}")?;
+    Ok(())
+}
+
+// Adds the line of a chain of two items.
+fn add_pair(text: &mut String, low: ChainLink, top: ChainLink) -> Result<(), AllocError>
+    ensures { OnOk result (string_bytes text.new
+        ≡ string_bytes text.old ++ line_text (later_line (GroupLine (group.Pair low top)))) }
+{
+    write!(text, "pair")?;
+    add_link(text, low)?;
+    add_link(text, top)?;
+    write!(text, "\n")?;
+    Ok(())
+}
+
+// Adds the line of a chain of three items.
+fn add_triple(
+    text: &mut String,
+    low: ChainLink,
+    mid: ChainLink,
+    top: ChainLink,
+) -> Result<(), AllocError>
+    ensures { OnOk result (string_bytes text.new
+        ≡ string_bytes text.old ++ line_text (later_line (GroupLine (group.Triple low mid top)))) }
+{
+    write!(text, "triple")?;
+    add_link(text, low)?;
+    add_link(text, mid)?;
+    add_link(text, top)?;
+    write!(text, "\n")?;
+    Ok(())
+}
+
+/// Adds the line of a group.
+pub fn add_group_line(text: &mut String, group: &Group) -> Result<(), AllocError>
+    ensures { OnOk result (string_bytes text.new
+        ≡ string_bytes text.old ++ line_text (later_line (GroupLine group.now))) }
+{
+    match group {
+        Group::Item { item } => write!(text, "item {item}\n")?,
+        Group::Quantities { item } => write!(text, "quantities {item}\n")?,
+        Group::Pair { low, top } => add_pair(text, *low, *top)?,
+        Group::Triple { low, mid, top } => add_triple(text, *low, *mid, *top)?,
     }
     Ok(())
 }

@@ -4,11 +4,12 @@ use Rattle.std.specs.Prelude.{replicate}
 use Rattle.std.proofs.lemmas.List.{length-append}
 use Rattle.cert_lines.specs.declared.limits.TheConstants.{MAX_BRANCHES}
 use Rattle.cert_lines.specs.declared.parts.Part.{Part}
-use Rattle.cert_lines.specs.Shapes.{BlockCut, BranchLine, CutLine, CutShape, EndLine, FarkasLeaf, FarkasLine, LinearLeaf, LinearLine, LsCut, PartLine, PointLeaf, PointLine, PriceCut, RoundCut, RoundLine}
+use Rattle.item_groups.specs.declared.group.Group.{Group}
+use Rattle.cert_lines.specs.Shapes.{BlockCut, BranchLine, CutLine, CutShape, EndLine, FarkasLeaf, FarkasLine, GroupLine, LinearLeaf, LinearLine, ListLine, ListShape, LsCut, PartLine, PointLeaf, PointLine, PriceCut, ReducedLeaf, ReducedLine, RoundCut, RoundLine}
 use Rattle.certificate.specs.Shapes.{End, Split, TreeShape}
 use Rattle.certificate.specs.Counts.{longest_path}
-use Rattle.certificate.specs.Values.{AreLines, Values, all_cut_values, cut_values, part_values, tree_values}
-use Rattle.certificate.specs.Dues.{Due, TakesAll, a_cut, a_part, a_tree, after, the_end}
+use Rattle.certificate.specs.Values.{AreLines, Values, all_cut_values, cut_values, group_values, list_values, part_values, tree_values}
+use Rattle.certificate.specs.Dues.{Due, TakesAll, a_cut, a_group, a_list, a_part, a_tree, after, the_end}
 use Rattle.certificate.specs.Faults.{body_dues}
 use Rattle.certificate.proofs.Shorts.{lines_split}
 use Rattle.cert_stream.specs.Laws.{IsBody}
@@ -51,6 +52,61 @@ parts_of (suc count) (PartLine part ∷ ls) taken =
     let rest = parts_of count ls taken.2 in
     record { parts = part ∷ rest.parts; count_is = ap suc rest.count_is; values = ap (λ t. PartLine part ∷ t) rest.values }
 parts_of (suc count) (_ ∷ ls) taken = absurd taken.0
+
+-- the lines of so many lists of parts
+record AreLists (count : ℕ) (ls : Values) : Type 0 where
+  lists : List ListShape
+  count_is : length lists ≡ count
+  values : ls ≡ list_values lists
+
+lists_of : (count : ℕ) (ls : Values) → TakesAll (replicate count a_list) ls [] → AreLists count ls
+lists_of zero ls taken = record { lists = []; count_is = refl; values = no_lines ls taken }
+lists_of (suc count) [] taken = absurd (cc taken)
+lists_of (suc count) (ListLine list ∷ ls) taken =
+    let rest = lists_of count ls taken.2 in
+    record { lists = list ∷ rest.lists; count_is = ap suc rest.count_is; values = ap (λ t. ListLine list ∷ t) rest.values }
+lists_of (suc count) (_ ∷ ls) taken = absurd taken.0
+
+-- the lines of so many groups
+record AreGroups (count : ℕ) (ls : Values) : Type 0 where
+  groups : List Group
+  count_is : length groups ≡ count
+  values : ls ≡ group_values groups
+
+groups_of : (count : ℕ) (ls : Values) → TakesAll (replicate count a_group) ls [] → AreGroups count ls
+groups_of zero ls taken = record { groups = []; count_is = refl; values = no_lines ls taken }
+groups_of (suc count) [] taken = absurd (cc taken)
+groups_of (suc count) (GroupLine group ∷ ls) taken =
+    let rest = groups_of count ls taken.2 in
+    record { groups = group ∷ rest.groups; count_is = ap suc rest.count_is; values = ap (λ t. GroupLine group ∷ t) rest.values }
+groups_of (suc count) (_ ∷ ls) taken = absurd taken.0
+
+-- the lines of so many parts, lists and groups, one after the other
+record AreReduced (part_count list_count group_count : ℕ) (ls : Values) : Type 0 where
+  parts : List Part
+  lists : List ListShape
+  groups : List Group
+  parts_are : length parts ≡ part_count
+  lists_are : length lists ≡ list_count
+  groups_are : length groups ≡ group_count
+  values : ls ≡ part_values parts ++ (list_values lists ++ group_values groups)
+
+reduced_of : (part_count list_count group_count : ℕ) (ls : Values) → TakesAll (replicate part_count a_part ++ (replicate list_count a_list ++ replicate group_count a_group)) ls [] → AreReduced part_count list_count group_count ls
+reduced_of part_count list_count group_count ls taken =
+    let one = taken_split (replicate part_count a_part) (replicate list_count a_list ++ replicate group_count a_group) ls taken in
+    let two = taken_split (replicate list_count a_list) (replicate group_count a_group) one.later one.later_taken in
+    let parts = parts_of part_count one.first one.first_taken in
+    let lists = lists_of list_count two.first two.first_taken in
+    let groups = groups_of group_count two.later two.later_taken in
+    record {
+      parts = parts.parts;
+      lists = lists.lists;
+      groups = groups.groups;
+      parts_are = parts.count_is;
+      lists_are = lists.count_is;
+      groups_are = groups.count_is;
+      values = one.is ∙ ap (λ t. t ++ one.later) parts.values ∙ ap (λ t. part_values parts.parts ++ t) (two.is ∙ ap (λ t. t ++ two.later) lists.values ∙ ap (λ t. list_values lists.lists ++ t) groups.values);
+    }
 
 -- the needs after a line stand alone
 alone : (dues : List Due) (ls : Values) → TakesAll (dues ++ []) ls [] → TakesAll dues ls []
@@ -114,11 +170,17 @@ tree_of (suc most) above (BranchLine column at ∷ ls) short high taken =
     }
 tree_of (suc most) above (LinearLine den count ∷ ls) short high taken =
     let rest = parts_of count ls (alone (replicate count a_part) ls taken.2) in
-    record { tree = End (LinearLeaf den rest.parts); values = ap (λ t. LinearLine den count ∷ t) rest.values ∙ ap (λ n. LinearLine den n ∷ part_values rest.parts) (sym rest.count_is); paths = omega (arith, high) }
+    record { tree = End (LinearLeaf den rest.parts); values = ap (λ t. LinearLine den count ∷ t) (rest.values ∙ sym (append-nil (part_values rest.parts))) ∙ ap (λ n. LinearLine den n ∷ (part_values rest.parts ++ [])) (sym rest.count_is); paths = omega (arith, high) }
 tree_of (suc most) above (FarkasLine count ∷ ls) short high taken =
     let rest = parts_of count ls (alone (replicate count a_part) ls taken.2) in
-    record { tree = End (FarkasLeaf rest.parts); values = ap (λ t. FarkasLine count ∷ t) rest.values ∙ ap (λ n. FarkasLine n ∷ part_values rest.parts) (sym rest.count_is); paths = omega (arith, high) }
+    record { tree = End (FarkasLeaf rest.parts); values = ap (λ t. FarkasLine count ∷ t) (rest.values ∙ sym (append-nil (part_values rest.parts))) ∙ ap (λ n. FarkasLine n ∷ (part_values rest.parts ++ [])) (sym rest.count_is); paths = omega (arith, high) }
 tree_of (suc most) above (PointLine ∷ ls) short high taken = record { tree = End PointLeaf; values = ap (λ t. PointLine ∷ t) (no_lines ls taken.2); paths = omega (arith, high) }
+tree_of (suc most) above (ReducedLine den part_count list_count group_count ∷ ls) short high taken =
+    let rest = reduced_of part_count list_count group_count ls (alone (replicate part_count a_part ++ (replicate list_count a_list ++ replicate group_count a_group)) ls taken.2) in
+    let lines = part_values rest.parts ++ (list_values rest.lists ++ group_values rest.groups) in
+    let counts : ReducedLine den part_count list_count group_count ≡ ReducedLine den (length rest.parts) (length rest.lists) (length rest.groups) =
+    ap (λ n. ReducedLine den n list_count group_count) (sym rest.parts_are) ∙ ap (λ n. ReducedLine den (length rest.parts) n group_count) (sym rest.lists_are) ∙ ap (λ n. ReducedLine den (length rest.parts) (length rest.lists) n) (sym rest.groups_are) in
+    record { tree = End (ReducedLeaf den rest.parts rest.lists rest.groups); values = ap (λ t. ReducedLine den part_count list_count group_count ∷ t) rest.values ∙ ap (λ l. l ∷ lines) counts; paths = omega (arith, high) }
 tree_of (suc most) above (_ ∷ ls) short high taken = absurd taken.0
 
 end_of : (ls : Values) → TakesAll (the_end ∷ []) ls [] → ls ≡ EndLine ∷ []

@@ -1,5 +1,5 @@
 -- A tree and its shape have the same numbers of nodes and of branches on a path.
-use Rattle.std.proofs.Common.{◌≡◌, ◌+◌, ℕ, refl, arith}
+use Rattle.std.proofs.Common.{◌≡◌, refl, arith}
 use Rattle.certificate.specs.declared.tree.Tree.{Tree}
 use Rattle.certificate.specs.declared.tree.Tree.TheVariants.{Branch', Leaf as LeafOf}
 use Rattle.certificate.specs.Shapes.{tree_shape}

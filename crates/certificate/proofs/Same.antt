@@ -5,13 +5,14 @@ use Rattle.lin_rows.specs.declared.prices.Prices.{Prices}
 use Rattle.lin_rows.specs.declared.prices.Potentials.{Potentials}
 use Rattle.cert_lines.specs.declared.parts.Cut.{Cut}
 use Rattle.cert_lines.specs.declared.parts.Cut.TheVariants as cut
+use Rattle.cert_lines.specs.declared.parts.PartList.{PartList}
 use Rattle.cert_lines.specs.declared.parts.Leaf.{Leaf}
 use Rattle.cert_lines.specs.declared.parts.Leaf.TheVariants as leaf
 use Rattle.certificate.specs.declared.tree.Tree.{Tree}
 use Rattle.certificate.specs.declared.tree.Tree.TheVariants.{Branch', Leaf as LeafOf}
 use Rattle.certificate.specs.declared.tree.Certificate.{Certificate}
-use Rattle.certificate.specs.Laws.{AreSameCuts, HaveSamePotentials, HaveSamePrices, IsSameCertificate, IsSameCut, IsSameLeaf, IsSameTree}
-use Rattle.cert_lines.specs.Shapes.{block_lists, cut_shape, leaf_shape, price_lists}
+use Rattle.certificate.specs.Laws.{AreSameCuts, AreSameLists, HaveSamePotentials, HaveSamePrices, IsSameCertificate, IsSameCut, IsSameLeaf, IsSameList, IsSameTree}
+use Rattle.cert_lines.specs.Shapes.{block_lists, cut_shape, leaf_shape, list_shape, price_lists}
 use Rattle.certificate.specs.Shapes.{shape_of, tree_shape}
 
 prices_to : (a b : Prices) → HaveSamePrices a b → price_lists a ≡ price_lists b
@@ -50,16 +51,34 @@ cuts_from [] [] e = tt
 cuts_from (c ∷ cs) (d ∷ ds) e = (cut_from c d (cc e), cuts_from cs ds (cc e))
 cuts_from _ _ e = cc e
 
+list_to : (a b : PartList) → IsSameList a b → list_shape a ≡ list_shape b
+list_to a b (k, i, t) = rw (k, i, t) refl
+
+list_from : (a b : PartList) → list_shape a ≡ list_shape b → IsSameList a b
+list_from a b e = (ap (λ r. r.kind) e, ap (λ r. r.index) e, ap (λ r. r.times) e)
+
+lists_to : (xs ys : List PartList) → AreSameLists xs ys → map list_shape xs ≡ map list_shape ys
+lists_to [] [] same = refl
+lists_to (a ∷ xs) (b ∷ ys) same = rw (list_to a b same.0, lists_to xs ys same.1) refl
+lists_to _ _ same = absurd same
+
+lists_from : (xs ys : List PartList) → map list_shape xs ≡ map list_shape ys → AreSameLists xs ys
+lists_from [] [] e = tt
+lists_from (a ∷ xs) (b ∷ ys) e = (list_from a b (cc e), lists_from xs ys (cc e))
+lists_from _ _ e = cc e
+
 leaf_to : (l k : Leaf) → IsSameLeaf l k → leaf_shape l ≡ leaf_shape k
 leaf_to (leaf.Linear den parts) (leaf.Linear q others) (e, same) = rw (e, same) refl
 leaf_to (leaf.Farkas parts) (leaf.Farkas others) same = rw same refl
 leaf_to leaf.Point leaf.Point same = refl
+leaf_to (leaf.Reduced den parts lists groups) (leaf.Reduced q others seconds thirds) (e, p, l, g) = rw (e, p, lists_to lists.items seconds.items l, g) refl
 leaf_to _ _ same = absurd same
 
 leaf_from : (l k : Leaf) → leaf_shape l ≡ leaf_shape k → IsSameLeaf l k
 leaf_from (leaf.Linear den parts) (leaf.Linear q others) e = (cc e, cc e)
 leaf_from (leaf.Farkas parts) (leaf.Farkas others) e = cc e
 leaf_from leaf.Point leaf.Point e = tt
+leaf_from (leaf.Reduced den parts lists groups) (leaf.Reduced q others seconds thirds) e = (cc e, cc e, lists_from lists.items seconds.items (cc e), cc e)
 leaf_from _ _ e = cc e
 
 tree_to : (t u : Tree) → IsSameTree t u → tree_shape t ≡ tree_shape u

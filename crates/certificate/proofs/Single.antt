@@ -1,23 +1,24 @@
 -- A text has one certificate or one fault.
-use Rattle.std.proofs.Common.{◌≡◌, ◌≢◌, ◌≤◌, ◌<◌, ◌+◌, ◌∙◌, ◌⊎◌, ⊎_elim, ℕ, refl, rules, sym, ap, subst, arith, inl, inr, List, [], ◌∷◌, ◌++◌, append_assoc, append-nil, length}
-use Rattle.std.specs.Prelude.{Option, None, Some, ⊤}
+use Rattle.std.proofs.Common.{◌≡◌, ◌≢◌, ◌<◌, ◌+◌, ◌∙◌, ◌⊎◌, ⊎_elim, ℕ, refl, rules, sym, ap, subst, arith, inl, inr, List, [], ◌∷◌, ◌++◌, append_assoc, append-nil, length}
+use Rattle.std.specs.Prelude.{Option, None, Some, map, ⊤}
 use Rattle.std.proofs.lemmas.Bool.{cases_lt}
 use Rattle.lin_rows.specs.declared.column.Column.{Column}
 use Rattle.cert_lines.specs.declared.parts.Claim.{Claim}
+use Rattle.item_groups.specs.declared.group.Group.{Group}
 use Rattle.cert_lines.specs.declared.parts.Part.{Part}
 use Rattle.cert_lines.specs.declared.head.HeadLine.{HeadLine}
 use Rattle.cert_lines.specs.declared.head.HeadLine.TheVariants as head
 use Rattle.certificate.specs.declared.fault.CertTextFault.{CertTextFault}
 use Rattle.certificate.specs.declared.fault.CertTextFault.TheVariants as fault
 use Rattle.certificate.specs.declared.line_numbers.TheConstants.{FIRST_CUT_LINE}
-use Rattle.cert_lines.specs.Shapes.{BlockCut, BranchLine, CutShape, EndLine, FarkasLeaf, LeafShape, LineShape, LinearLeaf, LsCut, PointLeaf, PriceCut, RoundCut}
+use Rattle.cert_lines.specs.Shapes.{BlockCut, BranchLine, CutShape, EndLine, FarkasLeaf, GroupLine, LeafShape, LineShape, LinearLeaf, ListLine, ListShape, LsCut, PartLine, PointLeaf, PriceCut, ReducedLeaf, RoundCut}
 use Rattle.cert_lines.specs.Text.{claim_line, count_line}
 use Rattle.cert_lines.specs.Line.{HasLine, IsLine, later_line}
 use Rattle.cert_lines.specs.Head.{IsHead, head_line}
 use Rattle.certificate.specs.Shapes.{End, Shape, Split, TreeShape}
 use Rattle.certificate.specs.Text.{head_text, head_values, heads_text}
 use Rattle.certificate.specs.Limits.{IsTextOf}
-use Rattle.certificate.specs.Values.{AreLines, Values, all_cut_values, body_values, cut_values, leaf_values, part_values, tree_values, value_text, values_text}
+use Rattle.certificate.specs.Values.{AreLines, Values, all_cut_values, body_values, cut_values, group_values, leaf_values, list_values, part_values, tree_values, value_text, values_text}
 use Rattle.certificate.specs.Dues.{IsDeep, IsMisshapen, IsStop, IsTooDeep, Due, TakesAll, StartsWith, Takes, a_tree, after, the_end}
 use Rattle.certificate.specs.Faults.{AreHeads, IsBodyFault, IsCertTextFault, IsHeadFault, StartsWithHead, body_dues}
 use Rattle.certificate.specs.Laws.{MeansOneThing}
@@ -196,15 +197,40 @@ no_certificate bytes c f t b other =
     cc same
 
 -- ---- one certificate: its parts, from the front of the lines on
+-- as many lines of one kind at the front
+same_from : {A : Type 0} (line_of : A → LineShape) → ((x y : A) → line_of x ≡ line_of y → x ≡ y) → (xs ys : List A) (ls ms : Values) → length xs ≡ length ys → map line_of xs ++ ls ≡ map line_of ys ++ ms → (xs ≡ ys) × (ls ≡ ms)
+same_from line_of one [] [] ls ms e s = (refl, s)
+same_from line_of one [] (y ∷ ys) ls ms e s = absurd (omega (arith, e))
+same_from line_of one (x ∷ xs) [] ls ms e s = absurd (omega (arith, e))
+same_from line_of one (x ∷ xs) (y ∷ ys) ls ms e s =
+    let first : x ≡ y = one x y (cc s) in
+    let next : map line_of xs ++ ls ≡ map line_of ys ++ ms = cc s in
+    let (rest, last) = same_from line_of one xs ys ls ms (omega (arith, e)) next in
+    (ap (λ z. z ∷ xs) first ∙ ap (λ zs. y ∷ zs) rest, last)
+
 parts_from : (ps qs : List Part) (ls ms : Values) → length ps ≡ length qs → part_values ps ++ ls ≡ part_values qs ++ ms → (ps ≡ qs) × (ls ≡ ms)
-parts_from [] [] ls ms e s = (refl, s)
-parts_from [] (q ∷ qs) ls ms e s = absurd (omega (arith, e))
-parts_from (p ∷ ps) [] ls ms e s = absurd (omega (arith, e))
-parts_from (p ∷ ps) (q ∷ qs) ls ms e s =
-    let first : p ≡ q = cc s in
-    let next : part_values ps ++ ls ≡ part_values qs ++ ms = cc s in
-    let (parts, rest) = parts_from ps qs ls ms (omega (arith, e)) next in
-    (ap (λ x. x ∷ ps) first ∙ ap (λ xs. q ∷ xs) parts, rest)
+parts_from ps qs ls ms e s = same_from (λ part. PartLine part) (λ x y same. cc same) ps qs ls ms e s
+
+lists_from : (xs ys : List ListShape) (ls ms : Values) → length xs ≡ length ys → list_values xs ++ ls ≡ list_values ys ++ ms → (xs ≡ ys) × (ls ≡ ms)
+lists_from xs ys ls ms e s = same_from (λ a. ListLine a) (λ x y same. cc same) xs ys ls ms e s
+
+groups_from : (gs hs : List Group) (ls ms : Values) → length gs ≡ length hs → group_values gs ++ ls ≡ group_values hs ++ ms → (gs ≡ hs) × (ls ≡ ms)
+groups_from gs hs ls ms e s = same_from (λ g. GroupLine g) (λ x y same. cc same) gs hs ls ms e s
+
+-- as many parts, lists and groups
+rows_from : (ps qs : List Part) (xs ys : List ListShape) (gs hs : List Group) (ls ms : Values) → length ps ≡ length qs → length xs ≡ length ys → length gs ≡ length hs → (part_values ps ++ (list_values xs ++ group_values gs)) ++ ls ≡ (part_values qs ++ (list_values ys ++ group_values hs)) ++ ms → (ps ≡ qs) × (xs ≡ ys) × (gs ≡ hs) × (ls ≡ ms)
+rows_from ps qs xs ys gs hs ls ms p l g s =
+    let (parts, after_parts) = parts_from ps qs _ _ p (sym (apart ps xs gs ls) ∙ s ∙ apart qs ys hs ms) in
+    let (lists, after_lists) = lists_from xs ys _ _ l after_parts in
+    let (groups, rest) = groups_from gs hs ls ms g after_lists in
+    (parts, lists, groups, rest)
+  where
+    apart : (ps : List Part) (xs : List ListShape) (gs : List Group) (ls : Values) → (part_values ps ++ (list_values xs ++ group_values gs)) ++ ls ≡ part_values ps ++ (list_values xs ++ (group_values gs ++ ls))
+    apart ps xs gs ls = append_assoc (part_values ps) (list_values xs ++ group_values gs) ls ∙ ap (λ t. part_values ps ++ t) (append_assoc (list_values xs) (group_values gs) ls)
+
+-- as many parts, and neither lists nor groups
+alone_from : (ps qs : List Part) (ls ms : Values) → length ps ≡ length qs → (part_values ps ++ []) ++ ls ≡ (part_values qs ++ []) ++ ms → (ps ≡ qs) × (ls ≡ ms)
+alone_from ps qs ls ms e s = parts_from ps qs ls ms e (sym (ap (λ t. t ++ ls) (append-nil (part_values ps))) ∙ s ∙ ap (λ t. t ++ ms) (append-nil (part_values qs)))
 
 cut_from : (c d : CutShape) (ls ms : Values) → cut_values c ++ ls ≡ cut_values d ++ ms → (c ≡ d) × (ls ≡ ms)
 cut_from (RoundCut divisor parts) (RoundCut q others) ls ms s =
@@ -231,21 +257,30 @@ leaf_from : (l m : LeafShape) (ls ms : Values) → leaf_values l ++ ls ≡ leaf_
 leaf_from (LinearLeaf den parts) (LinearLeaf q others) ls ms s =
     let dens : den ≡ q = cc s in
     let lengths : length parts ≡ length others = cc s in
-    let next : part_values parts ++ ls ≡ part_values others ++ ms = cc s in
-    let (same, rest) = parts_from parts others ls ms lengths next in
+    let next : (part_values parts ++ []) ++ ls ≡ (part_values others ++ []) ++ ms = cc s in
+    let (same, rest) = alone_from parts others ls ms lengths next in
     (cc (dens, same), rest)
 leaf_from (FarkasLeaf parts) (FarkasLeaf others) ls ms s =
     let lengths : length parts ≡ length others = cc s in
-    let next : part_values parts ++ ls ≡ part_values others ++ ms = cc s in
-    let (same, rest) = parts_from parts others ls ms lengths next in
+    let next : (part_values parts ++ []) ++ ls ≡ (part_values others ++ []) ++ ms = cc s in
+    let (same, rest) = alone_from parts others ls ms lengths next in
     (ap FarkasLeaf same, rest)
 leaf_from PointLeaf PointLeaf ls ms s = (refl, cc s)
+leaf_from (ReducedLeaf den parts lists groups) (ReducedLeaf q others seconds thirds) ls ms s =
+    let dens : den ≡ q = cc s in
+    let part_counts : length parts ≡ length others = cc s in
+    let list_counts : length lists ≡ length seconds = cc s in
+    let group_counts : length groups ≡ length thirds = cc s in
+    let next : (part_values parts ++ (list_values lists ++ group_values groups)) ++ ls ≡ (part_values others ++ (list_values seconds ++ group_values thirds)) ++ ms = cc s in
+    let (p, l, g, rest) = rows_from parts others lists seconds groups thirds ls ms part_counts list_counts group_counts next in
+    (cc (dens, p, l, g), rest)
 leaf_from _ _ ls ms s = absurd (cc s)
 
 no_branch : (l : LeafShape) (column : Column) (at : ℕ) (ls ms : Values) → leaf_values l ++ ls ≡ BranchLine column at ∷ ms → ⊥
 no_branch (LinearLeaf den parts) column at ls ms s = cc s
 no_branch (FarkasLeaf parts) column at ls ms s = cc s
 no_branch PointLeaf column at ls ms s = cc s
+no_branch (ReducedLeaf den parts lists groups) column at ls ms s = cc s
 
 tree_from : (t u : TreeShape) (ls ms : Values) → tree_values t ++ ls ≡ tree_values u ++ ms → (t ≡ u) × (ls ≡ ms)
 tree_from (Split column at low high) (Split other less below above) ls ms s =

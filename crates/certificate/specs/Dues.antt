@@ -1,15 +1,17 @@
 -- What a text needs, line by line.
 use Rattle.std.specs.Prelude.{◌≡◌, ◌≢◌, ◌⊎◌, ◌≤◌, ◌+◌, ℕ, List, [], ◌∷◌, ◌++◌, length, replicate, ⊤}
 use Rattle.cert_lines.specs.declared.limits.TheConstants.{MAX_BRANCHES}
-use Rattle.cert_lines.specs.Shapes.{BranchLine, CutLine, EndLine, FarkasLine, LineShape, LinearLine, PartLine, PointLine, RoundLine}
+use Rattle.cert_lines.specs.Shapes.{BranchLine, CutLine, EndLine, FarkasLine, GroupLine, LineShape, LinearLine, ListLine, PartLine, PointLine, ReducedLine, RoundLine}
 use Rattle.certificate.specs.declared.fault.CertTextFault.{CertTextFault}
 use Rattle.certificate.specs.declared.fault.CertTextFault.TheVariants as fault
 use Rattle.cert_lines.specs.Line.{HasLine}
 use Rattle.certificate.specs.Values.{AreLines, Values, value_text, values_text}
 
--- what stands where: a part, a cut, a tree with so many branches above it, the end
+-- what stands where: a part, a list, a group, a cut, a tree with so many branches above it, the end
 pub data Due : Type 0 where
   a_part : Due
+  a_list : Due
+  a_group : Due
   a_cut : Due
   a_tree : ℕ → Due
   the_end : Due
@@ -17,12 +19,15 @@ pub data Due : Type 0 where
 -- a line of this value may stand where this is needed
 abbrev pub Takes : Due → LineShape → Type 0
 Takes a_part (PartLine part) = ⊤
+Takes a_list (ListLine a) = ⊤
+Takes a_group (GroupLine g) = ⊤
 Takes a_cut (CutLine c) = ⊤
 Takes a_cut (RoundLine divisor parts) = ⊤
 Takes (a_tree above) (BranchLine column at) = ⊤
 Takes (a_tree above) (LinearLine den parts) = ⊤
 Takes (a_tree above) (FarkasLine parts) = ⊤
 Takes (a_tree above) PointLine = ⊤
+Takes (a_tree above) (ReducedLine den parts lists groups) = ⊤
 Takes the_end EndLine = ⊤
 Takes _ _ = ⊥
 
@@ -31,11 +36,16 @@ abbrev pub IsDeep : Due → LineShape → Type 0
 IsDeep (a_tree above) (BranchLine column at) = MAX_BRANCHES ≤ above
 IsDeep _ _ = ⊥
 
+-- so many parts, lists and groups of a leaf over reduced costs
+abbrev pub row_dues : ℕ → ℕ → ℕ → List Due
+row_dues parts lists groups = replicate parts a_part ++ (replicate lists a_list ++ replicate groups a_group)
+
 -- what is needed after the line, before all else
 abbrev pub after : Due → LineShape → List Due
 after due (RoundLine divisor parts) = replicate parts a_part
 after due (LinearLine den parts) = replicate parts a_part
 after due (FarkasLine parts) = replicate parts a_part
+after due (ReducedLine den parts lists groups) = row_dues parts lists groups
 after (a_tree above) (BranchLine column at) = a_tree (above + 1) ∷ a_tree (above + 1) ∷ []
 after _ _ = []
 

@@ -4,6 +4,7 @@ use Rattle.lin_rows.specs.declared.prices.Prices.{Prices}
 use Rattle.lin_rows.specs.declared.prices.Potentials.{Potentials}
 use Rattle.cert_lines.specs.declared.parts.Cut.{Cut}
 use Rattle.cert_lines.specs.declared.parts.Cut.TheVariants as cut
+use Rattle.cert_lines.specs.declared.parts.PartList.{PartList}
 use Rattle.cert_lines.specs.declared.parts.Leaf.{Leaf}
 use Rattle.cert_lines.specs.declared.parts.Leaf.TheVariants as leaf
 use Rattle.certificate.specs.declared.tree.Tree.{Tree}
@@ -35,10 +36,19 @@ AreSameCuts [] [] = ⊤
 AreSameCuts (c ∷ cs) (d ∷ ds) = IsSameCut c d × AreSameCuts cs ds
 AreSameCuts _ _ = ⊥
 
+abbrev pub IsSameList : PartList → PartList → Type 0
+IsSameList a b = (a.kind ≡ b.kind) × (a.index ≡ b.index) × (a.times.items ≡ b.times.items)
+
+abbrev pub AreSameLists : List PartList → List PartList → Type 0
+AreSameLists [] [] = ⊤
+AreSameLists (a ∷ rest) (b ∷ more) = IsSameList a b × AreSameLists rest more
+AreSameLists _ _ = ⊥
+
 abbrev pub IsSameLeaf : Leaf → Leaf → Type 0
 IsSameLeaf (leaf.Linear den parts) (leaf.Linear q others) = (den ≡ q) × (parts.items ≡ others.items)
 IsSameLeaf (leaf.Farkas parts) (leaf.Farkas others) = parts.items ≡ others.items
 IsSameLeaf leaf.Point leaf.Point = ⊤
+IsSameLeaf (leaf.Reduced den parts lists groups) (leaf.Reduced q others seconds thirds) = (den ≡ q) × (parts.items ≡ others.items) × AreSameLists lists.items seconds.items × (groups.items ≡ thirds.items)
 IsSameLeaf _ _ = ⊥
 
 abbrev pub IsSameTree : Tree → Tree → Type 0

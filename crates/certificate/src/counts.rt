@@ -34,9 +34,9 @@ pub fn cut_lines_count(cut: &Cut) -> u64
     1 + cut.parts().len() as u64
 }
 
-/// How many lines a leaf has, those of its parts included. It takes no memory.
+/// How many lines a leaf has, those of its parts, lists and groups included. It takes no memory.
 pub fn leaf_lines_count(leaf: &Leaf) -> u64
     ensures { result ≡ length (leaf_values (leaf_shape leaf.now)) }
 {
-    1 + leaf.parts().len() as u64
+    1 + leaf.parts().len() as u64 + leaf.lists().len() as u64 + leaf.groups().len() as u64
 }

@@ -11,11 +11,13 @@ use cert_lines::MAX_BRANCHES;
 use std::alloc::{AllocError, AllocFailed, Global};
 use thiserror::Error;
 
-/// What the lines after the first three need next: parts, then cuts, then trees, and then the end. The reader of
-/// a text that comes in pieces holds it and gives it one line after the other.
+/// What the lines after the first three need next: parts, then lists of parts, then groups, then cuts, then trees, and
+/// then the end. The reader of a text that comes in pieces holds it and gives it one line after the other.
 #[derive(Debug, Drop)]
 pub struct Dues {
     parts: u32,
+    lists: u32,
+    groups: u32,
     cuts: u32,
     // Branches above each tree; the next tree is the last one.
     trees: Vec<u32>,
@@ -67,6 +69,8 @@ impl Dues {
         trees.push(0)?;
         Ok(Dues {
             parts: 0,
+            lists: 0,
+            groups: 0,
             cuts,
             trees,
             end: true,
@@ -83,6 +87,12 @@ impl Dues {
         if self.parts > 0 {
             return self.take_part(line);
         }
+        if self.lists > 0 {
+            return self.take_list(line);
+        }
+        if self.groups > 0 {
+            return self.take_group(line);
+        }
         if self.cuts > 0 {
             return self.take_cut(line);
         }
@@ -97,6 +107,12 @@ impl Dues {
         ensures { IsTrue result ↔ (dues_in self.now ≡ []) }
     {
         if self.parts > 0 {
+            return false;
+        }
+        if self.lists > 0 {
+            return false;
+        }
+        if self.groups > 0 {
             return false;
         }
         if self.cuts > 0 {
@@ -124,9 +140,46 @@ impl Dues {
         }
     }
 
-    // A line where a cut is needed, and no part.
+    // A line where a list is needed, and no part.
+    fn take_list(&mut self, line: &CertLine) -> Result<(), Misfit>
+        requires parts { self.old.parts ≡ 0 }
+        requires some { 1 ≤ self.old.lists }
+        ensures taken { OnOk result (TakesAll (dues_in self.old) (line_shape line.now ∷ []) (dues_in self.new)) }
+        ensures unwanted { IsErrOf result Unwanted → IsUnwanted (dues_in self.old) (line_shape line.now) }
+        ensures deep { IsErrOf result Deep → ⊥ }
+    {
+        match line {
+            CertLine::List(_) => {
+                self.lists -= 1;
+                Ok(())
+            }
+            _ => Err(Misfit::Unwanted),
+        }
+    }
+
+    // A line where a group is needed, and neither a part nor a list.
+    fn take_group(&mut self, line: &CertLine) -> Result<(), Misfit>
+        requires parts { self.old.parts ≡ 0 }
+        requires lists { self.old.lists ≡ 0 }
+        requires some { 1 ≤ self.old.groups }
+        ensures taken { OnOk result (TakesAll (dues_in self.old) (line_shape line.now ∷ []) (dues_in self.new)) }
+        ensures unwanted { IsErrOf result Unwanted → IsUnwanted (dues_in self.old) (line_shape line.now) }
+        ensures deep { IsErrOf result Deep → ⊥ }
+    {
+        match line {
+            CertLine::Group(_) => {
+                self.groups -= 1;
+                Ok(())
+            }
+            _ => Err(Misfit::Unwanted),
+        }
+    }
+
+    // A line where a cut is needed, and nothing of a leaf.
     fn take_cut(&mut self, line: &CertLine) -> Result<(), Misfit>
-        requires none { self.old.parts ≡ 0 }
+        requires parts { self.old.parts ≡ 0 }
+        requires lists { self.old.lists ≡ 0 }
+        requires groups { self.old.groups ≡ 0 }
         requires some { 1 ≤ self.old.cuts }
         ensures taken { OnOk result (TakesAll (dues_in self.old) (line_shape line.now ∷ []) (dues_in self.new)) }
         ensures unwanted { IsErrOf result Unwanted → IsUnwanted (dues_in self.old) (line_shape line.now) }
@@ -149,6 +202,8 @@ impl Dues {
     // A line where a tree with so many branches above it is needed, which was taken from the trees.
     fn take_tree(&mut self, line: &CertLine, above: u32) -> Result<(), Misfit>
         requires parts { self.old.parts ≡ 0 }
+        requires lists { self.old.lists ≡ 0 }
+        requires groups { self.old.groups ≡ 0 }
         requires cuts { self.old.cuts ≡ 0 }
         ensures taken { OnOk result (TakesAll (a_tree above ∷ dues_in self.old) (line_shape line.now ∷ []) (dues_in self.new)) }
         ensures unwanted { IsErrOf result Unwanted → IsUnwanted (a_tree above ∷ dues_in self.old) (line_shape line.now) }
@@ -172,6 +227,17 @@ impl Dues {
                 Ok(())
             }
             CertLine::Point => Ok(()),
+            CertLine::Reduced {
+                parts,
+                lists,
+                groups,
+                ..
+            } => {
+                self.parts = *parts;
+                self.lists = *lists;
+                self.groups = *groups;
+                Ok(())
+            }
             _ => Err(Misfit::Unwanted),
         }
     }
@@ -179,6 +245,8 @@ impl Dues {
     // A line where the end is needed, or nothing.
     fn take_end(&mut self, line: &CertLine) -> Result<(), Misfit>
         requires parts { self.old.parts ≡ 0 }
+        requires lists { self.old.lists ≡ 0 }
+        requires groups { self.old.groups ≡ 0 }
         requires cuts { self.old.cuts ≡ 0 }
         requires trees { self.old.trees.items ≡ [] }
         ensures taken { OnOk result (TakesAll (dues_in self.old) (line_shape line.now ∷ []) (dues_in self.new)) }

@@ -25,7 +25,8 @@ pub enum Tree {
 /// A claim with its proof.
 #[derive(Debug, Drop)]
 pub struct Certificate {
-    /// The version of its text, 1 or 2: in version 1 no part names a least lot or a late one.
+    /// The version of its text, 1 to 3: in version 1 no part names a least lot or a late one, and only version 3 has
+    /// leaves over reduced costs.
     pub version: u32,
     /// The claim.
     pub claim: Claim,

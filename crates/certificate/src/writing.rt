@@ -1,15 +1,17 @@
 // The text of a certificate.
 ghost use Rattle.std.specs.Prelude.{◌≡◌, ◌++◌, IfOk, OnOk, map, string_bytes};
-ghost use Rattle.cert_lines.specs.Shapes.{cut_shape, leaf_shape};
+ghost use Rattle.cert_lines.specs.Shapes.{cut_shape, leaf_shape, list_shape};
 ghost use Rattle.certificate.specs.Shapes.{shape_of, tree_shape};
-ghost use Rattle.certificate.specs.Values.{all_cut_values, cut_values, leaf_values, part_values, tree_values, values_text};
+ghost use Rattle.certificate.specs.Values.{all_cut_values, cut_values, group_values, leaf_values, list_values, part_values, tree_values, values_text};
 ghost use Rattle.certificate.specs.Text.{certificate_text};
 ghost use Rattle.certificate.specs.Limits.{IsTextOf, IsWritable};
 
-use crate::{Certificate, Cut, Leaf, Part, Tree};
+use crate::{Certificate, Cut, Leaf, Part, PartList, Tree};
 use cert_lines::{
-    add_branch, add_claim, add_count, add_cut_line, add_leaf_line, add_mark, add_part,
+    add_branch, add_claim, add_count, add_cut_line, add_group_line, add_leaf_line, add_list_line,
+    add_mark, add_part,
 };
+use item_groups::Group;
 use std::alloc::{AllocError, Global};
 
 // Adds a line for each part.
@@ -18,6 +20,26 @@ fn add_parts(text: &mut String, parts: &[Part]) -> Result<(), AllocError>
 {
     for part in parts {
         add_part(text, *part)?;
+    }
+    Ok(())
+}
+
+// Adds a line for each list.
+fn add_lists(text: &mut String, lists: &[PartList]) -> Result<(), AllocError>
+    ensures { OnOk result (string_bytes text.new ≡ string_bytes text.old ++ values_text (list_values (map list_shape lists.now))) }
+{
+    for list in lists {
+        add_list_line(text, list)?;
+    }
+    Ok(())
+}
+
+// Adds a line for each group.
+fn add_groups(text: &mut String, groups: &[Group]) -> Result<(), AllocError>
+    ensures { OnOk result (string_bytes text.new ≡ string_bytes text.old ++ values_text (group_values groups.now)) }
+{
+    for group in groups {
+        add_group_line(text, group)?;
     }
     Ok(())
 }
@@ -41,12 +63,14 @@ fn add_cuts(text: &mut String, cuts: &[Cut]) -> Result<(), AllocError>
     Ok(())
 }
 
-// Adds a leaf, with its parts.
+// Adds a leaf, with its parts, lists and groups.
 fn add_leaf(text: &mut String, leaf: &Leaf) -> Result<(), AllocError>
     ensures { OnOk result (string_bytes text.new ≡ string_bytes text.old ++ values_text (leaf_values (leaf_shape leaf.now))) }
 {
     add_leaf_line(text, leaf)?;
     add_parts(text, leaf.parts())?;
+    add_lists(text, leaf.lists())?;
+    add_groups(text, leaf.groups())?;
     Ok(())
 }
 

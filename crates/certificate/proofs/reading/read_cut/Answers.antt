@@ -18,8 +18,8 @@ returns-in_err-parts-in-Round-clause-refused c =
     let why : (later : List Due) → IsFaultFrom c.args.version (a_cut ∷ later) c.args.rest.now.text.now c.args.rest.now.line c.in_err-parts-in-Round.field-0.0 = line_fault c.args.rest.now c.next_line.new.rest a_cut line (replicate c.in-Round.count a_part) c.in_err-parts-in-Round.field-0.0 read tt (λ no_depth. no_depth) refl c.in_err-parts-in-Round.ensures.refused in
     search (rules, why)
 
-pub returns-in_default : goal.returns-in_default
-returns-in_default c = record {
+pub returns : goal.returns
+returns c = record {
   cut = tt;
   room = tt;
   refused = λ later. fault_shape c.args.rest.now.text.now c.next_line.new.rest.text.now c.args.rest.now.line a_cut later (line_shape c.in_ok-cut.field-0) c.in_ok-cut.ensures.text c.in_ok-cut.ensures.line (not_cut c.in_ok-cut.field-0 c.in_default.not-Cut c.in_default.not-Round);

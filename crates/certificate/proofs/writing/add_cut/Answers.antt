@@ -1,6 +1,6 @@
-use Rattle.std.proofs.Common.{◌≡◌, ◌∙◌, ◌++◌, ap, string_bytes}
+use Rattle.std.proofs.Common.{string_bytes}
 use Rattle.cert_lines.specs.Shapes.{cut_first, cut_parts, cut_shape}
-use Rattle.certificate.specs.Values.{part_values, value_text, values_text}
+use Rattle.certificate.specs.Values.{part_values}
 use Rattle.certificate.proofs.Joins.{line_joined}
 use Rattle.certificate.proofs.writing.add_cut.Goals as goal
 
