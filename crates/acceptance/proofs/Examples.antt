@@ -53,7 +53,7 @@ two P a b t low high = ⊎_elim (λ less. let e : 1 ≡ t = omega (arith, low, l
 pub cells : (P : ℕ → ℕ → Type 0) → P 1 1 → P 1 2 → (i t : ℕ) → 1 ≤ i → i ≤ 1 → 1 ≤ t → t ≤ 2 → P i t
 cells P a b i t low high t_low t_high = one (λ j. P j t) (two (P 1) a b t t_low t_high) i low high
 
-no_back : (i : ℕ) → 1 ≤ i → i ≤ 1 → IsSome (item_at model i).backlog_cost → ⊥
+pub no_back : (i : ℕ) → 1 ≤ i → i ≤ 1 → IsSome (item_at model i).backlog_cost → ⊥
 no_back i low high = one (λ j. IsSome (item_at model j).backlog_cost → ⊥) (λ some. cc some) i low high
 
 pub columns : (P : Column → Type 0) → P (X 1 1) → P (X 1 2) → P (Y 1 1) → P (Y 1 2) → P (S 1 1) → P (S 1 2) → (c : Column) → IsColumn model c → P c

@@ -1,6 +1,6 @@
 -- What leaves say is so of each feasible plan that lies in them.
-use Rattle.std.proofs.Common.{◌≡◌, ◌≤◌, ◌<◌, ◌-◌, ℕ, zero, suc, refl, sym, subst, arith, Bool, true, false, List, [], ◌∷◌, length, slice_index_or}
-use Rattle.std.specs.Prelude.{ℤ, pos, negsuc, neg_ℤ, ◌+ℤ◌, ◌*ℤ◌, ◌≤ℤ◌}
+use Rattle.std.proofs.Common.{◌≡◌, ◌≤◌, ◌<◌, ◌-◌, ⊎_elim, ℕ, zero, suc, refl, sym, subst, arith, Bool, true, false, List, [], ◌∷◌, length, slice_index_or}
+use Rattle.std.specs.Prelude.{ℤ, pos, negsuc, neg_ℤ, ◌+ℤ◌, ◌*ℤ◌, ◌≤ℤ◌, map}
 use Rattle.std.specs.List.{All}
 use Rattle.std.proofs.lemmas.List.Elements.{All-cons, All-filter, All-head, All-nil, All-tail}
 use Rattle.algebra.proofs.Integers.{minus_one, mul_one}
@@ -22,8 +22,11 @@ use Rattle.lin_rows.specs.Combining.{AllHold, AreOfProblem, AreSigned, SumsBound
 use Rattle.lin_rows.specs.Rows.{HoldsAt, HoldsIn, LinPoint, LinRow, Values, whole_point}
 use Rattle.lin_rows.proofs.Columns.{base_exists}
 use Rattle.lin_rows.proofs.Holding.{row_holds}
+use Rattle.item_groups.specs.declared.group.Group.{Group}
+use Rattle.reduced_groups.specs.Floors.{shape_of}
+use Rattle.reduced_leaf.specs.Laws.{ReducedSumBounds, ReducedSumRefutes}
 use Rattle.cert_lines.specs.declared.parts.Part.{Part}
-use Rattle.cert_lines.specs.Shapes.{LeafShape, LinearLeaf, FarkasLeaf, PointLeaf}
+use Rattle.cert_lines.specs.Shapes.{LeafShape, LinearLeaf, FarkasLeaf, ListShape, PointLeaf, ReducedLeaf}
 use Rattle.split_trees.specs.Laws.{RangesAreLeft}
 use Rattle.split_trees.specs.Ranges.{IsChoice, IsWithin, Ranges}
 use Rattle.split_trees.specs.Paths.{AreChoices, AreMet, IsMet, no_bound}
@@ -31,7 +34,8 @@ use Rattle.acceptance.specs.declared.says.LeafSays.{LeafSays}
 use Rattle.acceptance.specs.declared.says.LeafSays.TheVariants.{NoPlan, AtLeast}
 use Rattle.acceptance.specs.Named.{IsNamed, Named, no_row, row_named}
 use Rattle.acceptance.specs.Parts.{AreParts, IsPart, rows_of, sum_of_column, sum_of_right, times_of}
-use Rattle.acceptance.specs.Says.{IsFarkas, IsLinear, IsPoint, IsSoOf, Says, point_make, point_setup}
+use Rattle.acceptance.specs.Lists.{all_parts}
+use Rattle.acceptance.specs.Says.{IsFarkas, IsLinear, IsPoint, IsReducedBound, IsReducedRefuted, IsSoOf, IsSumOf, Says, point_make, point_setup}
 
 -- what is known of a problem in which no item is its own component, and of its largest totals
 pub record IsKnown (m : Problem) (total : ℕ → ℕ) : Type 0 where
@@ -140,6 +144,8 @@ pub record Grounds : Type 0 where
   pub bound : SumsBoundPlans
   pub refute : SumsRefute
   pub left : RangesAreLeft
+  pub reduced : ReducedSumBounds
+  pub choices : ReducedSumRefutes
 
 module _ (by : Grounds) where
   linear_says : (n : Named) (den : ℤ) (parts : List Part) (bound : ℕ) (p : Plan) → IsLinear n den parts bound → AreColumnsOf n → AreRowsAt n p → bound ≤ cost n.problem p
@@ -155,6 +161,28 @@ module _ (by : Grounds) where
   farkas_says n parts p is columns are =
       let named = is.parts_exist in
       by.refute n.problem (rows_of n parts) (times_of parts) (parts_signed n parts named) (parts_columns n parts columns named) is.columns is.right (whole_point (value_in p)) (parts_hold by.totals n p parts are named)
+
+  -- parts and groups add to no more than den times what the plan costs
+  sum_bounds : (n : Named) (den : ℕ) (parts : List Part) (groups : List Group) (sum : ℤ) (p : Plan) → AreParts n parts → IsSumOf n den parts groups sum → AreColumnsOf n → AreRowsAt n p → sum ≤ℤ (pos den *ℤ pos (cost n.problem p))
+  sum_bounds n den parts groups sum p named adds columns are =
+      let known = are.known in
+      by.reduced n.problem known.rank n.total (rows_of n parts) (times_of parts) den (map shape_of groups) sum known.some known.ranks known.totals (parts_signed n parts named) (parts_columns n parts columns named) adds p are.feasible (parts_hold by.totals n p parts are named)
+
+  reduced_bounds : (n : Named) (den : ℕ) (parts : List Part) (lists : List ListShape) (groups : List Group) (bound : ℕ) (p : Plan) → IsReducedBound n den parts lists groups bound → AreColumnsOf n → AreRowsAt n p → bound ≤ cost n.problem p
+  reduced_bounds n den parts lists groups bound p is columns are =
+      is.right.least (cost n.problem p) (sum_bounds n den (all_parts parts lists) groups is.sum p is.listed.parts_exist is.adds columns are)
+
+  reduced_refutes : (n : Named) (den : ℕ) (parts : List Part) (lists : List ListShape) (groups : List Group) (p : Plan) → IsReducedRefuted n den parts lists groups → AreColumnsOf n → AreRowsAt n p → ⊥
+  reduced_refutes n den parts lists groups p is columns are =
+      let known = are.known in
+      let all = all_parts parts lists in
+      ⊎_elim
+      (λ lacks. by.choices n.problem known.rank n.total (rows_of n all) (times_of all) den (map shape_of groups) known.some known.ranks known.totals lacks p are.feasible)
+      (λ has.
+      let (none, sum, adds, more) = has in
+      let most = subst (λ d. sum ≤ℤ (pos d *ℤ pos (cost n.problem p))) none (sum_bounds n den all groups sum p is.listed.parts_exist adds columns are) in
+      omega (arith, linear, most, more))
+      is.refuted
 
   -- a plan that lies where each quantity and setup is left one value has these values
   has_point : (n : Named) (ranges : Ranges) (p : Plan) → IsPoint n ranges → AreChoices n.problem n.path → AreMet (value_in p) n.path → IsWithin n.problem ranges p → HasChoice n.problem (point_make n ranges) (point_setup n ranges) p
@@ -176,3 +204,5 @@ module _ (by : Grounds) where
   leaf_is_so n ranges (FarkasLeaf parts) (AtLeast bound) p is columns are within = absurd is
   leaf_is_so n ranges PointLeaf NoPlan p is columns are within = is.1 p are.feasible (has_point n ranges p is.0 columns.path are.met within)
   leaf_is_so n ranges PointLeaf (AtLeast bound) p is columns are within = is.1.least p are.feasible (has_point n ranges p is.0 columns.path are.met within)
+  leaf_is_so n ranges (ReducedLeaf den parts lists groups) NoPlan p is columns are within = reduced_refutes n den parts lists groups p is columns are
+  leaf_is_so n ranges (ReducedLeaf den parts lists groups) (AtLeast bound) p is columns are within = reduced_bounds n den parts lists groups bound p is columns are

@@ -8,3 +8,5 @@ mod Agreeing
 mod Whichever
 mod Examples
 mod Cutting
+mod Reducing
+mod Plain

@@ -1,6 +1,6 @@
 -- A leaf says one thing, and a cut has one row.
 use Rattle.std.proofs.Common.{◌≡◌, ◌≤◌, ◌<◌, ◌+◌, ◌*◌, ◌^◌, ◌∙◌, ⊎_elim, ℕ, refl, sym, ap, subst, arith, true, false, List, [], ◌∷◌, ◌++◌}
-use Rattle.std.specs.Prelude.{◌==◌, ◌&&◌, if◌then◌else◌, ℤ, pos, ◌+ℤ◌, ◌*ℤ◌, ◌≤ℤ◌, ◌<ℤ◌}
+use Rattle.std.specs.Prelude.{◌==◌, ◌&&◌, if◌then◌else◌, ℤ, pos, ◌+ℤ◌, ◌*ℤ◌, ◌≤ℤ◌, ◌<ℤ◌, map}
 use Rattle.std.specs.List.{All}
 use Rattle.std.proofs.lemmas.Bool.{cases_Bool, cases_order}
 use Rattle.std.proofs.lemmas.List.Elements.{All-head, All-nil, All-tail, All-weaker}
@@ -19,13 +19,18 @@ use Rattle.lin_rows.proofs.Below.{one_by_parts}
 use Rattle.lin_rows.proofs.Cells.{same_self}
 use Rattle.lin_rows.proofs.Terms.{same_row}
 use Rattle.round_cuts.specs.Rounding.{IsCeiling, IsRounded}
-use Rattle.cert_lines.specs.Shapes.{BlockCut, CutShape, FarkasLeaf, LeafShape, LinearLeaf, LsCut, PointLeaf, PriceCut, RoundCut}
+use Rattle.item_groups.specs.declared.group.Group.{Group}
+use Rattle.reduced_groups.specs.Floors.{shape_of}
+use Rattle.reduced_leaf.specs.Laws.{ChoicesAreOne, SumsAreOne}
+use Rattle.cert_lines.specs.declared.parts.Part.{Part}
+use Rattle.cert_lines.specs.Shapes.{BlockCut, CutShape, FarkasLeaf, LeafShape, LinearLeaf, ListShape, LsCut, PointLeaf, PriceCut, ReducedLeaf, RoundCut}
 use Rattle.split_trees.specs.Ranges.{IsChoice, Ranges}
 use Rattle.acceptance.specs.declared.says.LeafSays.{LeafSays}
 use Rattle.acceptance.specs.declared.says.LeafSays.TheVariants.{NoPlan, AtLeast}
 use Rattle.acceptance.specs.Named.{Named, names}
 use Rattle.acceptance.specs.Parts.{rows_of, times_of}
-use Rattle.acceptance.specs.Says.{IsLeastCost, IsRoundedUp, Says}
+use Rattle.acceptance.specs.Lists.{all_parts}
+use Rattle.acceptance.specs.Says.{IsLeastCost, IsReducedBound, IsReducedRefuted, IsRoundedUp, Says}
 use Rattle.acceptance.specs.CutRows.{AreCutRows, IsCutRow}
 use Rattle.acceptance.proofs.Leaves.{parts_columns}
 use Rattle.acceptance.proofs.Cuts.{cut_columns, of_push, rounded_columns}
@@ -36,17 +41,37 @@ one_quotient den a n k is also = omega (arith, is.least k also.above, also.least
 one_cost : (m : Problem) (make setup : Table) (a b : ℕ) → IsLeastCost m make setup a → IsLeastCost m make setup b → a ≡ b
 one_cost m make setup a b is also = omega (arith, is.costs, also.costs, is.least also.plan also.feasible also.chosen, also.least is.plan is.feasible is.chosen)
 
-pub one_says : (n : Named) (ranges : Ranges) (leaf : LeafShape) (a b : LeafSays) → Says n ranges leaf a → Says n ranges leaf b → a ≡ b
-one_says n ranges (LinearLeaf den parts) NoPlan b is also = absurd is
-one_says n ranges (LinearLeaf den parts) (AtLeast x) NoPlan is also = absurd also
-one_says n ranges (LinearLeaf den parts) (AtLeast x) (AtLeast y) is also = ap AtLeast (one_quotient den _ x y is.right also.right)
-one_says n ranges (FarkasLeaf parts) NoPlan NoPlan is also = refl
-one_says n ranges (FarkasLeaf parts) NoPlan (AtLeast y) is also = absurd also
-one_says n ranges (FarkasLeaf parts) (AtLeast x) b is also = absurd is
-one_says n ranges PointLeaf NoPlan NoPlan is also = refl
-one_says n ranges PointLeaf NoPlan (AtLeast y) is also = absurd (is.1 also.1.plan also.1.feasible also.1.chosen)
-one_says n ranges PointLeaf (AtLeast x) NoPlan is also = absurd (also.1 is.1.plan is.1.feasible is.1.chosen)
-one_says n ranges PointLeaf (AtLeast x) (AtLeast y) is also = ap AtLeast (one_cost n.problem _ _ x y is.1 also.1)
+-- parts and groups add to one number, and to none where a group has no choice
+module _ (one : SumsAreOne) (choices : ChoicesAreOne) where
+  one_bound : (n : Named) (den : ℕ) (parts : List Part) (lists : List ListShape) (groups : List Group) (x y : ℕ) → IsReducedBound n den parts lists groups x → IsReducedBound n den parts lists groups y → x ≡ y
+  one_bound n den parts lists groups x y is also =
+      let all = all_parts parts lists in
+      let e = one n.problem is.ranked.rank n.total n.total (rows_of n all) (times_of all) den (map shape_of groups) is.ranked.ranks is.ranked.totals is.ranked.totals is.sum also.sum is.adds also.adds in
+      one_quotient (pos den) also.sum x y (subst (λ sum. IsRoundedUp (pos den) sum x) e is.right) also.right
+
+  bound_or_refuted : (n : Named) (den : ℕ) (parts : List Part) (lists : List ListShape) (groups : List Group) (x : ℕ) → IsReducedBound n den parts lists groups x → IsReducedRefuted n den parts lists groups → ⊥
+  bound_or_refuted n den parts lists groups x is refuted =
+      let all = all_parts parts lists in
+      ⊎_elim
+      (λ lacks. choices n.problem is.ranked.rank n.total n.total (rows_of n all) (times_of all) den (map shape_of groups) is.ranked.ranks is.ranked.totals is.ranked.totals is.sum is.adds lacks)
+      (λ has. omega (arith, is.positive, has.0))
+      refuted.refuted
+
+  pub one_says : (n : Named) (ranges : Ranges) (leaf : LeafShape) (a b : LeafSays) → Says n ranges leaf a → Says n ranges leaf b → a ≡ b
+  one_says n ranges (LinearLeaf den parts) NoPlan b is also = absurd is
+  one_says n ranges (LinearLeaf den parts) (AtLeast x) NoPlan is also = absurd also
+  one_says n ranges (LinearLeaf den parts) (AtLeast x) (AtLeast y) is also = ap AtLeast (one_quotient den _ x y is.right also.right)
+  one_says n ranges (FarkasLeaf parts) NoPlan NoPlan is also = refl
+  one_says n ranges (FarkasLeaf parts) NoPlan (AtLeast y) is also = absurd also
+  one_says n ranges (FarkasLeaf parts) (AtLeast x) b is also = absurd is
+  one_says n ranges PointLeaf NoPlan NoPlan is also = refl
+  one_says n ranges PointLeaf NoPlan (AtLeast y) is also = absurd (is.1 also.1.plan also.1.feasible also.1.chosen)
+  one_says n ranges PointLeaf (AtLeast x) NoPlan is also = absurd (also.1 is.1.plan is.1.feasible is.1.chosen)
+  one_says n ranges PointLeaf (AtLeast x) (AtLeast y) is also = ap AtLeast (one_cost n.problem _ _ x y is.1 also.1)
+  one_says n ranges (ReducedLeaf den parts lists groups) NoPlan NoPlan is also = refl
+  one_says n ranges (ReducedLeaf den parts lists groups) NoPlan (AtLeast y) is also = absurd (bound_or_refuted n den parts lists groups y also is)
+  one_says n ranges (ReducedLeaf den parts lists groups) (AtLeast x) NoPlan is also = absurd (bound_or_refuted n den parts lists groups x is also)
+  one_says n ranges (ReducedLeaf den parts lists groups) (AtLeast x) (AtLeast y) is also = ap AtLeast (one_bound n den parts lists groups x y is also)
 
 -- a ceiling is one
 below_next : (q : ℕ) (a z w : ℤ) → 1 ≤ q → IsCeiling q a z → IsCeiling q a w → z ≤ℤ w

@@ -1,6 +1,6 @@
 -- Acceptance is the same, whichever largest totals and weights of a problem are taken.
-use Rattle.std.proofs.Common.{◌≡◌, ◌≤◌, ◌<◌, ◌*◌, ◌^◌, ◌∙◌, ℕ, refl, sym, ap, subst, arith, List, [], ◌∷◌, ◌++◌, false}
-use Rattle.std.specs.Prelude.{if◌then◌else◌, is_some, nat_lt, ℤ, pos, negsuc, ◌*ℤ◌, ◌≤ℤ◌, ◌<ℤ◌, Option}
+use Rattle.std.proofs.Common.{◌≡◌, ◌≤◌, ◌<◌, ◌*◌, ◌^◌, ◌∙◌, ⊎_elim, inl, inr, ℕ, refl, sym, ap, subst, arith, List, [], ◌∷◌, ◌++◌, false}
+use Rattle.std.specs.Prelude.{if◌then◌else◌, is_some, nat_lt, ℤ, pos, negsuc, ◌*ℤ◌, ◌≤ℤ◌, ◌<ℤ◌, map, Option}
 use Rattle.std.proofs.lemmas.List.Elements.{All-cons, All-head, All-nil, All-tail}
 use Rattle.lot_sizing.specs.Problem.{EachItem, Problem, demand, item_at, item_count}
 use Rattle.lot_sizing.specs.Plan.{Plan}
@@ -19,10 +19,15 @@ use Rattle.lin_rows.specs.Columns.{IsCell, column_cost}
 use Rattle.lin_rows.specs.Combining.{column_sum, right_sum}
 use Rattle.lin_rows.specs.Rows.{LinRow}
 use Rattle.round_cuts.specs.Rounding.{IsRounded, column_amount, right_amount}
+use Rattle.item_groups.specs.declared.group.Group.{Group}
+use Rattle.reduced_groups.specs.Groups.{GroupShape}
+use Rattle.reduced_groups.specs.Floors.{shape_of}
+use Rattle.reduced_leaf.specs.Leaf.{IsReducedSum, IsSmallSum, LacksOneChoice}
+use Rattle.reduced_leaf.specs.Laws.{LacksByBoth, SumByBoth}
 use Rattle.cert_lines.specs.declared.parts.Claim.{Claim}
 use Rattle.cert_lines.specs.declared.parts.Claim.TheVariants.{Optimal, Infeasible, Bound as BoundOf}
 use Rattle.cert_lines.specs.declared.parts.Part.{Part}
-use Rattle.cert_lines.specs.Shapes.{BlockCut, CutShape, FarkasLeaf, LeafShape, LinearLeaf, LsCut, PointLeaf, PriceCut, RoundCut}
+use Rattle.cert_lines.specs.Shapes.{BlockCut, CutShape, FarkasLeaf, LeafShape, LinearLeaf, ListShape, LsCut, PointLeaf, PriceCut, ReducedLeaf, RoundCut}
 use Rattle.certificate.specs.Shapes.{End, Shape, Split, TreeShape}
 use Rattle.split_trees.specs.Spans.{IsIn, Span}
 use Rattle.split_trees.specs.Ranges.{IsChoice, Ranges, whole_ranges}
@@ -32,11 +37,27 @@ use Rattle.acceptance.specs.declared.says.LeafSays.{LeafSays}
 use Rattle.acceptance.specs.declared.says.LeafSays.TheVariants.{NoPlan, AtLeast}
 use Rattle.acceptance.specs.Named.{IsNamed, names, row_named}
 use Rattle.acceptance.specs.Parts.{AreParts, AreSmall, IsPart, rows_of, times_of}
-use Rattle.acceptance.specs.Says.{IsFarkas, IsLinear, IsPoint, Says, point_make, point_setup}
+use Rattle.acceptance.specs.Lists.{AreListed, all_parts}
+use Rattle.acceptance.specs.Says.{GroupLacksChoice, IsFarkas, IsLinear, IsPoint, IsRanked, IsReducedBound, IsReducedRefuted, IsSumOf, Says, point_make, point_setup}
 use Rattle.acceptance.specs.CutRows.{AreCutRows, HasEchelon, IsCutRow, backs_in, echelon_at}
-use Rattle.acceptance.specs.Accepts.{AreSmallCuts, Fits, GoesWith, IsAccepted, IsSmallCut, IsSmallLeaf, SaysEnough}
-use Rattle.acceptance.specs.Laws.{AreSameRanges}
+use Rattle.acceptance.specs.Accepts.{AreSmallCuts, Fits, GoesWith, IsAccepted, IsSmallCut, IsSmallLeaf, IsSmallWith, SaysEnough}
+use Rattle.acceptance.specs.Laws.{AreBoth, AreSameRanges}
 use Rattle.acceptance.proofs.Agreeing.{AreAlike, block_row_same, ls_row_same, price_row_same, priced_same}
+
+-- what rows and groups say by one of two largest totals they say by the other
+pub record AreSameSums (m : Problem) (a b : ℕ → ℕ) : Type 0 where
+  pub ranked : IsRanked m b
+  pub sums : (rows : List LinRow) (times : List ℤ) (den : ℕ) (shapes : List GroupShape) (sum : ℤ) → IsReducedSum m a rows times den shapes sum → IsReducedSum m b rows times den shapes sum
+  pub back : (rows : List LinRow) (times : List ℤ) (den : ℕ) (shapes : List GroupShape) (sum : ℤ) → IsReducedSum m b rows times den shapes sum → IsReducedSum m a rows times den shapes sum
+  pub lacks : (rows : List LinRow) (times : List ℤ) (den : ℕ) (shapes : List GroupShape) → LacksOneChoice m a rows times den shapes → LacksOneChoice m b rows times den shapes
+
+pub sums_same : SumByBoth → LacksByBoth → (m : Problem) (a b : ℕ → ℕ) (v w : ℕ → ℕ → ℕ) → AreBoth m a b v w → AreSameSums m a b
+sums_same sums lacks m a b v w by = record {
+  ranked = record { rank = by.rank; ranks = by.ranks; totals = by.totals.1 };
+  sums = λ rows times den shapes. sums m by.rank a b rows times den shapes by.ranks by.totals.0 by.totals.1;
+  back = λ rows times den shapes. sums m by.rank b a rows times den shapes by.ranks by.totals.1 by.totals.0;
+  lacks = λ rows times den shapes. lacks m by.rank a b rows times den shapes by.ranks by.totals.0 by.totals.1;
+}
 
 -- ---- named rows
 link_row : ℕ → ℕ → Option ℕ → ℕ → LinRow
@@ -99,7 +120,42 @@ module _ (m : Problem) (a b : ℕ → ℕ) (same : EachItem m (λ i. a i ≡ b i
         right = subst (λ rows. pos 0 <ℤ right_sum rows (times_of parts)) e is.right;
       }
 
-  module _ (r s : Ranges) (agree : AreSameRanges m r s) where
+  listed_same : (cuts : List LinRow) (path : List Bound) (parts : List Part) (lists : List ListShape) → AreListed (names m a cuts path) parts lists → AreListed (names m b cuts path) parts lists
+  listed_same cuts path parts lists are = record { parts_exist = parts_same cuts path (all_parts parts lists) are.parts_exist; each = are.each }
+
+  module _ (by : AreSameSums m a b) (cuts : List LinRow) (path : List Bound) (den : ℕ) where
+    sum_same : (parts : List Part) (groups : List Group) (sum : ℤ) → AreParts (names m a cuts path) parts → IsSumOf (names m a cuts path) den parts groups sum → IsSumOf (names m b cuts path) den parts groups sum
+    sum_same parts groups sum are is =
+        subst (λ rows. IsReducedSum m b rows (times_of parts) den (map shape_of groups) sum) (rows_same cuts path parts are) (by.sums (rows_of (names m a cuts path) parts) (times_of parts) den (map shape_of groups) sum is)
+
+    lacks_same : (parts : List Part) (groups : List Group) → AreParts (names m a cuts path) parts → GroupLacksChoice (names m a cuts path) den parts groups → GroupLacksChoice (names m b cuts path) den parts groups
+    lacks_same parts groups are is =
+        subst (λ rows. LacksOneChoice m b rows (times_of parts) den (map shape_of groups)) (rows_same cuts path parts are) (by.lacks (rows_of (names m a cuts path) parts) (times_of parts) den (map shape_of groups) is)
+
+    bound_same : (parts : List Part) (lists : List ListShape) (groups : List Group) (bound : ℕ) → IsReducedBound (names m a cuts path) den parts lists groups bound → IsReducedBound (names m b cuts path) den parts lists groups bound
+    bound_same parts lists groups bound is = record {
+      ranked = by.ranked;
+      listed = listed_same cuts path parts lists is.listed;
+      positive = is.positive;
+      sum = is.sum;
+      adds = sum_same (all_parts parts lists) groups is.sum is.listed.parts_exist is.adds;
+      right = is.right;
+    }
+
+    refuted_same : (parts : List Part) (lists : List ListShape) (groups : List Group) → IsReducedRefuted (names m a cuts path) den parts lists groups → IsReducedRefuted (names m b cuts path) den parts lists groups
+    refuted_same parts lists groups is =
+        let all = all_parts parts lists in
+        let are = is.listed.parts_exist in
+        record {
+          ranked = by.ranked;
+          listed = listed_same cuts path parts lists is.listed;
+          refuted = ⊎_elim
+              (λ lacks. inl (lacks_same all groups are lacks))
+              (λ has. let (none, sum, adds, more) = has in inr (none, sum, sum_same all groups sum are adds, more))
+              is.refuted;
+        }
+
+  module _ (by : AreSameSums m a b) (r s : Ranges) (agree : AreSameRanges m r s) where
     left_same : (path : List Bound) (c : Column) → IsChoice m c → left_by r path c ≡ left_by s path c
     left_same path c is = ap (λ span. left_to span path c) (agree c is)
 
@@ -139,6 +195,8 @@ module _ (m : Problem) (a b : ℕ → ℕ) (same : EachItem m (λ i. a i ≡ b i
             least = λ p f has. least.least p f (choice_same cuts path p has);
           },
         )
+    says_same cuts path (ReducedLeaf den parts lists groups) NoPlan is = refuted_same by cuts path den parts lists groups is
+    says_same cuts path (ReducedLeaf den parts lists groups) (AtLeast bound) is = bound_same by cuts path den parts lists groups bound is
 
     leaves_same : (rows : List LinRow) (claim : Claim) (path : List Bound) (t : TreeShape) → EachLeaf (SaysEnough m a rows r claim) path t → EachLeaf (SaysEnough m b rows s claim) path t
     leaves_same rows claim path (End leaf) (says, is, enough) = (says, says_same rows path leaf says is, enough)
@@ -204,7 +262,7 @@ module _ (m : Problem) (v w : ℕ → ℕ → ℕ) (i : ℕ) (same : EachItem m 
   echelon_same : HasEchelon m v i → HasEchelon m w i
   echelon_same has = record { low = has.low; high = has.high; lead_free = λ j low high goes. has.lead_free j low high (omega (arith, goes, same j low high)) }
 
-module _ (m : Problem) (a b : ℕ → ℕ) (v w : ℕ → ℕ → ℕ) (totals : EachItem m (λ i. a i ≡ b i)) (weights : EachItem m (λ i. EachItem m (λ k. v i k ≡ w i k))) where
+module _ (m : Problem) (a b : ℕ → ℕ) (v w : ℕ → ℕ → ℕ) (totals : EachItem m (λ i. a i ≡ b i)) (weights : EachItem m (λ i. EachItem m (λ k. v i k ≡ w i k))) (by : AreSameSums m a b) where
   cut_same : (earlier : List LinRow) (c : CutShape) (r : LinRow) → IsCutRow m a v earlier c r → IsCutRow m b w earlier c r
   cut_same earlier (LsCut item last chosen) r is =
       let h = is.0.echelon in
@@ -247,9 +305,9 @@ module _ (m : Problem) (a b : ℕ → ℕ) (v w : ℕ → ℕ → ℕ) (totals :
   accepted_same r s agree c given is = record {
     rows = is.rows;
     cuts = cuts_same [] c.cuts is.rows is.cuts;
-    tree = tree_same m a b totals r s agree [] c.tree is.tree;
-    leaves = leaves_same m a b totals r s agree is.rows c.claim [] c.tree is.leaves;
-    plan = goes_same m a b totals r s agree c.claim given is.plan;
+    tree = tree_same m a b totals by r s agree [] c.tree is.tree;
+    leaves = leaves_same m a b totals by r s agree is.rows c.claim [] c.tree is.leaves;
+    plan = goes_same m a b totals by r s agree c.claim given is.plan;
   }
 
   small_cuts_same : (earlier : List LinRow) (cuts : List CutShape) (rows : List LinRow) → AreCutRows m a v earlier cuts rows → AreSmallCuts m a earlier cuts rows → AreSmallCuts m b earlier cuts rows
@@ -264,12 +322,27 @@ module _ (m : Problem) (a b : ℕ → ℕ) (v w : ℕ → ℕ → ℕ) (totals :
       cut_small earlier (BlockCut item l) r is small = small
       cut_small earlier (RoundCut divisor parts) r is small = small_same m a b totals earlier [] parts is.0.parts_exist small
 
+  -- a sum by the other totals is one by these
+  reduced_small : (cuts : List LinRow) (path : List Bound) (den : ℕ) (parts : List Part) (groups : List Group) → AreParts (names m a cuts path) parts → IsSmallWith (names m a cuts path) den parts groups → IsSmallWith (names m b cuts path) den parts groups
+  reduced_small cuts path den parts groups are small =
+      let e = rows_same m a b totals cuts path parts are in
+      let rows = rows_of (names m a cuts path) parts in
+      let times = times_of parts in
+      let shapes = map shape_of groups in (
+        small_same m a b totals cuts path parts are small.0,
+        λ sum is.
+            let back = by.back rows times den shapes sum (subst (λ rs. IsReducedSum m b rs times den shapes sum) (sym e) is) in
+            subst (λ rs. IsSmallSum rs times sum) e (small.1 sum back),
+      )
+
   leaf_small : (r : Ranges) (cuts : List LinRow) (path : List Bound) (leaf : LeafShape) (says : LeafSays) → Says (names m a cuts path) r leaf says → IsSmallLeaf (names m a cuts path) leaf → IsSmallLeaf (names m b cuts path) leaf
   leaf_small r cuts path (LinearLeaf den parts) NoPlan is small = absurd is
   leaf_small r cuts path (LinearLeaf den parts) (AtLeast bound) is small = small_same m a b totals cuts path parts is.parts_exist small
   leaf_small r cuts path (FarkasLeaf parts) NoPlan is small = small_same m a b totals cuts path parts is.parts_exist small
   leaf_small r cuts path (FarkasLeaf parts) (AtLeast bound) is small = absurd is
   leaf_small r cuts path PointLeaf says is small = small
+  leaf_small r cuts path (ReducedLeaf den parts lists groups) NoPlan is small = reduced_small cuts path den (all_parts parts lists) groups is.listed.parts_exist small
+  leaf_small r cuts path (ReducedLeaf den parts lists groups) (AtLeast bound) is small = reduced_small cuts path den (all_parts parts lists) groups is.listed.parts_exist small
 
   small_leaves_same : (r : Ranges) (rows : List LinRow) (claim : Claim) (path : List Bound) (t : TreeShape) → EachLeaf (SaysEnough m a rows r claim) path t → EachLeaf (λ q leaf. IsSmallLeaf (names m a rows q) leaf) path t → EachLeaf (λ q leaf. IsSmallLeaf (names m b rows q) leaf) path t
   small_leaves_same r rows claim path (End leaf) (says, is, enough) small = leaf_small r rows path leaf says is small

@@ -1,21 +1,25 @@
 -- When a certificate is accepted, whether its sums stay small, and when its claim is true.
-use Rattle.std.specs.Prelude.{◌≡◌, ℕ, ◌≤◌, List, [], ◌∷◌, ◌++◌, Option, Some, ⊤}
+use Rattle.std.specs.Prelude.{◌≡◌, ℕ, ◌≤◌, List, [], ◌∷◌, ◌++◌, ℤ, Option, Some, ⊤}
 use Rattle.lot_sizing.specs.Problem.{Problem}
 use Rattle.lot_sizing.specs.Plan.{Plan, IsFeasible, cost}
 use Rattle.lot_sizing.specs.Best.{IsBest, IsFloor, IsImpossible}
 use Rattle.lin_rows.specs.declared.bound.Bound.{Bound}
 use Rattle.lin_rows.specs.Rows.{LinRow}
+use Rattle.reduced_leaf.specs.Leaf.{IsSmallSum}
+use Rattle.item_groups.specs.declared.group.Group.{Group}
 use Rattle.cert_lines.specs.declared.parts.Claim.{Claim}
 use Rattle.cert_lines.specs.declared.parts.Claim.TheVariants.{Optimal, Infeasible, Bound as BoundOf}
-use Rattle.cert_lines.specs.Shapes.{CutShape, LsCut, PriceCut, BlockCut, RoundCut, LeafShape, LinearLeaf, FarkasLeaf, PointLeaf}
+use Rattle.cert_lines.specs.declared.parts.Part.{Part}
+use Rattle.cert_lines.specs.Shapes.{CutShape, LsCut, PriceCut, BlockCut, RoundCut, LeafShape, LinearLeaf, FarkasLeaf, PointLeaf, ReducedLeaf}
 use Rattle.certificate.specs.Shapes.{Shape}
 use Rattle.split_trees.specs.Ranges.{IsWithin, Ranges}
 use Rattle.split_trees.specs.Trees.{EachLeaf, IsSplitTree}
 use Rattle.acceptance.specs.declared.says.LeafSays.{LeafSays}
 use Rattle.acceptance.specs.declared.says.LeafSays.TheVariants.{NoPlan, AtLeast}
 use Rattle.acceptance.specs.Named.{Named, names}
-use Rattle.acceptance.specs.Parts.{AreSmall}
-use Rattle.acceptance.specs.Says.{Says}
+use Rattle.acceptance.specs.Parts.{AreSmall, rows_of, times_of}
+use Rattle.acceptance.specs.Lists.{all_parts}
+use Rattle.acceptance.specs.Says.{IsSumOf, Says}
 use Rattle.acceptance.specs.CutRows.{AreCutRows}
 
 -- what a leaf says is enough for the claim: that no plan lies in it, or, but for an infeasible problem, that none costs less than is claimed
@@ -62,13 +66,19 @@ AreSmallCuts m total earlier (c ∷ cuts) [] = ⊥
 AreSmallCuts m total earlier (c ∷ cuts) (r ∷ rows) =
     IsSmallCut m total earlier c × AreSmallCuts m total (earlier ++ (r ∷ [])) cuts rows
 
+-- the sums of parts stay small, and so does what their right sides and the numbers of groups add to
+abbrev pub IsSmallWith : Named → ℕ → List Part → List Group → Type 0
+IsSmallWith n den parts groups =
+    AreSmall n parts × ((sum : ℤ) → IsSumOf n den parts groups sum → IsSmallSum (rows_of n parts) (times_of parts) sum)
+
 -- the sums of a leaf stay small
 abbrev pub IsSmallLeaf : Named → LeafShape → Type 0
 IsSmallLeaf n (LinearLeaf den parts) = AreSmall n parts
 IsSmallLeaf n (FarkasLeaf parts) = AreSmall n parts
 IsSmallLeaf n PointLeaf = ⊤
+IsSmallLeaf n (ReducedLeaf den parts lists groups) = IsSmallWith n den (all_parts parts lists) groups
 
--- every sum of absolute values, in the rounding cuts and in the leaves, stays below 2^127; these are the rows of the cuts
+-- every sum of absolute values, in the rounding cuts and in the leaves, stays below 2^127, and so does each sum with the numbers of groups; these are the rows of the cuts
 pub record Fits (m : Problem) (total : ℕ → ℕ) (rows : List LinRow) (c : Shape) : Type 0 where
   pub cuts : AreSmallCuts m total [] c.cuts rows
   pub leaves : EachLeaf (λ path leaf. IsSmallLeaf (names m total rows path) leaf) [] c.tree

@@ -1,5 +1,6 @@
 -- Why the claim of an accepted certificate is true, and that leaves and cuts mean one thing.
-use Rattle.std.specs.Prelude.{◌≡◌, ℕ, ◌≤◌, ◌<◌, Bool, List, [], ◌∷◌, ◌++◌, length, slice_index_or, take, Option}
+use Rattle.std.specs.Prelude.{◌≡◌, ◌↔◌, ℕ, ◌≤◌, ◌<◌, pos, Bool, List, [], ◌∷◌, ◌++◌, length, slice_index_or, take, Option}
+use Rattle.std.specs.List.{All}
 use Rattle.lot_sizing.specs.Problem.{IsWithinLimits, Problem}
 use Rattle.lot_sizing.specs.Plan.{Plan, IsFeasible}
 use Rattle.lot_sizing.specs.Bill.{AreWeights, bill_of}
@@ -15,13 +16,16 @@ use Rattle.echelon_rows.specs.Rows.{echelon_in, priced}
 use Rattle.ls_cuts.specs.Rows.{ls_row}
 use Rattle.facility_form.specs.PriceRow.{price_row}
 use Rattle.backlog_dp.specs.BlockRow.{block_row}
-use Rattle.cert_lines.specs.Shapes.{CutShape, LeafShape}
+use Rattle.cert_lines.specs.declared.parts.Part.{Part}
+use Rattle.cert_lines.specs.Shapes.{CutShape, FarkasLeaf, LeafShape, LinearLeaf, ListShape, ReducedLeaf}
 use Rattle.certificate.specs.Shapes.{Shape}
 use Rattle.split_trees.specs.Ranges.{IsChoice, IsWithin, Ranges, whole_ranges}
 use Rattle.split_trees.specs.Paths.{AreChoices, AreMet}
 use Rattle.acceptance.specs.declared.says.LeafSays.{LeafSays}
+use Rattle.acceptance.specs.declared.says.LeafSays.TheVariants.{AtLeast, NoPlan}
 use Rattle.acceptance.specs.Named.{Named, names}
-use Rattle.acceptance.specs.Says.{IsSoOf, Says}
+use Rattle.acceptance.specs.Lists.{HasEach, all_parts}
+use Rattle.acceptance.specs.Says.{IsRanked, IsSoOf, Says}
 use Rattle.acceptance.specs.CutRows.{AreCutRows, IsCutRow, echelon_at}
 use Rattle.acceptance.specs.Accepts.{AreSmallCuts, Fits, IsSmallCut, IsAccepted, IsTrueOf, IsTrueWithin}
 
@@ -62,6 +66,13 @@ LeavesBound =
 abbrev pub SaysAreOne : Type 0
 SaysAreOne =
     (n : Named) (ranges : Ranges) (leaf : LeafShape) (a b : LeafSays) → Says n ranges leaf a → Says n ranges leaf b → a ≡ b
+
+-- without groups a leaf over reduced costs says what linear duality says of its parts, and with den 0 what Farkas' lemma says of them
+abbrev pub PlainIsLinear : Type 0
+PlainIsLinear =
+    (n : Named) (ranges : Ranges) (parts : List Part) (lists : List ListShape) → IsRanked n.problem n.total → All (HasEach n) lists
+    → ((den bound : ℕ) → Says n ranges (ReducedLeaf den parts lists []) (AtLeast bound) ↔ Says n ranges (LinearLeaf (pos den) (all_parts parts lists)) (AtLeast bound))
+    × (Says n ranges (ReducedLeaf 0 parts lists []) NoPlan ↔ Says n ranges (FarkasLeaf (all_parts parts lists)) NoPlan)
 
 -- cuts have one list of rows
 abbrev pub CutRowsAreOne : Type 0

@@ -1,5 +1,6 @@
 pub mod Named
 pub mod Parts
+pub mod Lists
 pub mod Says
 pub mod CutRows
 pub mod Accepts

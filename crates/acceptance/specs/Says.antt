@@ -1,20 +1,25 @@
 -- What a leaf says of the feasible plans that lie in it.
-use Rattle.std.specs.Prelude.{◌≡◌, ℕ, ◌≤◌, ℤ, pos, ◌*ℤ◌, ◌≤ℤ◌, ◌<ℤ◌, List}
+use Rattle.std.specs.Prelude.{◌≡◌, ◌⊎◌, ℕ, ◌≤◌, ℤ, pos, ◌*ℤ◌, ◌≤ℤ◌, ◌<ℤ◌, List, map}
 use Rattle.lot_sizing.specs.Problem.{Problem}
 use Rattle.lot_sizing.specs.Plan.{Plan, Table, EachCell, IsFeasible, cost}
 use Rattle.lot_sizing.specs.Least.{HasChoice}
+use Rattle.lot_sizing.specs.Totals.{AreLargestTotals, IsRanking}
 use Rattle.lin_rows.specs.declared.column.Column.{Column}
 use Rattle.lin_rows.specs.declared.column.Column.TheVariants.{X, Y}
 use Rattle.lin_rows.specs.Columns.{IsColumn, column_cost}
+use Rattle.item_groups.specs.declared.group.Group.{Group}
+use Rattle.reduced_groups.specs.Floors.{shape_of}
+use Rattle.reduced_leaf.specs.Leaf.{IsReducedSum, LacksOneChoice}
 use Rattle.cert_lines.specs.declared.parts.Part.{Part}
-use Rattle.cert_lines.specs.Shapes.{LeafShape, LinearLeaf, FarkasLeaf, PointLeaf}
+use Rattle.cert_lines.specs.Shapes.{LeafShape, LinearLeaf, FarkasLeaf, ListShape, PointLeaf, ReducedLeaf}
 use Rattle.split_trees.specs.Spans.{Span}
 use Rattle.split_trees.specs.Ranges.{Ranges}
 use Rattle.split_trees.specs.Paths.{left_by}
 use Rattle.acceptance.specs.declared.says.LeafSays.{LeafSays}
 use Rattle.acceptance.specs.declared.says.LeafSays.TheVariants.{NoPlan, AtLeast}
 use Rattle.acceptance.specs.Named.{Named}
-use Rattle.acceptance.specs.Parts.{AreParts, sum_of_column, sum_of_right}
+use Rattle.acceptance.specs.Parts.{AreParts, rows_of, sum_of_column, sum_of_right, times_of}
+use Rattle.acceptance.specs.Lists.{AreListed, all_parts}
 
 -- a over den, rounded up: the least whole number of at least 0 that isn't below it
 pub record IsRoundedUp (den a : ℤ) (n : ℕ) : Type 0 where
@@ -33,6 +38,37 @@ pub record IsFarkas (n : Named) (parts : List Part) : Type 0 where
   pub parts_exist : AreParts n parts
   pub columns : (c : Column) → IsColumn n.problem c → sum_of_column n parts c ≤ℤ pos 0
   pub right : pos 0 <ℤ sum_of_right n parts
+
+-- what the right sides of parts and the numbers of groups add to, where no reduced cost is below 0
+abbrev pub IsSumOf : Named → ℕ → List Part → List Group → ℤ → Type 0
+IsSumOf n den parts groups sum =
+    IsReducedSum n.problem n.total (rows_of n parts) (times_of parts) den (map shape_of groups) sum
+
+-- one of the groups has no choice
+abbrev pub GroupLacksChoice : Named → ℕ → List Part → List Group → Type 0
+GroupLacksChoice n den parts groups =
+    LacksOneChoice n.problem n.total (rows_of n parts) (times_of parts) den (map shape_of groups)
+
+-- no item is its own component, and these are the largest totals: there groups have one number
+pub record IsRanked (m : Problem) (total : ℕ → ℕ) : Type 0 where
+  pub rank : ℕ → ℕ
+  pub ranks : IsRanking m rank
+  pub totals : AreLargestTotals m total
+
+-- by reduced costs: what the sum leaves of den times the cost of a column is at least 0, and what groups take of it costs at least their numbers, so den times what a plan costs is at least the right side and these numbers
+pub record IsReducedBound (n : Named) (den : ℕ) (parts : List Part) (lists : List ListShape) (groups : List Group) (bound : ℕ) : Type 0 where
+  pub ranked : IsRanked n.problem n.total
+  pub listed : AreListed n parts lists
+  pub positive : 1 ≤ den
+  pub sum : ℤ
+  pub adds : IsSumOf n den (all_parts parts lists) groups sum
+  pub right : IsRoundedUp (pos den) sum bound
+
+-- there is no plan where one of the groups has no choice; nor where den is 0, and the right side and the numbers add to more than 0
+pub record IsReducedRefuted (n : Named) (den : ℕ) (parts : List Part) (lists : List ListShape) (groups : List Group) : Type 0 where
+  pub ranked : IsRanked n.problem n.total
+  pub listed : AreListed n parts lists
+  pub refuted : GroupLacksChoice n den (all_parts parts lists) groups ⊎ ((den ≡ 0) × (sum : ℤ) × IsSumOf n den (all_parts parts lists) groups sum × (pos 0 <ℤ sum))
 
 -- a range has one value
 abbrev pub HasOneValue : Span → Type 0
@@ -72,6 +108,8 @@ Says n ranges PointLeaf NoPlan =
     IsPoint n ranges × HasNone n.problem (point_make n ranges) (point_setup n ranges)
 Says n ranges PointLeaf (AtLeast bound) =
     IsPoint n ranges × IsLeastCost n.problem (point_make n ranges) (point_setup n ranges) bound
+Says n ranges (ReducedLeaf den parts lists groups) NoPlan = IsReducedRefuted n den parts lists groups
+Says n ranges (ReducedLeaf den parts lists groups) (AtLeast bound) = IsReducedBound n den parts lists groups bound
 
 -- what is said is so of a plan
 abbrev pub IsSoOf : Problem → LeafSays → Plan → Type 0

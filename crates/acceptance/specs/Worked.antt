@@ -1,9 +1,9 @@
--- A worked example: a problem, a plan, and two certificates that no plan costs less.
+-- A worked example: a problem, a plan, and three certificates that no plan costs less.
 --
 -- One item has demands of 2 and 8. A setup costs 10 and takes 1 hour, as each unit does; a unit in stock costs 1. There
 -- are 6 hours in each period, so no more than 5 units are made in one: both periods need a setup, 5 units are made in
 -- each, and 3 of the first 5 stay in stock. That costs 23.
-use Rattle.std.specs.Prelude.{ℕ, true, Some, None, List, [], ◌∷◌, codes, ℤ, pos, ◌==◌, if◌then◌else◌}
+use Rattle.std.specs.Prelude.{ℕ, true, Some, None, List, [], ◌∷◌, codes, ℤ, pos, negsuc, ◌==◌, if◌then◌else◌}
 use Rattle.lot_sizing.specs.Problem.{IsWithinLimits, Problem}
 use Rattle.lot_sizing.specs.Plan.{Plan}
 use Rattle.lot_sizing.specs.Bill.{AreWeights, bill_of}
@@ -11,10 +11,12 @@ use Rattle.lot_sizing.specs.Totals.{AreLargestTotals, IsRanking}
 use Rattle.lin_rows.specs.declared.column.Column.TheVariants.{Y}
 use Rattle.lin_rows.specs.declared.base.RowName.{RowName}
 use Rattle.lin_rows.specs.declared.base.RowName.TheVariants.{Balance, Link, Capacity, Path, Cut}
-use Rattle.cert_lines.specs.declared.limits.TheConstants.{FIRST_CERT_VERSION}
+use Rattle.item_groups.specs.declared.group.Group.TheVariants.{Quantities}
+use Rattle.cert_lines.specs.declared.limits.TheConstants.{FIRST_CERT_VERSION, REDUCED_CERT_VERSION}
 use Rattle.cert_lines.specs.declared.parts.Claim.TheVariants.{Optimal}
+use Rattle.cert_lines.specs.declared.parts.ListKind.TheVariants as kind
 use Rattle.cert_lines.specs.declared.parts.Part.{Part}
-use Rattle.cert_lines.specs.Shapes.{CutShape, FarkasLeaf, LinearLeaf, LsCut, PriceCut, BlockCut, RoundCut}
+use Rattle.cert_lines.specs.Shapes.{CutShape, FarkasLeaf, LinearLeaf, ListShape, LsCut, PriceCut, BlockCut, ReducedLeaf, RoundCut}
 use Rattle.certificate.specs.Shapes.{End, Shape, Split, TreeShape}
 use Rattle.split_trees.specs.Ranges.{whole_ranges}
 use Rattle.acceptance.specs.Accepts.{Fits, IsAccepted}
@@ -104,6 +106,18 @@ whole =
 
 abbrev pub by_cuts : Shape
 by_cuts = record { version = FIRST_CERT_VERSION; claim = Optimal 23; cuts = cuts; tree = End (LinearLeaf (pos 1) whole) }
+
+-- by reduced costs: by the balances a unit that is made in period 1 has the price 2, one in period 2 the price 1, and the stocks have none; their right sides add to - 12. No lot is above 5, so both periods make 5, which is 20 for setups and 15 for units; and 35 - 12 is 23
+abbrev pub balances : ListShape
+balances = record { kind = kind.Balance; index = 1; times = negsuc 1 ∷ (negsuc 0 ∷ []) }
+
+abbrev pub by_reduced_costs : Shape
+by_reduced_costs = record {
+  version = REDUCED_CERT_VERSION;
+  claim = Optimal 23;
+  cuts = [];
+  tree = End (ReducedLeaf 1 [] (balances ∷ []) (Quantities 1 ∷ []));
+}
 
 -- a certificate is accepted with the plan, and its sums are small
 abbrev pub IsAcceptedHere : Shape → Type 0

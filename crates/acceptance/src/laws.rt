@@ -2,12 +2,13 @@
 ghost use Rattle.std.specs.Prelude.{◌≡◌, Some};
 ghost use Rattle.lot_sizing.specs.Best.{IsBest};
 ghost use Rattle.lot_sizing.specs.Plan.{cost};
-ghost use Rattle.acceptance.specs.Worked.{IsAcceptedHere, IsKnownModel, by_branches, by_cuts, model, plan};
-ghost use Rattle.acceptance.specs.Laws.{AcceptedByBoth, AcceptedIsTrue, AcceptedOverRanges, CutRowsAreOne, CutRowsByPlaces, CutRowsGoOn, CutsHold, EchelonRowsAreOne, FitsByBoth, LeavesBound, SaysAreOne, SmallCutsGoOn, WholeByBoth};
+ghost use Rattle.acceptance.specs.Worked.{IsAcceptedHere, IsKnownModel, by_branches, by_cuts, by_reduced_costs, model, plan};
+ghost use Rattle.acceptance.specs.Laws.{AcceptedByBoth, AcceptedIsTrue, AcceptedOverRanges, CutRowsAreOne, CutRowsByPlaces, CutRowsGoOn, CutsHold, EchelonRowsAreOne, FitsByBoth, LeavesBound, PlainIsLinear, SaysAreOne, SmallCutsGoOn, WholeByBoth};
 
 use echelon_rows::{cost_rows_hold, priced_is_net};
 use lin_rows::{sums_bound, sums_hold, sums_refute};
 use lot_sizing::{echelons_balance, totals_are_bounded, totals_are_one, weights_are_one};
+use reduced_leaf::{known_exists, reduced_by_both, reduced_sum_bounds, reduced_sums_are_one};
 use split_trees::{plans_are_within, ranges_are_left};
 use valid_inequalities::{block_holds, ls_holds, price_holds};
 
@@ -37,6 +38,7 @@ pub fn leaves_bound()
     sums_bound();
     sums_refute();
     ranges_are_left();
+    reduced_sum_bounds();
 }
 
 /// The rows of cuts hold at every feasible plan, and the problem has their columns.
@@ -56,7 +58,17 @@ pub fn cuts_hold()
 /// A leaf says one thing.
 pub fn says_are_one()
     ensures { SaysAreOne }
-{}
+{
+    reduced_sums_are_one();
+}
+
+/// Without groups a leaf over reduced costs says what linear duality says of its parts, and with a denominator of 0
+/// what Farkas' lemma says of them.
+pub fn plain_is_linear()
+    ensures { PlainIsLinear }
+{
+    known_exists();
+}
 
 /// Cuts have one list of rows, in a problem within the limits.
 pub fn cut_rows_are_one()
@@ -88,17 +100,20 @@ pub fn acceptance_is_one()
 {
     totals_are_one();
     weights_are_one();
+    reduced_by_both();
 }
 
-/// A worked example: a certificate by branches is accepted with its plan and fits (`branches`), and so does one by
-/// cuts of all four kinds (`cuts`), in a problem within the limits whose largest totals and weights are known
-/// (`known`). So the plan is best (`best`), and it costs 23 (`costs`).
+/// A worked example: a certificate by branches is accepted with its plan and fits (`branches`), so does one by cuts of
+/// all four kinds (`cuts`), and one of a single leaf over reduced costs (`reduced`), in a problem within the limits
+/// whose largest totals and weights are known (`known`). So the plan is best (`best`), and it costs 23 (`costs`).
 pub fn worked_are_accepted()
     ensures known { IsKnownModel }
     ensures branches { IsAcceptedHere by_branches }
     ensures cuts { IsAcceptedHere by_cuts }
+    ensures reduced { IsAcceptedHere by_reduced_costs }
     ensures best { IsBest model plan }
     ensures costs { cost model plan ≡ 23 }
 {
     accepted_is_true();
+    reduced_sums_are_one();
 }

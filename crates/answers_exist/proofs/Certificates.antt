@@ -19,7 +19,7 @@ use Rattle.lin_rows.specs.declared.bound.Bound.{Bound}
 use Rattle.lin_rows.specs.Rows.{LinRow}
 use Rattle.cert_lines.specs.declared.parts.Claim.{Claim}
 use Rattle.cert_lines.specs.declared.parts.Claim.TheVariants.{Optimal, Infeasible, Bound as BoundOf}
-use Rattle.cert_lines.specs.Shapes.{BlockCut, CutShape, EndLine, FarkasLeaf, LinearLeaf, LsCut, PointLeaf, PriceCut, RoundCut}
+use Rattle.cert_lines.specs.Shapes.{BlockCut, CutShape, EndLine, FarkasLeaf, LinearLeaf, LsCut, PointLeaf, PriceCut, ReducedLeaf, RoundCut}
 use Rattle.certificate.specs.Shapes.{End, Shape, Split, TreeShape}
 use Rattle.certificate.specs.Values.{AreLines, Values, all_cut_values, cut_values, tree_values}
 use Rattle.split_trees.specs.Laws.{PlansAreWithin}
@@ -36,6 +36,7 @@ use Rattle.existence.specs.Plans.{GridsAreJudged}
 use Rattle.answers_exist.specs.Checking.{CertificatesComeOut, IsDecided}
 use Rattle.answers_exist.proofs.Cuts.{CutGrounds, cuts_out, one_total, rows_of_problem}
 use Rattle.answers_exist.proofs.Leaves.{tree_out}
+use Rattle.answers_exist.proofs.Reducing.{ReducedGrounds}
 
 -- what the laws below say
 pub record Grounds : Type 0 where
@@ -45,6 +46,7 @@ pub record Grounds : Type 0 where
   pub least : KeepsLeast
   pub within : PlansAreWithin
   pub judged : GridsAreJudged
+  pub reduced : ReducedGrounds
 
 -- ---- what a text says of divisors and denominators
 lines_front : (version : ℕ) (xs ys : Values) → AreLines version (xs ++ ys) → AreLines version xs
@@ -71,6 +73,7 @@ denominators version (Split c n low high) are = (denominators version low (lines
 denominators version (End (LinearLeaf den parts)) are = let small = are.0.form.small in small.0
 denominators version (End (FarkasLeaf parts)) are = tt
 denominators version (End PointLeaf) are = tt
+denominators version (End (ReducedLeaf den parts lists groups)) are = tt
 
 -- ---- good leaves say enough, with small sums
 enough_leaves : (g : Ground) (path : List Bound) (t : TreeShape) → EachLeaf (IsGoodLeaf g) path t → EachLeaf (SaysEnough g.problem g.total g.rows g.ranges g.claim) path t
@@ -139,7 +142,7 @@ module _ (by : Grounds) (m : Problem) (rank : ℕ → ℕ) (limits : IsWithinLim
       (λ rows. ⊎_elim
       (λ tree. inl (certified c given rows.0 comes rows.1 tree))
       (λ fault. inr (fault.0, fault.1, λ total weight totals weights. inr (comes, inr (record { rows = rows.0; cuts = rows.1 total weight totals weights; fault = fault.2 total totals }))))
-      (tree_out by.least m limits a.0 (one_total by.cuts m limits rank ranks a.0 a.1 v.0 v.1) rows.0 (rows_of_problem by.cuts m limits rank ranks a.0 a.1 v.0 v.1 c.cuts rows.0 rows.1) c.claim c.tree [] nothing (first_line + length (all_cut_values c.cuts)) some_denominators))
+      (tree_out by.least by.reduced m limits rank ranks a.0 a.1 (one_total by.cuts m limits rank ranks a.0 a.1 v.0 v.1) rows.0 (rows_of_problem by.cuts m limits rank ranks a.0 a.1 v.0 v.1 c.cuts rows.0 rows.1) c.claim c.tree [] nothing (first_line + length (all_cut_values c.cuts)) some_denominators))
       (λ fault. inr (fault.0, fault.1, λ total weight totals weights. inr (comes, inl (fault.2 total weight totals weights))))
       (cuts_out by.cuts m limits rank ranks a.0 a.1 v.0 v.1 c.cuts some_divisors))
       (λ fault. inr (fault.0, fault.1, λ total weight totals weights. inl fault.2))

@@ -11,7 +11,7 @@ use Rattle.lot_sizing.specs.Problem.{EachItem, IsWithinLimits, Problem, item_cou
 use Rattle.lot_sizing.specs.Plan.{EachCell, Plan, cost}
 use Rattle.lot_sizing.specs.Least.{HasChoice, least_plan}
 use Rattle.lot_sizing.specs.Laws.{KeepsLeast}
-use Rattle.lot_sizing.specs.Totals.{AreLargestTotals}
+use Rattle.lot_sizing.specs.Totals.{AreLargestTotals, IsRanking}
 use Rattle.lin_rows.specs.declared.bound.Bound.{Bound}
 use Rattle.lin_rows.specs.declared.column.Column.{Column}
 use Rattle.lin_rows.specs.declared.column.Column.TheVariants.{X, Y, S, R}
@@ -21,7 +21,7 @@ use Rattle.lin_rows.specs.Rows.{LinRow}
 use Rattle.cert_lines.specs.declared.parts.Claim.{Claim}
 use Rattle.cert_lines.specs.declared.parts.Claim.TheVariants.{Optimal, Infeasible, Bound as BoundOf}
 use Rattle.cert_lines.specs.declared.parts.Part.{Part}
-use Rattle.cert_lines.specs.Shapes.{FarkasLeaf, LeafShape, LinearLeaf, PointLeaf}
+use Rattle.cert_lines.specs.Shapes.{FarkasLeaf, LeafShape, LinearLeaf, PointLeaf, ReducedLeaf}
 use Rattle.certificate.specs.Shapes.{End, Split, TreeShape}
 use Rattle.certificate.specs.Values.{tree_values}
 use Rattle.split_trees.specs.Spans.{Span}
@@ -40,55 +40,9 @@ use Rattle.cert_checker.specs.Checks.{HaveDenominators, IsGoodLeaf, IsGoodTree, 
 use Rattle.existence.proofs.Deciding.{Decided, both_or_not, each_or_first, le_or_not, lt_or_not, all_or_first}
 use Rattle.existence.proofs.Judging.{feasible_or_not}
 use Rattle.answers_exist.proofs.Columns.{four_or_not}
-use Rattle.answers_exist.proofs.Sums.{good_same, le_z_or_not, rows_same, sum_out}
-
--- ---- a number over a denominator, rounded up
-times_more : (d n : ℕ) → 1 ≤ d → pos n ≤ℤ (pos d *ℤ pos n)
-times_more d n some = let more = mul-le-mul_right n some in omega (arith, ints, linear, more)
-
-has_rounded_up : (den a : ℤ) → pos 1 ≤ℤ den → (n : ℕ) × IsRoundedUp den a n
-has_rounded_up (negsuc d) a some = absurd (omega (arith, ints, some))
-has_rounded_up (pos d) a some =
-    ⊎_elim
-    (λ never. absurd (never (unsigned_abs a + 1) (omega arith) (omega arith) (subst (λ k. a ≤ℤ (pos d *ℤ pos k)) (back (unsigned_abs a)) enough)))
-    (λ first. (
-      first.0 - 1,
-      record {
-        above = ⊎_elim (λ le. le) (λ above. absurd (first.3 above)) (le_z_or_not a (pos d *ℤ pos (first.0 - 1)));
-        least = λ k le. ⊎_elim (λ low. low) (λ high. absurd (first.4 (k + 1) (omega arith) (below k first.0 first.1 high) (subst (λ j. a ≤ℤ (pos d *ℤ pos j)) (back k) le))) (le_or_not (first.0 - 1) k);
-      },
-    ))
-    (all_or_first (λ t. a ≤ℤ (pos d *ℤ pos (t - 1)) → ⊥) (λ t. ⊎_elim (λ le. inr (λ no_such. no_such le)) (λ above. inl above) (le_z_or_not a (pos d *ℤ pos (t - 1)))) (unsigned_abs a + 1))
-  where
-    back : (k : ℕ) → k ≡ k + 1 - 1
-    back k = omega arith
-
-    below : (k t : ℕ) → 1 ≤ t → (t - 1 ≤ k → ⊥) → k + 1 < t
-    below k t low high = ⊎_elim (λ less. less) (λ most. absurd (high (omega (arith, most)))) (lt_or_le (k + 1) t)
-      where
-        lt_or_le : (x y : ℕ) → (x < y) ⊎ (y ≤ x)
-        lt_or_le x y = ⊎_elim (λ less. inl less) (λ none. inr (grind (arith, none))) (lt_or_not x y)
-
-    own : (z : ℤ) → z ≤ℤ pos (unsigned_abs z)
-    own (pos n) = omega (arith, ints)
-    own (negsuc n) = omega (arith, ints)
-
-    some_of : (k : ℕ) → pos 1 ≤ℤ pos k → 1 ≤ k
-    some_of k low = omega (arith, ints, low)
-
-    enough : a ≤ℤ (pos d *ℤ pos (unsigned_abs a))
-    enough = let one = own a in let more = times_more d (unsigned_abs a) (some_of d some) in omega (arith, ints, one, more)
-
--- ---- what is enough for a claim
-enough_or_not : (claim : Claim) (n : ℕ) → Decided (IsEnough claim (AtLeast n))
-enough_or_not (Optimal c) n = le_or_not c n
-enough_or_not Infeasible n = inr (λ is. is)
-enough_or_not (BoundOf c) n = le_or_not c n
-
-none_is_enough : (claim : Claim) → IsEnough claim NoPlan
-none_is_enough (Optimal c) = tt
-none_is_enough Infeasible = tt
-none_is_enough (BoundOf c) = tt
+use Rattle.answers_exist.proofs.Enough.{enough_or_not, has_rounded_up, none_is_enough}
+use Rattle.answers_exist.proofs.Reducing.{ReducedGrounds, reduced_out}
+use Rattle.answers_exist.proofs.Sums.{good_same, rows_same, sum_out}
 
 -- a sum that is refused is one of a leaf by Farkas' lemma
 of_farkas : (n : Named) (parts : List Part) (line at : ℕ) (w : Why) → IsSumFault n farkas_most parts line at w → IsFarkasFault n parts line at w
@@ -103,9 +57,10 @@ of_farkas n parts line at (why.Plan rule) f = f
 of_farkas n parts line at (why.Costs plan claim) f = f
 of_farkas n parts line at why.PlanMissing f = f
 of_farkas n parts line at why.Lead f = f
+of_farkas n parts line at why.Work f = f
 
 module _
-    (least : KeepsLeast) (m : Problem) (limits : IsWithinLimits m) (a : ℕ → ℕ) (one : (b : ℕ → ℕ) → AreLargestTotals m b → EachItem m (λ i. a i ≡ b i))
+    (least : KeepsLeast) (reduced : ReducedGrounds) (m : Problem) (limits : IsWithinLimits m) (rank : ℕ → ℕ) (ranks : IsRanking m rank) (a : ℕ → ℕ) (totals : AreLargestTotals m a) (one : (b : ℕ → ℕ) → AreLargestTotals m b → EachItem m (λ i. a i ≡ b i))
     (cuts : List LinRow) (of_cuts : AreOfProblem m cuts) (claim : Claim) where
   abbrev GoodLeaf : List Bound → LeafShape → Type 0
   GoodLeaf path leaf = WithTotals m (λ b. IsGoodLeaf (ground m b cuts claim) path leaf)
@@ -287,6 +242,7 @@ module _
   leaf_out path choices (LinearLeaf den parts) line some = linear_out path choices den parts line some
   leaf_out path choices (FarkasLeaf parts) line some = farkas_out path choices parts line
   leaf_out path choices PointLeaf line some = point_out path line
+  leaf_out path choices (ReducedLeaf den parts lists groups) line some = reduced_out reduced m limits rank ranks a totals one cuts of_cuts claim path choices den parts lists groups line
 
   -- ---- trees
   choice_or_not : (c : Column) → Decided (IsChoice m c)

@@ -6,6 +6,9 @@ pub mod Lines
 pub mod Texts
 pub mod Columns
 pub mod Sums
+pub mod Enough
+pub mod Grouping
+pub mod Reducing
 pub mod Leaves
 pub mod Cuts
 pub mod Certificates

@@ -1,6 +1,7 @@
 -- A text starts with a line of its version, or with none: all lines within the limits are gone through.
 use Rattle.std.proofs.Common.{◌≡◌, ◌≤◌, ◌<◌, ◌+◌, ◌∙◌, ◌⊎◌, ⊎_elim, inl, inr, ℕ, refl, ap, arith, Bool, List, [], ◌∷◌, ◌++◌, length, codes}
 use Rattle.std.specs.Prelude.{ℤ, pos, ◌≤ℤ◌, ◌<ℤ◌, unsigned_abs, decimal, ⊤}
+use Rattle.std.specs.Fmt.{signed_decimal}
 use Rattle.std.proofs.lemmas.Bool.{cases_eq}
 use Rattle.std.proofs.lemmas.Int.{by_lt_z, ints}
 use Rattle.std.proofs.lemmas.List.{length-append}
@@ -10,11 +11,16 @@ use Rattle.lin_rows.specs.declared.base.RowName.{RowName}
 use Rattle.lin_rows.specs.declared.base.RowName.TheVariants.{Balance, Link, Capacity, EndMin, EndMax, Top, Least, Late, Path, Cut}
 use Rattle.lin_rows.specs.Texts.{one_text}
 use Rattle.round_cuts.specs.declared.rounding.TheConstants.{MAX_DIVISOR}
-use Rattle.cert_lines.specs.declared.limits.TheConstants.{MAX_LINE, MAX_PARTS, MAX_ROUND_PARTS}
+use Rattle.item_groups.specs.declared.group.ChainLink.{ChainLink}
+use Rattle.item_groups.specs.declared.group.Group.{Group}
+use Rattle.item_groups.specs.declared.group.Group.TheVariants as group
+use Rattle.cert_lines.specs.declared.limits.TheConstants.{MAX_GROUPS, MAX_LINE, MAX_LISTS, MAX_PARTS, MAX_ROUND_PARTS, REDUCED_CERT_VERSION}
+use Rattle.cert_lines.specs.declared.parts.ListKind.{ListKind}
+use Rattle.cert_lines.specs.declared.parts.ListKind.TheVariants as kind
 use Rattle.cert_lines.specs.Limits.{Is127, Is32, Is64, bound_127, bound_32, bound_64}
 use Rattle.cert_lines.specs.Line.{HasForm, IsFirstName, IsKnown, IsSmallColumn, IsSmallLine, IsSmallName, later_line}
-use Rattle.cert_lines.specs.Shapes.{BlockCut, BranchLine, CutLine, EndLine, FarkasLine, LineShape, LinearLine, LsCut, PartLine, PointLine, PriceCut, RoundCut, RoundLine}
-use Rattle.cert_lines.specs.Text.{list_text, price_head, block_head}
+use Rattle.cert_lines.specs.Shapes.{BlockCut, BranchLine, CutLine, EndLine, FarkasLine, GroupLine, LineShape, LinearLine, ListLine, LsCut, PartLine, PointLine, PriceCut, ReducedLine, RoundCut, RoundLine}
+use Rattle.cert_lines.specs.Text.{block_head, kind_text, list_text, price_head, signed_list_text, signed_text}
 use Rattle.certificate.specs.Dues.{StartsWith}
 use Rattle.certificate.specs.Values.{value_text}
 use Rattle.existence.proofs.Deciding.{Decided, if_or_not, le_or_not}
@@ -139,8 +145,70 @@ two_long a p b n few =
     let is : length a + (length p + length b) ≤ n = simp length-append at few in
     (omega (arith, is), omega (arith, is))
 
+three_long : (a b c d : List ℕ) (n : ℕ) → length (a ++ (b ++ (c ++ d))) ≤ n → length d ≤ n
+three_long a b c d n few =
+    let is : length a + (length b + (length c + length d)) ≤ n = simp length-append at few in
+    omega (arith, is)
+
 short : (xs : List ℕ) → length (list_text xs) ≤ MAX_LINE → length xs ≤ MAX_LINE
 short xs few = omega (arith, few, list_long xs)
+
+-- ---- lists of multiples
+kinds : Searched ListKind (λ k. ⊤)
+kinds Good Bad either =
+    ⊎_elim (λ found. inl found) (λ none. inr (each none))
+    (both (of kind.Balance) (both (of kind.Link) (both (of kind.Capacity) (both (of kind.Top) (both (of kind.Least) (of kind.Late))))))
+  where
+    of : (k : ListKind) → ((a : ListKind) × Good a) ⊎ Bad k
+    of k = ⊎_elim (λ good. inl (k, good)) (λ bad. inr bad) (either k tt)
+
+    each : Bad kind.Balance × (Bad kind.Link × (Bad kind.Capacity × (Bad kind.Top × (Bad kind.Least × Bad kind.Late)))) → (k : ListKind) → ⊤ → Bad k
+    each none kind.Balance here = none.0
+    each none kind.Link here = none.1.0
+    each none kind.Capacity here = none.1.1.0
+    each none kind.Top here = none.1.1.1.0
+    each none kind.Least here = none.1.1.1.1.0
+    each none kind.Late here = none.1.1.1.1.1
+
+abbrev IsMultiple : ℤ → Type 0
+IsMultiple z = Is127 (unsigned_abs z)
+
+abbrev Listed : Type 0
+Listed = ListKind × (ℕ × List ℤ)
+
+abbrev IsListed : Listed → Type 0
+IsListed x = ⊤ × (Is32 x.1.0 × IsListOf IsMultiple MAX_LINE x.1.1)
+
+listed : Searched Listed IsListed
+listed =
+    pairs ListKind (ℕ × List ℤ) (λ k. ⊤) (λ _ x. Is32 x.0 × IsListOf IsMultiple MAX_LINE x.1) kinds
+    (λ _. pairs ℕ (List ℤ) Is32 (λ _. IsListOf IsMultiple MAX_LINE) (numbers bound_32) (λ _. lists ℤ IsMultiple (integers bound_127) MAX_LINE))
+
+signed_long : (xs : List ℤ) → length xs ≤ length (signed_list_text xs)
+signed_long [] = omega arith
+signed_long (x ∷ xs) = omega (arith, length-append (signed_text x) (signed_list_text xs), length-append (codes " ") (signed_decimal x), signed_long xs)
+
+-- ---- groups, with their items and prices
+abbrev IsLink : ℕ × ℕ → Type 0
+IsLink x = Is32 x.0 × Is127 x.1
+
+links : Searched (ℕ × ℕ) IsLink
+links = pairs ℕ ℕ Is32 (λ _. Is127) (numbers bound_32) (λ _. numbers bound_127)
+
+link_of : ℕ × ℕ → ChainLink
+link_of x = record { item = x.0; opening_price = x.1 }
+
+abbrev Paired : Type 0
+Paired = (ℕ × ℕ) × (ℕ × ℕ)
+
+abbrev ArePaired : Paired → Type 0
+ArePaired x = IsLink x.0 × IsLink x.1
+
+paired : Searched Paired ArePaired
+paired = pairs (ℕ × ℕ) (ℕ × ℕ) IsLink (λ _. IsLink) links (λ _. links)
+
+tripled : Searched ((ℕ × ℕ) × Paired) (λ x. IsLink x.0 × ArePaired x.1)
+tripled = pairs (ℕ × ℕ) Paired IsLink (λ _. ArePaired) links (λ _. paired)
 
 -- ---- all lines
 module _ (Good Bad : LineShape → Type 0) (either : (l : LineShape) → IsSmallLine l → Good l ⊎ Bad l) where
@@ -231,16 +299,63 @@ module _ (Good Bad : LineShape → Type 0) (either : (l : LineShape) → IsSmall
       not_both : (z : ℤ) → z <ℤ pos 1 → pos 1 ≤ℤ z → ⊥
       not_both z less low = omega (arith, ints, less, low)
 
+  list_of_words : Listed → LineShape
+  list_of_words x = ListLine (record { kind = x.0; index = x.1.0; times = x.1.1 })
+
+  list_found : Found ⊎ ((x : Listed) → IsListed x → IfSmall (list_of_words x))
+  unfolding list_of_words
+  list_found = made Listed LineShape IsListed listed list_of_words Good IfSmall (λ x is. if_small (list_of_words x) (inl (is.1.0, is.1.1.1)))
+
+  -- the numbers of a leaf over reduced costs
+  abbrev Four : Type 0
+  Four = (ℕ × ℕ) × (ℕ × ℕ)
+
+  abbrev IsReduced : Four → Type 0
+  IsReduced x = (Is64 x.0.0 × (x.0.1 < MAX_PARTS + 1)) × ((x.1.0 < MAX_LISTS + 1) × (x.1.1 < MAX_GROUPS + 1))
+
+  reduced_found : Found ⊎ ((x : Four) → IsReduced x → IfSmall (ReducedLine x.0.0 x.0.1 x.1.0 x.1.1))
+  reduced_found =
+      made Four LineShape IsReduced
+      (pairs (ℕ × ℕ) (ℕ × ℕ) (λ x. Is64 x.0 × (x.1 < MAX_PARTS + 1)) (λ _ x. (x.0 < MAX_LISTS + 1) × (x.1 < MAX_GROUPS + 1))
+      (pairs ℕ ℕ Is64 (λ _ k. k < MAX_PARTS + 1) (numbers bound_64) (λ _. numbers (MAX_PARTS + 1)))
+      (λ _. pairs ℕ ℕ (λ k. k < MAX_LISTS + 1) (λ _ k. k < MAX_GROUPS + 1) (numbers (MAX_LISTS + 1)) (λ _. numbers (MAX_GROUPS + 1))))
+      (λ x. ReducedLine x.0.0 x.0.1 x.1.0 x.1.1) Good IfSmall
+      (λ x is. if_small (ReducedLine x.0.0 x.0.1 x.1.0 x.1.1) (inl (is.0.0, omega (arith, is.0.1), omega (arith, is.1.0), omega (arith, is.1.1))))
+
+  item_found : Found ⊎ ((i : ℕ) → i < bound_32 → IfSmall (GroupLine (group.Item i)))
+  item_found = one LineShape bound_32 (λ i. GroupLine (group.Item i)) Good IfSmall (λ i low. if_small (GroupLine (group.Item i)) (inl low))
+
+  quantities_found : Found ⊎ ((i : ℕ) → i < bound_32 → IfSmall (GroupLine (group.Quantities i)))
+  quantities_found = one LineShape bound_32 (λ i. GroupLine (group.Quantities i)) Good IfSmall (λ i low. if_small (GroupLine (group.Quantities i)) (inl low))
+
+  pair_of : Paired → LineShape
+  pair_of x = GroupLine (group.Pair (link_of x.0) (link_of x.1))
+
+  pair_found : Found ⊎ ((x : Paired) → ArePaired x → IfSmall (pair_of x))
+  unfolding pair_of link_of
+  pair_found = made Paired LineShape ArePaired paired pair_of Good IfSmall (λ x is. if_small (pair_of x) (inl (is.0, is.1)))
+
+  triple_of : (ℕ × ℕ) × Paired → LineShape
+  triple_of x = GroupLine (group.Triple (link_of x.0) (link_of x.1.0) (link_of x.1.1))
+
+  triple_found : Found ⊎ ((x : (ℕ × ℕ) × Paired) → IsLink x.0 × ArePaired x.1 → IfSmall (triple_of x))
+  unfolding triple_of link_of
+  triple_found =
+      made ((ℕ × ℕ) × Paired) LineShape (λ x. IsLink x.0 × ArePaired x.1) tripled triple_of Good IfSmall
+      (λ x is. if_small (triple_of x) (inl (is.0, is.1.0, is.1.1)))
+
   farkas_found : Found ⊎ ((k : ℕ) → k < MAX_PARTS + 1 → IfSmall (FarkasLine k))
   farkas_found = one LineShape (MAX_PARTS + 1) (λ k. FarkasLine k) Good IfSmall (λ k high. if_small (FarkasLine k) (inl (omega (arith, high))))
 
   pub all_lines : Found ⊎ ((l : LineShape) → HasForm l → Bad l)
-  unfolding ls_line price_of block_of part_of
+  unfolding ls_line price_of block_of part_of list_of_words pair_of triple_of link_of
   all_lines =
-      ⊎_elim (λ found. inl found) (λ none. inr (each none.0 none.1))
+      ⊎_elim (λ found. inl found) (λ none. inr (each none.0 none.1.0 none.1.1))
       (both
       (both ls_found (both price_found (both block_found round_found)))
-      (both part_found (both branch_found (both linear_found (both farkas_found (both (if_found PointLine tt) (if_found EndLine tt)))))))
+      (both
+      (both part_found (both branch_found (both linear_found (both farkas_found (both (if_found PointLine tt) (if_found EndLine tt))))))
+      (both reduced_found (both list_found (both item_found (both quantities_found (both pair_found triple_found)))))))
     where
       if_found : (l : LineShape) → IsSmallLine l → Found ⊎ Bad l
       if_found l small = ⊎_elim (λ good. inl (l, good)) (λ bad. inr bad) (either l small)
@@ -248,35 +363,51 @@ module _ (Good Bad : LineShape → Type 0) (either : (l : LineShape) → IsSmall
       each :
           ((x : Marked) → IsMarked x → IfSmall (ls_line x)) × (((x : Priced) → IsPriced x → IfSmall (price_of x)) × (((x : Priced × List ℕ) → IsStepped x → IfSmall (block_of x)) × ((q k : ℕ) → q < MAX_DIVISOR + 1 → k < MAX_ROUND_PARTS + 1 → IfSmall (RoundLine q k))))
           → ((x : RowName × ℤ) → IsSmallName x.0 × Is127 (unsigned_abs x.1) → IfSmall (part_of x)) × (((x : Column × ℕ) → IsSmallColumn x.0 × Is64 x.1 → IfSmall (BranchLine x.0 x.1)) × (((x : ℤ × ℕ) → Is127 (unsigned_abs x.0) × (x.1 < MAX_PARTS + 1) → IfSmall (LinearLine x.0 x.1)) × (((k : ℕ) → k < MAX_PARTS + 1 → IfSmall (FarkasLine k)) × (Bad PointLine × Bad EndLine))))
+          → ((x : Four) → IsReduced x → IfSmall (ReducedLine x.0.0 x.0.1 x.1.0 x.1.1)) × (((x : Listed) → IsListed x → IfSmall (list_of_words x)) × (((i : ℕ) → i < bound_32 → IfSmall (GroupLine (group.Item i))) × (((i : ℕ) → i < bound_32 → IfSmall (GroupLine (group.Quantities i))) × (((x : Paired) → ArePaired x → IfSmall (pair_of x)) × ((x : (ℕ × ℕ) × Paired) → IsLink x.0 × ArePaired x.1 → IfSmall (triple_of x))))))
           → (l : LineShape) → HasForm l → Bad l
-      each cuts others (CutLine (LsCut item last chosen)) form =
+      each cuts others reduced (CutLine (LsCut item last chosen)) form =
           let small = form.small in
           cuts.0 (item, (last, chosen)) (small.0, (small.2, (omega (arith, small.3), λ k d less. tt))) small
-      each cuts others (CutLine (PriceCut item a)) form =
+      each cuts others reduced (CutLine (PriceCut item a)) form =
           let small = form.small in
           let long = four_long (price_head item) (list_text a.price) (codes " g") (list_text a.unit) (codes " h") (list_text a.hold) (codes " b") (list_text a.back) MAX_LINE form.short in
           cuts.1.0 (item, ((a.price, a.unit), (a.hold, a.back)))
           (small.0, (((short a.price long.0, small.1.0), (short a.unit long.1, small.1.1)), ((short a.hold long.2, small.1.2), (short a.back long.3, small.1.3)))) small
-      each cuts others (CutLine (BlockCut item a)) form =
+      each cuts others reduced (CutLine (BlockCut item a)) form =
           let small = form.small in
           let long = four_long (block_head item) (list_text a.setup) (codes " g") (list_text a.unit) (codes " h") (list_text a.hold) (codes " b") (list_text a.back ++ (codes " p" ++ list_text a.steps)) MAX_LINE form.short in
           let last = two_long (list_text a.back) (codes " p") (list_text a.steps) MAX_LINE long.3 in
           cuts.1.1.0 ((item, ((a.setup, a.unit), (a.hold, a.back))), a.steps)
           ((small.0, (((short a.setup long.0, small.1.0), (short a.unit long.1, small.1.1)), ((short a.hold long.2, small.1.2), (short a.back last.0, small.1.3)))), (short a.steps last.1, small.1.4)) small
-      each cuts others (CutLine (RoundCut q parts)) form = absurd form.small
-      each cuts others (RoundLine q k) form =
+      each cuts others reduced (CutLine (RoundCut q parts)) form = absurd form.small
+      each cuts others reduced (RoundLine q k) form =
           let small = form.small in
           cuts.1.1.1 q k (omega (arith, small.1)) (omega (arith, small.2)) small
-      each cuts others (PartLine part) form = others.0 (part.row, part.times) form.small form.small
-      each cuts others (BranchLine c at) form = others.1.0 (c, at) form.small form.small
-      each cuts others (LinearLine den k) form =
+      each cuts others reduced (PartLine part) form = others.0 (part.row, part.times) form.small form.small
+      each cuts others reduced (BranchLine c at) form = others.1.0 (c, at) form.small form.small
+      each cuts others reduced (LinearLine den k) form =
           let small = form.small in
           others.1.1.0 (den, k) (small.1, omega (arith, small.2)) small
-      each cuts others (FarkasLine k) form =
+      each cuts others reduced (FarkasLine k) form =
           let small = form.small in
           others.1.1.1.0 k (omega (arith, small)) small
-      each cuts others PointLine form = others.1.1.1.1.0
-      each cuts others EndLine form = others.1.1.1.1.1
+      each cuts others reduced PointLine form = others.1.1.1.1.0
+      each cuts others reduced (ReducedLine den parts lists groups) form =
+          let small = form.small in
+          reduced.0 ((den, parts), (lists, groups)) ((small.0, omega (arith, small.1)), (omega (arith, small.2), omega (arith, small.3))) small
+      each cuts others reduced (ListLine a) form =
+          let small = form.small in
+          let long = three_long (codes "parts ") (kind_text a.kind) (one_text a.index) (signed_list_text a.times) MAX_LINE form.short in
+          reduced.1.0 (a.kind, (a.index, a.times)) (tt, (small.0, (omega (arith, long, signed_long a.times), small.1))) small
+      each cuts others reduced (GroupLine (group.Item i)) form = reduced.1.1.0 i form.small form.small
+      each cuts others reduced (GroupLine (group.Quantities i)) form = reduced.1.1.1.0 i form.small form.small
+      each cuts others reduced (GroupLine (group.Pair low top)) form =
+          let small = form.small in
+          reduced.1.1.1.1.0 ((low.item, low.opening_price), (top.item, top.opening_price)) (small.0, small.1) small
+      each cuts others reduced (GroupLine (group.Triple low mid top)) form =
+          let small = form.small in
+          reduced.1.1.1.1.1 ((low.item, low.opening_price), ((mid.item, mid.opening_price), (top.item, top.opening_price))) (small.0, (small.1, small.2)) small
+      each cuts others reduced EndLine form = others.1.1.1.1.1
 
 -- ---- the first line of a text
 -- a list starts another, or it doesn't
@@ -312,6 +443,9 @@ known_or_not version (BranchLine c at) = inl tt
 known_or_not version (LinearLine den k) = inl tt
 known_or_not version (FarkasLine k) = inl tt
 known_or_not version PointLine = inl tt
+known_or_not version (ReducedLine den parts lists groups) = le_or_not REDUCED_CERT_VERSION version
+known_or_not version (ListLine a) = le_or_not REDUCED_CERT_VERSION version
+known_or_not version (GroupLine g) = le_or_not REDUCED_CERT_VERSION version
 known_or_not version EndLine = inl tt
 
 starts_or_not : (version : ℕ) (text : List ℕ) (l : LineShape) → IsSmallLine l → Decided (StartsWith version text l)

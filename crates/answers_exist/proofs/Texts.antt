@@ -9,14 +9,14 @@ use Rattle.cert_lines.specs.declared.head.HeadLine.{HeadLine}
 use Rattle.cert_lines.specs.declared.head.HeadLine.TheVariants as head
 use Rattle.cert_lines.specs.Head.{IsSmallHead, head_place}
 use Rattle.cert_lines.specs.Limits.{bound_127}
-use Rattle.cert_lines.specs.Shapes.{BranchLine, CutLine, EndLine, FarkasLine, LineShape, LinearLine, PartLine, PointLine, RoundLine}
+use Rattle.cert_lines.specs.Shapes.{BranchLine, CutLine, EndLine, FarkasLine, GroupLine, LineShape, LinearLine, ListLine, PartLine, PointLine, ReducedLine, RoundLine}
 use Rattle.cert_lines.specs.Text.{line_text}
 use Rattle.cert_lines.specs.Line.{later_line}
 use Rattle.certificate.specs.declared.fault.CertTextFault.{CertTextFault}
 use Rattle.certificate.specs.declared.fault.CertTextFault.TheVariants as fault
 use Rattle.certificate.specs.Faults.{AreHeads, IsBodyFault, IsCertTextFault, StartsWithHead, body_dues}
 use Rattle.certificate.specs.Limits.{IsTextOf}
-use Rattle.certificate.specs.Dues.{Due, IsDeep, IsFaultFrom, IsStop, StartsWith, Takes, TakesAll, a_cut, a_part, a_tree, after, the_end}
+use Rattle.certificate.specs.Dues.{Due, IsDeep, IsFaultFrom, IsStop, StartsWith, Takes, TakesAll, a_cut, a_group, a_list, a_part, a_tree, after, the_end}
 use Rattle.certificate.specs.Shapes.{Shape}
 use Rattle.certificate.specs.Text.{head_text, head_values, heads_text}
 use Rattle.certificate.specs.Values.{AreLines, Values, value_text, values_text}
@@ -77,12 +77,15 @@ module _ (place : ℕ) (text : List ℕ) where
 -- ---- later lines
 takes_or_not : (due : Due) (l : LineShape) → Decided (Takes due l)
 takes_or_not a_part (PartLine part) = inl tt
+takes_or_not a_list (ListLine a) = inl tt
+takes_or_not a_group (GroupLine g) = inl tt
 takes_or_not a_cut (CutLine c) = inl tt
 takes_or_not a_cut (RoundLine q k) = inl tt
 takes_or_not (a_tree above) (BranchLine c at) = inl tt
 takes_or_not (a_tree above) (LinearLine den k) = inl tt
 takes_or_not (a_tree above) (FarkasLine k) = inl tt
 takes_or_not (a_tree above) PointLine = inl tt
+takes_or_not (a_tree above) (ReducedLine den parts lists groups) = inl tt
 takes_or_not the_end EndLine = inl tt
 takes_or_not _ _ = inr (λ is. is)
 

@@ -1,11 +1,12 @@
 //! Laws of existence for `bound` and `check`: the base bound of each problem comes to something, each text is a
 //! certificate's or has a first fault, and each certificate is accepted or refused.
 //!
-//! Family: search. It stands on `base_bound`, `cert_checker`, `cert_stream` and `existence`; `lotplan` stands on it.
+//! Family: search. It stands on `base_bound`, `cert_checker`, `cert_stream`, `existence` and `group_existence`; `lotplan`
+//! stands on it.
 //!
-//! The laws of `existence` speak of models, plans and exact runs. These go on to what is made of them: with both of them
-//! all words and files call for a status. The proofs go through all lines within the limits, all columns and all blocks; no
-//! program does that.
+//! The laws of `existence` speak of models, plans and exact runs, and those of `group_existence` of the groups of leaves.
+//! These go on to what is made of them: with all of them all words and files call for a status. The proofs go through all
+//! lines within the limits, all columns and all blocks; no program does that.
 #![tactic(auto)]
 
 ghost use Rattle.answers_exist.specs.Bounding.{BoundsComeOut};
@@ -16,7 +17,9 @@ use base_bound::base_bounds_are_floors;
 use bill::totals_exist;
 use cert_stream::taken_are_bodies;
 use existence::{plans_are_judged, runs_come_out};
+use group_existence::{groups_are_judged, numbers_exist};
 use lot_sizing::{least_stocks_are_best, totals_are_one, weights_are_one};
+use reduced_leaf::{known_exists, reduced_by_both, reduced_sums_are_one};
 use root_rows::{base_names_are_all, empty_is_said, least_is_said};
 use split_trees::plans_are_within;
 
@@ -55,6 +58,11 @@ pub fn certificates_come_out()
     least_stocks_are_best();
     plans_are_within();
     plans_are_judged();
+    known_exists();
+    numbers_exist();
+    groups_are_judged();
+    reduced_sums_are_one();
+    reduced_by_both();
 }
 
 /// The plan of the records of a plan file is held by four grids.

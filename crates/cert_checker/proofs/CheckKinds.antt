@@ -44,6 +44,7 @@ part_kind n part (why.Plan broken) is = absurd is
 part_kind n part (why.Costs plan claim) is = absurd is
 part_kind n part why.PlanMissing is = absurd is
 part_kind n part why.Lead is = absurd is
+part_kind n part why.Work is = absurd is
 
 -- a sum
 pub record IsLargeSum (n : Named) (parts : List Part) (line at : ℕ) (w : Why) : Type 0 where
@@ -72,6 +73,7 @@ sum_kind n most parts line at (why.Plan broken) is = absurd is
 sum_kind n most parts line at (why.Costs plan claim) is = absurd is
 sum_kind n most parts line at why.PlanMissing is = absurd is
 sum_kind n most parts line at why.Lead is = absurd is
+sum_kind n most parts line at why.Work is = absurd is
 
 -- a leaf by Farkas' lemma
 pub record IsShortFarkas (n : Named) (parts : List Part) (line at : ℕ) (w : Why) : Type 0 where
@@ -91,6 +93,7 @@ farkas_kind n parts line at (why.Plan broken) is = inr is
 farkas_kind n parts line at (why.Costs plan claim) is = inr is
 farkas_kind n parts line at why.PlanMissing is = inr is
 farkas_kind n parts line at why.Lead is = inr is
+farkas_kind n parts line at why.Work is = inr is
 
 -- a point
 pub record IsNoPoint (n : Named) (ranges : Ranges) (line at : ℕ) (w : Why) : Type 0 where
@@ -110,6 +113,7 @@ point_kind n ranges line at (why.Plan broken) is = absurd is
 point_kind n ranges line at (why.Costs plan claim) is = absurd is
 point_kind n ranges line at why.PlanMissing is = absurd is
 point_kind n ranges line at why.Lead is = absurd is
+point_kind n ranges line at why.Work is = absurd is
 
 -- an (l,S) or price cut
 pub record IsFormless (Form : Type 0) (line at : ℕ) (w : Why) : Type 0 where
@@ -135,6 +139,7 @@ form_kind Form LeadFree line at (why.Plan broken) is = absurd is
 form_kind Form LeadFree line at (why.Costs plan claim) is = absurd is
 form_kind Form LeadFree line at why.PlanMissing is = absurd is
 form_kind Form LeadFree line at why.Lead is = inr (record { cause = refl; place = is.0; form = is.1; leads = is.2 })
+form_kind Form LeadFree line at why.Work is = absurd is
 
 -- a block cut
 module _ (m : Problem) (weight : ℕ → ℕ → ℕ) (item : ℕ) (a : BlockLists) (line at : ℕ) where
@@ -175,6 +180,7 @@ module _ (m : Problem) (weight : ℕ → ℕ → ℕ) (item : ℕ) (a : BlockLis
   block_kind (why.Costs plan claim) is = absurd is
   block_kind why.PlanMissing is = absurd is
   block_kind why.Lead is = inr (inl (record { cause = refl; place = is.0; form = is.1; leads = is.2 }))
+  block_kind why.Work is = absurd is
 
 -- a rounding cut
 pub round_kind : (n : Named) (parts : List Part) (line at : ℕ) (w : Why) → IsRoundFault n parts line at w → IsFirstWrong n parts line at w ⊎ IsLargeSum n parts line at w
@@ -189,6 +195,7 @@ round_kind n parts line at (why.Plan broken) is = absurd is
 round_kind n parts line at (why.Costs plan claim) is = absurd is
 round_kind n parts line at why.PlanMissing is = absurd is
 round_kind n parts line at why.Lead is = absurd is
+round_kind n parts line at why.Work is = absurd is
 
 -- the plan that goes with an optimal cost
 pub record IsBrokenPlan (m : Problem) (p : Plan) (w : Why) : Type 0 where
@@ -214,6 +221,7 @@ missing_kind m c (why.Plan broken) is = absurd is
 missing_kind m c (why.Costs plan claim) is = absurd is
 missing_kind m c why.PlanMissing is = refl
 missing_kind m c why.Lead is = absurd is
+missing_kind m c why.Work is = absurd is
 
 pub plan_kind : (m : Problem) (c : ℕ) (p : Plan) (w : Why) → IsOptimalFault m c (Some p) w → IsBrokenPlan m p w ⊎ IsOtherCost m c p w
 plan_kind m c p why.Range is = absurd is
@@ -227,3 +235,4 @@ plan_kind m c p (why.Plan broken) is = inl (record { broken = broken; cause = re
 plan_kind m c p (why.Costs plan claim) is = inr (record { amount = plan; cause = ap (why.Costs plan) is.3; judged = (is.0, is.1, sym is.2); other = is.4 })
 plan_kind m c p why.PlanMissing is = absurd is
 plan_kind m c p why.Lead is = absurd is
+plan_kind m c p why.Work is = absurd is

@@ -6,12 +6,12 @@ use Rattle.std.proofs.lemmas.List.Elements.{All-cons, All-nil}
 use Rattle.cert_lines.specs.declared.head.HeadLine.{HeadLine}
 use Rattle.cert_lines.specs.Head.{head_line}
 use Rattle.cert_lines.specs.Line.{HasLine, later_line}
-use Rattle.cert_lines.specs.Shapes.{BlockCut, CutShape, EndLine, FarkasLeaf, LeafShape, LinearLeaf, LsCut, PartLine, PointLeaf, PriceCut, RoundCut, cut_first, cut_parts, leaf_first, leaf_parts}
+use Rattle.cert_lines.specs.Shapes.{BlockCut, CutShape, EndLine, FarkasLeaf, GroupLine, LeafShape, LinearLeaf, ListLine, LsCut, PartLine, PointLeaf, PriceCut, ReducedLeaf, RoundCut, cut_first, cut_parts, leaf_first, leaf_groups, leaf_lists, leaf_parts}
 use Rattle.cert_lines.specs.Text.{line_text}
 use Rattle.certificate.specs.Limits.{IsWritable}
 use Rattle.certificate.specs.Shapes.{End, Shape, Split, TreeShape}
 use Rattle.certificate.specs.Text.{certificate_text, head_text, head_values, heads_text}
-use Rattle.certificate.specs.Values.{AreLines, Values, all_cut_values, body_values, cut_values, leaf_values, part_values, tree_values, value_text, values_text}
+use Rattle.certificate.specs.Values.{AreLines, Values, all_cut_values, body_values, cut_values, group_values, leaf_values, list_values, part_values, tree_values, value_text, values_text}
 use Rattle.cert_checker.specs.Checks.{HaveDenominators, first_line, line_count}
 use Rattle.cert_checker.specs.Cuts.{HasDivisor}
 use Rattle.cert_checker.specs.Leaves.{HasDenominator}
@@ -28,6 +28,7 @@ den_of : (version : ℕ) (leaf : LeafShape) → HasLine version (leaf_first leaf
 den_of version (LinearLeaf den parts) is = is.form.small.0
 den_of version (FarkasLeaf parts) is = tt
 den_of version PointLeaf is = tt
+den_of version (ReducedLeaf den parts lists groups) is = tt
 
 dens_of : (version : ℕ) (t : TreeShape) → AreLines version (tree_values t) → HaveDenominators t
 dens_of version (Split c n low high) are = (
@@ -61,12 +62,21 @@ pub lines_in_all : (s : Shape) → line_count s ≡ first_line + length (all_cut
 lines_in_all s =
     omega (arith, length-append (all_cut_values s.cuts) (tree_values s.tree ++ (EndLine ∷ [])), length-append (tree_values s.tree) (EndLine ∷ []))
 
--- those of a cut and of a leaf, without the first
+-- those of a cut, without the first
 pub lines_of_cut : (c : CutShape) → length (cut_values c) ≡ length (cut_parts c) + 1
 lines_of_cut c = omega (arith, length-map (cut_parts c) (λ part. PartLine part))
 
-pub lines_of_leaf : (l : LeafShape) → length (leaf_values l) ≡ length (leaf_parts l) + 1
-lines_of_leaf l = omega (arith, length-map (leaf_parts l) (λ part. PartLine part))
+-- those of a leaf: its first line, its parts, its lists and its groups
+pub lines_of_leaf : (l : LeafShape) → length (leaf_values l) ≡ 1 + length (leaf_parts l) + length (leaf_lists l) + length (leaf_groups l)
+lines_of_leaf l =
+    omega (
+      arith,
+      length-append (part_values (leaf_parts l)) (list_values (leaf_lists l) ++ group_values (leaf_groups l)),
+      length-append (list_values (leaf_lists l)) (group_values (leaf_groups l)),
+      length-map (leaf_parts l) (λ part. PartLine part),
+      length-map (leaf_lists l) (λ a. ListLine a),
+      length-map (leaf_groups l) (λ g. GroupLine g),
+    )
 
 -- each line has its line feed
 line_has_byte : (line : List ℕ) → 1 ≤ length (line_text line)

@@ -1,7 +1,6 @@
 -- A certificate that is accepted and whose sums are small has no fault.
 use Rattle.std.proofs.Common.{◌≡◌, ◌∙◌, ◌<◌, ◌+◌, ℕ, zero, suc, ⊎_elim, inl, inr, refl, sym, subst, arith, List, [], ◌∷◌, ◌++◌, append-nil, append_assoc, length, slice_index_or, take, Option, Some, None}
-use Rattle.std.specs.Prelude.{ℤ, Result, Ok, Err}
-use Rattle.std.proofs.lemmas.List.Elements.{All-get_or}
+use Rattle.std.specs.Prelude.{Result, Ok, Err}
 use Rattle.algebra.proofs.Order.{linear}
 use Rattle.lot_sizing.specs.Echelon.{IsLeadFree}
 use Rattle.lot_sizing.specs.Problem.{IsWithinLimits, Problem}
@@ -9,12 +8,11 @@ use Rattle.plan_rules.specs.Laws.{JudgementIsOne}
 use Rattle.plan_rules.specs.declared.broken.Broken.{Broken}
 use Rattle.plan_rules.specs.declared.plan.Plan.{Plan}
 use Rattle.lin_rows.specs.declared.bound.Bound.{Bound}
-use Rattle.lin_rows.specs.declared.column.Column.{Column}
 use Rattle.lin_rows.specs.Rows.{LinRow}
 use Rattle.cert_lines.specs.declared.parts.Claim.{Claim}
 use Rattle.cert_lines.specs.declared.parts.Claim.TheVariants.{Optimal, Infeasible, Bound as BoundOf}
 use Rattle.cert_lines.specs.declared.parts.Part.{Part}
-use Rattle.cert_lines.specs.Shapes.{BlockCut, BlockLists, CutShape, FarkasLeaf, LeafShape, LinearLeaf, LsCut, PointLeaf, PriceCut, RoundCut}
+use Rattle.cert_lines.specs.Shapes.{BlockCut, BlockLists, CutShape, FarkasLeaf, LeafShape, LinearLeaf, LsCut, PointLeaf, PriceCut, ReducedLeaf, RoundCut}
 use Rattle.certificate.specs.Shapes.{End, Shape, Split, TreeShape}
 use Rattle.certificate.specs.Values.{all_cut_values, tree_values}
 use Rattle.split_trees.specs.Ranges.{Ranges}
@@ -22,33 +20,20 @@ use Rattle.split_trees.specs.Trees.{EachLeaf, IsSplitTree, high_path, low_path}
 use Rattle.acceptance.specs.declared.says.LeafSays.{LeafSays}
 use Rattle.acceptance.specs.declared.says.LeafSays.TheVariants.{NoPlan, AtLeast}
 use Rattle.acceptance.specs.Named.{Named, names, no_row}
-use Rattle.acceptance.specs.Parts.{AreParts, AreSmall, IsPart}
+use Rattle.acceptance.specs.Parts.{AreParts, AreSmall}
 use Rattle.acceptance.specs.Says.{IsFarkas, IsPoint, Says}
 use Rattle.acceptance.specs.CutRows.{AreCutRows, IsBlockCut, IsCutRow}
 use Rattle.acceptance.specs.Accepts.{AreSmallCuts, IsEnough, IsSmallCut, IsSmallLeaf, SaysEnough}
-use Rattle.acceptance.specs.Laws.{CutRowsAreOne, CutRowsByPlaces, SaysAreOne}
+use Rattle.acceptance.specs.Laws.{CutRowsAreOne, CutRowsByPlaces}
 use Rattle.cert_checker.specs.declared.fault.CheckFault.{CheckFault}
 use Rattle.cert_checker.specs.declared.fault.CheckFault.TheVariants as fault
 use Rattle.cert_checker.specs.declared.fault.Why.{Why}
 use Rattle.cert_checker.specs.Cuts.{IsBlockCutFault, IsBlockForm, IsCutFault, IsFormFault, IsLsForm, IsPriceForm, IsRoundFault}
-use Rattle.cert_checker.specs.Leaves.{AreWithinMost, IsFarkasFault, IsFirstWrong, IsLeafFault, IsPointFault, IsSumFault, IsWrongPart, farkas_most, linear_most, no_part}
-use Rattle.cert_checker.proofs.CheckKinds.{block_kind, farkas_kind, form_kind, part_kind, plan_kind, point_kind, round_kind, sum_kind}
+use Rattle.cert_checker.specs.Leaves.{IsFarkasFault, IsLeafFault, IsPointFault, farkas_most, linear_most}
+use Rattle.cert_checker.proofs.CheckKinds.{block_kind, farkas_kind, form_kind, plan_kind, point_kind, round_kind}
+use Rattle.cert_checker.proofs.ReducedNever.{AreLeafLaws, no_reduced_fault}
+use Rattle.cert_checker.proofs.SumNever.{no_first_wrong, no_sum_fault}
 use Rattle.cert_checker.specs.Checks.{ComesWith, Ground, HasFault, IsNeverRefused, IsCertified, IsCheckFault, IsCutsFault, IsNodeFault, IsOptimalFault, IsPlanFault, IsTreeFault, first_line, ground, no_cut}
-
--- parts
-pub no_wrong_part : (n : Named) (part : Part) (w : Why) → IsPart n part → IsWrongPart n part w → ⊥
-no_wrong_part n part w is wrong = ⊎_elim (λ kind. kind.none is.named) (λ kind. omega (arith, linear, is.signed kind.unequal, kind.negative)) (part_kind n part w wrong)
-
-pub no_first_wrong : (n : Named) (parts : List Part) (line at : ℕ) (w : Why) → AreParts n parts → IsFirstWrong n parts line at w → ⊥
-no_first_wrong n parts line at w are first =
-    no_wrong_part n (slice_index_or parts first.place no_part) w (All-get_or (IsPart n) parts first.place no_part first.exists are) first.wrong
-
-pub no_sum_fault : (n : Named) (most : Column → ℤ) (parts : List Part) (line at : ℕ) (w : Why) → AreParts n parts → AreSmall n parts → AreWithinMost n most parts → IsSumFault n most parts line at w → ⊥
-no_sum_fault n most parts line at w are small within bad =
-    ⊎_elim
-    (λ first. no_first_wrong n parts line at w are first)
-    (⊎_elim (λ kind. kind.large small) (λ kind. omega (arith, linear, kind.first.large, within kind.column kind.first.column)))
-    (sum_kind n most parts line at w bad)
 
 -- leaves
 no_farkas_fault : (n : Named) (parts : List Part) (line at : ℕ) (w : Why) → IsFarkas n parts → AreSmall n parts → IsFarkasFault n parts line at w → ⊥
@@ -61,23 +46,25 @@ no_farkas_fault n parts line at w is small bad =
 no_point_fault : (n : Named) (ranges : Ranges) (line at : ℕ) (w : Why) → IsPoint n ranges → IsPointFault n ranges line at w → ⊥
 no_point_fault n ranges line at w is bad = (point_kind n ranges line at w bad).none is
 
-pub no_leaf_fault : (n : Named) (ranges : Ranges) (leaf : LeafShape) (says : LeafSays) (line at : ℕ) (w : Why) → Says n ranges leaf says → IsSmallLeaf n leaf → IsLeafFault n ranges leaf line at w → ⊥
-no_leaf_fault n ranges (LinearLeaf den parts) NoPlan line at w is small bad = is
-no_leaf_fault n ranges (LinearLeaf den parts) (AtLeast bound) line at w is small bad = no_sum_fault n (linear_most n den) parts line at w is.parts_exist small is.columns bad
-no_leaf_fault n ranges (FarkasLeaf parts) NoPlan line at w is small bad = no_farkas_fault n parts line at w is small bad
-no_leaf_fault n ranges (FarkasLeaf parts) (AtLeast bound) line at w is small bad = is
-no_leaf_fault n ranges PointLeaf NoPlan line at w is small bad = no_point_fault n ranges line at w is.0 bad
-no_leaf_fault n ranges PointLeaf (AtLeast bound) line at w is small bad = no_point_fault n ranges line at w is.0 bad
+pub no_leaf_fault : AreLeafLaws → (n : Named) (ranges : Ranges) (leaf : LeafShape) (says : LeafSays) (line at : ℕ) (w : Why) → Says n ranges leaf says → IsSmallLeaf n leaf → IsLeafFault n ranges leaf line at w → ⊥
+no_leaf_fault laws n ranges (LinearLeaf den parts) NoPlan line at w is small bad = is
+no_leaf_fault laws n ranges (LinearLeaf den parts) (AtLeast bound) line at w is small bad = no_sum_fault n (linear_most n den) parts line at w is.parts_exist small is.columns bad
+no_leaf_fault laws n ranges (FarkasLeaf parts) NoPlan line at w is small bad = no_farkas_fault n parts line at w is small bad
+no_leaf_fault laws n ranges (FarkasLeaf parts) (AtLeast bound) line at w is small bad = is
+no_leaf_fault laws n ranges PointLeaf NoPlan line at w is small bad = no_point_fault n ranges line at w is.0 bad
+no_leaf_fault laws n ranges PointLeaf (AtLeast bound) line at w is small bad = no_point_fault n ranges line at w is.0 bad
+no_leaf_fault laws n ranges (ReducedLeaf den parts lists groups) says line at w is small bad =
+    no_reduced_fault n den parts lists groups ranges says line at w laws is small bad
 
-pub no_node_fault : SaysAreOne → (g : Ground) (path : List Bound) (leaf : LeafShape) (line at : ℕ) (w : Why) → SaysEnough g.problem g.total g.rows g.ranges g.claim path leaf → IsSmallLeaf (names g.problem g.total g.rows path) leaf → IsNodeFault g path leaf line at w → ⊥
-no_node_fault one g path leaf line at w enough small (inl bad) = no_leaf_fault (names g.problem g.total g.rows path) g.ranges leaf enough.0 line at w enough.1 small bad
+pub no_node_fault : AreLeafLaws → (g : Ground) (path : List Bound) (leaf : LeafShape) (line at : ℕ) (w : Why) → SaysEnough g.problem g.total g.rows g.ranges g.claim path leaf → IsSmallLeaf (names g.problem g.total g.rows path) leaf → IsNodeFault g path leaf line at w → ⊥
+no_node_fault one g path leaf line at w enough small (inl bad) = no_leaf_fault one (names g.problem g.total g.rows path) g.ranges leaf enough.0 line at w enough.1 small bad
 no_node_fault one g path leaf line at w enough small (inr short) =
     let n = names g.problem g.total g.rows path in
-    let same : enough.0 ≡ AtLeast short.0 = one n g.ranges leaf enough.0 (AtLeast short.0) enough.1 short.3.says in
+    let same : enough.0 ≡ AtLeast short.0 = one.says n g.ranges leaf enough.0 (AtLeast short.0) enough.1 short.3.says in
     short.3.short (subst (IsEnough g.claim) same enough.2)
 
 -- trees
-pub no_tree_fault : SaysAreOne → (g : Ground) (path : List Bound) (t : TreeShape) (line at : ℕ) (w : Why) → IsSplitTree g.problem g.ranges path t → EachLeaf (λ p l. SaysEnough g.problem g.total g.rows g.ranges g.claim p l) path t → EachLeaf (λ p l. IsSmallLeaf (names g.problem g.total g.rows p) l) path t → IsTreeFault g path t line at w → ⊥
+pub no_tree_fault : AreLeafLaws → (g : Ground) (path : List Bound) (t : TreeShape) (line at : ℕ) (w : Why) → IsSplitTree g.problem g.ranges path t → EachLeaf (λ p l. SaysEnough g.problem g.total g.rows g.ranges g.claim p l) path t → EachLeaf (λ p l. IsSmallLeaf (names g.problem g.total g.rows p) l) path t → IsTreeFault g path t line at w → ⊥
 no_tree_fault one g path (Split c n low high) line at w split enough small bad =
     ⊎_elim
     (λ stands. stands.2 split.0)
@@ -155,7 +142,7 @@ module _ (m : Problem) (total : ℕ → ℕ) (weight : ℕ → ℕ → ℕ) wher
   no_plan_fault one (BoundOf c) given at w comes bad = bad
 
   -- the whole
-  pub no_fault : JudgementIsOne → CutRowsByPlaces → CutRowsAreOne → SaysAreOne → IsWithinLimits m → (c : Shape) (given : Option Plan) (at : ℕ) (w : Why) → IsCertified m total weight c given → IsCheckFault m total weight c given at w → ⊥
+  pub no_fault : JudgementIsOne → CutRowsByPlaces → CutRowsAreOne → AreLeafLaws → IsWithinLimits m → (c : Shape) (given : Option Plan) (at : ℕ) (w : Why) → IsCertified m total weight c given → IsCheckFault m total weight c given at w → ⊥
   no_fault judged places one says limits c given at w is bad =
       let rows = is.accepted.rows in
       ⊎_elim
@@ -171,7 +158,7 @@ module _ (m : Problem) (total : ℕ → ℕ) (weight : ℕ → ℕ → ℕ) wher
       bad
 
 -- so a refusal of one that is certified is out of memory
-pub never : (m : Problem) (c : Shape) (given : Option Plan) (f : CheckFault) → JudgementIsOne → CutRowsByPlaces → CutRowsAreOne → SaysAreOne → IsWithinLimits m → HasFault m c given f → IsNeverRefused m c given f
+pub never : (m : Problem) (c : Shape) (given : Option Plan) (f : CheckFault) → JudgementIsOne → CutRowsByPlaces → CutRowsAreOne → AreLeafLaws → IsWithinLimits m → HasFault m c given f → IsNeverRefused m c given f
 never m c given (fault.Rejected r) judged places one says limits faulty = λ total weight totals weights is.
     absurd (no_fault m total weight judged places one says limits c given r.line r.why is (faulty total weight totals weights))
 never m c given fault.Memory judged places one says limits faulty = λ total weight totals weights is. refl

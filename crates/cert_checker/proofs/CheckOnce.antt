@@ -1,10 +1,8 @@
 -- A certificate has one fault: one line, and one cause.
-use Rattle.std.proofs.Common.{◌≡◌, ◌∙◌, ◌<◌, ◌≤◌, ◌+◌, ◌^◌, ◌⊎◌, ℕ, ⊎_elim, inl, inr, refl, sym, ap, subst, arith, List, [], length, slice_index_or, take, Option, Some, None}
-use Rattle.std.specs.Prelude.{ℤ, Result, Ok, Err}
+use Rattle.std.proofs.Common.{◌≡◌, ◌∙◌, ◌<◌, ◌≤◌, ◌+◌, ◌⊎◌, ℕ, ⊎_elim, inl, inr, refl, sym, ap, subst, arith, List, [], length, slice_index_or, take, Option, Some, None}
+use Rattle.std.specs.Prelude.{Result, Ok, Err}
 use Rattle.std.proofs.lemmas.Bool.{cases_order}
 use Rattle.std.proofs.lemmas.List.{get_or-take, length-take-le, take-take}
-use Rattle.std.proofs.lemmas.List.Elements.{All-get_or}
-use Rattle.algebra.proofs.Order.{linear}
 use Rattle.lot_sizing.specs.declared.Block.{Block}
 use Rattle.lot_sizing.specs.Echelon.{IsLeadFree}
 use Rattle.lot_sizing.specs.Problem.{IsWithinLimits, Problem}
@@ -13,160 +11,62 @@ use Rattle.plan_rules.specs.Laws.{JudgementIsOne}
 use Rattle.plan_rules.specs.declared.broken.Broken.{Broken}
 use Rattle.plan_rules.specs.declared.plan.Plan.{Plan}
 use Rattle.lin_rows.specs.declared.bound.Bound.{Bound}
-use Rattle.lin_rows.specs.declared.column.Column.{Column}
-use Rattle.lin_rows.specs.declared.column.Column.TheVariants.{X, Y, S, R}
-use Rattle.lin_rows.specs.Columns.{IsCell, IsColumn, order_of, order_at}
 use Rattle.lin_rows.specs.Rows.{LinRow}
 use Rattle.backlog_dp.specs.Broken.{IsEarlier, IsFirstBroken}
 use Rattle.cert_lines.specs.declared.parts.Claim.{Claim}
 use Rattle.cert_lines.specs.declared.parts.Claim.TheVariants.{Optimal, Infeasible, Bound as BoundOf}
-use Rattle.cert_lines.specs.declared.parts.Part.{Part}
-use Rattle.cert_lines.specs.Shapes.{BlockCut, BlockLists, CutShape, FarkasLeaf, LeafShape, LinearLeaf, LsCut, PointLeaf, PriceCut, RoundCut}
+use Rattle.cert_lines.specs.Shapes.{BlockCut, BlockLists, CutShape, FarkasLeaf, LeafShape, LinearLeaf, LsCut, PointLeaf, PriceCut, ReducedLeaf, RoundCut}
 use Rattle.certificate.specs.Shapes.{End, Shape, Split, TreeShape}
 use Rattle.certificate.specs.Values.{all_cut_values, tree_values}
 use Rattle.split_trees.specs.Ranges.{Ranges}
 use Rattle.split_trees.specs.Trees.{high_path, low_path}
 use Rattle.acceptance.specs.declared.says.LeafSays.TheVariants.{AtLeast}
 use Rattle.acceptance.specs.Named.{Named, names}
-use Rattle.acceptance.specs.Parts.{AreParts, IsPart}
 use Rattle.acceptance.specs.Accepts.{AreSmallCuts}
 use Rattle.acceptance.specs.CutRows.{AreCutRows}
-use Rattle.acceptance.specs.Laws.{CutRowsAreOne, CutRowsByPlaces, SaysAreOne}
+use Rattle.acceptance.specs.Laws.{CutRowsAreOne, CutRowsByPlaces}
 use Rattle.cert_checker.specs.declared.fault.Why.{Why}
 use Rattle.cert_checker.specs.declared.fault.Why.TheVariants as why
 use Rattle.cert_checker.specs.Cuts.{IsCutFault, IsFormFault, IsLsForm, IsPriceForm, single_priced}
-use Rattle.cert_checker.specs.Leaves.{IsFirstColumn, IsFirstWrong, IsLeafFault, IsSumFault, IsWrongPart, farkas_most, linear_most, no_part}
+use Rattle.cert_checker.specs.Leaves.{IsLeafFault, linear_most}
 use Rattle.cert_checker.specs.Checks.{Ground, IsCheckFault, IsCutsFault, IsGoodTree, IsNodeFault, IsOptimalFault, IsPlanFault, IsTreeFault, IsTreesFault, first_line, ground, no_cut}
 use Rattle.cert_checker.specs.Laws.{IsSameFault}
-use Rattle.cert_checker.proofs.CheckKinds.{BlockKind, IsBrokenPlan, IsFormless, IsLargeColumn, IsLargeSum, IsLeading, IsOtherCost, IsShortFarkas, IsUnnamed, IsUnsigned, block_kind, farkas_kind, form_kind, missing_kind, part_kind, plan_kind, point_kind, round_kind, sum_kind}
-use Rattle.cert_checker.proofs.CheckNever.{no_cuts_fault, no_first_wrong, no_leaf_fault, no_plan_fault, no_sum_fault, no_tree_fault, no_wrong_part, two_answers}
+use Rattle.cert_checker.proofs.CheckKinds.{BlockKind, IsBrokenPlan, IsFormless, IsLeading, IsOtherCost, block_kind, farkas_kind, form_kind, missing_kind, plan_kind, point_kind, round_kind}
+use Rattle.cert_checker.proofs.CheckNever.{no_cuts_fault, no_leaf_fault, no_plan_fault, no_tree_fault, two_answers}
+use Rattle.cert_checker.proofs.ReducedNever.{AreLeafLaws}
+use Rattle.cert_checker.proofs.ReducedOnce.{one_reduced}
+use Rattle.cert_checker.proofs.SumOnce.{by_farkas, by_rounding, one_sum}
 use Rattle.cert_checker.proofs.CheckWhole.{enough_leaves, small_leaves}
 
--- columns at one place are the same: items and periods have 32 bits
-by_numbers : (kind other i j t u : ℕ) → i < 2 ^ 32 → j < 2 ^ 32 → t < 2 ^ 32 → u < 2 ^ 32 → order_at kind i t ≡ order_at other j u → (kind ≡ other) × (i ≡ j) × (t ≡ u)
-by_numbers kind other i j t u a b c d same = (omega (arith, a, b, c, d, same), omega (arith, a, b, c, d, same), omega (arith, a, b, c, d, same))
-
-small_cell : (m : Problem) (i t : ℕ) → IsWithinLimits m → IsCell m i t → (i < 2 ^ 32) × (t < 2 ^ 32)
-small_cell m i t limits is = (omega (arith, limits.items, is.1), omega (arith, limits.periods, is.3))
-
-by_cells : (m : Problem) (kind other i j t u : ℕ) → IsWithinLimits m → IsCell m i t → IsCell m j u → order_at kind i t ≡ order_at other j u → (kind ≡ other) × (i ≡ j) × (t ≡ u)
-by_cells m kind other i j t u limits is also same =
-    let (a, c) = small_cell m i t limits is in
-    let (b, d) = small_cell m j u limits also in
-    by_numbers kind other i j t u a b c d same
-
-same_place : (m : Problem) (c d : Column) → IsWithinLimits m → IsColumn m c → IsColumn m d → order_of c ≡ order_of d → c ≡ d
-same_place m (X i t) (X j u) limits is also same = let (k, e, f) = by_cells m 0 0 i j t u limits is also same in rw (e, f) refl
-same_place m (X i t) (Y j u) limits is also same = let (k, e, f) = by_cells m 0 1 i j t u limits is also same in absurd (omega (arith, k))
-same_place m (X i t) (S j u) limits is also same = let (k, e, f) = by_cells m 0 2 i j t u limits is also same in absurd (omega (arith, k))
-same_place m (X i t) (R j u) limits is also same = let (k, e, f) = by_cells m 0 3 i j t u limits is also.0 same in absurd (omega (arith, k))
-same_place m (Y i t) (X j u) limits is also same = let (k, e, f) = by_cells m 1 0 i j t u limits is also same in absurd (omega (arith, k))
-same_place m (Y i t) (Y j u) limits is also same = let (k, e, f) = by_cells m 1 1 i j t u limits is also same in rw (e, f) refl
-same_place m (Y i t) (S j u) limits is also same = let (k, e, f) = by_cells m 1 2 i j t u limits is also same in absurd (omega (arith, k))
-same_place m (Y i t) (R j u) limits is also same = let (k, e, f) = by_cells m 1 3 i j t u limits is also.0 same in absurd (omega (arith, k))
-same_place m (S i t) (X j u) limits is also same = let (k, e, f) = by_cells m 2 0 i j t u limits is also same in absurd (omega (arith, k))
-same_place m (S i t) (Y j u) limits is also same = let (k, e, f) = by_cells m 2 1 i j t u limits is also same in absurd (omega (arith, k))
-same_place m (S i t) (S j u) limits is also same = let (k, e, f) = by_cells m 2 2 i j t u limits is also same in rw (e, f) refl
-same_place m (S i t) (R j u) limits is also same = let (k, e, f) = by_cells m 2 3 i j t u limits is also.0 same in absurd (omega (arith, k))
-same_place m (R i t) (X j u) limits is also same = let (k, e, f) = by_cells m 3 0 i j t u limits is.0 also same in absurd (omega (arith, k))
-same_place m (R i t) (Y j u) limits is also same = let (k, e, f) = by_cells m 3 1 i j t u limits is.0 also same in absurd (omega (arith, k))
-same_place m (R i t) (S j u) limits is also same = let (k, e, f) = by_cells m 3 2 i j t u limits is.0 also same in absurd (omega (arith, k))
-same_place m (R i t) (R j u) limits is also same = let (k, e, f) = by_cells m 3 3 i j t u limits is.0 also.0 same in rw (e, f) refl
-
-one_column : (n : Named) (most : Column → ℤ) (parts : List Part) (c d : Column) → IsWithinLimits n.problem → IsFirstColumn n most parts c → IsFirstColumn n most parts d → c ≡ d
-one_column n most parts c d limits a b =
-    ⊎_elim
-    (λ same. same_place n.problem c d limits a.column b.column same)
-    (⊎_elim
-    (λ sooner. absurd (omega (arith, linear, a.large, b.before c a.column sooner)))
-    (λ later. absurd (omega (arith, linear, b.large, a.before d b.column later))))
-    (cases_order (order_of c) (order_of d))
-
--- parts
-one_wrong : (n : Named) (part : Part) (w v : Why) → IsUnnamed n part w ⊎ IsUnsigned n part w → IsUnnamed n part v ⊎ IsUnsigned n part v → w ≡ v
-one_wrong n part w v (inl a) (inl b) = a.cause ∙ sym b.cause
-one_wrong n part w v (inl a) (inr b) = absurd (a.none b.named)
-one_wrong n part w v (inr a) (inl b) = absurd (b.none a.named)
-one_wrong n part w v (inr a) (inr b) = a.cause ∙ sym b.cause
-
--- none of the parts that may be taken is wrong
-none_before : (n : Named) (parts : List Part) (k j : ℕ) (w : Why) → AreParts n (take k parts) → j < k → k < length parts → IsWrongPart n (slice_index_or parts j no_part) w → ⊥
-none_before n parts k j w are less within wrong =
-    let few : k ≤ length parts = omega (arith, within) in
-    let in_front : j < length (take k parts) = omega (arith, less, length-take-le k parts few) in
-    let is : IsPart n (slice_index_or parts j no_part) = subst (IsPart n) (get_or-take k parts j no_part less) (All-get_or (IsPart n) (take k parts) j no_part in_front are) in
-    no_wrong_part n (slice_index_or parts j no_part) w is wrong
-
-one_first : (n : Named) (parts : List Part) (line at other : ℕ) (w v : Why) → IsFirstWrong n parts line at w → IsFirstWrong n parts line other v → IsSameFault at w other v
-one_first n parts line at other w v a b =
-    ⊎_elim
-    (λ same. (
-      a.number ∙ ap (λ k. line + 1 + k) same ∙ sym b.number,
-      one_wrong n (slice_index_or parts b.place no_part) w v
-          (part_kind n (slice_index_or parts b.place no_part) w (subst (λ k. IsWrongPart n (slice_index_or parts k no_part) w) same a.wrong))
-          (part_kind n (slice_index_or parts b.place no_part) v b.wrong),
-    ))
-    (⊎_elim
-    (λ sooner. absurd (none_before n parts b.place a.place w b.before sooner b.exists a.wrong))
-    (λ later. absurd (none_before n parts a.place b.place v a.before later a.exists b.wrong)))
-    (cases_order a.place b.place)
-
--- sums
-module _ (n : Named) (parts : List Part) (line : ℕ) where
-  by_kinds : (most : Column → ℤ) (at other : ℕ) (w v : Why) → IsWithinLimits n.problem → IsFirstWrong n parts line at w ⊎ (IsLargeSum n parts line at w ⊎ IsLargeColumn n most parts line at w) → IsFirstWrong n parts line other v ⊎ (IsLargeSum n parts line other v ⊎ IsLargeColumn n most parts line other v) → IsSameFault at w other v
-  by_kinds most at other w v limits (inl a) (inl b) = one_first n parts line at other w v a b
-  by_kinds most at other w v limits (inl a) (inr (inl b)) = absurd (no_first_wrong n parts line at w b.parts_exist a)
-  by_kinds most at other w v limits (inl a) (inr (inr b)) = absurd (no_first_wrong n parts line at w b.parts_exist a)
-  by_kinds most at other w v limits (inr (inl a)) (inl b) = absurd (no_first_wrong n parts line other v a.parts_exist b)
-  by_kinds most at other w v limits (inr (inl a)) (inr (inl b)) = (a.place ∙ sym b.place, a.cause ∙ sym b.cause)
-  by_kinds most at other w v limits (inr (inl a)) (inr (inr b)) = absurd (a.large b.small)
-  by_kinds most at other w v limits (inr (inr a)) (inl b) = absurd (no_first_wrong n parts line other v a.parts_exist b)
-  by_kinds most at other w v limits (inr (inr a)) (inr (inl b)) = absurd (b.large a.small)
-  by_kinds most at other w v limits (inr (inr a)) (inr (inr b)) =
-      (a.place ∙ sym b.place, a.cause ∙ ap why.Column (one_column n most parts a.column b.column limits a.first b.first) ∙ sym b.cause)
-
-  one_sum : (most : Column → ℤ) (at other : ℕ) (w v : Why) → IsWithinLimits n.problem → IsSumFault n most parts line at w → IsSumFault n most parts line other v → IsSameFault at w other v
-  one_sum most at other w v limits a b = by_kinds most at other w v limits (sum_kind n most parts line at w a) (sum_kind n most parts line other v b)
-
-  by_farkas : (at other : ℕ) (w v : Why) → IsWithinLimits n.problem → IsShortFarkas n parts line at w ⊎ IsSumFault n farkas_most parts line at w → IsShortFarkas n parts line other v ⊎ IsSumFault n farkas_most parts line other v → IsSameFault at w other v
-  by_farkas at other w v limits (inl a) (inl b) = (a.place ∙ sym b.place, a.cause ∙ sym b.cause)
-  by_farkas at other w v limits (inl a) (inr b) = absurd (no_sum_fault n farkas_most parts line other v a.short.parts_exist a.short.small a.short.columns b)
-  by_farkas at other w v limits (inr a) (inl b) = absurd (no_sum_fault n farkas_most parts line at w b.short.parts_exist b.short.small b.short.columns a)
-  by_farkas at other w v limits (inr a) (inr b) = one_sum farkas_most at other w v limits a b
-
-  by_rounding : (at other : ℕ) (w v : Why) → IsFirstWrong n parts line at w ⊎ IsLargeSum n parts line at w → IsFirstWrong n parts line other v ⊎ IsLargeSum n parts line other v → IsSameFault at w other v
-  by_rounding at other w v (inl a) (inl b) = one_first n parts line at other w v a b
-  by_rounding at other w v (inl a) (inr b) = absurd (no_first_wrong n parts line at w b.parts_exist a)
-  by_rounding at other w v (inr a) (inl b) = absurd (no_first_wrong n parts line other v a.parts_exist b)
-  by_rounding at other w v (inr a) (inr b) = (a.place ∙ sym b.place, a.cause ∙ sym b.cause)
-
 -- leaves
-one_leaf : (n : Named) (ranges : Ranges) (leaf : LeafShape) (line at other : ℕ) (w v : Why) → IsWithinLimits n.problem → IsLeafFault n ranges leaf line at w → IsLeafFault n ranges leaf line other v → IsSameFault at w other v
-one_leaf n ranges (LinearLeaf den parts) line at other w v limits a b = one_sum n parts line (linear_most n den) at other w v limits a b
-one_leaf n ranges (FarkasLeaf parts) line at other w v limits a b = by_farkas n parts line at other w v limits (farkas_kind n parts line at w a) (farkas_kind n parts line other v b)
-one_leaf n ranges PointLeaf line at other w v limits a b =
+one_leaf : AreLeafLaws → (n : Named) (ranges : Ranges) (leaf : LeafShape) (line at other : ℕ) (w v : Why) → IsWithinLimits n.problem → IsLeafFault n ranges leaf line at w → IsLeafFault n ranges leaf line other v → IsSameFault at w other v
+one_leaf laws n ranges (LinearLeaf den parts) line at other w v limits a b = one_sum n parts line (linear_most n den) at other w v limits a b
+one_leaf laws n ranges (FarkasLeaf parts) line at other w v limits a b = by_farkas n parts line at other w v limits (farkas_kind n parts line at w a) (farkas_kind n parts line other v b)
+one_leaf laws n ranges PointLeaf line at other w v limits a b =
     let x = point_kind n ranges line at w a in
     let y = point_kind n ranges line other v b in
     (x.place ∙ sym y.place, x.cause ∙ sym y.cause)
+one_leaf laws n ranges (ReducedLeaf den parts lists groups) line at other w v limits a b =
+    one_reduced n den parts lists groups laws limits line at other w v a b
 
 same_amount : (a b : ℕ) → AtLeast a ≡ AtLeast b → a ≡ b
 same_amount a b same = cc
 
-one_node : SaysAreOne → (g : Ground) (path : List Bound) (leaf : LeafShape) (line at other : ℕ) (w v : Why) → IsWithinLimits g.problem → IsNodeFault g path leaf line at w → IsNodeFault g path leaf line other v → IsSameFault at w other v
-one_node one g path leaf line at other w v limits (inl a) (inl b) = one_leaf (names g.problem g.total g.rows path) g.ranges leaf line at other w v limits a b
+one_node : AreLeafLaws → (g : Ground) (path : List Bound) (leaf : LeafShape) (line at other : ℕ) (w v : Why) → IsWithinLimits g.problem → IsNodeFault g path leaf line at w → IsNodeFault g path leaf line other v → IsSameFault at w other v
+one_node one g path leaf line at other w v limits (inl a) (inl b) = one_leaf one (names g.problem g.total g.rows path) g.ranges leaf line at other w v limits a b
 one_node one g path leaf line at other w v limits (inl a) (inr b) =
-    absurd (no_leaf_fault (names g.problem g.total g.rows path) g.ranges leaf (AtLeast b.0) line at w b.3.says b.3.small a)
+    absurd (no_leaf_fault one (names g.problem g.total g.rows path) g.ranges leaf (AtLeast b.0) line at w b.3.says b.3.small a)
 one_node one g path leaf line at other w v limits (inr a) (inl b) =
-    absurd (no_leaf_fault (names g.problem g.total g.rows path) g.ranges leaf (AtLeast a.0) line other v a.3.says a.3.small b)
+    absurd (no_leaf_fault one (names g.problem g.total g.rows path) g.ranges leaf (AtLeast a.0) line other v a.3.says a.3.small b)
 one_node one g path leaf line at other w v limits (inr a) (inr b) =
-    let same : a.0 ≡ b.0 = same_amount a.0 b.0 (one (names g.problem g.total g.rows path) g.ranges leaf (AtLeast a.0) (AtLeast b.0) a.3.says b.3.says) in
+    let same : a.0 ≡ b.0 = same_amount a.0 b.0 (one.says (names g.problem g.total g.rows path) g.ranges leaf (AtLeast a.0) (AtLeast b.0) a.3.says b.3.says) in
     (a.2 ∙ sym b.2, a.1 ∙ ap why.Short same ∙ sym b.1)
 
 -- trees
-no_good : SaysAreOne → (g : Ground) (path : List Bound) (t : TreeShape) (line at : ℕ) (w : Why) → IsGoodTree g path t → IsTreeFault g path t line at w → ⊥
+no_good : AreLeafLaws → (g : Ground) (path : List Bound) (t : TreeShape) (line at : ℕ) (w : Why) → IsGoodTree g path t → IsTreeFault g path t line at w → ⊥
 no_good one g path t line at w good bad = no_tree_fault one g path t line at w good.split (enough_leaves g path t good.leaves) (small_leaves g path t good.leaves) bad
 
-one_tree : SaysAreOne → (g : Ground) (path : List Bound) (t : TreeShape) (line at other : ℕ) (w v : Why) → IsWithinLimits g.problem → IsTreeFault g path t line at w → IsTreeFault g path t line other v → IsSameFault at w other v
+one_tree : AreLeafLaws → (g : Ground) (path : List Bound) (t : TreeShape) (line at other : ℕ) (w v : Why) → IsWithinLimits g.problem → IsTreeFault g path t line at w → IsTreeFault g path t line other v → IsSameFault at w other v
 one_tree one g path (Split c n low high) line at other w v limits a b =
     let down = low_path path c n in
     let over = high_path path c n in
@@ -283,7 +183,7 @@ module _ (m : Problem) (total : ℕ → ℕ) (weight : ℕ → ℕ → ℕ) (pla
       (λ later. absurd (no_cuts_fault m total weight places one limits (take a.place cuts) a.rows other v a.before a.small (in_front cuts a.place other v b later a.exists))))
       (cases_order a.place b.place)
 
-  one_of_trees : SaysAreOne → (c : Shape) (at other : ℕ) (w v : Why) → IsTreesFault m total weight c at w → IsTreesFault m total weight c other v → IsSameFault at w other v
+  one_of_trees : AreLeafLaws → (c : Shape) (at other : ℕ) (w v : Why) → IsTreesFault m total weight c at w → IsTreesFault m total weight c other v → IsSameFault at w other v
   one_of_trees says c at other w v a b =
       let line = first_line + length (all_cut_values c.cuts) in
       let same : a.rows ≡ b.rows = one m total weight c.cuts a.rows b.rows limits a.cuts.are b.cuts.are in
@@ -292,7 +192,7 @@ module _ (m : Problem) (total : ℕ → ℕ) (weight : ℕ → ℕ → ℕ) (pla
   no_cuts_and_trees : (c : Shape) (at other : ℕ) (w v : Why) → IsCutsFault m total weight c.cuts at w → IsTreesFault m total weight c other v → ⊥
   no_cuts_and_trees c at other w v a b = no_cuts_fault m total weight places one limits c.cuts b.rows at w b.cuts.are b.cuts.small a
 
-  by_pieces : SaysAreOne → (c : Shape) (at other : ℕ) (w v : Why) → IsCutsFault m total weight c.cuts at w ⊎ IsTreesFault m total weight c at w → IsCutsFault m total weight c.cuts other v ⊎ IsTreesFault m total weight c other v → IsSameFault at w other v
+  by_pieces : AreLeafLaws → (c : Shape) (at other : ℕ) (w v : Why) → IsCutsFault m total weight c.cuts at w ⊎ IsTreesFault m total weight c at w → IsCutsFault m total weight c.cuts other v ⊎ IsTreesFault m total weight c other v → IsSameFault at w other v
   by_pieces says c at other w v (inl a) (inl b) = one_of_cuts c.cuts at other w v a b
   by_pieces says c at other w v (inl a) (inr b) = absurd (no_cuts_and_trees c at other w v a b)
   by_pieces says c at other w v (inr a) (inl b) = absurd (no_cuts_and_trees c other at v w b a)
@@ -327,7 +227,7 @@ one_plan one m Infeasible given at other w v a b = absurd a
 one_plan one m (BoundOf c) given at other w v a b = absurd a
 
 -- the whole
-pub one_fault : JudgementIsOne → CutRowsByPlaces → CutRowsAreOne → SaysAreOne → (m : Problem) (total : ℕ → ℕ) (weight : ℕ → ℕ → ℕ) (c : Shape) (given : Option Plan) (at other : ℕ) (w v : Why) → IsWithinLimits m → IsCheckFault m total weight c given at w → IsCheckFault m total weight c given other v → IsSameFault at w other v
+pub one_fault : JudgementIsOne → CutRowsByPlaces → CutRowsAreOne → AreLeafLaws → (m : Problem) (total : ℕ → ℕ) (weight : ℕ → ℕ → ℕ) (c : Shape) (given : Option Plan) (at other : ℕ) (w v : Why) → IsWithinLimits m → IsCheckFault m total weight c given at w → IsCheckFault m total weight c given other v → IsSameFault at w other v
 one_fault judged places one says m total weight c given at other w v limits a b =
     ⊎_elim
     (λ x. ⊎_elim (λ y. one_plan judged m c.claim given at other w v x y) (λ y. absurd (no_plan_fault m total weight judged c.claim given at w y.0 x)) b)

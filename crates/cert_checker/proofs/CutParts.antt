@@ -222,3 +222,4 @@ part_fault n parts line at (why.Plan broken) is = absurd is.wrong
 part_fault n parts line at (why.Costs plan claim) is = absurd is.wrong
 part_fault n parts line at why.PlanMissing is = absurd is.wrong
 part_fault n parts line at why.Lead is = absurd is.wrong
+part_fault n parts line at why.Work is = absurd is.wrong

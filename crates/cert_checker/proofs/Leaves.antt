@@ -14,7 +14,7 @@ use Rattle.acceptance.specs.Says.{IsFarkas, IsLinear, IsRoundedUp}
 use Rattle.cert_checker.specs.declared.fault.CheckFault.{CheckFault}
 use Rattle.cert_checker.specs.declared.fault.CheckFault.TheVariants.{Memory, Rejected}
 use Rattle.cert_checker.specs.declared.fault.Why.{Why}
-use Rattle.cert_checker.specs.declared.fault.Why.TheVariants.{Range, Sign, Column as LargeColumn, Short, NotPoint, Block, TooLarge, Plan, Costs, PlanMissing, Lead}
+use Rattle.cert_checker.specs.declared.fault.Why.TheVariants.{Range, Sign, Column as LargeColumn, Short, NotPoint, Block, TooLarge, Plan, Costs, PlanMissing, Lead, Work}
 use Rattle.cert_checker.specs.Leaves.{AreWithinMost, IfRejected, IsFarkasFault, IsFirstColumn, IsFirstWrong, IsGoodSum, IsShortSum, IsSumFault, farkas_most, linear_most}
 use Rattle.cert_checker.specs.Named.{AreSumsOf, IsAny, IsFirstLarge, IsWithinCost}
 
@@ -47,6 +47,7 @@ part_fault n most parts line at (Plan broken) first = absurd first.wrong
 part_fault n most parts line at (Costs plan claim) first = absurd first.wrong
 part_fault n most parts line at PlanMissing first = absurd first.wrong
 part_fault n most parts line at Lead first = absurd first.wrong
+part_fault n most parts line at Work first = absurd first.wrong
 
 -- the sums of columns are those of the parts
 pub first_column : (n : Named) (den : ℤ) (parts : List Part) (s : Summed) (c : Column) → AreSumsOf n parts s → IsFirstLarge n.problem den s IsAny c → IsFirstColumn n (linear_most n den) parts c
@@ -97,6 +98,7 @@ farkas_fault n parts line at (Plan broken) is = absurd is
 farkas_fault n parts line at (Costs plan claim) is = absurd is
 farkas_fault n parts line at PlanMissing is = absurd is
 farkas_fault n parts line at Lead is = absurd is
+farkas_fault n parts line at Work is = absurd is
 
 pub farkas_is : (n : Named) (parts : List Part) (right : ℤ) → IsGoodSum n (linear_most n (pos 0)) parts → right ≡ sum_of_right n parts → pos 0 <ℤ right → IsFarkas n parts
 farkas_is n parts right good same some = record {

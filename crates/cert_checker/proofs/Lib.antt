@@ -9,6 +9,13 @@ mod CutParts
 mod CheckCuts
 mod CheckKinds
 mod CheckLines
+mod SumNever
+mod SumOnce
+mod Listed
+mod Reduced
+mod GroupFaults
+mod ReducedNever
+mod ReducedOnce
 mod CheckNever
 mod CheckOnce
 mod CheckRefusals

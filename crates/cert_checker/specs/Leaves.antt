@@ -1,5 +1,6 @@
 -- Why a list of parts, or a leaf, is refused, and on which line.
-use Rattle.std.specs.Prelude.{◌≡◌, ℕ, ◌+◌, ◌<◌, false, ℤ, pos, ◌*ℤ◌, ◌≤ℤ◌, ◌<ℤ◌, List, length, slice_index_or, take, ⊤}
+use Rattle.std.specs.Prelude.{◌≡◌, ◌⊎◌, ℕ, ◌+◌, ◌^◌, ◌≤◌, ◌<◌, false, ℤ, pos, ◌*ℤ◌, ◌≤ℤ◌, ◌<ℤ◌, List, [], length, slice_index_or, take, ⊤}
+use Rattle.std.specs.List.{All}
 use Rattle.lot_sizing.specs.Plan.{Plan, IsFeasible, Table}
 use Rattle.lot_sizing.specs.Problem.{Problem}
 use Rattle.lin_rows.specs.declared.bound.Bound.{Bound}
@@ -8,14 +9,22 @@ use Rattle.lin_rows.specs.declared.column.Column.TheVariants.{X, Y}
 use Rattle.lin_rows.specs.declared.base.RowName.TheVariants.{Balance}
 use Rattle.lin_rows.specs.Columns.{IsColumn, column_cost, order_of, value_in}
 use Rattle.lin_rows.specs.Rows.{LinRow}
+use Rattle.item_groups.specs.declared.group.Group.{Group}
+use Rattle.reduced_leaf.specs.declared.sums.ReducedFault.{ReducedFault}
+use Rattle.reduced_leaf.specs.declared.sums.ReducedFault.TheVariants as reduced
+use Rattle.reduced_leaf.specs.Leaf.{IsSmallSum}
+use Rattle.reduced_leaf.specs.Faults.{IsReducedFaultOf}
+use Rattle.cert_lines.specs.declared.parts.ListKind.TheVariants as kind
 use Rattle.cert_lines.specs.declared.parts.Part.{Part}
-use Rattle.cert_lines.specs.Shapes.{LeafShape, LinearLeaf, FarkasLeaf, PointLeaf}
+use Rattle.cert_lines.specs.Shapes.{LeafShape, LinearLeaf, FarkasLeaf, ListShape, PointLeaf, ReducedLeaf}
 use Rattle.split_trees.specs.Paths.{AreMet, left_by}
 use Rattle.split_trees.specs.Ranges.{IsChoice, Ranges, WithTotals, whole_ranges}
 use Rattle.acceptance.specs.declared.says.LeafSays.{LeafSays}
+use Rattle.acceptance.specs.declared.says.LeafSays.TheVariants.{AtLeast, NoPlan}
 use Rattle.acceptance.specs.Named.{IsNamed, Named, names, row_named}
-use Rattle.acceptance.specs.Parts.{AreParts, AreSmall, sum_of_column, sum_of_right}
-use Rattle.acceptance.specs.Says.{HasOneValue, IsPoint, IsSoOf, Says}
+use Rattle.acceptance.specs.Parts.{AreParts, AreSmall, rows_of, sum_of_column, sum_of_right, times_of}
+use Rattle.acceptance.specs.Lists.{HasEach, all_parts, parts_of_list}
+use Rattle.acceptance.specs.Says.{HasOneValue, IsPoint, IsRanked, IsRoundedUp, IsSoOf, IsSumOf, Says}
 use Rattle.acceptance.specs.Accepts.{IsSmallLeaf}
 use Rattle.acceptance.specs.Laws.{HoldAtPlans}
 use Rattle.cert_checker.specs.declared.fault.Why.{Why}
@@ -106,21 +115,97 @@ abbrev pub IsPointFault : Named → Ranges → (line at : ℕ) → Why → Type 
 IsPointFault n ranges line at why.NotPoint = (at ≡ line) × (IsPoint n ranges → ⊥)
 IsPointFault n ranges line at _ = ⊥
 
+-- what is read past the end of a list of lists
+abbrev pub no_list : ListShape
+no_list = record { kind = kind.Balance; index = 0; times = [] }
+
+-- a list may be taken: it has an entry for each period, and each of its parts may be taken
+pub record IsList (n : Named) (a : ListShape) : Type 0 where
+  pub each : HasEach n a
+  pub parts_exist : AreParts n (parts_of_list a)
+
+-- it may not: it hasn't an entry for each period, or else the first of its parts that may not be taken is why
+abbrev pub IsWrongList : Named → ListShape → Why → Type 0
+IsWrongList n a w =
+    ((w ≡ why.Range) × (HasEach n a → ⊥)) ⊎ (HasEach n a × (at : ℕ) × IsFirstWrong n (parts_of_list a) 0 at w)
+
+-- the first such list, on its line: the lines of the lists follow this one
+pub record IsFirstWrongList (n : Named) (lists : List ListShape) (line at : ℕ) (w : Why) : Type 0 where
+  pub place : ℕ
+  pub exists : place < length lists
+  pub before : All (IsList n) (take place lists)
+  pub wrong : IsWrongList n (slice_index_or lists place no_list) w
+  pub number : at ≡ line + 1 + place
+
+-- the line and the cause of a fault of groups, where the leaf is on `line` and its first group on `first`
+abbrev pub IsRefusedAs : ReducedFault → (line first at : ℕ) → Why → Type 0
+IsRefusedAs (reduced.Group k) line first at w = (at ≡ first + k) × (w ≡ why.Range)
+IsRefusedAs (reduced.Twice i) line first at w = (at ≡ line) × (w ≡ why.Range)
+IsRefusedAs (reduced.Work k) line first at w = (at ≡ first + k) × (w ≡ why.Work)
+IsRefusedAs reduced.TooLarge line first at w = (at ≡ line) × (w ≡ why.TooLarge)
+IsRefusedAs reduced.Memory line first at w = ⊥
+
+-- with a denominator of 0, right sides and numbers of groups that add to nothing positive refute nothing
+pub record IsShortReduced (n : Named) (parts : List Part) (groups : List Group) : Type 0 where
+  pub sum : ℤ
+  pub adds : IsSumOf n 0 parts groups sum
+  pub small : IsSmallSum (rows_of n parts) (times_of parts) sum
+  pub none : sum ≤ℤ pos 0
+
+-- why the groups of a leaf are refused, whose sum of parts is good; or the sum with their numbers refutes nothing
+abbrev pub IsGroupsFault : Named → ℕ → List Part → List Group → (line first at : ℕ) → Why → Type 0
+IsGroupsFault n den parts groups line first at w =
+    IsRanked n.problem n.total
+    × (((f : ReducedFault) × IsRefusedAs f line first at w
+    × IsReducedFaultOf n.problem n.total (rows_of n parts) (times_of parts) den groups f)
+    ⊎ ((at ≡ line) × (w ≡ why.Short 0) × (den ≡ 0) × IsShortReduced n parts groups))
+
+-- why a leaf over reduced costs is refused: its parts, then its lists, then the sum of all of them as that of a leaf by linear duality, then its groups
+abbrev pub IsReducedFault : Named → ℕ → List Part → List ListShape → List Group → (line at : ℕ) → Why → Type 0
+IsReducedFault n den parts lists groups line at w =
+    let all = all_parts parts lists in
+    IsFirstWrong n parts line at w
+    ⊎ (AreParts n parts
+    × (IsFirstWrongList n lists (line + length parts) at w
+    ⊎ (All (IsList n) lists
+    × (IsSumFault n (linear_most n (pos den)) all line at w
+    ⊎ (IsGoodSum n (linear_most n (pos den)) all
+    × IsGroupsFault n den all groups line (line + 1 + length parts + length lists) at w)))))
+
 -- why a leaf on this line says nothing
 abbrev pub IsLeafFault : Named → Ranges → LeafShape → (line at : ℕ) → Why → Type 0
 IsLeafFault n ranges (LinearLeaf den parts) line at w = IsSumFault n (linear_most n den) parts line at w
 IsLeafFault n ranges (FarkasLeaf parts) line at w = IsFarkasFault n parts line at w
 IsLeafFault n ranges PointLeaf line at w = IsPointFault n ranges line at w
+IsLeafFault n ranges (ReducedLeaf den parts lists groups) line at w = IsReducedFault n den parts lists groups line at w
 
--- the denominator of a leaf is at least 1
+-- the denominator of a leaf by linear duality is at least 1
 abbrev pub HasDenominator : LeafShape → Type 0
 HasDenominator (LinearLeaf den parts) = pos 1 ≤ℤ den
 HasDenominator (FarkasLeaf parts) = ⊤
 HasDenominator PointLeaf = ⊤
+HasDenominator (ReducedLeaf den parts lists groups) = ⊤
 
 -- ---- what calls promise of a leaf, whatever the largest totals are
 abbrev pub WithNames : Problem → List LinRow → List Bound → (Named → Ranges → Type 0) → Type 0
 WithNames m cuts path P = WithTotals m (λ total. P (names m total cuts path) (whole_ranges total))
+
+-- what right sides and numbers of groups say that add to this
+abbrev pub IsSaidBy : (den : ℕ) → (sum : ℤ) → LeafSays → Type 0
+IsSaidBy den sum NoPlan = (den ≡ 0) × (pos 0 <ℤ sum)
+IsSaidBy den sum (AtLeast bound) = (1 ≤ den) × IsRoundedUp (pos den) sum bound
+
+-- with a denominator of 0 they refute nothing
+abbrev pub IsShortBy : (den : ℕ) → (sum : ℤ) → (line at : ℕ) → Why → Type 0
+IsShortBy den sum line at w = (at ≡ line) × (w ≡ why.Short 0) × (den ≡ 0) × (sum ≤ℤ pos 0)
+
+-- the line of a group at fault is a number of 64 bits
+abbrev pub HasLine : ReducedFault → (first : ℕ) → Type 0
+HasLine (reduced.Group k) first = first + k < 2 ^ 64
+HasLine (reduced.Twice i) first = ⊤
+HasLine (reduced.Work k) first = first + k < 2 ^ 64
+HasLine reduced.TooLarge first = ⊤
+HasLine reduced.Memory first = ⊤
 
 -- it says this, and its sums are small
 abbrev pub LeafSaysThis : Problem → List LinRow → List Bound → LeafShape → LeafSays → Type 0

@@ -22,6 +22,8 @@ use echelon::Explosion;
 use lin_rows::Row;
 use lot_model::{Instance, an_instance_breaks_no_rule};
 use plan_rules::{Plan, judgement_is_one};
+use reduced_groups::numbers_are_one;
+use reduced_leaf::reduced_sums_are_one;
 use split_trees::plans_are_within;
 use std::alloc::Global;
 
@@ -137,6 +139,8 @@ pub fn check(
     cut_rows_go_on();
     cut_rows_are_one();
     says_are_one();
+    reduced_sums_are_one();
+    numbers_are_one();
     an_instance_breaks_no_rule(instance);
     examine(alloc, instance, certificate, plan)
 }

@@ -60,6 +60,10 @@ pub enum Why {
     /// A cut is over the echelon of an item that isn't lead-free.
     #[error("the item of the cut isn't lead-free")]
     Lead,
+    /// To find the number of a group is too much work: a price of it, its table, its periods or what it costs to buy
+    /// all that is asked of it are past the limits of `reduced_groups`.
+    #[error("the work of the group is past the limits")]
+    Work,
 }
 
 /// Where and why a certificate is refused.

@@ -1,12 +1,14 @@
 // What a leaf says.
 ghost use Rattle.std.specs.Prelude.{◌+◌, ◌<◌, ◌^◌, length, IfErr, IfOk};
 ghost use Rattle.lin_rows.specs.Combining.{AreOfProblem};
-ghost use Rattle.cert_lines.specs.Shapes.{leaf_parts, leaf_shape};
+ghost use Rattle.cert_lines.specs.Shapes.{leaf_shape};
+ghost use Rattle.certificate.specs.Values.{leaf_values};
 ghost use Rattle.split_trees.specs.Paths.{AreChoices};
 ghost use Rattle.cert_checker.specs.Named.{IsReadyFor};
 ghost use Rattle.cert_checker.specs.Leaves.{HasDenominator, IsFaultOfLeaf, IsSoOfPlans, LeafIsSmall, LeafSaysThis};
 
 use crate::leaf_point::point_leaf;
+use crate::leaf_reduced::reduced_leaf;
 use crate::leaf_sum::{farkas_leaf, linear_leaf};
 use crate::{CheckFault, NamedSums};
 use acceptance::{LeafSays, leaves_bound};
@@ -30,7 +32,7 @@ fn leaf_says(
     requires cuts { AreOfProblem instance.now cuts.now }
     requires path { AreChoices instance.now path.now }
     requires den { HasDenominator (leaf_shape leaf.now) }
-    requires lines { line + length (leaf_parts (leaf_shape leaf.now)) < 2 ^ 64 }
+    requires lines { line + length (leaf_values (leaf_shape leaf.now)) < 2 ^ 64 }
     ensures ready { IsReadyFor instance.now named.new }
     ensures says { IfOk result (LeafSaysThis instance.now cuts.now path.now (leaf_shape leaf.now)) }
     ensures small { IfOk result (λ _. LeafIsSmall instance.now cuts.now path.now (leaf_shape leaf.now)) }
@@ -42,6 +44,14 @@ fn leaf_says(
         }
         Leaf::Farkas { parts } => farkas_leaf(alloc, instance, named, cuts, path, parts, line),
         Leaf::Point => point_leaf(alloc, instance, path, line),
+        Leaf::Reduced {
+            den,
+            parts,
+            lists,
+            groups,
+        } => reduced_leaf(
+            alloc, instance, named, cuts, path, *den, parts, lists, groups, line,
+        ),
     }
 }
 
@@ -54,18 +64,25 @@ fn leaf_says(
 /// | `Linear` | it sums parts, which are multiples of rows: where the sum takes no column more often than the denominator times its cost, each plan costs at least the right side over the denominator, rounded up, and at least 0 (linear duality) |
 /// | `Farkas` | where the sum of its parts takes no column a positive number of times and its right side is positive, there is no plan (Farkas' lemma) |
 /// | `Point` | where the path leaves each quantity and each setup one value, the least cost of a feasible plan that has them; or that none has them |
+/// | `Reduced` | it sums its parts and those of its lists, and each column has a reduced cost: the denominator times its cost, less how often the sum takes it. Where none is below 0, a group of items has a number that its setups and quantities never cost less than, at their reduced costs. The right side and the numbers of groups that lie apart, over the denominator, bound each plan as the right side does in `Linear`; with a denominator of 0 they refute where they are positive, and a group without any choice refutes with every one |
 ///
 /// The rows are those of the instance, of the cuts and of the path's bounds, by their names; cuts and bounds are
 /// counted from 1. `line` is the first line of the leaf in the text of its certificate, and its parts are on the lines
-/// after it. A leaf that says nothing is refused by the first of these that holds:
+/// after it, then its lists, and then its groups. A leaf that says nothing is refused by the first of these that holds:
 ///
 /// | Refusal | Line | Where |
 /// |---|---|---|
 /// | `Range` | the part's | there is no row of this name; the parts are looked at one by one |
 /// | `Sign` | the part's | a row that isn't an equation is taken a negative number of times |
+/// | `Range` | the list's | it hasn't an entry for each period, or a row of it doesn't exist, before any of the next kind; the lists are looked at one by one, after all parts |
+/// | `Sign` | the list's | it takes an inequality a negative number of times |
 /// | `TooLarge` | the leaf's | the absolute values of what is added up of one column, or of the right sides, reach 2^127 |
 /// | `Column` | the leaf's | the sum takes a column more often than it may: the first one by kind, then by item, then by period |
-/// | `Short` | the leaf's | the sum of `Farkas` has a right side of 0 or less; it says 0 |
+/// | `Range` | the group's | an item of it doesn't exist, or doesn't go into the next one of its chain or may be late |
+/// | `Range` | the leaf's | an item is in two places of groups |
+/// | `Work` | the group's | to find its number is too much work |
+/// | `TooLarge` | the leaf's | the numbers of groups, or what they and the right side add to, reach 2^127 |
+/// | `Short` | the leaf's | the sum of `Farkas`, or of `Reduced` with a denominator of 0, is 0 or less; it says 0 |
 /// | `NotPoint` | the leaf's | the path of `Point` leaves a quantity or a setup more values than one, or none |
 ///
 /// `Memory` may come instead of any answer, and none of the others comes where memory ran out. `named` was made for the
@@ -73,7 +90,8 @@ fn leaf_says(
 ///
 /// A sum takes time in the number of columns and the terms of the rows of its parts; a row of the instance also takes
 /// the time in which it is made, where `named` doesn't have it yet, and memory. `Point` takes time in the number of
-/// quantities and setups times the length of the path, and memory for four grids.
+/// quantities and setups times the length of the path, and memory for four grids. The groups of `Reduced` take what
+/// `reduced_sum` says, and its lists memory for a part of each entry.
 pub fn leaf_bound_in(
     alloc: Global,
     instance: &Instance,
@@ -87,7 +105,7 @@ pub fn leaf_bound_in(
     requires cuts { AreOfProblem instance.now cuts.now }
     requires path { AreChoices instance.now path.now }
     requires den { HasDenominator (leaf_shape leaf.now) }
-    requires lines { line + length (leaf_parts (leaf_shape leaf.now)) < 2 ^ 64 }
+    requires lines { line + length (leaf_values (leaf_shape leaf.now)) < 2 ^ 64 }
     ensures ready { IsReadyFor instance.now named.new }
     ensures says { IfOk result (LeafSaysThis instance.now cuts.now path.now (leaf_shape leaf.now)) }
     ensures small { IfOk result (λ _. LeafIsSmall instance.now cuts.now path.now (leaf_shape leaf.now)) }
@@ -113,7 +131,7 @@ pub fn leaf_bound(
     requires cuts { AreOfProblem instance.now cuts.now }
     requires path { AreChoices instance.now path.now }
     requires den { HasDenominator (leaf_shape leaf.now) }
-    requires lines { line + length (leaf_parts (leaf_shape leaf.now)) < 2 ^ 64 }
+    requires lines { line + length (leaf_values (leaf_shape leaf.now)) < 2 ^ 64 }
     ensures says { IfOk result (LeafSaysThis instance.now cuts.now path.now (leaf_shape leaf.now)) }
     ensures small { IfOk result (λ _. LeafIsSmall instance.now cuts.now path.now (leaf_shape leaf.now)) }
     ensures bounds { IfOk result (IsSoOfPlans instance.now cuts.now path.now) }

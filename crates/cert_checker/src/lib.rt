@@ -27,6 +27,7 @@ mod fault;
 mod laws;
 mod leaf;
 mod leaf_point;
+mod leaf_reduced;
 mod leaf_sum;
 mod named;
 mod parts;

@@ -1,20 +1,22 @@
 -- What a line says of the unit that it begins.
-use Rattle.std.proofs.Common.{◌≡◌, ◌≢◌, ℕ, ℤ, refl, sym, ap, subst, arith, List, [], ◌∷◌, ◌++◌, length, length-append, codes}
+use Rattle.std.proofs.Common.{◌≡◌, ◌≢◌, ℕ, ℤ, refl, sym, ap, subst, arith, List, [], ◌∷◌, ◌++◌, append-nil, length, length-append, codes}
 use Rattle.lin_rows.specs.declared.column.Column.{Column}
+use Rattle.item_groups.specs.declared.group.Group.{Group}
 use Rattle.cert_lines.specs.declared.parts.Cut.{Cut}
 use Rattle.cert_lines.specs.declared.parts.Leaf.{Leaf}
 use Rattle.cert_lines.specs.declared.parts.Part.{Part}
+use Rattle.cert_lines.specs.declared.parts.PartList.{PartList}
 use Rattle.cert_lines.specs.declared.line.CertLine.{CertLine}
 use Rattle.cert_lines.specs.declared.line.CertLine.TheVariants as line
 use Rattle.cert_lines.specs.Line.{HasLine, later_line}
-use Rattle.cert_lines.specs.Shapes.{BlockCut, BranchLine, CutLine, CutShape, EndLine, FarkasLeaf, FarkasLine, LeafShape, LineShape, LinearLeaf, LinearLine, LsCut, PartLine, PointLeaf, PointLine, PriceCut, RoundCut, RoundLine, cut_first, cut_parts, leaf_first, leaf_parts, leaf_shape, line_shape}
+use Rattle.cert_lines.specs.Shapes.{BlockCut, BranchLine, CutLine, CutShape, EndLine, FarkasLeaf, FarkasLine, GroupLine, LeafShape, LineShape, LinearLeaf, LinearLine, ListLine, ListShape, LsCut, PartLine, PointLeaf, PointLine, PriceCut, ReducedLeaf, ReducedLine, RoundCut, RoundLine, cut_first, cut_parts, leaf_first, leaf_groups, leaf_lists, leaf_parts, leaf_shape, line_shape}
 use Rattle.certificate.specs.Shapes.{End, Split, TreeShape}
-use Rattle.certificate.specs.Dues.{Takes, a_cut, a_part, a_tree, the_end}
-use Rattle.certificate.specs.Values.{Values, part_values, tree_values, value_text}
+use Rattle.certificate.specs.Dues.{Takes, a_cut, a_group, a_list, a_part, a_tree, the_end}
+use Rattle.certificate.specs.Values.{Values, group_values, list_values, part_values, tree_values, value_text}
 use Rattle.certificate.proofs.Needed.{not_cut, not_end, not_tree}
 use Rattle.cert_checker.specs.Cuts.{HasDivisor}
 use Rattle.stream_check.specs.declared.units.Node.TheVariants as node
-use Rattle.stream_check.specs.Nodes.{IsFirstOf}
+use Rattle.stream_check.specs.Nodes.{IsFirstOf, reduced_values}
 
 -- ---- a cut
 -- a cut of one line has no parts
@@ -59,7 +61,7 @@ tree_first (End l) = leaf_first l
 
 pub tree_rest : TreeShape → Values
 tree_rest (Split c n low high) = tree_values low ++ tree_values high
-tree_rest (End l) = part_values (leaf_parts l)
+tree_rest (End l) = reduced_values (leaf_parts l) (leaf_lists l) (leaf_groups l)
 
 pub tree_lines : (t : TreeShape) → tree_values t ≡ tree_first t ∷ tree_rest t
 unfolding tree_first tree_rest
@@ -70,14 +72,15 @@ leaf_takes : (l : LeafShape) → Takes (a_tree 0) (leaf_first l)
 leaf_takes (LinearLeaf den parts) = tt
 leaf_takes (FarkasLeaf parts) = tt
 leaf_takes PointLeaf = tt
+leaf_takes (ReducedLeaf den parts lists groups) = tt
 
 tree_takes : (t : TreeShape) → Takes (a_tree 0) (tree_first t)
 unfolding tree_first
 tree_takes (Split c n low high) = tt
 tree_takes (End l) = leaf_takes l
 
-pub other_tree : (l : CertLine) (t : TreeShape) → ((column : Column) (at : ℕ) → l ≢ line.Branch column at) → ((den : ℤ) (parts : ℕ) → l ≢ line.Linear den parts) → ((parts : ℕ) → l ≢ line.Farkas parts) → l ≢ line.Point → line_shape l ≡ tree_first t → ⊥
-other_tree l t branch linear farkas point e = not_tree l 0 branch linear farkas point (subst (Takes (a_tree 0)) (sym e) (tree_takes t))
+pub other_tree : (l : CertLine) (t : TreeShape) → ((column : Column) (at : ℕ) → l ≢ line.Branch column at) → ((den : ℤ) (parts : ℕ) → l ≢ line.Linear den parts) → ((parts : ℕ) → l ≢ line.Farkas parts) → l ≢ line.Point → ((den parts lists groups : ℕ) → l ≢ line.Reduced den parts lists groups) → line_shape l ≡ tree_first t → ⊥
+other_tree l t branch linear farkas point reduced e = not_tree l 0 branch linear farkas point reduced (subst (Takes (a_tree 0)) (sym e) (tree_takes t))
 
 -- a branch
 pub same_branch : (column : Column) (at : ℕ) (t : TreeShape) → BranchLine column at ≡ tree_first t → IsFirstOf (node.Branch column at) t (tree_rest t)
@@ -86,6 +89,7 @@ same_branch column at (Split c n low high) e = (cc, cc, refl)
 same_branch column at (End (LinearLeaf den parts)) e = cc
 same_branch column at (End (FarkasLeaf parts)) e = cc
 same_branch column at (End PointLeaf) e = cc
+same_branch column at (End (ReducedLeaf den parts lists groups)) e = cc
 
 -- leaves, whose parts are still to come
 pub same_linear : (den : ℤ) (count : ℕ) (t : TreeShape) → LinearLine den count ≡ tree_first t → (parts : List Part) × (t ≡ End (LinearLeaf den parts)) × (length parts ≡ count) × (tree_rest t ≡ part_values parts)
@@ -94,9 +98,10 @@ same_linear den count (Split c n low high) e = absurd (cc)
 same_linear den count (End (LinearLeaf other parts)) e =
     let one : den ≡ other = cc in
     let two : count ≡ length parts = cc in
-    (parts, ap (λ z. End (LinearLeaf z parts)) (sym one), sym two, refl)
+    (parts, ap (λ z. End (LinearLeaf z parts)) (sym one), sym two, append-nil (part_values parts))
 same_linear den count (End (FarkasLeaf parts)) e = absurd (cc)
 same_linear den count (End PointLeaf) e = absurd (cc)
+same_linear den count (End (ReducedLeaf other parts lists groups)) e = absurd (cc)
 
 pub same_farkas : (count : ℕ) (t : TreeShape) → FarkasLine count ≡ tree_first t → (parts : List Part) × (t ≡ End (FarkasLeaf parts)) × (length parts ≡ count) × (tree_rest t ≡ part_values parts)
 unfolding tree_first tree_rest
@@ -104,8 +109,9 @@ same_farkas count (Split c n low high) e = absurd (cc)
 same_farkas count (End (LinearLeaf den parts)) e = absurd (cc)
 same_farkas count (End (FarkasLeaf parts)) e =
     let two : count ≡ length parts = cc in
-    (parts, refl, sym two, refl)
+    (parts, refl, sym two, append-nil (part_values parts))
 same_farkas count (End PointLeaf) e = absurd (cc)
+same_farkas count (End (ReducedLeaf den parts lists groups)) e = absurd (cc)
 
 pub same_point : (t : TreeShape) → PointLine ≡ tree_first t → (t ≡ End PointLeaf) × (tree_rest t ≡ [])
 unfolding tree_first tree_rest
@@ -113,6 +119,40 @@ same_point (Split c n low high) e = absurd (cc)
 same_point (End (LinearLeaf den parts)) e = absurd (cc)
 same_point (End (FarkasLeaf parts)) e = absurd (cc)
 same_point (End PointLeaf) e = (refl, refl)
+same_point (End (ReducedLeaf den parts lists groups)) e = absurd (cc)
+
+-- a leaf over reduced costs, whose parts, lists and groups are still to come
+pub record IsReducedTree (den part_count list_count group_count : ℕ) (t : TreeShape) : Type 0 where
+  pub parts : List Part
+  pub lists : List ListShape
+  pub groups : List Group
+  pub tree : t ≡ End (ReducedLeaf den parts lists groups)
+  pub parts_are : length parts ≡ part_count
+  pub lists_are : length lists ≡ list_count
+  pub groups_are : length groups ≡ group_count
+  pub rest : tree_rest t ≡ reduced_values parts lists groups
+
+pub same_reduced : (den part_count list_count group_count : ℕ) (t : TreeShape) → ReducedLine den part_count list_count group_count ≡ tree_first t → IsReducedTree den part_count list_count group_count t
+unfolding tree_first tree_rest
+same_reduced den part_count list_count group_count (Split c n low high) e = absurd (cc)
+same_reduced den part_count list_count group_count (End (LinearLeaf other parts)) e = absurd (cc)
+same_reduced den part_count list_count group_count (End (FarkasLeaf parts)) e = absurd (cc)
+same_reduced den part_count list_count group_count (End PointLeaf) e = absurd (cc)
+same_reduced den part_count list_count group_count (End (ReducedLeaf other parts lists groups)) e =
+    let one : den ≡ other = cc in
+    let two : part_count ≡ length parts = cc in
+    let three : list_count ≡ length lists = cc in
+    let four : group_count ≡ length groups = cc in
+    record {
+      parts = parts;
+      lists = lists;
+      groups = groups;
+      tree = ap (λ z. End (ReducedLeaf z parts lists groups)) (sym one);
+      parts_are = sym two;
+      lists_are = sym three;
+      groups_are = sym four;
+      rest = refl;
+    }
 
 -- ---- a part
 part_takes : (l : CertLine) → ((part : Part) → l ≢ line.Part part) → Takes a_part (line_shape l) → ⊥
@@ -123,10 +163,47 @@ part_takes (line.Branch column at) other takes = takes
 part_takes (line.Linear den parts) other takes = takes
 part_takes (line.Farkas parts) other takes = takes
 part_takes line.Point other takes = takes
+part_takes (line.Reduced den parts lists groups) other takes = takes
+part_takes (line.List list) other takes = takes
+part_takes (line.Group group) other takes = takes
 part_takes line.End other takes = takes
 
 pub other_part : (l : CertLine) (part : Part) → ((p : Part) → l ≢ line.Part p) → line_shape l ≡ PartLine part → ⊥
 other_part l part other e = part_takes l other (subst (Takes a_part) (sym e) tt)
+
+-- ---- a list of parts
+list_takes : (l : CertLine) → ((list : PartList) → l ≢ line.List list) → Takes a_list (line_shape l) → ⊥
+list_takes (line.Cut c) other takes = takes
+list_takes (line.Round divisor parts) other takes = takes
+list_takes (line.Part part) other takes = takes
+list_takes (line.Branch column at) other takes = takes
+list_takes (line.Linear den parts) other takes = takes
+list_takes (line.Farkas parts) other takes = takes
+list_takes line.Point other takes = takes
+list_takes (line.Reduced den parts lists groups) other takes = takes
+list_takes (line.List list) other takes = other list refl
+list_takes (line.Group group) other takes = takes
+list_takes line.End other takes = takes
+
+pub other_list : (l : CertLine) (list : ListShape) → ((a : PartList) → l ≢ line.List a) → line_shape l ≡ ListLine list → ⊥
+other_list l list other e = list_takes l other (subst (Takes a_list) (sym e) tt)
+
+-- ---- a group
+group_takes : (l : CertLine) → ((group : Group) → l ≢ line.Group group) → Takes a_group (line_shape l) → ⊥
+group_takes (line.Cut c) other takes = takes
+group_takes (line.Round divisor parts) other takes = takes
+group_takes (line.Part part) other takes = takes
+group_takes (line.Branch column at) other takes = takes
+group_takes (line.Linear den parts) other takes = takes
+group_takes (line.Farkas parts) other takes = takes
+group_takes line.Point other takes = takes
+group_takes (line.Reduced den parts lists groups) other takes = takes
+group_takes (line.List list) other takes = takes
+group_takes (line.Group group) other takes = other group refl
+group_takes line.End other takes = takes
+
+pub other_group : (l : CertLine) (group : Group) → ((g : Group) → l ≢ line.Group g) → line_shape l ≡ GroupLine group → ⊥
+other_group l group other e = group_takes l other (subst (Takes a_group) (sym e) tt)
 
 -- ---- the end
 pub other_end : (l : CertLine) → l ≢ line.End → line_shape l ≡ EndLine → ⊥

@@ -1,6 +1,7 @@
 -- The nodes of a certificate's tree, one after the other.
 use Rattle.std.specs.Prelude.{◌≡◌, ◌≢◌, ◌≤◌, ◌<◌, ◌+◌, ◌^◌, ℕ, Bool, true, false, IsTrue, List, [], ◌∷◌, ◌++◌, length, ◌⊎◌, ⊤}
 use Rattle.std.specs.List.{All, flat_map}
+use Rattle.item_groups.specs.declared.group.Group.{Group}
 use Rattle.lot_io.specs.Outside.{Shelved}
 use Rattle.lot_sizing.specs.Problem.{Problem}
 use Rattle.lot_sizing.specs.Plan.{IsFeasible, Plan, cost}
@@ -12,10 +13,11 @@ use Rattle.lin_rows.specs.Rows as rows
 use Rattle.cert_lines.specs.declared.limits.TheConstants.{MAX_BRANCHES}
 use Rattle.cert_lines.specs.declared.parts.Claim.{Claim}
 use Rattle.cert_lines.specs.declared.parts.Claim.TheVariants.{Optimal, Infeasible, Bound as BoundOf}
-use Rattle.cert_lines.specs.Shapes.{BranchLine, EndLine, LeafShape, leaf_shape}
+use Rattle.cert_lines.specs.declared.parts.Part.{Part}
+use Rattle.cert_lines.specs.Shapes.{BranchLine, EndLine, LeafShape, ListShape, leaf_shape}
 use Rattle.certificate.specs.Counts.{longest_path}
 use Rattle.certificate.specs.Shapes.{End, Split, TreeShape}
-use Rattle.certificate.specs.Values.{Values, leaf_values, tree_values}
+use Rattle.certificate.specs.Values.{Values, group_values, leaf_values, list_values, part_values, tree_values}
 use Rattle.split_trees.specs.Paths.{AreMet, at_least}
 use Rattle.split_trees.specs.Ranges.{WithTotals, whole_ranges}
 use Rattle.split_trees.specs.Trees.{IsSplit}
@@ -29,6 +31,7 @@ use Rattle.stream_check.specs.declared.fault.StreamFault.{StreamFault}
 use Rattle.stream_check.specs.declared.fault.StreamFault.TheVariants as stream
 use Rattle.stream_check.specs.declared.nodes.Given.{Given}
 use Rattle.stream_check.specs.declared.units.CertText.{CertText}
+use Rattle.stream_check.specs.declared.units.Counts.{Counts}
 use Rattle.stream_check.specs.declared.units.Node.{Node}
 use Rattle.stream_check.specs.declared.units.Node.TheVariants as node
 use Rattle.stream_check.specs.Passes.{Awaits}
@@ -48,6 +51,15 @@ abbrev pub IsFirstOf : Node → TreeShape → Values → Type 0
 IsFirstOf (node.Branch column at) (Split c n low high) ls = (column ≡ c) × (at ≡ n) × (ls ≡ tree_values low ++ tree_values high)
 IsFirstOf (node.Leaf leaf) (End l) ls = (leaf_shape leaf ≡ l) × (ls ≡ [])
 IsFirstOf _ _ ls = ⊥
+
+-- the lines after the first of a leaf over reduced costs, and how many there are of each kind
+abbrev pub reduced_values : List Part → List ListShape → List Group → Values
+reduced_values parts lists groups = part_values parts ++ (list_values lists ++ group_values groups)
+
+pub record HasCounts (counts : Counts) (parts : List Part) (lists : List ListShape) (groups : List Group) : Type 0 where
+  pub parts_are : length parts ≡ counts.parts
+  pub lists_are : length lists ≡ counts.lists
+  pub groups_are : length groups ≡ counts.groups
 
 -- ---- the path to a node is the stack
 -- the path to the high side, at the low side of a branch

@@ -6,11 +6,11 @@ ghost use Rattle.lot_sizing.specs.Plan.{Plan, IsFeasible};
 ghost use Rattle.lin_rows.specs.Columns.{value_in};
 ghost use Rattle.lin_rows.specs.Combining.{AreOfProblem};
 ghost use Rattle.cert_lines.specs.Limits.{IsVersion};
-ghost use Rattle.cert_lines.specs.Shapes.{EndLine, leaf_parts, leaf_shape};
+ghost use Rattle.cert_lines.specs.Shapes.{EndLine, leaf_shape};
 ghost use Rattle.cert_lines.specs.declared.limits.TheConstants.{MAX_BRANCHES};
 ghost use Rattle.certificate.specs.Counts.{longest_path};
 ghost use Rattle.certificate.specs.Shapes.{TreeShape};
-ghost use Rattle.certificate.specs.Values.{tree_values};
+ghost use Rattle.certificate.specs.Values.{leaf_values, tree_values};
 ghost use Rattle.split_trees.specs.Paths.{AreChoices, AreMet};
 ghost use Rattle.split_trees.specs.Trees.{low_path};
 ghost use Rattle.acceptance.specs.Laws.{HoldAtPlans};
@@ -106,7 +106,7 @@ fn check_leaf(
     requires rows { AreOfProblem given.instance.now given.rows.now }
     requires path { AreChoices given.instance.now path.now }
     requires den { HasDenominator (leaf_shape leaf.now) }
-    requires lines { line + length (leaf_parts (leaf_shape leaf.now)) < 2 ^ 64 }
+    requires lines { line + length (leaf_values (leaf_shape leaf.now)) < 2 ^ 64 }
     ensures ready { IsReadyFor given.entry.instance.now named.new }
     ensures good { OnOk result (LeafIsGood given.entry.instance.now given.entry.rows.now
         given.entry.claim path.now (leaf_shape leaf.now)) }

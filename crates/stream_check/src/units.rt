@@ -1,20 +1,23 @@
-// The parts, cuts and nodes of a certificate, each read from its lines.
-ghost use Rattle.std.specs.Prelude.{◌≡◌, ◌≤◌, ◌<◌, ◌+◌, ◌++◌, ◌∷◌, IfOk, List, OnOk, length};
+// The parts, lists, groups, cuts and nodes of a certificate, each read from its lines.
+ghost use Rattle.std.specs.Prelude.{◌≡◌, ◌≤◌, ◌<◌, ◌+◌, ◌++◌, ◌∷◌, IfOk, List, OnOk, length, map};
+ghost use Rattle.item_groups.specs.declared.group.Group.{Group};
 ghost use Rattle.cert_lines.specs.declared.parts.Part.{Part};
 ghost use Rattle.cert_lines.specs.Limits.{IsVersion};
 ghost use Rattle.cert_lines.specs.Line.{HasLine};
-ghost use Rattle.cert_lines.specs.Shapes.{CutShape, LineShape, PartLine, cut_shape, line_shape};
+ghost use Rattle.cert_lines.specs.Shapes.{CutShape, GroupLine, LineShape, ListLine, ListShape, PartLine, ReducedLeaf, cut_shape, leaf_shape, line_shape, list_shape};
 ghost use Rattle.certificate.specs.Shapes.{TreeShape};
-ghost use Rattle.certificate.specs.Values.{Values, cut_values, part_values, tree_values};
+ghost use Rattle.certificate.specs.Values.{Values, cut_values, group_values, leaf_values, list_values, part_values, tree_values};
 ghost use Rattle.cert_checker.specs.Cuts.{HasDivisor};
+ghost use Rattle.cert_checker.specs.Leaves.{HasDenominator};
 ghost use Rattle.cert_stream.specs.Reader.{IsLineFurther, IsSound, left_of};
-ghost use Rattle.stream_check.specs.Nodes.{HasNodeDenominator, IsFirstOf, node_values};
+ghost use Rattle.stream_check.specs.Nodes.{HasCounts, HasNodeDenominator, IsFirstOf, node_values, reduced_values};
 ghost use Rattle.stream_check.specs.Passes.{Gives, HasLeft, IsStep};
 ghost use Rattle.stream_check.specs.Streams.{never_refused};
 
 use crate::StreamFault;
 use cert_stream::{LineReader, Value, next_value};
-use certificate::{CertLine, CertTextFault, Cut, Leaf, Part};
+use certificate::{CertLine, CertTextFault, Cut, Leaf, Part, PartList};
+use item_groups::Group;
 use lin_rows::Column;
 use lot_io::Shelf;
 use std::alloc::Global;
@@ -113,6 +116,138 @@ fn read_parts<S: Shelf>(
     Ok(parts)
 }
 
+// A list of parts.
+fn read_list<S: Shelf>(
+    reader: &mut LineReader,
+    shelf: &mut S,
+    text: CertText<'_>,
+) -> Result<PartList, StreamFault>
+    requires sound { IsSound reader.old }
+    requires version { IsVersion text.version }
+    ensures further { OnOk result (IsLineFurther reader.old reader.new) }
+    ensures awaited { (list : ListShape) (ls : Values) → HasLeft text.entry (S.shown shelf.old) reader.old (ListLine list ∷ ls)
+        → Gives (λ read. (list_shape read ≡ list) × HasLeft text.entry (S.shown shelf.new) reader.new ls)
+        never_refused result }
+    ensures step { IsStep text.entry.name.now (S.shown shelf.old) (S.shown shelf.new) reader.old reader.new result }
+{
+    let number = reader.number;
+    match next_line(reader, shelf, text)? {
+        CertLine::List(list) => Ok(list),
+        _ => Err(StreamFault::Text(CertTextFault::Shape(number))),
+    }
+}
+
+// So many lists of parts.
+fn read_lists<S: Shelf>(
+    reader: &mut LineReader,
+    shelf: &mut S,
+    text: CertText<'_>,
+    count: u32,
+) -> Result<Vec<PartList>, StreamFault>
+    requires sound { IsSound reader.old }
+    requires version { IsVersion text.version }
+    ensures count { IfOk result (λ lists. length lists.items ≡ count) }
+    ensures number { OnOk result (reader.new.number ≡ reader.old.number + count) }
+    ensures left { OnOk result (left_of reader.new ≤ left_of reader.old) }
+    ensures awaited { (lists : List ListShape) (ls : Values) → length lists ≡ count
+        → HasLeft text.entry (S.shown shelf.old) reader.old (list_values lists ++ ls)
+        → Gives (λ read. (map list_shape read.items ≡ lists) × HasLeft text.entry (S.shown shelf.new) reader.new ls)
+        never_refused result }
+    ensures step { IsStep text.entry.name.now (S.shown shelf.old) (S.shown shelf.new) reader.old reader.new result }
+{
+    let mut lists = Vec::new(text.alloc);
+    for _ in 0..count {
+        lists.push(read_list(reader, shelf, text)?)?;
+    }
+    Ok(lists)
+}
+
+// A group of items.
+fn read_group<S: Shelf>(
+    reader: &mut LineReader,
+    shelf: &mut S,
+    text: CertText<'_>,
+) -> Result<Group, StreamFault>
+    requires sound { IsSound reader.old }
+    requires version { IsVersion text.version }
+    ensures further { OnOk result (IsLineFurther reader.old reader.new) }
+    ensures awaited { (group : Group) (ls : Values) → HasLeft text.entry (S.shown shelf.old) reader.old (GroupLine group ∷ ls)
+        → Gives (λ read. (read ≡ group) × HasLeft text.entry (S.shown shelf.new) reader.new ls)
+        never_refused result }
+    ensures step { IsStep text.entry.name.now (S.shown shelf.old) (S.shown shelf.new) reader.old reader.new result }
+{
+    let number = reader.number;
+    match next_line(reader, shelf, text)? {
+        CertLine::Group(group) => Ok(group),
+        _ => Err(StreamFault::Text(CertTextFault::Shape(number))),
+    }
+}
+
+// So many groups of items.
+fn read_groups<S: Shelf>(
+    reader: &mut LineReader,
+    shelf: &mut S,
+    text: CertText<'_>,
+    count: u32,
+) -> Result<Vec<Group>, StreamFault>
+    requires sound { IsSound reader.old }
+    requires version { IsVersion text.version }
+    ensures count { IfOk result (λ groups. length groups.items ≡ count) }
+    ensures number { OnOk result (reader.new.number ≡ reader.old.number + count) }
+    ensures left { OnOk result (left_of reader.new ≤ left_of reader.old) }
+    ensures awaited { (groups : List Group) (ls : Values) → length groups ≡ count
+        → HasLeft text.entry (S.shown shelf.old) reader.old (group_values groups ++ ls)
+        → Gives (λ read. (read.items ≡ groups) × HasLeft text.entry (S.shown shelf.new) reader.new ls)
+        never_refused result }
+    ensures step { IsStep text.entry.name.now (S.shown shelf.old) (S.shown shelf.new) reader.old reader.new result }
+{
+    let mut groups = Vec::new(text.alloc);
+    for _ in 0..count {
+        groups.push(read_group(reader, shelf, text)?)?;
+    }
+    Ok(groups)
+}
+
+// How many lines of each kind follow the first line of a leaf over reduced costs.
+#[derive(Clone, Copy)]
+struct Counts {
+    parts: u32,
+    lists: u32,
+    groups: u32,
+}
+
+// A leaf over reduced costs, after its first line.
+fn read_reduced<S: Shelf>(
+    reader: &mut LineReader,
+    shelf: &mut S,
+    text: CertText<'_>,
+    den: u64,
+    counts: Counts,
+) -> Result<Leaf, StreamFault>
+    requires sound { IsSound reader.old }
+    requires version { IsVersion text.version }
+    ensures den { IfOk result (λ leaf. HasDenominator (leaf_shape leaf)) }
+    ensures number { IfOk result (λ leaf. reader.new.number + 1 ≡ reader.old.number + length (leaf_values (leaf_shape leaf))) }
+    ensures left { OnOk result (left_of reader.new ≤ left_of reader.old) }
+    ensures awaited { (parts : List Part) (lists : List ListShape) (groups : List Group) (ls : Values)
+        → HasCounts counts parts lists groups
+        → HasLeft text.entry (S.shown shelf.old) reader.old (reduced_values parts lists groups ++ ls)
+        → Gives (λ leaf. (leaf_shape leaf ≡ ReducedLeaf den parts lists groups)
+        × HasLeft text.entry (S.shown shelf.new) reader.new ls)
+        never_refused result }
+    ensures step { IsStep text.entry.name.now (S.shown shelf.old) (S.shown shelf.new) reader.old reader.new result }
+{
+    let parts = read_parts(reader, shelf, text, counts.parts)?;
+    let lists = read_lists(reader, shelf, text, counts.lists)?;
+    let groups = read_groups(reader, shelf, text, counts.groups)?;
+    Ok(Leaf::Reduced {
+        den,
+        parts,
+        lists,
+        groups,
+    })
+}
+
 // A cut, with its parts.
 pub fn read_cut<S: Shelf>(
     reader: &mut LineReader,
@@ -142,7 +277,7 @@ pub fn read_cut<S: Shelf>(
     }
 }
 
-// The first node of a tree: a branch, or a leaf with its parts.
+// The first node of a tree: a branch, or a leaf with the lines after its first.
 pub fn read_node<S: Shelf>(
     reader: &mut LineReader,
     shelf: &mut S,
@@ -171,6 +306,19 @@ pub fn read_node<S: Shelf>(
             Ok(Node::Leaf(Leaf::Farkas { parts }))
         }
         CertLine::Point => Ok(Node::Leaf(Leaf::Point)),
+        CertLine::Reduced {
+            den,
+            parts,
+            lists,
+            groups,
+        } => {
+            let counts = Counts {
+                parts,
+                lists,
+                groups,
+            };
+            Ok(Node::Leaf(read_reduced(reader, shelf, text, den, counts)?))
+        }
         _ => Err(StreamFault::Text(CertTextFault::Shape(number))),
     }
 }

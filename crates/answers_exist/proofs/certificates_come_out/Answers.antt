@@ -16,4 +16,14 @@ returns c = certificates_out (record {
   least = c.least_stocks_are_best.ensures;
   within = c.plans_are_within.ensures;
   judged = c.plans_are_judged.ensures.grids;
+  reduced = record {
+    exists = c.known_exists.ensures;
+    numbers = c.numbers_exist.ensures;
+    judged = c.groups_are_judged.ensures.apart;
+    work = c.groups_are_judged.ensures.work;
+    sums = c.reduced_by_both.ensures.sum;
+    lacks = c.reduced_by_both.ensures.lacks;
+    one = c.reduced_sums_are_one.ensures.one;
+    choices = c.reduced_sums_are_one.ensures.choices;
+  };
 })

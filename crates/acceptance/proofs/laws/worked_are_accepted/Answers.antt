@@ -3,6 +3,7 @@ use Rattle.std.specs.Prelude.{Some}
 use Rattle.acceptance.specs.Worked.{by_branches, model, plan, rank, total, weight}
 use Rattle.acceptance.proofs.Cutting.{cuts_here}
 use Rattle.acceptance.proofs.Examples.{best_by, branches_accepted, branches_here, known_model}
+use Rattle.acceptance.proofs.Reducing.{reduced_here}
 use Rattle.acceptance.proofs.laws.worked_are_accepted.Goals as goal
 
 pub returns : goal.returns
@@ -12,6 +13,7 @@ returns c =
       known = known;
       branches = branches_here;
       cuts = cuts_here;
+      reduced = reduced_here c.reduced_sums_are_one.ensures.one;
       best = best_by (c.accepted_is_true.ensures model rank total weight (omega arith) known.ranks known.totals known.weights by_branches (Some plan) branches_accepted);
       costs = refl;
     }

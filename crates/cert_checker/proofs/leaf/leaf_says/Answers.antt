@@ -1,14 +1,15 @@
-use Rattle.std.proofs.Common.{rules, ◌≡◌, ◌∙◌, ℕ, sym, ap, subst, List}
+use Rattle.std.proofs.Common.{rules, ◌≡◌, ◌∙◌, ℕ, sym, ap, subst, List, map}
+use Rattle.std.specs.Prelude.{IfOk}
 use mir.Facts.{to_z-of_z}
 use mir.Val.{SFits, of_z, to_z}
 use mir.Syntax.{w128}
 use Rattle.lin_rows.specs.Rows.{LinRow}
-use Rattle.cert_lines.specs.Shapes.{LinearLeaf, PointLeaf, leaf_shape}
+use Rattle.cert_lines.specs.Shapes.{LinearLeaf, PointLeaf, ReducedLeaf, leaf_shape, list_shape}
 use Rattle.split_trees.specs.Ranges.{WithTotals, whole_ranges}
 use Rattle.acceptance.specs.Named.{names}
 use Rattle.acceptance.specs.Says.{Says}
 use Rattle.cert_checker.specs.declared.fault.Why.{Why}
-use Rattle.cert_checker.specs.Leaves.{IfRejected, IsLeafFault, IsPointFault, IsSumFault, linear_most}
+use Rattle.cert_checker.specs.Leaves.{IfRejected, IsLeafFault, IsPointFault, IsSumFault, LeafIsSmall, linear_most}
 use Rattle.cert_checker.proofs.Leaves.{if_err_with, if_ok_with, rejected_as}
 use Rattle.cert_checker.proofs.leaf.leaf_says.Goals as goal
 
@@ -60,3 +61,18 @@ returns-in-Point-clause-fault c =
     (λ at w apart total totals. subst (λ s. IsLeafFault (names m total cuts path) (whole_ranges total) s line at w) (sym shape) (apart total totals cuts))
     is)
     c.point_leaf.ensures.fault
+
+pub returns-in-Reduced-clause-small : goal.returns-in-Reduced-clause-small
+returns-in-Reduced-clause-small c =
+    let den = c.in-Reduced.den in
+    let parts = c.deref-in-Reduced in
+    let lists = c.deref-in-Reduced-2 in
+    let groups = c.deref-in-Reduced-3 in
+    let own = c.in-Reduced.parts.items in
+    let further = map list_shape c.in-Reduced.lists.items in
+    let shape : ReducedLeaf den parts.result.now (map list_shape lists.result.now) groups.result.now ≡ leaf_shape c.args.leaf.now =
+    ap (λ x. ReducedLeaf den x (map list_shape lists.result.now) groups.result.now) parts.ensures.value
+    ∙ ap (λ x. ReducedLeaf den own (map list_shape x) groups.result.now) lists.ensures.value
+    ∙ ap (λ x. ReducedLeaf den own further x) groups.ensures.value
+    ∙ sym (ap leaf_shape c.in-Reduced.is) in
+    subst (λ l. IfOk c.reduced_leaf.result (λ _. LeafIsSmall c.args.instance.now c.args.cuts.now c.args.path.now l)) shape c.reduced_leaf.ensures.small
