@@ -20,8 +20,8 @@ use Rattle.cert_lines.specs.Limits.{Is64, Is127}
 use Rattle.cert_lines.specs.Line.{HasLine}
 use Rattle.cert_lines.specs.Shapes.{BlockCut, LinearLine, PartLine, block_lists}
 use Rattle.cert_lines.specs.Text.{block_line, list_text, part_line}
-use Rattle.certificate.specs.Values.{AreLines, cut_values, leaf_values}
-use Rattle.certificate.proofs.Shorts.{parts_join}
+use Rattle.certificate.specs.Values.{AreLines, cut_values, leaf_values, part_values}
+use Rattle.certificate.proofs.Shorts.{lines_join, parts_join}
 use Rattle.apart.specs.Cuts.{leaf_from, once_from}
 
 -- ---- how long numbers are
@@ -96,7 +96,7 @@ linear_is version n most = record {
 pub leaf_lines : (version before count : ℕ) → before + count < 2 ^ 32 → count ≤ MAX_PARTS → AreLines version (leaf_values (leaf_from before count))
 leaf_lines version before count less most = (
   subst (λ n. HasLine version (LinearLine (pos 1) n)) (sym (once_count (suc before) count)) (linear_is version count most),
-  parts_join {version = version} (once_from (suc before) count) (once_lines version (suc before) count (omega (arith, less))),
+  lines_join version (part_values (once_from (suc before) count)) [] (parts_join {version = version} (once_from (suc before) count) (once_lines version (suc before) count (omega (arith, less)))) tt,
 )
 
 -- ---- the lines of block cuts

@@ -12,6 +12,7 @@ use Rattle.plan_rules.specs.declared.plan.Planned.{Planned}
 use Rattle.plan_rules.specs.Held.{AllFit, plan_of}
 use Rattle.cert_lines.specs.declared.parts.Claim.{Claim}
 use Rattle.cert_lines.specs.declared.parts.Claim.TheVariants.{Optimal, Infeasible, Bound as BoundOf}
+use Rattle.certificate.specs.Shapes.{shape_of}
 use Rattle.split_trees.specs.Ranges.{IsWithin, Ranges}
 use Rattle.acceptance.specs.Accepts.{IsTrueOf}
 use Rattle.cert_checker.specs.Checks.{ComesWith, plan_given}
@@ -43,6 +44,7 @@ use Rattle.incumbent.proofs.Best.{given_on}
 use Rattle.branch_and_cut.proofs.Finished.{made_of}
 use Rattle.branch_and_cut.proofs.Overall.{cause_whole, one_within, shows_whole}
 use Rattle.branch_and_cut.proofs.Evidence.{at_most_on}
+use Rattle.branch_and_cut.proofs.LeastVersion.{usual_is}
 
 -- ---- what follows from the claim and the plan without a bound
 alone_plan : (m : Problem) (claim : Claim) (given : Option Plan) → GoesWithPlan claim given → ComesWith m claim given → IfSome given (IsGoodPlan m)
@@ -106,7 +108,7 @@ alone_answer m budget limits stopping first found r a some good is says apart on
       uses = subst (UsesRoot found) (sym alone.root) (record { alone = alone.alone; decided = decided });
       apart = λ amount at. alone_floor m claim given amount alone.decided comes (subst (IsFloor m) (one m a.amount amount apart.amount at) apart.floor);
       complete = λ none still total totals enough. decided;
-      version = record { plain = λ plain. alone.version; other = λ not. absurd (not apart_of.plain) };
+      version = usual_is m (shape_of found.certificate) (record { plain = λ plain. alone.version; other = λ not. absurd (not apart_of.plain) }) proved.writable;
     }
 
 both_of : (m : Problem) (ranges : Ranges) (plan : Option Plan) → IfSome plan (IsGoodPlan m) → IfSome plan (λ p. IsWithin m ranges (plan_of p)) → IfSome plan (IsGoodWithin m ranges)
@@ -149,7 +151,7 @@ all_alone m ranges (Some p) all good = all (plan_of p) good.feasible
 none_least : (m : Problem) (given : Option Plan) → IsImpossible m → (q : terms.Plan) → terms.IsFeasible m q → CostsAtMost m given (terms.cost m q)
 none_least m given none q feasible = absurd (none q feasible)
 
-pub none_answer : (m : Problem) (budget : ℕ) (limits : Limits) (stopping : Bool) (first : Option Plan) (found : Found) (r : Root) → 1 ≤ budget → IfSome first (IsGoodPlan m) → IsRootOf m r → r.says ≡ root.Empty → IsVersionOf m found.certificate.version → IsProved m found → found.plan ≡ None → found.root ≡ r.says → IsImpossibleByOne found → IsAnswer m budget limits stopping first found
+pub none_answer : (m : Problem) (budget : ℕ) (limits : Limits) (stopping : Bool) (first : Option Plan) (found : Found) (r : Root) → 1 ≤ budget → IfSome first (IsGoodPlan m) → IsRootOf m r → r.says ≡ root.Empty → IsVersionOf m (shape_of found.certificate) → IsProved m found → found.plan ≡ None → found.root ≡ r.says → IsImpossibleByOne found → IsAnswer m budget limits stopping first found
 none_answer m budget limits stopping first found r some good is says version proved without root_is by =
     let impossible : IsImpossible m = subst (BoundsPlans m) says is.bounds in
     let root_empty : found.root ≡ root.Empty = root_is ∙ says in
@@ -173,7 +175,7 @@ none_answer m budget limits stopping first found r some good is says version pro
       version = version;
     }
 
-pub none_within : (m : Problem) (ranges : Ranges) (budget : ℕ) (limits : Limits) (stopping : Bool) (first : Option Plan) (found : Found) (r : Root) → 1 ≤ budget → IfSome first (IsGoodWithin m ranges) → IsRootOf m r → r.says ≡ root.Empty → IsVersionOf m found.certificate.version → WholeIsProved m → IsProvedWithin m ranges found → found.plan ≡ None → found.root ≡ r.says → IsImpossibleByOne found → IsAnswerWithin m ranges budget limits stopping first found
+pub none_within : (m : Problem) (ranges : Ranges) (budget : ℕ) (limits : Limits) (stopping : Bool) (first : Option Plan) (found : Found) (r : Root) → 1 ≤ budget → IfSome first (IsGoodWithin m ranges) → IsRootOf m r → r.says ≡ root.Empty → IsVersionOf m (shape_of found.certificate) → WholeIsProved m → IsProvedWithin m ranges found → found.plan ≡ None → found.root ≡ r.says → IsImpossibleByOne found → IsAnswerWithin m ranges budget limits stopping first found
 none_within m ranges budget limits stopping first found r some good is says version whole proved without root_is by =
     let impossible : IsImpossible m = subst (BoundsPlans m) says is.bounds in
     let claim_is = by.none in
@@ -207,7 +209,7 @@ uses_of found root.Empty coupled some closed = absurd (some refl)
 uses_of found (root.Stopped round) coupled some closed = tt
 uses_of found (root.Passed round at) coupled some closed = tt
 
-pub searched_within : (g : Model) (k : Known) (budget : ℕ) (limits : Limits) (stopping : Bool) (first : Option Plan) (found : Found) (r : Root) (a : Apart) (best : Option Planned) → IsRootOf g.instance.now r → (IsWhole g.instance.now (ranges_in g) → r.says ≡ root.Uncoupled → ⊥) → (r.says ≡ root.Empty → ⊥) → AreApart g.instance.now a → ApartIsOne → LieInWhole g.instance.now → WholeIsProved g.instance.now → IsProvedWithin g.instance.now (ranges_in g) found → IsFinished g k budget limits stopping found → found.plan ≡ plan_kept k.best → found.root ≡ r.says → IsVersionOf g.instance.now found.certificate.version → a.amount ≤ g.least → ((c : ℕ) → r.says ≡ root.Closed c → c ≤ g.least) → IfSome k.best (IsMadeWithin g.instance.now (ranges_in g)) → IsNoWorse k.best best → KeepsGiven g.instance.now first best → (AllLieWithin g.instance.now (ranges_in g) → KeepsOwnMade g.instance.now best) → IsAnswerWithin g.instance.now (ranges_in g) budget limits stopping first found
+pub searched_within : (g : Model) (k : Known) (budget : ℕ) (limits : Limits) (stopping : Bool) (first : Option Plan) (found : Found) (r : Root) (a : Apart) (best : Option Planned) → IsRootOf g.instance.now r → (IsWhole g.instance.now (ranges_in g) → r.says ≡ root.Uncoupled → ⊥) → (r.says ≡ root.Empty → ⊥) → AreApart g.instance.now a → ApartIsOne → LieInWhole g.instance.now → WholeIsProved g.instance.now → IsProvedWithin g.instance.now (ranges_in g) found → IsFinished g k budget limits stopping found → found.plan ≡ plan_kept k.best → found.root ≡ r.says → IsVersionOf g.instance.now (shape_of found.certificate) → a.amount ≤ g.least → ((c : ℕ) → r.says ≡ root.Closed c → c ≤ g.least) → IfSome k.best (IsMadeWithin g.instance.now (ranges_in g)) → IsNoWorse k.best best → KeepsGiven g.instance.now first best → (AllLieWithin g.instance.now (ranges_in g) → KeepsOwnMade g.instance.now best) → IsAnswerWithin g.instance.now (ranges_in g) budget limits stopping first found
 searched_within g k budget limits stopping first found r a best is coupled some apart one lie whole proved ends plan_is root_is version apart_least closed_least made less kept own =
     let m = g.instance.now in
     let ranges = ranges_in g in
@@ -249,10 +251,10 @@ searched_within g k budget limits stopping first found r a best is coupled some 
     }
 
 -- ---- if memory was there
-pub searched_ok : (g : Model) (k : Known) (budget version : ℕ) (limits : Limits) (stopping : Bool) (first : Option Plan) (result : Result Found AllocError) (r : Root) (a : Apart) (best : Option Planned) → g.root ≡ r.says → g.version ≡ version → IsRootOf g.instance.now r → (IsWhole g.instance.now (ranges_in g) → r.says ≡ root.Uncoupled → ⊥) → (r.says ≡ root.Empty → ⊥) → AreApart g.instance.now a → ApartIsOne → LieInWhole g.instance.now → WholeIsProved g.instance.now → IfOk result (IsProvedWithin g.instance.now (ranges_in g)) → IfOk result (IsFinished g k budget limits stopping) → IfOk result (λ found. found.plan ≡ plan_kept k.best) → IfOk result (λ found. found.root ≡ g.root) → IfOk result (λ found. found.certificate.version ≡ g.version) → IsVersionOf g.instance.now version → a.amount ≤ g.least → ((c : ℕ) → r.says ≡ root.Closed c → c ≤ g.least) → IfSome k.best (IsMadeWithin g.instance.now (ranges_in g)) → IsNoWorse k.best best → KeepsGiven g.instance.now first best → (AllLieWithin g.instance.now (ranges_in g) → KeepsOwnMade g.instance.now best) → IfOk result (IsAnswerWithin g.instance.now (ranges_in g) budget limits stopping first)
-searched_ok g k budget version limits stopping first (Ok found) r a best root_same version_same is coupled some apart one lie whole proved ends plan_is root_is version_is known apart_least closed_least made less kept own =
-    searched_within g k budget limits stopping first found r a best is coupled some apart one lie whole proved ends plan_is (root_is ∙ root_same) (subst (IsVersionOf g.instance.now) (sym (version_is ∙ version_same)) known) apart_least closed_least made less kept own
-searched_ok g k budget version limits stopping first (Err e) r a best root_same version_same is coupled some apart one lie whole proved ends plan_is root_is version_is known apart_least closed_least made less kept own = tt
+pub searched_ok : (g : Model) (k : Known) (budget : ℕ) (limits : Limits) (stopping : Bool) (first : Option Plan) (result : Result Found AllocError) (r : Root) (a : Apart) (best : Option Planned) → g.root ≡ r.says → IsRootOf g.instance.now r → (IsWhole g.instance.now (ranges_in g) → r.says ≡ root.Uncoupled → ⊥) → (r.says ≡ root.Empty → ⊥) → AreApart g.instance.now a → ApartIsOne → LieInWhole g.instance.now → WholeIsProved g.instance.now → IfOk result (IsProvedWithin g.instance.now (ranges_in g)) → IfOk result (IsFinished g k budget limits stopping) → IfOk result (λ found. found.plan ≡ plan_kept k.best) → IfOk result (λ found. found.root ≡ g.root) → IfOk result (λ found. IsVersionOf g.instance.now (shape_of found.certificate)) → a.amount ≤ g.least → ((c : ℕ) → r.says ≡ root.Closed c → c ≤ g.least) → IfSome k.best (IsMadeWithin g.instance.now (ranges_in g)) → IsNoWorse k.best best → KeepsGiven g.instance.now first best → (AllLieWithin g.instance.now (ranges_in g) → KeepsOwnMade g.instance.now best) → IfOk result (IsAnswerWithin g.instance.now (ranges_in g) budget limits stopping first)
+searched_ok g k budget limits stopping first (Ok found) r a best root_same is coupled some apart one lie whole proved ends plan_is root_is version apart_least closed_least made less kept own =
+    searched_within g k budget limits stopping first found r a best is coupled some apart one lie whole proved ends plan_is (root_is ∙ root_same) version apart_least closed_least made less kept own
+searched_ok g k budget limits stopping first (Err e) r a best root_same is coupled some apart one lie whole proved ends plan_is root_is version apart_least closed_least made less kept own = tt
 
 pub ended_on : (g : Model) (k : Known) (budget : ℕ) (limits : Limits) (stopping : Bool) (rs : List Range) (s : Searched) (result : Result Found AllocError) → IsSearched g k budget limits stopping rs s → IfOk result (λ found. (n : ℕ) (l : Limits) (stop : Bool) (list : List Range) → IsSearched g k n l stop list s → IsFinished g k n l stop found) → IfOk result (IsFinished g k budget limits stopping)
 ended_on g k budget limits stopping rs s (Ok found) is all = all budget limits stopping rs is

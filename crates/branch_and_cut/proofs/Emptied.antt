@@ -7,7 +7,7 @@ use Rattle.lot_sizing.specs.Problem.{Problem}
 use Rattle.lin_rows.specs.Rows.{LinRow}
 use Rattle.cert_lines.specs.declared.parts.Claim.TheVariants.{Infeasible}
 use Rattle.cert_lines.specs.declared.parts.Leaf.{Leaf}
-use Rattle.cert_lines.specs.Shapes.{BlockCut, CutShape, FarkasLeaf, LeafShape, LinearLeaf, LsCut, PointLeaf, PriceCut, RoundCut, leaf_shape}
+use Rattle.cert_lines.specs.Shapes.{BlockCut, CutShape, FarkasLeaf, LeafShape, LinearLeaf, LsCut, PointLeaf, PriceCut, ReducedLeaf, RoundCut, leaf_shape}
 use Rattle.certificate.specs.declared.tree.Tree.{Tree}
 use Rattle.certificate.specs.declared.tree.Tree.TheVariants as tree
 use Rattle.certificate.specs.Limits.{IsWritable}
@@ -45,6 +45,7 @@ none_said : (m : Problem) (ranges : Ranges) (rows : List LinRow) (leaf : LeafSha
 none_said m ranges rows (LinearLeaf den parts) is = absurd is
 none_said m ranges rows (FarkasLeaf parts) is = record { said = is.said; small = is.small }
 none_said m ranges rows PointLeaf is = absurd is
+none_said m ranges rows (ReducedLeaf den parts lists groups) is = absurd is
 
 abbrev pub none_shape : ℕ → Root → Tree → Shape
 none_shape version r t = record { version = version; claim = Infeasible; cuts = root_cuts r; tree = tree_shape t }

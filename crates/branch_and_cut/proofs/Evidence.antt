@@ -7,7 +7,7 @@ use Rattle.lot_sizing.specs.Totals.{AreLargestTotals}
 use Rattle.lin_rows.specs.declared.bound.Bound.{Bound}
 use Rattle.lin_rows.specs.Rows.{LinRow}
 use Rattle.cert_lines.specs.declared.parts.Leaf.{Leaf}
-use Rattle.cert_lines.specs.Shapes.{FarkasLeaf, LeafShape, LinearLeaf, PointLeaf, leaf_shape}
+use Rattle.cert_lines.specs.Shapes.{FarkasLeaf, LeafShape, LinearLeaf, PointLeaf, ReducedLeaf, leaf_shape}
 use Rattle.split_trees.specs.Ranges.{Ranges, whole_ranges}
 use Rattle.acceptance.specs.declared.says.LeafSays.{LeafSays}
 use Rattle.acceptance.specs.declared.says.LeafSays.TheVariants.{NoPlan, AtLeast}
@@ -47,6 +47,7 @@ number m version rows path (LinearLeaf den parts) bound known is = record {
 }
 number m version rows path (FarkasLeaf parts) bound known is = absurd is
 number m version rows path PointLeaf bound known is = absurd is
+number m version rows path (ReducedLeaf den parts lists groups) bound known is = absurd is
 
 pub at_most_on : (a b c : Option ℕ) → IsAtMost a b → IsAtMost b c → IsAtMost a c
 at_most_on a b None x y = tt
@@ -99,6 +100,7 @@ none m version rows path (FarkasLeaf parts) known is = record {
   of_rows = tt;
 }
 none m version rows path PointLeaf known is = absurd is
+none m version rows path (ReducedLeaf den parts lists groups) known is = absurd is
 
 pub none_kept : (m : Problem) (ranges : Ranges) (version least : ℕ) (rows : List LinRow) (rs : List Range) (path : List Bound) (new : Proposal) (leaf : Leaf) → HasVersion m version → SaysNone m path (leaf_shape leaf) → new.leaf ≡ leaf → new.says ≡ None → IsKept m ranges version least rows rs path new
 none_kept m ranges version least rows rs path new leaf known says same amount =

@@ -52,10 +52,10 @@ use Rattle.incumbent.specs.Kept.{cost_kept, plan_kept, IsMadeWithin}
 use Rattle.branch_and_cut.specs.Knowing.{ranges_in, shapes}
 use Rattle.branch_and_cut.specs.Leaves.{IsGoodLeafWithin, IsKept, IsEvidentAt, said}
 use Rattle.search_ranges.specs.Nodes.{IsNodeOf, choice_place, choice_rules}
-use Rattle.branch_and_cut.specs.Search.{GoesTogether, IsBelowPlan, IsClaimedAtLeast, IsDecided, IsEvidence, IsPlanNear}
+use Rattle.branch_and_cut.specs.Search.{GoesTogether, IsBelowPlan, IsClaimedAtLeast, IsDecided, IsEvidence, IsPlanNear, in_version}
 use Rattle.branch_and_cut.specs.SearchWithin.{HasEvidenceWithin, IsCertifiedWithin, IsDeepIfOpenWithin, IsOutOfRoomWithin, IsProvedWithin, IsUndecidedWithin, SaysAmountWithin}
 use Rattle.branch_and_cut.specs.Search as shown
-use Rattle.branch_and_cut.proofs.Proved.{Grounds, IsEnoughAt, IsShownBy, proved_shape}
+use Rattle.branch_and_cut.proofs.Proved.{Grounds, IsEnoughAt, IsShownBy, proved_in, proved_shape}
 use Rattle.branch_and_cut.proofs.Translating.{each_on, each_two, some_on, split_tree}
 
 -- ---- the claim
@@ -310,12 +310,13 @@ finished g k budget limits stopping rs s t found measured one total totals is of
     }
 
 -- what is found is proved
-pub found_proved : (g : Model) (k : Known) (budget : ℕ) (limits : Limits) (stopping : Bool) (rs : List Range) (s : Searched) (t : Tree) (found : Found) → Grounds g.instance.now → IsSearched g k budget limits stopping rs s → IsTreeOf s t → s.nodes ≤ MAX_NODES → shape_of found.certificate ≡ made_shape g k s t → found.plan ≡ plan_kept k.best → found.nodes ≡ s.nodes → IsProvedWithin g.instance.now (ranges_in g) found
-found_proved g k budget limits stopping rs s t found by is of few shape plan_is nodes_are =
+pub found_proved : (g : Model) (k : Known) (budget : ℕ) (limits : Limits) (stopping : Bool) (rs : List Range) (s : Searched) (t : Tree) (found : Found) → Grounds g.instance.now → IsSearched g k budget limits stopping rs s → IsTreeOf s t → s.nodes ≤ MAX_NODES → shape_of found.certificate ≡ in_version found.certificate.version (made_shape g k s t) → (IsWritable (made_shape g k s t) → IsWritable (shape_of found.certificate)) → found.plan ≡ plan_kept k.best → found.nodes ≡ s.nodes → IsProvedWithin g.instance.now (ranges_in g) found
+found_proved g k budget limits stopping rs s t found by is of few shape written plan_is nodes_are =
     let m = g.instance.now in
     let ranges = ranges_in g in
-    let made = made_shape g k s t in
-    let p = proved_shape m by ranges made k.rows.items (plan_kept k.best) (shown_by g k budget limits stopping rs s t is of few) in
+    let first = proved_shape m by ranges (made_shape g k s t) k.rows.items (plan_kept k.best) (shown_by g k budget limits stopping rs s t is of few) in
+    let made = in_version found.certificate.version (made_shape g k s t) in
+    let p = proved_in m ranges (made_shape g k s t) found.certificate.version (plan_kept k.best) (subst IsWritable shape (written first.writable)) first in
     record {
       writable = subst IsWritable (sym shape) p.writable;
       lines = subst (λ (c : Shape). line_count c < 2 ^ 63) (sym shape) p.lines;

@@ -1,16 +1,13 @@
 -- A leaf whose lines are those of texts, and what the checker says of it.
-use Rattle.std.proofs.Common.{◌≡◌, ◌≤◌, ◌<◌, ◌^◌, ℕ, refl, sym, subst, false, List, length, Option, Some, None}
+use Rattle.std.proofs.Common.{◌≡◌, ◌≤◌, ◌<◌, ◌+◌, ◌^◌, ℕ, refl, sym, subst, false, List, length, Option, Some, None}
 use Rattle.std.specs.Prelude.{IfSome}
-use Rattle.std.specs.List.{All}
 use Rattle.lot_sizing.specs.Problem.{Problem}
 use Rattle.lot_sizing.specs.Totals.{AreLargestTotals}
 use Rattle.lin_rows.specs.declared.bound.Bound.{Bound}
 use Rattle.lin_rows.specs.Rows.{LinRow}
-use Rattle.cert_lines.specs.declared.limits.TheConstants.{MAX_PARTS}
-use Rattle.cert_lines.specs.declared.parts.Part.{Part}
-use Rattle.cert_lines.specs.Line.{HasLine}
-use Rattle.cert_lines.specs.Shapes.{FarkasLeaf, LeafShape, LinearLeaf, PartLine, PointLeaf, leaf_parts, leaf_shape}
-use Rattle.certificate.proofs.Shorts.{parts_join}
+use Rattle.cert_lines.specs.declared.limits.TheConstants.{MAX_GROUPS, MAX_LISTS, MAX_PARTS}
+use Rattle.cert_lines.specs.Shapes.{FarkasLeaf, LeafShape, LinearLeaf, PointLeaf, ReducedLeaf, leaf_shape}
+use Rattle.certificate.specs.Values.{leaf_values}
 use Rattle.split_trees.specs.Ranges.{whole_ranges}
 use Rattle.acceptance.specs.declared.says.LeafSays.{LeafSays}
 use Rattle.acceptance.specs.Named.{names}
@@ -18,42 +15,34 @@ use Rattle.cert_checker.specs.Leaves.{HasDenominator, LeafIsSmall, LeafSaysThis}
 use Rattle.leaf_growth.specs.Growth.{IsOfRows, LeafSaysSmall}
 use Rattle.leaf_growth.specs.Written.{LeafHasLines}
 use Rattle.leaf_growth.proofs.Amounts.{amount_small}
+use Rattle.leaf_growth.proofs.Trees.{leaf_few}
 use Rattle.branch_and_bound.specs.declared.proposal.Proposal.{Proposal}
 use Rattle.branch_and_bound.specs.Costs.{IsAtMost}
 use Rattle.branch_and_cut.specs.Adding.{IsJudged, IsTested}
 use Rattle.branch_and_cut.specs.Leaves.{IsLasting, said}
 use Rattle.branch_and_cut.proofs.Evidence.{at_most_on}
 
-parts_for : (version : ℕ) (parts : List Part) → All (λ p. HasLine 1 (PartLine p)) parts → All (λ p. HasLine version (PartLine p)) parts
-parts_for version parts all = λ k d less. let is = all k d less in record { text = refl; form = is.form; known = λ first. is.known refl }
+pub tested_den : (version : ℕ) (leaf : LeafShape) → IsTested version leaf → HasDenominator leaf
+tested_den version (LinearLeaf den parts) is = is.lines.0.form.small.0
+tested_den version (FarkasLeaf parts) is = tt
+tested_den version PointLeaf is = tt
+tested_den version (ReducedLeaf den parts lists groups) is = tt
 
-tested_lines : (version : ℕ) (leaf : LeafShape) → IsTested leaf → LeafHasLines version leaf
-tested_lines version (LinearLeaf den parts) is = (record { text = refl; form = is.form; known = tt }, parts_join {version = version} parts (parts_for version parts is.parts))
-tested_lines version (FarkasLeaf parts) is = (record { text = refl; form = is.form; known = tt }, parts_join {version = version} parts (parts_for version parts is.parts))
-tested_lines version PointLeaf is = absurd is.of_rows
-
-pub tested_den : (leaf : LeafShape) → IsTested leaf → HasDenominator leaf
-tested_den (LinearLeaf den parts) is = is.form.small.0
-tested_den (FarkasLeaf parts) is = tt
-tested_den PointLeaf is = tt
-
-pub tested_few : (leaf : LeafShape) → IsTested leaf → length (leaf_parts leaf) ≤ MAX_PARTS
-tested_few (LinearLeaf den parts) is = is.form.small.2
-tested_few (FarkasLeaf parts) is = is.form.small
-tested_few PointLeaf is = absurd is.of_rows
+pub tested_few : (version : ℕ) (leaf : LeafShape) → IsTested version leaf → length (leaf_values leaf) ≤ MAX_PARTS + MAX_LISTS + MAX_GROUPS + 1
+tested_few version leaf is = leaf_few version leaf is.lines
 
 small_said : (m : Problem) (total : ℕ → ℕ) (rows : List LinRow) (path : List Bound) (leaf : LeafShape) (s : Option ℕ) → AreLargestTotals m total → IsOfRows leaf → LeafSaysSmall m rows path leaf (said s) → IfSome s (λ amount. amount < 2 ^ 127)
 small_said m total rows path leaf None totals of is = tt
 small_said m total rows path leaf (Some amount) totals of is =
     amount_small (names m total rows path) (whole_ranges total) leaf amount of (record { said = is.said total totals; small = is.small total totals })
 
-pub judged_of : (m : Problem) (version : ℕ) (total : ℕ → ℕ) (rows : List LinRow) (path : List Bound) (leaf : LeafShape) (says : LeafSays) (p : Proposal) → AreLargestTotals m total → IsTested leaf → LeafSaysThis m rows path leaf says → LeafIsSmall m rows path leaf → leaf_shape p.leaf ≡ leaf → said p.says ≡ says → p.examined ≡ false → IsJudged m version rows path p
+pub judged_of : (m : Problem) (version : ℕ) (total : ℕ → ℕ) (rows : List LinRow) (path : List Bound) (leaf : LeafShape) (says : LeafSays) (p : Proposal) → AreLargestTotals m total → IsTested version leaf → LeafSaysThis m rows path leaf says → LeafIsSmall m rows path leaf → leaf_shape p.leaf ≡ leaf → said p.says ≡ says → p.examined ≡ false → IsJudged m version rows path p
 judged_of m version total rows path leaf says p totals tested is small same amount unexamined =
     let here : LeafSaysSmall m rows path leaf says = record { said = is; small = small } in
     let evident : LeafSaysSmall m rows path leaf (said p.says) = subst (λ s. LeafSaysSmall m rows path leaf s) (sym amount) here in
     record {
       says = subst (λ l. LeafSaysSmall m rows path l (said p.says)) (sym same) evident;
-      lines = subst (LeafHasLines version) (sym same) (tested_lines version leaf tested);
+      lines = subst (LeafHasLines version) (sym same) tested.lines;
       small = small_said m total rows path leaf p.says totals tested.of_rows evident;
       of_rows = subst IsOfRows (sym same) tested.of_rows;
       unexamined = unexamined;

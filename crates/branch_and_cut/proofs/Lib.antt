@@ -5,6 +5,7 @@ mod Openings
 mod Points
 mod Best
 mod Translating
+mod LeastVersion
 mod Proved
 mod Overall
 mod Finished

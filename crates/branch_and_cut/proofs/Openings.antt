@@ -11,7 +11,7 @@ use Rattle.lin_rows.specs.Combining.{AreOfProblem}
 use Rattle.lin_rows.specs.Rows.{LinRow}
 use Rattle.cert_lines.specs.declared.parts.Cut.{Cut}
 use Rattle.cert_lines.specs.declared.parts.Leaf.{Leaf}
-use Rattle.cert_lines.specs.Shapes.{BlockCut, CutShape, FarkasLeaf, LeafShape, LinearLeaf, LsCut, PointLeaf, PriceCut, RoundCut, cut_parts, cut_shape, leaf_shape}
+use Rattle.cert_lines.specs.Shapes.{BlockCut, CutShape, FarkasLeaf, LeafShape, LinearLeaf, LsCut, PointLeaf, PriceCut, ReducedLeaf, RoundCut, cut_parts, cut_shape, leaf_shape}
 use Rattle.certificate.specs.Values.{AreLines, leaf_values}
 use Rattle.split_trees.specs.Ranges.{WithTotals, whole_ranges}
 use Rattle.acceptance.specs.declared.says.LeafSays.TheVariants.{AtLeast}
@@ -119,6 +119,7 @@ closed_says : (m : Problem) (rows : List LinRow) (leaf : LeafShape) (amount : �
 closed_says m rows (LinearLeaf den parts) amount is = (record { said = is.said; small = is.small }, tt)
 closed_says m rows (FarkasLeaf parts) amount is = absurd is
 closed_says m rows PointLeaf amount is = absurd is
+closed_says m rows (ReducedLeaf den parts lists groups) amount is = absurd is
 
 pub closed_begins : (m : Problem) (version : ℕ) (cuts : List Cut) (leaf : Leaf) (amount : ℕ) (b : Opening) → CutRowsAreOne → IsWithinLimits m → HasVersion m version → IsClosedBy m (map cut_shape cuts) (leaf_shape leaf) amount → HaveGoodRows m (map cut_shape cuts) b.rows.items → AreOfProblem m b.rows.items → b.cuts.items ≡ cuts → b.least ≡ amount → b.first.says ≡ Some amount → b.first.leaf ≡ leaf → BeginsWith m version b
 closed_begins m version cuts leaf amount b one limits known is good exist cuts_are least_is says leaf_is =

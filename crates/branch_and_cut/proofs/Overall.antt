@@ -16,7 +16,7 @@ use Rattle.lin_rows.specs.Columns.{IsCell}
 use Rattle.lin_rows.specs.Rows.{LinRow}
 use Rattle.cert_lines.specs.declared.parts.Claim.{Claim}
 use Rattle.cert_lines.specs.declared.parts.Claim.TheVariants.{Optimal, Infeasible, Bound as BoundOf}
-use Rattle.cert_lines.specs.Shapes.{FarkasLeaf, LeafShape, LinearLeaf, PointLeaf}
+use Rattle.cert_lines.specs.Shapes.{FarkasLeaf, LeafShape, LinearLeaf, PointLeaf, ReducedLeaf}
 use Rattle.certificate.specs.Counts.{node_count}
 use Rattle.certificate.specs.Shapes.{End, Split, TreeShape, shape_of}
 use Rattle.split_trees.specs.Paths.{left_to}
@@ -82,6 +82,8 @@ says_over n r s same (LinearLeaf den parts) NoPlan is = absurd is
 says_over n r s same (LinearLeaf den parts) (AtLeast bound) is = is
 says_over n r s same (FarkasLeaf parts) NoPlan is = is
 says_over n r s same (FarkasLeaf parts) (AtLeast bound) is = absurd is
+says_over n r s same (ReducedLeaf den parts lists groups) NoPlan is = is
+says_over n r s same (ReducedLeaf den parts lists groups) (AtLeast bound) is = is
 says_over n r s same PointLeaf NoPlan is = (point_same n r s same is.0, none_on n.problem (point_make n r) (point_make n s) (point_setup n r) (point_setup n s) (makes_same n r s same) (setups_same n r s same) is.1)
 says_over n r s same PointLeaf (AtLeast bound) is = (point_same n r s same is.0, least_on n.problem (point_make n r) (point_make n s) (point_setup n r) (point_setup n s) bound (makes_same n r s same) (setups_same n r s same) is.1)
 
@@ -156,6 +158,8 @@ one_says m total rows ranges (LinearLeaf den parts) NoPlan is = absurd is
 one_says m total rows ranges (LinearLeaf den parts) (AtLeast bound) is = is
 one_says m total rows ranges (FarkasLeaf parts) NoPlan is = is
 one_says m total rows ranges (FarkasLeaf parts) (AtLeast bound) is = absurd is
+one_says m total rows ranges (ReducedLeaf den parts lists groups) NoPlan is = is
+one_says m total rows ranges (ReducedLeaf den parts lists groups) (AtLeast bound) is = is
 one_says m total rows ranges PointLeaf NoPlan is =
     let n = names m total rows [] in
     let none = no_cell m total rows is.0 in (

@@ -36,6 +36,7 @@ use Rattle.cert_checker.specs.Cuts.{OfProblem}
 use Rattle.leaf_growth.specs.declared.limits.TheConstants.{MAX_NODES}
 use Rattle.leaf_growth.specs.Written.{AreSmallTotals, FewLines, HasVersion, LeafHasLines, MadeIsWritable}
 use Rattle.branch_and_cut.specs.Leaves.{LeafSaysWithin}
+use Rattle.branch_and_cut.specs.Search.{in_version}
 use Rattle.branch_and_cut.specs.SearchWithin.{IsCertifiedWithin}
 use Rattle.search_ranges.specs.Within.{AreInside}
 
@@ -171,3 +172,20 @@ module _ (m : Problem) (by : Grounds m) (ranges : Ranges) (s : Shape) (rows : Li
         certified = certified;
         claim = by.accepted_over_ranges m by.instance.ranked.0 total weight by.instance.limits.some_period by.instance.ranked.1 totals weights ranges s (plan_given given) (accepted total weight totals weights);
       }
+
+-- ---- in another version
+-- what is accepted doesn't depend on the version
+certified_in : (m : Problem) (total : ℕ → ℕ) (weight : ℕ → ℕ → ℕ) (ranges : Ranges) (s : Shape) (version : ℕ) (given : Option Plan) → IsCertifiedWithin m total weight ranges s given → IsCertifiedWithin m total weight ranges (in_version version s) given
+certified_in m total weight ranges s version given is = record {
+  accepted = record { rows = is.accepted.rows; cuts = is.accepted.cuts; tree = is.accepted.tree; leaves = is.accepted.leaves; plan = is.accepted.plan };
+  fits = record { cuts = is.fits.cuts; leaves = is.fits.leaves };
+  plan = is.plan;
+}
+
+pub proved_in : (m : Problem) (ranges : Ranges) (s : Shape) (version : ℕ) (given : Option Plan) → IsWritable (in_version version s) → IsProvedShape m ranges s given → IsProvedShape m ranges (in_version version s) given
+proved_in m ranges s version given written is = record {
+  writable = written;
+  lines = is.lines;
+  certified = λ total weight totals weights. certified_in m total weight ranges s version given (is.certified total weight totals weights);
+  claim = is.claim;
+}

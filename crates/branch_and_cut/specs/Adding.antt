@@ -1,12 +1,9 @@
 -- What is added to what a search knows: cuts with their rows, and leaves that the checker has judged.
 use Rattle.std.specs.Prelude.{◌≡◌, ◌<◌, ◌^◌, ℕ, false, List, IfSome, ⊤}
-use Rattle.std.specs.List.{All}
 use Rattle.lot_sizing.specs.Problem.{Problem}
 use Rattle.lin_rows.specs.declared.bound.Bound.{Bound}
 use Rattle.lin_rows.specs.Rows.{LinRow}
-use Rattle.cert_lines.specs.Line.{HasForm, HasLine}
-use Rattle.cert_lines.specs.Shapes.{BlockCut, CutShape, LeafShape, LsCut, PartLine, PriceCut, RoundCut, leaf_first, leaf_parts, leaf_shape}
-use Rattle.cert_lines.specs.declared.limits.TheConstants.{FIRST_CERT_VERSION}
+use Rattle.cert_lines.specs.Shapes.{BlockCut, CutShape, LeafShape, LsCut, PriceCut, RoundCut, leaf_shape}
 use Rattle.split_trees.specs.Ranges.{WithTotals}
 use Rattle.acceptance.specs.Accepts.{IsSmallCut}
 use Rattle.cert_checker.specs.Cuts.{HasItsColumns, IsRowOfCut}
@@ -29,11 +26,10 @@ pub record IsNextRow (m : Problem) (rows : List LinRow) (cut : CutShape) (row : 
   pub columns_exist : HasItsColumns m row
 
 -- ---- leaves
--- a leaf that takes rows by their names, whose lines are those of texts
-pub record IsTested (leaf : LeafShape) : Type 0 where
+-- a leaf that takes rows by their names, and has its lines in texts of a version
+pub record IsTested (version : ℕ) (leaf : LeafShape) : Type 0 where
   pub of_rows : IsOfRows leaf
-  pub form : HasForm (leaf_first leaf)
-  pub parts : All (λ part. HasLine FIRST_CERT_VERSION (PartLine part)) (leaf_parts leaf)
+  pub lines : LeafHasLines version leaf
 
 -- a leaf that takes rows by their names says what the proposal says, its sums and the amount are small, and it can be written
 pub record IsJudged (m : Problem) (version : ℕ) (rows : List LinRow) (path : List Bound) (p : Proposal) : Type 0 where

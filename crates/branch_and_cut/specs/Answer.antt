@@ -2,6 +2,7 @@
 use Rattle.std.specs.Prelude.{◌≡◌, ◌↔◌, ℕ, ◌≤◌, Bool, Option, IfSome}
 use Rattle.lot_sizing.specs.Problem.{IsUncoupled, Problem}
 use Rattle.plan_rules.specs.declared.plan.Plan.{Plan}
+use Rattle.certificate.specs.Shapes.{shape_of}
 use Rattle.branch_and_bound.specs.declared.limits.Limits.{Limits}
 use Rattle.branching.specs.declared.found.Found.{Found}
 use Rattle.branching.specs.declared.found.RootSays.TheVariants.{Uncoupled}
@@ -45,7 +46,7 @@ pub record IsAnswer (m : Problem) (budget : ℕ) (limits : Limits) (stopping : B
   pub uses : UsesRoot found found.root
   pub apart : IsNoLessThanApart m found.certificate.claim
   pub complete : DecidesSmall m budget limits stopping found.certificate.claim
-  pub version : IsVersionOf m found.certificate.version
+  pub version : IsVersionOf m (shape_of found.certificate)
 
 -- over ranges that were given; and all of the above where they are the whole ones
 pub record IsAnswerWithin (m : Problem) (ranges : Ranges) (budget : ℕ) (limits : Limits) (stopping : Bool) (first : Option Plan) (found : Found) : Type 0 where
@@ -59,5 +60,5 @@ pub record IsAnswerWithin (m : Problem) (ranges : Ranges) (budget : ℕ) (limits
   pub root : IsSaidAtRoot m found.root
   pub uncoupled : found.root ≡ Uncoupled ↔ IsUncoupled m
   pub apart : IsNoLessThanApart m found.certificate.claim
-  pub version : IsVersionOf m found.certificate.version
+  pub version : IsVersionOf m (shape_of found.certificate)
   pub whole : IsWhole m ranges → IsAnswer m budget limits stopping first found

@@ -5,7 +5,7 @@ use Rattle.lot_sizing.specs.Problem.{Problem}
 use Rattle.lin_rows.specs.declared.bound.Bound.{Bound}
 use Rattle.lin_rows.specs.declared.column.Column.{Column}
 use Rattle.lin_rows.specs.Rows.{LinRow}
-use Rattle.cert_lines.specs.Shapes.{FarkasLeaf, LeafShape, LinearLeaf, PointLeaf, leaf_shape}
+use Rattle.cert_lines.specs.Shapes.{FarkasLeaf, LeafShape, LinearLeaf, PointLeaf, ReducedLeaf, leaf_shape}
 use Rattle.split_trees.specs.Ranges.{Ranges, whole_ranges}
 use Rattle.acceptance.specs.declared.says.LeafSays.{LeafSays}
 use Rattle.acceptance.specs.declared.says.LeafSays.TheVariants.{NoPlan, AtLeast}
@@ -45,6 +45,8 @@ says_anyway n a b (LinearLeaf den parts) (AtLeast bound) of is = is
 says_anyway n a b (FarkasLeaf parts) NoPlan of is = is
 says_anyway n a b (FarkasLeaf parts) (AtLeast bound) of is = absurd is
 says_anyway n a b PointLeaf says of is = absurd of
+says_anyway n a b (ReducedLeaf den parts lists groups) NoPlan of is = is
+says_anyway n a b (ReducedLeaf den parts lists groups) (AtLeast bound) of is = is
 
 pub within_any : (m : Problem) (ranges : Ranges) (rows : List LinRow) (path : List Bound) (leaf : LeafShape) (says : LeafSays) → IsOfRows leaf → LeafSaysSmall m rows path leaf says → LeafSaysWithin m ranges rows path leaf says
 within_any m ranges rows path leaf says of is = record {

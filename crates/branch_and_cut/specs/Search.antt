@@ -5,12 +5,13 @@ use Rattle.lot_sizing.specs.Plan as terms
 use Rattle.plan_rules.specs.declared.plan.Plan.{Plan}
 use Rattle.lin_rows.specs.declared.bound.Bound.{Bound}
 use Rattle.lin_rows.specs.Rows.{LinRow}
-use Rattle.cert_lines.specs.declared.limits.TheConstants.{FIRST_CERT_VERSION, MAX_BRANCHES, MAX_CERT_VERSION}
+use Rattle.cert_lines.specs.declared.limits.TheConstants.{FIRST_CERT_VERSION, LOTS_CERT_VERSION, MAX_BRANCHES}
 use Rattle.cert_lines.specs.declared.parts.Claim.{Claim}
 use Rattle.cert_lines.specs.declared.parts.Claim.TheVariants.{Optimal, Infeasible, Bound as BoundOf}
 use Rattle.cert_lines.specs.Shapes.{CutShape, LeafShape, cut_shape}
 use Rattle.certificate.specs.Counts.{longest_path}
-use Rattle.certificate.specs.Shapes.{End, Split, TreeShape, tree_shape}
+use Rattle.certificate.specs.Limits.{IsWritable}
+use Rattle.certificate.specs.Shapes.{End, Shape, Split, TreeShape, tree_shape}
 use Rattle.split_trees.specs.Ranges.{WithTotals}
 use Rattle.split_trees.specs.Trees.{EachLeaf, high_path, low_path}
 use Rattle.acceptance.specs.declared.says.LeafSays.TheVariants.{AtLeast}
@@ -180,7 +181,19 @@ DecidesSmall m budget limits stopping claim =
     limits.gap ≡ None → stopping ≡ false → WithTotals m (λ total. HasBudgetForAll m budget total → IsDecided claim)
 
 -- ---- versions
--- the text is of the first version where the problem is plain, and of the second otherwise
-pub record IsVersionOf (m : Problem) (version : ℕ) : Type 0 where
+-- the usual version of the texts of a problem: the first where it is plain, and else the one that names least lots and late ones
+pub record IsUsualVersion (m : Problem) (version : ℕ) : Type 0 where
   pub plain : IsPlain m → version ≡ FIRST_CERT_VERSION
-  pub other : (IsPlain m → ⊥) → version ≡ MAX_CERT_VERSION
+  pub other : (IsPlain m → ⊥) → version ≡ LOTS_CERT_VERSION
+
+-- the same claim, cuts and tree as a certificate of another version
+abbrev pub in_version : ℕ → Shape → Shape
+in_version version s = record { version = version; claim = s.claim; cuts = s.cuts; tree = s.tree }
+
+-- the version of a certificate is the least, from the usual one on, in which it has a text
+pub record IsVersionOf (m : Problem) (s : Shape) : Type 0 where
+  pub usual : ℕ
+  pub is_usual : IsUsualVersion m usual
+  pub from : usual ≤ s.version
+  pub written : IsWritable s
+  pub least : (version : ℕ) → usual ≤ version → version < s.version → IsWritable (in_version version s) → ⊥

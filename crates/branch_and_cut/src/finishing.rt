@@ -1,15 +1,19 @@
 // What is found, with its certificate.
 ghost use Rattle.std.specs.Prelude.{◌≡◌, ℕ, Bool, List, IfOk};
+ghost use Rattle.cert_lines.specs.declared.limits.TheConstants.{MAX_CERT_VERSION};
+ghost use Rattle.certificate.specs.Shapes.{shape_of};
 ghost use Rattle.root_rounds.specs.Root.{HasFigures};
 ghost use Rattle.branch_and_bound.specs.declared.limits.Limits.{Limits};
 ghost use Rattle.branch_and_bound.specs.declared.node.Range.{Range};
 ghost use Rattle.branch_and_cut.specs.Finishing.{IsFinished, IsSearched};
 ghost use Rattle.incumbent.specs.Kept.{plan_kept};
 ghost use Rattle.branch_and_cut.specs.Knowing.{ranges_in};
+ghost use Rattle.branch_and_cut.specs.Search.{IsVersionOf};
 ghost use Rattle.branch_and_cut.specs.SearchWithin.{IsProvedWithin};
 
 use crate::guiding::Model;
 use crate::knowing::Known;
+use crate::versions::{in_least_version, usual_version};
 use acceptance::{accepted_over_ranges, says_are_one};
 use branch_and_bound::{Searched, strip, whole_is_measured};
 use branching::Found;
@@ -20,7 +24,8 @@ use lot_model::an_instance_breaks_no_rule;
 use lot_sizing::totals_are_one;
 use std::alloc::{AllocError, Global};
 
-/// What a search has found, with the certificate of it.
+/// What a search has found, with the certificate of it: the search takes the lines of the latest version, and the text is of
+/// the least one that has those that were taken.
 pub(crate) fn finish(
     alloc: Global,
     model: &Model,
@@ -28,12 +33,14 @@ pub(crate) fn finish(
     searched: Searched,
 ) -> Result<Found, AllocError>
     requires figures { HasFigures model.now.instance.now }
+    requires latest { model.now.version ≡ MAX_CERT_VERSION }
     requires searched { (budget : ℕ) × (limits : Limits) × (stopping : Bool) × (rs : List Range)
         × IsSearched model.now known budget limits stopping rs searched }
     ensures proved { IfOk result (IsProvedWithin model.now.instance.now (ranges_in model.now)) }
     ensures plan { IfOk result (λ found. found.plan ≡ plan_kept known.best) }
     ensures root { IfOk result (λ found. found.root ≡ model.now.root) }
-    ensures version { IfOk result (λ found. found.certificate.version ≡ model.now.version) }
+    ensures version { IfOk result (λ found.
+        IsVersionOf model.now.instance.now (shape_of found.certificate)) }
     ensures shown { IfOk result (λ found.
         (budget : ℕ) (limits : Limits) (stopping : Bool) (rs : List Range)
         → IsSearched model.now known budget limits stopping rs searched
@@ -51,13 +58,15 @@ pub(crate) fn finish(
         return Err(AllocError);
     }
     let tree = strip(alloc, searched.tree)?;
+    let usual = usual_version(model.instance);
+    let made = Certificate {
+        version: model.version,
+        claim: searched.claim,
+        cuts: known.cuts,
+        tree,
+    };
     Ok(Found {
-        certificate: Certificate {
-            version: model.version,
-            claim: searched.claim,
-            cuts: known.cuts,
-            tree,
-        },
+        certificate: in_least_version(made, usual),
         plan: best_plan(known.best),
         root: model.root,
         nodes: searched.nodes,

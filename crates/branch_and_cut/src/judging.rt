@@ -6,14 +6,14 @@ ghost use Rattle.branch_and_bound.specs.Costs.{IsAtMost};
 ghost use Rattle.branch_and_cut.specs.Adding.{IsTested};
 ghost use Rattle.branch_and_cut.specs.Knowing.{IsJudgedIn, IsLastingIn, IsReached, KnowsTheSame};
 ghost use Rattle.branch_and_cut.specs.Leaves.{said};
-ghost use Rattle.search_plugins.specs.Proposals.{HasRowParts};
+ghost use Rattle.leaf_growth.specs.Growth.{IsOfRows};
 
 use crate::guiding::Model;
 use crate::knowing::Known;
 use acceptance::LeafSays;
 use branch_and_bound::{Node, Proposal, is_below};
 use cert_checker::{CheckFault, leaf_bound_in};
-use cert_lines::{Leaf, is_leaf_line};
+use certificate::{Leaf, has_leaf_lines};
 use lot_model::an_instance_breaks_no_rule;
 use std::alloc::{AllocError, Global};
 
@@ -43,7 +43,7 @@ fn bound_of(
     leaf: Leaf,
 ) -> Result<Option<Proposal>, AllocError>
     requires reached { IsReached model.now known.old node.now }
-    requires tested { IsTested (leaf_shape leaf) }
+    requires tested { IsTested model.now.version (leaf_shape leaf) }
     ensures same { OnOk result (KnowsTheSame model.now known.old known.new) }
     ensures judged { IfFound result (IsJudgedIn model.now known.old node.now.path.items) }
 {
@@ -65,7 +65,8 @@ fn bound_of(
     }
 }
 
-/// A leaf with what the checker says of it at a node; None where the leaf is refused or has no lines in texts.
+/// A leaf with what the checker says of it at a node; None where the leaf is refused, or has no lines in
+/// texts of the latest version.
 pub(crate) fn judged(
     alloc: Global,
     model: &Model,
@@ -74,11 +75,11 @@ pub(crate) fn judged(
     leaf: Leaf,
 ) -> Result<Option<Proposal>, AllocError>
     requires reached { IsReached model.now known.old node.now }
-    requires parts { HasRowParts (leaf_shape leaf) }
+    requires rows { IsOfRows (leaf_shape leaf) }
     ensures same { OnOk result (KnowsTheSame model.now known.old known.new) }
     ensures judged { IfFound result (IsJudgedIn model.now known.old node.now.path.items) }
 {
-    if is_leaf_line(&leaf) {
+    if has_leaf_lines(&leaf, model.version) {
         bound_of(alloc, model, node, known, leaf)
     } else {
         Ok(None)

@@ -24,6 +24,7 @@ mod pointing;
 mod pricing;
 mod searching;
 mod splitting;
+mod versions;
 mod whole;
 
 pub use branch_and_bound::Limits;

@@ -5,7 +5,7 @@ ghost use Rattle.cert_lines.specs.Shapes.{leaf_shape};
 ghost use Rattle.plan_rules.specs.Rows.{IfFound};
 ghost use Rattle.branch_and_cut.specs.Knowing.{IsJudgedIn, IsKnown, IsLastingIn, IsReached, KnowsMore, KnowsMoreRows, KnowsTheSame};
 ghost use Rattle.incumbent.specs.Kept.{IsBestSoFar, IsNoWorseBest};
-ghost use Rattle.search_plugins.specs.Proposals.{HasRowParts};
+ghost use Rattle.leaf_growth.specs.Growth.{IsOfRows};
 
 use crate::adding::add_cuts;
 use crate::guiding::Model;
@@ -72,7 +72,7 @@ fn judged_with(
     leaf: Leaf,
 ) -> Result<Option<Proposal>, AllocError>
     requires reached { IsReached model.now known.old node.now }
-    requires parts { HasRowParts (leaf_shape leaf) }
+    requires rows { IsOfRows (leaf_shape leaf) }
     ensures more { OnOk result (KnowsMoreRows model.now known.old known.new) }
     ensures judged { IfFound result (IsJudgedIn model.now known.new node.now.path.items) }
 {

@@ -4,7 +4,7 @@ ghost use Rattle.lot_sizing.specs.Problem.{IsUncoupled};
 ghost use Rattle.branch_and_bound.specs.declared.limits.Limits.{Limits};
 ghost use Rattle.branching.specs.Found.{IsProved};
 ghost use Rattle.branching.specs.declared.found.RootSays.TheVariants.{Empty, Uncoupled};
-ghost use Rattle.leaf_growth.specs.Written.{HasVersion};
+ghost use Rattle.certificate.specs.Shapes.{shape_of};
 ghost use Rattle.branch_and_cut.specs.Answer.{IsAnswer, IsAnswerWithin, StartsWell};
 ghost use Rattle.branch_and_cut.specs.Beginning.{AreApart};
 ghost use Rattle.branch_and_cut.specs.Search.{DecidesSmall, GoesTogether, HasEvidence, IfBound, IsNoLessThanApart, IsSaidAtRoot, IsUndecided, IsVersionOf, KeepsFirst, KeepsOwn, UsesRoot, WithRows};
@@ -19,33 +19,22 @@ use crate::guiding::Model;
 use crate::impossible::none_found;
 use crate::knowing::Known;
 use crate::plugged::{Guided, State, Watched};
+use crate::versions::usual_version;
 use crate::whole::whole_is_proved;
 use apart::{Apart, apart, apart_is_one};
 use branch_and_bound as engine;
 use branch_and_bound::Limits;
 use branching::{Found, RootSays, plan_uncoupled};
 use cert_checker::NamedSums;
-use certificate::{FIRST_CERT_VERSION, MAX_CERT_VERSION};
+use certificate::MAX_CERT_VERSION;
 use echelon::Explosion;
 use incumbent::best_to_begin;
-use lot_model::{Instance, is_plain};
+use lot_model::Instance;
 use plan_rules::{Plan, Planned};
 use root_rounds::{Root, root};
 use search_plugins::{Heuristic, Proposer, Watch};
 use search_ranges::{Ranges, lie_in_whole, lies_within, listed};
 use std::alloc::{AllocError, Global};
-
-// The version of a certificate's text: the first one where the model is plain, and else the latest.
-fn version_of(instance: &Instance) -> u32
-    ensures version { IsVersionOf instance.now result }
-    ensures known { HasVersion instance.now result }
-{
-    if is_plain(instance) {
-        FIRST_CERT_VERSION
-    } else {
-        MAX_CERT_VERSION
-    }
-}
 
 // The best plan to begin with, after those that are proposed.
 fn best_at_start<T, H: Heuristic<T>>(
@@ -89,7 +78,6 @@ fn searched<P: Proposer, H: Heuristic<P::Hint>, W: Watch + Drop>(
     lie_in_whole(instance);
     whole_is_proved(instance);
     let says = said.says;
-    let version = version_of(instance);
     let mut effort = heuristic.begin(alloc, instance)?;
     let best = best_at_start(alloc, heuristic, instance, ranges, first, &mut effort)?;
     let begun = begin(alloc, instance, said, apart)?;
@@ -99,7 +87,7 @@ fn searched<P: Proposer, H: Heuristic<P::Hint>, W: Watch + Drop>(
         instance,
         ranges,
         explosion,
-        version,
+        version: MAX_CERT_VERSION,
         root: says,
         least: begun.least,
         first: begun.first,
@@ -176,7 +164,7 @@ fn impossible(
         → IsAnswerWithin instance.now (given_ranges ranges.now) budget limits stopping first result }
 {
     whole_is_proved(instance);
-    let version = version_of(instance);
+    let version = usual_version(instance);
     none_found(instance, ranges, version, said)
 }
 
@@ -227,6 +215,9 @@ fn answer<P: Proposer, H: Heuristic<P::Hint>, W: Watch + Drop>(
 /// the `MAX_BRANCHES` branches above them that a path may have. Or there is a plan, and its cost lies no more than the gap of
 /// `limits` above the amount, in hundredths of a percent of that cost. Or the watcher may end the search (`may_stop`).
 ///
+/// The text of the certificate is of the least version that has its lines, from the usual one on: the first where the model is
+/// plain, and else `LOTS_CERT_VERSION`.
+///
 /// No amount is below what the items cost apart. A bound is said by some leaf; at each leaf that says it, some point of the
 /// relaxation without cuts on the path to it costs no more, or that relaxation wasn't found, for the exact cause that
 /// `path_relaxation` names, or the root's program was too large to be tried. The ranges are no bounds of the path: they
@@ -267,7 +258,7 @@ pub fn search<P: Proposer, H: Heuristic<P::Hint>, W: Watch + Drop>(
     ensures root { IfOk result (λ found. IsSaidAtRoot instance.now found.root) }
     ensures uncoupled { IfOk result (λ found. found.root ≡ Uncoupled ↔ IsUncoupled instance.now) }
     ensures apart { IfOk result (λ found. IsNoLessThanApart instance.now found.certificate.claim) }
-    ensures version { IfOk result (λ found. IsVersionOf instance.now found.certificate.version) }
+    ensures version { IfOk result (λ found. IsVersionOf instance.now (shape_of found.certificate)) }
     ensures whole { IfOk result (λ found. IsWhole instance.now (given_ranges ranges)
         → IsAnswer instance.now budget limits (W.may_stop watch) first found) }
 {
@@ -294,6 +285,9 @@ pub fn search<P: Proposer, H: Heuristic<P::Hint>, W: Watch + Drop>(
 /// A bound is claimed only for one of these causes. Two more nodes would pass the budget. Or all leaves that are left open have
 /// the `MAX_BRANCHES` branches above them that a path may have. Or there is a plan, and its cost lies no more than the gap of
 /// `limits` above the amount, in hundredths of a percent of that cost. Or the watcher may end the search (`may_stop`).
+///
+/// The text of the certificate is of the least version that has its lines, from the usual one on: the first where the model is
+/// plain, and else `LOTS_CERT_VERSION`.
 ///
 /// No amount is below what the items cost apart or what the root closes to. A bound is said by some leaf; at each leaf
 /// that says it, some point of the relaxation without cuts on the path to it costs no more, or that relaxation wasn't
@@ -340,7 +334,7 @@ pub fn search_all<P: Proposer, H: Heuristic<P::Hint>, W: Watch + Drop>(
     ensures apart { IfOk result (λ found. IsNoLessThanApart instance.now found.certificate.claim) }
     ensures complete { IfOk result (λ found.
         DecidesSmall instance.now budget limits (W.may_stop watch) found.certificate.claim) }
-    ensures version { IfOk result (λ found. IsVersionOf instance.now found.certificate.version) }
+    ensures version { IfOk result (λ found. IsVersionOf instance.now (shape_of found.certificate)) }
 {
     lie_in_whole(instance);
     let ranges = Ranges::all(alloc, instance)?;

@@ -141,8 +141,8 @@ farkas_is n most = record {
 }
 
 -- the lines of a leaf and of the end
-leaf_count : (parts : List Part) (n : ℕ) → length parts ≡ n → length (part_values parts ++ (EndLine ∷ [])) ≡ n + 1
-leaf_count parts n few = omega (arith, length-append (part_values parts) (EndLine ∷ []), length-map parts (λ p. PartLine p), few)
+leaf_count : (parts : List Part) (n : ℕ) → length parts ≡ n → length ((part_values parts ++ []) ++ (EndLine ∷ [])) ≡ n + 1
+leaf_count parts n few = omega (arith, length-append (part_values parts ++ []) (EndLine ∷ []), length-append (part_values parts) [], length-map parts (λ p. PartLine p), few)
 
 pub no_room_text : (m : Problem) (i : ℕ) → IsWithinLimits m → i ≤ item_count m → HasText (no_room_shape m i)
 no_room_text m i limits high =
@@ -159,7 +159,7 @@ no_room_text m i limits high =
         amount = tt;
         few = omega arith;
         paths = omega arith;
-        lines = lines_join 1 (FarkasLine (length parts) ∷ part_values parts) (EndLine ∷ []) (farkas_is (length parts) few, parts_join {version = 1} parts taken) (end_line {version = 1}, tt);
+        lines = lines_join 1 (FarkasLine (length parts) ∷ (part_values parts ++ [])) (EndLine ∷ []) (farkas_is (length parts) few, lines_join 1 (part_values parts) [] (parts_join {version = 1} parts taken) tt) (end_line {version = 1}, tt);
       };
       lines = omega (arith, leaf_count parts (m.periods + 1) count, periods);
     }
@@ -276,7 +276,7 @@ blocks_text m amount list limits less each prove =
     let parts = each_once 1 (length list) in
     let count = once_count 1 (length list) in
     let cuts = all_cut_values (block_cuts 1 list) in
-    let leaf = LinearLine (pos 1) (length parts) ∷ part_values parts in
+    let leaf = LinearLine (pos 1) (length parts) ∷ (part_values parts ++ []) in
     record {
       writable = record {
         version = (omega arith, omega arith);
@@ -284,7 +284,7 @@ blocks_text m amount list limits less each prove =
         few = omega (arith, cut_count 1 list, each, items);
         paths = omega arith;
         lines = lines_join 1 cuts (leaf ++ (EndLine ∷ [])) (blocks_are m 1 list limits (omega arith) (omega (arith, each)) prove)
-            (lines_join 1 leaf (EndLine ∷ []) (linear_is (length parts) (omega (arith, count, each, items)), parts_join {version = 1} parts (once_lines 1 (length list) (omega (arith, each, items)))) (end_line {version = 1}, tt));
+            (lines_join 1 leaf (EndLine ∷ []) (linear_is (length parts) (omega (arith, count, each, items)), lines_join 1 (part_values parts) [] (parts_join {version = 1} parts (once_lines 1 (length list) (omega (arith, each, items)))) tt) (end_line {version = 1}, tt));
       };
       lines = omega (arith, length-append cuts (leaf ++ (EndLine ∷ [])), cut_lines_count 1 list, leaf_count parts (length list) count, each, items);
     }

@@ -1,11 +1,11 @@
 -- A leaf says no more than the amount of its right sides.
-use Rattle.std.proofs.Common.{◌≤◌, ◌<◌, ◌*◌, ◌^◌, ℕ, zero, suc, arith, List, [], ◌∷◌}
+use Rattle.std.proofs.Common.{◌≤◌, ◌<◌, ◌-◌, ◌*◌, ◌^◌, ℕ, zero, suc, arith, List, [], ◌∷◌}
 use Rattle.std.specs.Prelude.{ℤ, pos, negsuc, ◌*ℤ◌, ◌≤ℤ◌, unsigned_abs}
 use Rattle.algebra.proofs.Order.{add_le, le_trans, linear}
 use Rattle.lin_rows.specs.Combining.{sum_of}
 use Rattle.lin_rows.specs.Rows.{LinRow}
 use Rattle.round_cuts.specs.Rounding.{amount_of}
-use Rattle.cert_lines.specs.Shapes.{FarkasLeaf, LeafShape, LinearLeaf, PointLeaf}
+use Rattle.cert_lines.specs.Shapes.{FarkasLeaf, LeafShape, LinearLeaf, PointLeaf, ReducedLeaf}
 use Rattle.split_trees.specs.Ranges.{Ranges}
 use Rattle.acceptance.specs.declared.says.LeafSays.TheVariants.{AtLeast}
 use Rattle.acceptance.specs.Named.{Named}
@@ -42,3 +42,8 @@ amount_small n ranges (LinearLeaf den parts) amount of is =
     omega (arith, less, is.small.right)
 amount_small n ranges (FarkasLeaf parts) amount of is = absurd is.said
 amount_small n ranges PointLeaf amount of is = absurd of
+amount_small n ranges (ReducedLeaf den parts lists groups) amount of is =
+    let sum : ℤ = is.said.sum in
+    let small = (is.small.1 sum is.said.adds).small in
+    let less = rounded_most (pos den) sum amount (2 ^ 127 - 1) (omega (arith, linear, is.said.positive)) (omega (arith, linear, small)) is.said.right in
+    omega (arith, less)

@@ -1,6 +1,6 @@
 -- The rows of names stay what they are when more cuts and bounds follow, and so do sums of parts.
-use Rattle.std.proofs.Common.{◌≡◌, ◌≤◌, ◌<◌, ◌+◌, ◌-◌, ◌*◌, ◌^◌, ◌∙◌, ℕ, zero, suc, refl, sym, ap, subst, arith, List, [], ◌∷◌, ◌++◌, length, false}
-use Rattle.std.specs.Prelude.{ℤ, pos, ◌*ℤ◌, ◌≤ℤ◌, ◌<ℤ◌, slice_index_or}
+use Rattle.std.proofs.Common.{◌≡◌, ◌≤◌, ◌<◌, ◌+◌, ◌-◌, ◌*◌, ◌^◌, ◌∙◌, ⊎_elim, inl, inr, ℕ, zero, suc, refl, sym, ap, subst, arith, List, [], ◌∷◌, ◌++◌, length, false}
+use Rattle.std.specs.Prelude.{ℤ, pos, ◌*ℤ◌, ◌≤ℤ◌, ◌<ℤ◌, map, slice_index_or}
 use Rattle.std.proofs.lemmas.List.{append-nil, length-append}
 use Rattle.std.proofs.lemmas.List.Elements.{All-cons, All-head, All-nil, All-tail}
 use Rattle.lot_sizing.specs.Problem.{Problem}
@@ -12,15 +12,20 @@ use Rattle.lin_rows.specs.Columns.{column_cost}
 use Rattle.lin_rows.specs.Combining.{column_sum, right_sum}
 use Rattle.lin_rows.specs.Rows.{LinRow}
 use Rattle.round_cuts.specs.Rounding.{column_amount, right_amount}
+use Rattle.item_groups.specs.declared.group.Group.{Group}
+use Rattle.reduced_groups.specs.Floors.{shape_of}
+use Rattle.reduced_leaf.specs.Leaf.{IsReducedSum, IsSmallSum, LacksOneChoice}
 use Rattle.cert_lines.specs.declared.parts.Part.{Part}
-use Rattle.cert_lines.specs.Shapes.{FarkasLeaf, LeafShape, LinearLeaf, PointLeaf}
+use Rattle.cert_lines.specs.Shapes.{FarkasLeaf, LeafShape, LinearLeaf, ListShape, PointLeaf, ReducedLeaf}
 use Rattle.split_trees.specs.Paths.{no_bound}
 use Rattle.split_trees.specs.Ranges.{Ranges, whole_ranges}
 use Rattle.acceptance.specs.declared.says.LeafSays.{LeafSays}
 use Rattle.acceptance.specs.declared.says.LeafSays.TheVariants.{NoPlan, AtLeast}
 use Rattle.acceptance.specs.Named.{IsNamed, names, no_row, row_named}
 use Rattle.acceptance.specs.Parts.{AreParts, AreSmall, IsPart, rows_of, times_of}
-use Rattle.acceptance.specs.Says.{IsFarkas, IsLinear}
+use Rattle.acceptance.specs.Lists.{AreListed, all_parts}
+use Rattle.acceptance.specs.Says.{GroupLacksChoice, IsFarkas, IsLinear, IsReducedBound, IsReducedRefuted, IsSumOf}
+use Rattle.acceptance.specs.Accepts.{IsSmallWith}
 use Rattle.leaf_growth.specs.Growth.{IsOfRows, LeafSaysSmall, SaysAt}
 
 -- what stands at a place is there when more follows
@@ -103,12 +108,55 @@ module _ (m : Problem) (total : ℕ → ℕ) (cuts more : List LinRow) (path fur
         right = subst (λ rows. right_amount rows (times_of parts) < 2 ^ 127) e is.right;
       }
 
+  -- ---- by reduced costs
+  listed_on : (parts : List Part) (lists : List ListShape) → AreListed (names m total cuts path) parts lists → AreListed (names m total (cuts ++ more) (path ++ further)) parts lists
+  listed_on parts lists is = record { parts_exist = parts_on (all_parts parts lists) is.parts_exist; each = is.each }
+
+  sum_on : (den : ℕ) (parts : List Part) (groups : List Group) (sum : ℤ) → AreParts (names m total cuts path) parts → IsSumOf (names m total cuts path) den parts groups sum → IsSumOf (names m total (cuts ++ more) (path ++ further)) den parts groups sum
+  sum_on den parts groups sum are is = subst (λ rows. IsReducedSum m total rows (times_of parts) den (map shape_of groups) sum) (rows_on parts are) is
+
+  sum_back : (den : ℕ) (parts : List Part) (groups : List Group) (sum : ℤ) → AreParts (names m total cuts path) parts → IsSumOf (names m total (cuts ++ more) (path ++ further)) den parts groups sum → IsSumOf (names m total cuts path) den parts groups sum
+  sum_back den parts groups sum are is = subst (λ rows. IsReducedSum m total rows (times_of parts) den (map shape_of groups) sum) (sym (rows_on parts are)) is
+
+  lacks_on : (den : ℕ) (parts : List Part) (groups : List Group) → AreParts (names m total cuts path) parts → GroupLacksChoice (names m total cuts path) den parts groups → GroupLacksChoice (names m total (cuts ++ more) (path ++ further)) den parts groups
+  lacks_on den parts groups are is = subst (λ rows. LacksOneChoice m total rows (times_of parts) den (map shape_of groups)) (rows_on parts are) is
+
+  bound_on : (den : ℕ) (parts : List Part) (lists : List ListShape) (groups : List Group) (bound : ℕ) → IsReducedBound (names m total cuts path) den parts lists groups bound → IsReducedBound (names m total (cuts ++ more) (path ++ further)) den parts lists groups bound
+  bound_on den parts lists groups bound is = record {
+    ranked = is.ranked;
+    listed = listed_on parts lists is.listed;
+    positive = is.positive;
+    sum = is.sum;
+    adds = sum_on den (all_parts parts lists) groups is.sum is.listed.parts_exist is.adds;
+    right = is.right;
+  }
+
+  refuted_on : (den : ℕ) (parts : List Part) (lists : List ListShape) (groups : List Group) → IsReducedRefuted (names m total cuts path) den parts lists groups → IsReducedRefuted (names m total (cuts ++ more) (path ++ further)) den parts lists groups
+  refuted_on den parts lists groups is =
+      let all = all_parts parts lists in
+      record {
+        ranked = is.ranked;
+        listed = listed_on parts lists is.listed;
+        refuted = ⊎_elim
+            (λ lacks. inl (lacks_on den all groups is.listed.parts_exist lacks))
+            (λ has. let (none, sum, adds, some) = has in inr (none, sum, sum_on den all groups sum is.listed.parts_exist adds, some))
+            is.refuted;
+      }
+
+  with_on : (den : ℕ) (parts : List Part) (groups : List Group) → AreParts (names m total cuts path) parts → IsSmallWith (names m total cuts path) den parts groups → IsSmallWith (names m total (cuts ++ more) (path ++ further)) den parts groups
+  with_on den parts groups are is = (
+    small_on parts are is.0,
+    λ sum adds. subst (λ rows. IsSmallSum rows (times_of parts) sum) (rows_on parts are) (is.1 sum (sum_back den parts groups sum are adds)),
+  )
+
   pub says_on : (ranges : Ranges) (leaf : LeafShape) (says : LeafSays) → IsOfRows leaf → SaysAt (names m total cuts path) ranges leaf says → SaysAt (names m total (cuts ++ more) (path ++ further)) ranges leaf says
   says_on ranges (LinearLeaf den parts) NoPlan of is = absurd is.said
   says_on ranges (LinearLeaf den parts) (AtLeast bound) of is = record { said = linear_on den parts bound is.said; small = small_on parts is.said.parts_exist is.small }
   says_on ranges (FarkasLeaf parts) NoPlan of is = record { said = farkas_on parts is.said; small = small_on parts is.said.parts_exist is.small }
   says_on ranges (FarkasLeaf parts) (AtLeast bound) of is = absurd is.said
   says_on ranges PointLeaf says of is = absurd of
+  says_on ranges (ReducedLeaf den parts lists groups) NoPlan of is = record { said = refuted_on den parts lists groups is.said; small = with_on den (all_parts parts lists) groups is.said.listed.parts_exist is.small }
+  says_on ranges (ReducedLeaf den parts lists groups) (AtLeast bound) of is = record { said = bound_on den parts lists groups bound is.said; small = with_on den (all_parts parts lists) groups is.said.listed.parts_exist is.small }
 
 -- at the same node
 pub says_stay : (m : Problem) (total : ℕ → ℕ) (ranges : Ranges) (cuts more : List LinRow) (path : List Bound) (leaf : LeafShape) (says : LeafSays) → SaysAt (names m total cuts path) ranges leaf says → SaysAt (names m total (cuts ++ more) path) ranges leaf says
@@ -116,6 +164,8 @@ says_stay m total ranges cuts more path (LinearLeaf den parts) says is =
     subst (λ way. SaysAt (names m total (cuts ++ more) way) ranges (LinearLeaf den parts) says) (append-nil path) (says_on m total cuts more path [] ranges (LinearLeaf den parts) says tt is)
 says_stay m total ranges cuts more path (FarkasLeaf parts) says is =
     subst (λ way. SaysAt (names m total (cuts ++ more) way) ranges (FarkasLeaf parts) says) (append-nil path) (says_on m total cuts more path [] ranges (FarkasLeaf parts) says tt is)
+says_stay m total ranges cuts more path (ReducedLeaf den parts lists groups) says is =
+    subst (λ way. SaysAt (names m total (cuts ++ more) way) ranges (ReducedLeaf den parts lists groups) says) (append-nil path) (says_on m total cuts more path [] ranges (ReducedLeaf den parts lists groups) says tt is)
 says_stay m total ranges cuts more path PointLeaf NoPlan is = record { said = is.said; small = tt }
 says_stay m total ranges cuts more path PointLeaf (AtLeast bound) is = record { said = is.said; small = tt }
 

@@ -1,4 +1,4 @@
 pub mod Amounts
 pub mod Growing
 mod Lines
-mod Trees
+pub mod Trees

@@ -8,12 +8,12 @@ use Rattle.lin_rows.specs.declared.bound.Bound.{Bound}
 use Rattle.lin_rows.specs.declared.column.Column.{Column}
 use Rattle.lin_rows.specs.declared.column.Column.TheVariants.{X, Y, S, R}
 use Rattle.lin_rows.specs.Sums.{same_column}
-use Rattle.cert_lines.specs.declared.limits.TheConstants.{MAX_PARTS, MAX_ROUND_PARTS}
-use Rattle.cert_lines.specs.Shapes.{BlockCut, CutShape, EndLine, FarkasLeaf, LeafShape, LinearLeaf, LsCut, PartLine, PointLeaf, PriceCut, RoundCut}
+use Rattle.cert_lines.specs.declared.limits.TheConstants.{MAX_GROUPS, MAX_LISTS, MAX_PARTS, MAX_ROUND_PARTS}
+use Rattle.cert_lines.specs.Shapes.{BlockCut, CutShape, EndLine, FarkasLeaf, GroupLine, LeafShape, LinearLeaf, ListLine, LsCut, PartLine, PointLeaf, PriceCut, ReducedLeaf, RoundCut}
 use Rattle.certificate.specs.Counts.{node_count}
 use Rattle.certificate.specs.Limits.{IsWritable}
 use Rattle.certificate.specs.Shapes.{End, Shape, Split, TreeShape}
-use Rattle.certificate.specs.Values.{AreLines, all_cut_values, cut_values, leaf_values, tree_values}
+use Rattle.certificate.specs.Values.{AreLines, all_cut_values, cut_values, group_values, leaf_values, list_values, part_values, tree_values}
 use Rattle.certificate.proofs.Shorts.{end_line, lines_join, lines_split}
 use Rattle.split_trees.specs.Spans.{Span}
 use Rattle.split_trees.specs.Ranges.{IsChoice, whole_ranges}
@@ -68,10 +68,23 @@ made_writable m total s limits small made = record {
 }
 
 -- ---- few lines
-leaf_few : (version : ℕ) (leaf : LeafShape) → LeafHasLines version leaf → length (leaf_values leaf) ≤ MAX_PARTS + 1
-leaf_few version (LinearLeaf den parts) is = omega (arith, length-map parts (λ p. PartLine p), is.0.form.small.2)
-leaf_few version (FarkasLeaf parts) is = omega (arith, length-map parts (λ p. PartLine p), is.0.form.small)
+pub leaf_few : (version : ℕ) (leaf : LeafShape) → LeafHasLines version leaf → length (leaf_values leaf) ≤ MAX_PARTS + MAX_LISTS + MAX_GROUPS + 1
+leaf_few version (LinearLeaf den parts) is = omega (arith, length-append (part_values parts) [], length-map parts (λ p. PartLine p), is.0.form.small.2)
+leaf_few version (FarkasLeaf parts) is = omega (arith, length-append (part_values parts) [], length-map parts (λ p. PartLine p), is.0.form.small)
 leaf_few version PointLeaf is = omega arith
+leaf_few version (ReducedLeaf den parts lists groups) is =
+    let small = is.0.form.small in
+    omega (
+      arith,
+      length-append (part_values parts) (list_values lists ++ group_values groups),
+      length-append (list_values lists) (group_values groups),
+      length-map parts (λ p. PartLine p),
+      length-map lists (λ a. ListLine a),
+      length-map groups (λ g. GroupLine g),
+      small.1,
+      small.2,
+      small.3,
+    )
 
 cut_few : (version : ℕ) (c : CutShape) → AreLines version (cut_values c) → length (cut_values c) ≤ MAX_ROUND_PARTS + 1
 cut_few version (LsCut item last chosen) is = omega arith
@@ -85,7 +98,7 @@ cuts_few version (c ∷ cuts) are =
     let both = lines_split version (cut_values c) (all_cut_values cuts) are in
     omega (arith, length-append (cut_values c) (all_cut_values cuts), cut_few version c both.0, cuts_few version cuts both.1)
 
-tree_few : (version : ℕ) (tree : TreeShape) → AreLines version (tree_values tree) → length (tree_values tree) ≤ (MAX_PARTS + 1) * node_count tree
+tree_few : (version : ℕ) (tree : TreeShape) → AreLines version (tree_values tree) → length (tree_values tree) ≤ (MAX_PARTS + MAX_LISTS + MAX_GROUPS + 1) * node_count tree
 tree_few version (End leaf) are = omega (arith, leaf_few version leaf are)
 tree_few version (Split c at low high) are =
     let both = lines_split version (tree_values low) (tree_values high) are.1 in

@@ -3,7 +3,7 @@ use Rattle.std.specs.Prelude.{ℕ, ◌<◌, ◌^◌, List, ◌++◌, ⊤}
 use Rattle.lot_sizing.specs.Problem.{Problem}
 use Rattle.lin_rows.specs.declared.bound.Bound.{Bound}
 use Rattle.lin_rows.specs.Rows.{LinRow}
-use Rattle.cert_lines.specs.Shapes.{LeafShape, LinearLeaf, FarkasLeaf, PointLeaf}
+use Rattle.cert_lines.specs.Shapes.{LeafShape, LinearLeaf, FarkasLeaf, PointLeaf, ReducedLeaf}
 use Rattle.split_trees.specs.Ranges.{Ranges}
 use Rattle.acceptance.specs.declared.says.LeafSays.{LeafSays}
 use Rattle.acceptance.specs.declared.says.LeafSays.TheVariants.{AtLeast}
@@ -17,6 +17,7 @@ abbrev pub IsOfRows : LeafShape → Type 0
 IsOfRows (LinearLeaf den parts) = ⊤
 IsOfRows (FarkasLeaf parts) = ⊤
 IsOfRows PointLeaf = ⊥
+IsOfRows (ReducedLeaf den parts lists groups) = ⊤
 
 -- it says this, and its sums are small
 pub record SaysAt (n : Named) (ranges : Ranges) (leaf : LeafShape) (says : LeafSays) : Type 0 where

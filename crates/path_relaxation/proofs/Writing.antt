@@ -17,6 +17,7 @@ use Rattle.cert_lines.specs.Line.{HasLine, IsFirstName, IsSmallName}
 use Rattle.cert_lines.specs.Shapes.{FarkasLeaf, LinearLeaf, PartLine}
 use Rattle.cert_lines.specs.Text.{part_line}
 use Rattle.certificate.specs.Values.{AreLines, part_values}
+use Rattle.certificate.proofs.Shorts.{lines_join}
 use Rattle.acceptance.specs.Named.{HasName}
 use Rattle.root_rows.specs.declared.program.Side.{Side}
 use Rattle.root_rows.specs.Sides.{part_of, parts_of, turn}
@@ -144,7 +145,7 @@ module _ (m : Problem) (limits : IsWithinLimits m) (bounds : ℕ) (few : bounds 
       };
       known = tt;
     },
-    parts_are version plain parts has small,
+    lines_join version (part_values parts) [] (parts_are version plain parts has small) tt,
   )
 
   pub farkas_writable : (parts : List Part) → length parts ≤ MAX_PARTS → All (λ part. HasName m 0 bounds part.row) parts → All (λ part. IsSmall part.times) parts → IsWritableLeaf m (FarkasLeaf parts)
@@ -154,7 +155,7 @@ module _ (m : Problem) (limits : IsWithinLimits m) (bounds : ℕ) (few : bounds 
       form = record { small = many; short = omega (arith, length-append (codes "farkas") (one_text (length parts)), count_short (length parts) many) };
       known = tt;
     },
-    parts_are version plain parts has small,
+    lines_join version (part_values parts) [] (parts_are version plain parts has small) tt,
   )
 
 -- ---- the numbers of parts

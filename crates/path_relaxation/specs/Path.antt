@@ -10,7 +10,7 @@ use Rattle.lin_rows.specs.Bounds.{MeetsBound}
 use Rattle.lin_rows.specs.Costs.{point_cost}
 use Rattle.lin_rows.specs.Rows.{LinPoint}
 use Rattle.cert_lines.specs.Limits.{IsVersion}
-use Rattle.cert_lines.specs.Shapes.{LeafShape, LinearLeaf, FarkasLeaf, PointLeaf, leaf_shape}
+use Rattle.cert_lines.specs.Shapes.{LeafShape, LinearLeaf, FarkasLeaf, PointLeaf, ReducedLeaf, leaf_shape}
 use Rattle.cert_lines.specs.declared.limits.TheConstants.{FIRST_CERT_VERSION}
 use Rattle.certificate.specs.Values.{AreLines, leaf_values}
 use Rattle.tableau.specs.declared.outcome.Outcome.{Outcome}
@@ -80,12 +80,14 @@ abbrev pub SaysAtLeast : Problem → List Bound → LeafShape → ℕ → Type 0
 SaysAtLeast m path (LinearLeaf den parts) bound = IsGoodLeaf m path (LinearLeaf den parts) (leaf.AtLeast bound)
 SaysAtLeast m path (FarkasLeaf parts) bound = ⊥
 SaysAtLeast m path PointLeaf bound = ⊥
+SaysAtLeast m path (ReducedLeaf den parts lists groups) bound = ⊥
 
 -- a leaf by Farkas' lemma
 abbrev pub SaysNone : Problem → List Bound → LeafShape → Type 0
 SaysNone m path (LinearLeaf den parts) = ⊥
 SaysNone m path (FarkasLeaf parts) = IsGoodLeaf m path (FarkasLeaf parts) leaf.NoPlan
 SaysNone m path PointLeaf = ⊥
+SaysNone m path (ReducedLeaf den parts lists groups) = ⊥
 
 -- ---- why there is no leaf
 -- so ends the run over the program, by the least-index rule from its slack basis

@@ -1,6 +1,7 @@
 // The leaf that multipliers of the program make, and what it says.
-ghost use Rattle.std.specs.Prelude.{◌≡◌, length, IfOk, MatchOption};
+ghost use Rattle.std.specs.Prelude.{◌≡◌, ◌+◌, ◌<◌, ◌^◌, length, IfOk, MatchOption};
 ghost use Rattle.cert_lines.specs.Shapes.{leaf_shape};
+ghost use Rattle.certificate.specs.Values.{leaf_values};
 ghost use Rattle.split_trees.specs.Paths.{AreChoices};
 ghost use Rattle.cert_checker.specs.Leaves.{HasDenominator};
 ghost use Rattle.path_relaxation.specs.Steps.{IsFarkasFound, IsLinearFound, IsRefused, SaysSmall};
@@ -24,6 +25,7 @@ fn said(
 ) -> Result<Option<LeafSays>, AllocError>
     requires choices { AreChoices instance.now path.now }
     requires den { HasDenominator (leaf_shape leaf.now) }
+    requires lines { 1 + length (leaf_values (leaf_shape leaf.now)) < 2 ^ 64 }
     ensures { IfOk result (λ found. MatchOption found (IsRefused instance.now path.now (leaf_shape leaf.now)) (SaysSmall instance.now path.now (leaf_shape leaf.now))) }
 {
     match leaf_bound(alloc, instance, &[], path, leaf, LEAF_LINE) {

@@ -4,6 +4,7 @@ ghost use Rattle.lot_sizing.specs.Problem.{IsUncoupled};
 ghost use Rattle.lot_draft.specs.declared.fault.ModelFault.{ModelFault};
 ghost use Rattle.plan_rules.specs.Held.{AllFit, plan_of};
 ghost use Rattle.frozen_start.specs.Starts.{NoneAgreesWith, StartStands};
+ghost use Rattle.certificate.specs.Shapes.{shape_of};
 ghost use Rattle.branching.specs.Found.{IsProved};
 ghost use Rattle.branching.specs.declared.found.RootSays.TheVariants.{Uncoupled};
 ghost use Rattle.branch_and_cut.specs.Search.{DecidesSmall, GoesTogether, HasEvidence, IfBound, IsGoodPlan, IsNoLessThanApart, IsSaidAtRoot, IsUndecided, IsVersionOf, KeepsOwn, UsesRoot, WithRows, no_limits};
@@ -88,7 +89,8 @@ pub fn replan<P: Proposer, H: Heuristic<P::Hint>, W: Watch + Drop>(
     ensures uses { IfOk result (IfPlanned (λ rest found. UsesRoot found found.root)) }
     ensures apart { IfOk result (IfPlanned (λ rest found. IsNoLessThanApart rest.instance found.certificate.claim)) }
     ensures complete { IfOk result (IfPlanned (λ rest found. DecidesSmall rest.instance budget no_limits false found.certificate.claim)) }
-    ensures version { IfOk result (IfPlanned (λ rest found. IsVersionOf rest.instance found.certificate.version)) }
+    ensures version { IfOk result (IfPlanned (λ rest found.
+        IsVersionOf rest.instance (shape_of found.certificate))) }
 {
     joins_are_feasible();
     rests_decide();

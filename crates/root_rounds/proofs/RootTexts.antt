@@ -164,10 +164,10 @@ module _ (m : Problem) (limits : IsWithinLimits m) (total : ℕ → ℕ) (totals
   linear_lines den den_small NoPlan says = absurd (says.said total totals)
   linear_lines den den_small (AtLeast c) says =
       let is = says.said total totals in
-      (linear_is version (pos den) (length parts) is.positive den_small count_few, parts_are is.parts_exist)
+      (linear_is version (pos den) (length parts) is.positive den_small count_few, lines_join version (part_values parts) [] (parts_are is.parts_exist) tt)
 
   pub farkas_lines : (says : LeafSays) → SaysSmall m rows (FarkasLeaf parts) says → AreLines version (leaf_values (FarkasLeaf parts))
-  farkas_lines NoPlan says = (farkas_is version (length parts) count_few, parts_are (says.said total totals).parts_exist)
+  farkas_lines NoPlan says = (farkas_is version (length parts) count_few, lines_join version (part_values parts) [] (parts_are (says.said total totals).parts_exist) tt)
   farkas_lines (AtLeast c) says = absurd (says.said total totals)
 
 -- a leaf that isn't there

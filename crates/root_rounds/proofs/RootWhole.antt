@@ -106,6 +106,13 @@ skipped_means m cells large r says same none = record {
   says = subst (λ s. SaysOf m s (root_cuts r) [] r.leaf) (sym says) (large, same, none);
 }
 
+pub uncoupled_means : (m : Problem) → IsUncoupled m → (r : Root) → r.says ≡ root.Uncoupled → root_cuts r ≡ [] → IsNone r.leaf → RootMeans m r
+uncoupled_means m uncoupled r says same none = record {
+  rows = [];
+  cuts = subst (λ s. HaveRootRows m s []) (sym same) (no_cuts m);
+  says = subst (λ s. SaysOf m s (root_cuts r) [] r.leaf) (sym says) (uncoupled, same, none);
+}
+
 -- the cells of the first program
 pub cells_are : (m : Problem) (program : RoundProgram) (cells : ℕ) → cells ≡ (row_count program.lp + 1) * (width_of program.lp + 1) → width_of program.lp ≡ column_count m → length program.sides.items ≡ row_count program.lp → ((total : ℕ → ℕ) → AreLargestTotals m total → IsRound m total [] program.lp program.sides.items) → (total : ℕ → ℕ) → AreLargestTotals m total → cells ≡ first_cells m total
 cells_are m program cells is width long round total totals =

@@ -11,7 +11,7 @@ use Rattle.lin_rows.specs.Combining.{AreOfProblem}
 use Rattle.lin_rows.specs.Rows.{LinRow}
 use Rattle.cert_lines.specs.declared.limits.TheConstants.{FIRST_CERT_VERSION, MAX_CUTS}
 use Rattle.cert_lines.specs.declared.parts.Leaf.{Leaf}
-use Rattle.cert_lines.specs.Shapes.{CutShape, LeafShape, LinearLeaf, FarkasLeaf, PointLeaf, cut_shape, leaf_shape}
+use Rattle.cert_lines.specs.Shapes.{CutShape, LeafShape, LinearLeaf, FarkasLeaf, PointLeaf, ReducedLeaf, cut_shape, leaf_shape}
 use Rattle.certificate.specs.Values.{AreLines, all_cut_values, leaf_values}
 use Rattle.tableau.specs.declared.outcome.Outcome.{Outcome}
 use Rattle.tableau.specs.declared.outcome.Outcome.TheVariants as outcome
@@ -64,12 +64,14 @@ abbrev pub SaysAmount : Problem → List LinRow → ℕ → LeafShape → Type 0
 SaysAmount m rows c (LinearLeaf den parts) = SaysSmall m rows (LinearLeaf den parts) (AtLeast c)
 SaysAmount m rows c (FarkasLeaf parts) = ⊥
 SaysAmount m rows c PointLeaf = ⊥
+SaysAmount m rows c (ReducedLeaf den parts lists groups) = ⊥
 
 -- a leaf by Farkas' lemma
 abbrev pub SaysNone : Problem → List LinRow → LeafShape → Type 0
 SaysNone m rows (LinearLeaf den parts) = ⊥
 SaysNone m rows (FarkasLeaf parts) = SaysSmall m rows (FarkasLeaf parts) NoPlan
 SaysNone m rows PointLeaf = ⊥
+SaysNone m rows (ReducedLeaf den parts lists groups) = ⊥
 
 -- ---- a round that ends without a leaf
 -- the rounds before have found these cuts, and the run of this round, whose program has them, ends so

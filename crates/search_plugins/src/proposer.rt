@@ -73,8 +73,8 @@ pub trait Proposer {
     fn hint<'a>(&self, work: &'a Self::Work) -> &'a Self::Hint;
 
     /// A leaf, where it is expected to say more than `says`, which is None where the node's leaf says that there is no plan. Its
-    /// cuts have the numbers from `first_cut` on, counted from 1. It takes rows by their names, and each of its parts can be
-    /// written in a certificate.
+    /// cuts have the numbers from `first_cut` on, counted from 1. It takes rows by their names; a leaf that has no lines in
+    /// certificates isn't taken.
     fn leaf(
         &self,
         alloc: Global,

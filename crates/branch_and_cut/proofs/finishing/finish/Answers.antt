@@ -1,7 +1,14 @@
 use Rattle.std.proofs.Common.{◌∙◌, arith, refl}
+use Rattle.certificate.specs.declared.tree.Certificate.{Certificate}
+use Rattle.branch_and_cut.specs.Knowing.{ranges_in}
+use Rattle.branch_and_cut.specs.SearchWithin.{IsProvedWithin}
 use Rattle.branch_and_cut.proofs.Finished.{IsTreeOf, finished, found_proved}
 use Rattle.branch_and_cut.proofs.Proved.{Grounds}
+use Rattle.branch_and_cut.proofs.LeastVersion.{same_lines}
 use Rattle.branch_and_cut.proofs.finishing.finish.Goals as goal
+
+pub in_least_version-requires : goal.in_least_version-requires
+in_least_version-requires c = omega (arith, c.usual_version-usual.ensures.known.exists.1, c.requires.latest)
 
 pub returns-clause-proved : goal.returns-clause-proved
 returns-clause-proved c =
@@ -20,7 +27,21 @@ returns-clause-proved c =
       figures = c.requires.figures;
     } in
     let of : IsTreeOf s t = record { stripped = c.in_ok-tree.ensures.stripped; nodes = counted.0 ∙ c.in_ok-tree.ensures.nodes; longest = counted.1 ∙ c.in_ok-tree.ensures.longest } in
-    found_proved g c.args.known budget limits stopping rs s t _ by is of (omega arith) refl c.best_plan.ensures refl
+    let least = c.in_least_version.ensures in
+    let made : Certificate = record { version = g.version; claim = s.claim; cuts = c.args.known.cuts; tree = t } in
+    let same = same_lines c.in_least_version.result made least.claim least.cuts least.tree in
+    found_proved g c.args.known budget limits stopping rs s t _ by is of (omega arith) same least.written c.best_plan.ensures refl
+
+pub returns-clause-version : goal.returns-clause-version
+returns-clause-version c =
+    let found : IsProvedWithin c.args.model.now.instance.now (ranges_in c.args.model.now) _ = returns-clause-proved c in
+    record {
+      usual = c.usual_version-usual.result;
+      is_usual = c.usual_version-usual.ensures.usual;
+      from = c.in_least_version.ensures.from;
+      written = found.writable;
+      least = c.in_least_version.ensures.least;
+    }
 
 pub returns-clause-shown : goal.returns-clause-shown
 returns-clause-shown c = λ budget limits stopping rs is.
@@ -30,4 +51,5 @@ returns-clause-shown c = λ budget limits stopping rs is.
     let (total, weight, totals, weights) = c.requires.figures in
     let counted = c.shapes_are_counted.ensures t in
     let of : IsTreeOf s t = record { stripped = c.in_ok-tree.ensures.stripped; nodes = counted.0 ∙ c.in_ok-tree.ensures.nodes; longest = counted.1 ∙ c.in_ok-tree.ensures.longest } in
-    finished g c.args.known budget limits stopping rs s t _ c.whole_is_measured.ensures c.says_are_one.ensures total totals is of refl refl refl c.best_plan.ensures refl refl
+    let least = c.in_least_version.ensures in
+    finished g c.args.known budget limits stopping rs s t _ c.whole_is_measured.ensures c.says_are_one.ensures total totals is of least.claim least.cuts least.tree c.best_plan.ensures refl refl

@@ -1,13 +1,19 @@
-use Rattle.std.proofs.Common.{ap, arith}
+use Rattle.std.proofs.Common.{ap, arith, refl}
 use Rattle.std.specs.Prelude.{map}
 use Rattle.std.proofs.lemmas.Result.{IfOk-weaker}
 use Rattle.cert_lines.specs.Shapes.{cut_shape}
 use Rattle.root_rounds.specs.Root.{RootMeans, root_cuts}
-use Rattle.root_rounds.proofs.RootWhole.{bounds_are, cells_are, figures_exist, none_writable, skipped_is, skipped_means, uncoupled_is}
+use Rattle.root_rounds.proofs.RootWhole.{bounds_are, cells_are, figures_exist, none_writable, skipped_is, skipped_means, uncoupled_is, uncoupled_means}
 use Rattle.root_rounds.proofs.at_root.root.Goals as goal
 
 pub returns-then-is_uncoupled-clause-figures : goal.returns-then-is_uncoupled-clause-figures
 returns-then-is_uncoupled-clause-figures c = figures_exist c.args.instance.now c.totals_exist.ensures.weights c.an_instance_breaks_no_rule.ensures
+
+pub returns-then-is_uncoupled-clause-means : goal.returns-then-is_uncoupled-clause-means
+returns-then-is_uncoupled-clause-means c =
+    let said = c.without_cuts in
+    let uncoupled = c.if-is_uncoupled.ensures.0 refl in
+    uncoupled_means c.args.instance.now uncoupled said.result said.ensures.says (ap (map cut_shape) said.ensures.cuts) said.ensures.leaf
 
 pub returns-then-is_uncoupled-clause-writable : goal.returns-then-is_uncoupled-clause-writable
 returns-then-is_uncoupled-clause-writable c =
