@@ -8,6 +8,7 @@ use plan_plugin::Plans;
 use price_plugin::Prices;
 use std::alloc::{AllocError, Global};
 use std::collections::BTreeMap;
+use work_clock::Deadline;
 
 /// Files by their names.
 pub type Files = BTreeMap<String, Vec<u8>>;
@@ -120,7 +121,16 @@ impl Sink for UntoldSink {
 
 // The status that the words end with. No clause says so: what a run leaves is printed, and rests on no promise of `run`.
 fn status_of<S: Shelf, K: Sink>(alloc: Global, words: &[String], shelf: &mut S, out: &mut K) -> u8 {
-    run(alloc, &Prices, &Plans, &mut (), words, shelf, out)
+    let until = Deadline::none();
+    run(
+        alloc,
+        &Prices { until },
+        &Plans { until },
+        &mut (),
+        words,
+        shelf,
+        out,
+    )
 }
 
 // Runs words over a shelf and an output that tell what they hold, or don't.

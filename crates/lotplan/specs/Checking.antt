@@ -93,6 +93,7 @@ rejected_line line (why.Plan rule) = codes "rejected C12 " ++ (broken_text rule 
 rejected_line line (why.Costs plan claim) = codes "rejected C12 " ++ (decimal plan ++ (codes " " ++ (decimal claim ++ codes "\n")))
 rejected_line line why.PlanMissing = codes "rejected C13\n"
 rejected_line line why.Lead = on_line (codes "rejected C14") line (codes "\n")
+rejected_line line why.Work = on_line (codes "rejected C15") line (codes "\n")
 
 abbrev pub check_line : CheckAnswer → List ℕ
 check_line (accepted claim) = accepted_line claim

@@ -2,6 +2,7 @@
 use Rattle.std.specs.Prelude.{◌≡◌, ◌↔◌, ◌≤◌, ℕ, false, Option, Some, None, IfSome, ⊤}
 use Rattle.lot_sizing.specs.Problem.{IsUncoupled, Problem}
 use Rattle.plan_rules.specs.declared.plan.Plan.{Plan}
+use Rattle.certificate.specs.Shapes.{shape_of}
 use Rattle.branching.specs.Found.{IsProved}
 use Rattle.branching.specs.declared.found.Found.{Found}
 use Rattle.branching.specs.declared.found.RootSays.TheVariants as at_root
@@ -23,9 +24,9 @@ limits_of sought = record { gap = sought.gap }
 
 -- what holds of what is found
 pub record IsFound (problem : Problem) (sought : Sought) (found : Found) : Type 0 where
-  -- the certificate has a text, of the first version where the problem is plain and else of the newest; it is accepted, and its claim is true; its tree has the nodes that are told, no more than the budget
+  -- the certificate has a text, of the least version from the usual one on that has its lines; it is accepted, and its claim is true; its tree has the nodes that are told, no more than the budget
   pub proved : IsProved problem found
-  pub version : IsVersionOf problem found.certificate.version
+  pub version : IsVersionOf problem (shape_of found.certificate)
   pub within : found.nodes ≤ sought.budget
   -- the plan is feasible, goes with the claim, and costs no more than the plan to start from and than a feasible own-period plan
   pub plan : IfSome found.plan (IsGoodPlan problem)

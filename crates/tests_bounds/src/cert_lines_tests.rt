@@ -1,4 +1,9 @@
-use cert_lines::{CertLine, Claim, Cut, HeadLine, LineFault, Part, read_head, read_line};
+ghost use Rattle.cert_lines.specs.Limits.{IsVersion};
+
+use cert_lines::{
+    CertLine, Claim, Cut, HeadLine, LineFault, Part, add_group_line, add_list_line, read_head,
+    read_line,
+};
 use lin_rows::{Column, RowName};
 use std::alloc::Global;
 use std::test::Fail;
@@ -13,7 +18,8 @@ fn first_lines(rt: HostRuntime) -> Result<(), Fail> {
     for (place, line, head) in [
         (1u32, "lotcert 1", Some(HeadLine::Mark(1))),
         (1, "lotcert 2", Some(HeadLine::Mark(2))),
-        (1, "lotcert 3", None),
+        (1, "lotcert 3", Some(HeadLine::Mark(3))),
+        (1, "lotcert 4", None),
         (1, "lotcert 0", None),
         (1, "lotcert 1 ", None),
         (1, "claim infeasible", None),
@@ -204,5 +210,75 @@ fn lines_of_the_longest_length(rt: HostRuntime) -> Result<(), Fail> {
     assert!(rt; form_of(alloc, &text) == (8, 0, 0));
     write!(text, "7")?;
     assert!(rt; form_of(alloc, &text) == (0, 0, 0));
+    Ok(())
+}
+
+// A line of a leaf over reduced costs, written again as it was read; nothing where it has no form.
+fn written_again(alloc: Global, line: &str, version: u32) -> Result<String, Fail>
+    requires { IsVersion version }
+{
+    let mut text = String::new(alloc);
+    let read = read_line(alloc, line.as_bytes(), version);
+    match &read {
+        Ok(
+            CertLine::Reduced {
+                den,
+                parts,
+                lists,
+                groups,
+            },
+        ) => write!(text, "reduced {den} {parts} {lists} {groups}\n")?,
+        Ok(CertLine::List(list)) => add_list_line(&mut text, list)?,
+        Ok(CertLine::Group(group)) => add_group_line(&mut text, group)?,
+        _ => {}
+    }
+    Ok(text)
+}
+
+#[test]
+fn lines_of_reduced_leaves(rt: HostRuntime) -> Result<(), Fail> {
+    let alloc = rt.alloc();
+    for line in [
+        "reduced 18446744073709551615 100000 1000 1000",
+        "reduced 0 0 0 0",
+        "parts balance 2 -17 0 170141183460469231731687303715884105727",
+        "parts link 1 5",
+        "parts capacity 3 -1",
+        "parts top 4294967295 1",
+        "parts least 1 1 2 3",
+        "parts late 1",
+        "item 4294967295",
+        "quantities 7",
+        "pair 1 0 2 170141183460469231731687303715884105727",
+        "triple 1 5 2 6 3 7",
+    ] {
+        let text = written_again(alloc, line, 3)?;
+        assert!(rt; text == format!(in alloc; "{line}\n")?);
+        let older = written_again(alloc, line, 2)?;
+        assert!(rt; older.is_empty());
+    }
+    for line in [
+        "reduced 18446744073709551616 0 0 0",
+        "reduced 1 100001 0 0",
+        "reduced 1 0 1001 0",
+        "reduced 1 0 0 1001",
+        "reduced 1 0 0",
+        "parts",
+        "parts balance",
+        "parts endmin 1 5",
+        "parts balance 1 -0",
+        "parts balance 1 5 ",
+        "parts balance 4294967296 5",
+        "parts balance 1 170141183460469231731687303715884105728",
+        "item",
+        "item 1 2",
+        "item 4294967296",
+        "pair 1 5",
+        "pair 1 0 2 170141183460469231731687303715884105728",
+        "triple 1 5 2 6",
+    ] {
+        let text = written_again(alloc, line, 3)?;
+        assert!(rt; text.is_empty());
+    }
     Ok(())
 }

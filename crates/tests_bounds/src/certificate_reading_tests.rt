@@ -26,7 +26,7 @@ const ROUNDED: &str = "lotcert 1\nclaim optimal 23\ncuts 2\nls 1 1 1\nround 10 4
     part balance 1 1 1\npart balance 1 2 1\npart link 1 2 1\npart capacity 1 1 1\nlinear 1 4\n\
     part balance 1 2 1\npart capacity 1 2 1\npart cut 1 5\npart cut 2 11\nend\n";
 
-// Rows that version 2 alone has.
+// Rows that are known from version 2 on.
 const LOTS: &str = "lotcert 2\nclaim infeasible\ncuts 0\nfarkas 2\npart late 1 1 1\n\
     part least 1 1 -1\nend\n";
 
@@ -34,6 +34,12 @@ const LOTS: &str = "lotcert 2\nclaim infeasible\ncuts 0\nfarkas 2\npart late 1 1
 const CUTS: &str = "lotcert 1\nclaim infeasible\ncuts 4\nls 1 2 01\nround 10 2\n\
     part balance 1 1 -8\npart cut 1 41\nblock 1 f 100 20 g 0 0 h 1 1 b 2 2 p 28 28\n\
     price 3 w 25 1 g h 1 b 0 0\npoint\nend\n";
+
+// Leaves over reduced costs, with lists and groups of each kind, and with nothing.
+const REDUCED: &str = "lotcert 3\nclaim optimal 23\ncuts 1\nls 1 1 1\nbranch y 1 1 0\n\
+    reduced 4 2 2 4\npart cut 1 -3\npart late 1 2 5\nparts balance 1 -1 0 7\n\
+    parts capacity 2\nitem 1\nquantities 2\npair 1 0 2 15\ntriple 3 1 2 2 1 3\n\
+    reduced 0 0 0 0\nend\n";
 
 // A bound by a leaf without parts.
 const BOUND: &str = "lotcert 1\nclaim bound 20\ncuts 0\nlinear 8 0\nend\n";
@@ -63,6 +69,7 @@ fn what_is_read_is_written(rt: HostRuntime) -> Result<(), Fail> {
         (ROUNDED, 1, 0),
         (LOTS, 1, 0),
         (CUTS, 1, 0),
+        (REDUCED, 3, 1),
         (BOUND, 1, 0),
     ] {
         let found = written(rt.alloc(), text)?;

@@ -184,7 +184,7 @@ fn leaf_in(alloc: Global, version: u32) -> Result<(u64, bool), AllocError> {
 fn lines_and_copies(rt: HostRuntime) -> Result<(), Fail> {
     let alloc = rt.alloc();
     assert_eq!(rt; lines_of_round(alloc)?, (3, 3));
-    for (version, writable) in [(0u32, false), (1, false), (2, true), (3, false)] {
+    for (version, writable) in [(0u32, false), (1, false), (2, true), (3, true), (4, false)] {
         assert_eq!(rt; leaf_in(alloc, version)?, (2, writable));
     }
     Ok(())

@@ -117,6 +117,7 @@ fn line_of_refusal(alloc: Global, rejected: &Rejected) -> Result<String, AllocEr
         Why::Costs { plan, claim } => format!(in alloc; "rejected C12 {plan} {claim}\n"),
         Why::PlanMissing => String::from_str(alloc, "rejected C13\n"),
         Why::Lead => format!(in alloc; "rejected C14 line {line}\n"),
+        Why::Work => format!(in alloc; "rejected C15 line {line}\n"),
     }
 }
 
