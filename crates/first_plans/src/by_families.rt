@@ -11,6 +11,7 @@ use item_lots::copy_grid;
 use lot_model::Instance;
 use plan_rules::{Grid, Planned, complete_at_cost};
 use std::alloc::{AllocError, Global};
+use work_clock::Deadline;
 
 // The most times that all families are improved.
 const ROUNDS: u32 = 6;
@@ -100,6 +101,7 @@ fn try_family(
     family: u32,
     lots: Lots<'_>,
     work: u64,
+    until: Deadline,
 ) -> Result<Tried, AllocError>
     requires lots { AreLots instance.now lots }
     ensures { IfOk result (λ tried. IfSome tried.found (IsMade instance.now)) }
@@ -116,9 +118,9 @@ fn try_family(
         best,
         tries: left,
         ..
-    } = improved_so(alloc, &alone, start, tries)?;
+    } = improved_so(alloc, &alone, start, tries, until)?;
     let used = u64::from(tries.saturating_sub(left));
-    let best = kicked(alloc, &alone, best, kicks_of(&alone), 0)?;
+    let best = kicked(alloc, &alone, best, kicks_of(&alone), 0, until)?;
     let own = Lots {
         make: &best.plan.make,
         setup: &best.plan.setup,
@@ -137,6 +139,7 @@ fn improve_family(
     family: u32,
     best: &mut Planned,
     work: u64,
+    until: Deadline,
 ) -> Result<u64, AllocError>
     requires made { IsMade instance.now best.old }
     ensures { OnOk result (IsNoDearer instance.now best.old best.new) }
@@ -145,7 +148,7 @@ fn improve_family(
         make: &best.plan.make,
         setup: &best.plan.setup,
     };
-    let Tried { found, work } = try_family(alloc, instance, families, family, lots, work)?;
+    let Tried { found, work } = try_family(alloc, instance, families, family, lots, work, until)?;
     if let Some(planned) = found {
         if planned.cost < best.cost {
             *best = planned;
@@ -154,21 +157,22 @@ fn improve_family(
     Ok(work)
 }
 
-// Improves all families, one after the other, and gives the work that is left.
+// Improves all families, one after the other until it is time to end, and gives the work that is left.
 fn improve_all(
     alloc: Global,
     instance: &Instance,
     families: &Families,
     best: &mut Planned,
     work: u64,
+    until: Deadline,
 ) -> Result<u64, AllocError>
     requires made { IsMade instance.now best.old }
     ensures { OnOk result (IsNoDearer instance.now best.old best.new) }
 {
     let mut left = work;
     for family in 1..instance.items() + 1 {
-        if left > 0 && families.has(family, family) {
-            left = improve_family(alloc, instance, families, family, best, left)?;
+        if left > 0 && families.has(family, family) && !until.is_past() {
+            left = improve_family(alloc, instance, families, family, best, left, until)?;
         }
     }
     Ok(left)
@@ -176,13 +180,14 @@ fn improve_all(
 
 /// A feasible plan that costs no more than this one: the plan of each family of items, which lines of components tie
 /// together, is improved under the time that the others leave, also after random changes of its setups, until that brings
-/// nothing more or takes too long. A model of one family stays as it is.
+/// nothing more, takes too long, or it is time. A model of one family stays as it is.
 ///
 /// The error is that memory ran out; the plan is lost then.
 pub fn improved_by_families(
     alloc: Global,
     instance: &Instance,
     planned: Planned,
+    until: Deadline,
 ) -> Result<Planned, AllocError>
     requires made { IsMade instance.now planned }
     ensures { IfOk result (IsNoDearer instance.now planned) }
@@ -195,7 +200,7 @@ pub fn improved_by_families(
     let mut work = FAMILY_WORK;
     for _round in 0..ROUNDS {
         let before = best.cost;
-        work = improve_all(alloc, instance, &families, &mut best, work)?;
+        work = improve_all(alloc, instance, &families, &mut best, work, until)?;
         if best.cost == before {
             return Ok(best);
         }

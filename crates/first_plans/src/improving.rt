@@ -11,6 +11,7 @@ use item_lots::{copy_grid, improve_by_items};
 use lot_model::Instance;
 use plan_rules::{Grid, Planned};
 use std::alloc::{AllocError, Global};
+use work_clock::Deadline;
 
 // The most times that all changes are tried.
 const SWEEPS: u32 = 20;
@@ -24,6 +25,8 @@ pub struct Improving {
     pub best: Planned,
     /// How many plans may still be built.
     pub tries: u32,
+    /// When that is to end.
+    pub until: Deadline,
 }
 
 // Keeps the cheaper one of two plans.
@@ -95,7 +98,7 @@ fn try_period(
     Ok(())
 }
 
-// Tries the changes of an item's setups.
+// Tries the changes of an item's setups, if it isn't time to end.
 fn try_item(
     alloc: Global,
     instance: &Instance,
@@ -107,6 +110,9 @@ fn try_item(
     requires state { IsImproving instance.now state.old }
     ensures { OnOk result (IsImproved instance.now state.old state.new) }
 {
+    if state.until.is_past() {
+        return Ok(());
+    }
     for period in 1..instance.periods() + 1 {
         try_period(alloc, instance, state, item, period, false)?;
         try_period(alloc, instance, state, item, period, true)?;
@@ -141,12 +147,13 @@ fn sweeps(alloc: Global, instance: &Instance, state: &mut Improving) -> Result<(
 }
 
 /// The best plan that is found from this one by making its items' lots anew and by changes of its setups, and how many plans
-/// may still be built.
+/// may still be built. It ends early when it is time.
 pub fn improved_so(
     alloc: Global,
     instance: &Instance,
     planned: Planned,
     tries: u32,
+    until: Deadline,
 ) -> Result<Improving, AllocError>
     requires made { IsMade instance.now planned }
     ensures state { IfOk result (IsImproving instance.now) }
@@ -160,6 +167,7 @@ pub fn improved_so(
         wanted,
         best,
         tries,
+        until,
     };
     sweeps(alloc, instance, &mut state)?;
     Ok(state)
@@ -181,6 +189,6 @@ pub fn improved(
     requires made { IsMade instance.now planned }
     ensures { IfOk result (IsNoDearer instance.now planned) }
 {
-    let Improving { best, .. } = improved_so(alloc, instance, planned, tries)?;
+    let Improving { best, .. } = improved_so(alloc, instance, planned, tries, Deadline::none())?;
     Ok(best)
 }

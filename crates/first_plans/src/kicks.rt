@@ -14,6 +14,7 @@ use plan_rules::{Grid, Planned};
 use rand_core::utils::NextWord;
 use rand_pcg::Lcg64Xsh32;
 use std::alloc::{AllocError, Global};
+use work_clock::Deadline;
 
 // How many random changes a kick makes.
 const CHANGES: u32 = 5;
@@ -81,6 +82,7 @@ fn try_kick(
     best: &Planned,
     words: &mut Lcg64Xsh32,
     tries: u32,
+    until: Deadline,
 ) -> Result<Attempt, AllocError>
     requires items { 1 ≤ item_count instance.now }
     requires periods { 1 ≤ instance.now.periods }
@@ -97,7 +99,7 @@ fn try_kick(
         best: found,
         tries: left,
         ..
-    } = improved_so(alloc, instance, start, tries)?;
+    } = improved_so(alloc, instance, start, tries, until)?;
     Ok(Attempt {
         found: Some(found),
         tries: left,
@@ -111,13 +113,14 @@ fn kick_once(
     best: &mut Planned,
     words: &mut Lcg64Xsh32,
     tries: u32,
+    until: Deadline,
 ) -> Result<u32, AllocError>
     requires items { 1 ≤ item_count instance.now }
     requires periods { 1 ≤ instance.now.periods }
     requires made { IsMade instance.now best.old }
     ensures { OnOk result (IsNoDearer instance.now best.old best.new) }
 {
-    let Attempt { found, tries } = try_kick(alloc, instance, best, words, tries)?;
+    let Attempt { found, tries } = try_kick(alloc, instance, best, words, tries, until)?;
     if let Some(planned) = found {
         if planned.cost < best.cost {
             *best = planned;
@@ -127,7 +130,7 @@ fn kick_once(
 }
 
 /// The best plan that is found from this one when some of its setups are changed at random, so many times, and what is
-/// built with them is improved. In all so many plans may be built.
+/// built with them is improved. In all so many plans may be built. It ends early when it is time.
 ///
 /// The error is that memory ran out; the plan is lost then.
 pub(crate) fn kicked(
@@ -136,6 +139,7 @@ pub(crate) fn kicked(
     planned: Planned,
     kicks: u32,
     tries: u32,
+    until: Deadline,
 ) -> Result<Planned, AllocError>
     requires made { IsMade instance.now planned }
     ensures { IfOk result (IsNoDearer instance.now planned) }
@@ -147,7 +151,10 @@ pub(crate) fn kicked(
     let mut words = Lcg64Xsh32::new(SEED, STREAM);
     let mut left = tries;
     for _kick in 0..kicks {
-        left = kick_once(alloc, instance, &mut best, &mut words, left)?;
+        if until.is_past() {
+            return Ok(best);
+        }
+        left = kick_once(alloc, instance, &mut best, &mut words, left, until)?;
     }
     Ok(best)
 }

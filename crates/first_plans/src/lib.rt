@@ -7,7 +7,8 @@
 //! once, `own_period_plan` and `built_plan`, are passed on from `own_plan` and `built_plans`.
 //!
 //! Family: plugins. It stands on `own_plan` and `built_plans`, which build plans, on `item_lots`, which makes an item's lots anew,
-//! on `plan_rules`, which judges what comes out, and on `rand_pcg`; `plan_plugin` stands on it.
+//! on `plan_rules`, which judges what comes out, on `work_clock` for the time at which improving is to end, and on `rand_pcg`; `plan_plugin`
+//! stands on it.
 #![tactic(auto)]
 
 mod by_families;

@@ -14,6 +14,7 @@ use lot_model::{Instance, is_plain};
 use own_plan::own_period_plan;
 use plan_rules::{Grid, Planned};
 use std::alloc::{AllocError, Global};
+use work_clock::Deadline;
 
 /// What building plans may take to improve one: so many plans of a single item and period.
 pub const BUILDING_WORK: u32 = 4_000_000;
@@ -131,6 +132,7 @@ fn kicked_within(
     alloc: Global,
     instance: &Instance,
     planned: Planned,
+    until: Deadline,
 ) -> Result<Planned, AllocError>
     requires made { IsMade instance.now planned }
     ensures { IfOk result (IsNoDearer instance.now planned) }
@@ -139,7 +141,7 @@ fn kicked_within(
     if tries / KICK_SWEEPS < instance.items() * instance.periods() {
         return Ok(planned);
     }
-    kicked(alloc, instance, planned, MODEL_KICKS, tries)
+    kicked(alloc, instance, planned, MODEL_KICKS, tries, until)
 }
 
 // The cheapest plan that is found by changing these setups.
@@ -147,15 +149,16 @@ fn improved_from(
     alloc: Global,
     instance: &Instance,
     wanted: &Grid,
+    until: Deadline,
 ) -> Result<Option<Planned>, AllocError>
     requires wanted { Fits instance.now wanted.now }
     ensures { IfFound result (IsMade instance.now) }
 {
     match built_plan(alloc, instance, wanted)? {
         Some(planned) => {
-            let near = improved_by_families(alloc, instance, planned)?;
+            let near = improved_by_families(alloc, instance, planned, until)?;
             let better = improved(alloc, instance, near, tries_for(instance))?;
-            Ok(Some(kicked_within(alloc, instance, better)?))
+            Ok(Some(kicked_within(alloc, instance, better, until)?))
         }
         None => Ok(None),
     }
@@ -179,6 +182,7 @@ fn cheapest(list: &[Planned]) -> usize
 fn keep_improved(
     alloc: Global,
     instance: &Instance,
+    until: Deadline,
     list: &mut Vec<Planned>,
 ) -> Result<(), AllocError>
     requires each { All (IsMade instance.now) list.old.items }
@@ -189,7 +193,7 @@ fn keep_improved(
     }
     let place = cheapest(list);
     let start = &list[place];
-    let found = improved_from(alloc, instance, &start.plan.setup)?;
+    let found = improved_from(alloc, instance, &start.plan.setup, until)?;
     keep(list, found)?;
     Ok(())
 }
@@ -212,8 +216,12 @@ fn own_list(alloc: Global, instance: &Instance) -> Result<Vec<Planned>, AllocErr
 /// The others are built backward by periods with nine patterns of setups: everywhere, where each item is served most
 /// cheaply by itself at five prices of stock, and in each second, third and fourth period in turn; and the cheapest of
 /// these is improved, first by one family of items after the other, and again after random changes of its setups, which are
-/// the same each time. The error is that memory ran out.
-pub fn candidates(alloc: Global, instance: &Instance) -> Result<Vec<Planned>, AllocError>
+/// the same each time. Improving ends early when it is time. The error is that memory ran out.
+pub fn candidates(
+    alloc: Global,
+    instance: &Instance,
+    until: Deadline,
+) -> Result<Vec<Planned>, AllocError>
     ensures each { IfOk result (λ list. All (IsMade instance.now) list.items) }
     ensures own { IfOk result (λ list. HasOwn instance.now list.items) }
     ensures plain { IfOk result (λ list. IsEmptyUnlessPlain instance.now list.items) }
@@ -226,6 +234,6 @@ pub fn candidates(alloc: Global, instance: &Instance) -> Result<Vec<Planned>, Al
     for pattern in PATTERNS {
         keep_pattern(alloc, instance, pattern, &mut list)?;
     }
-    keep_improved(alloc, instance, &mut list)?;
+    keep_improved(alloc, instance, until, &mut list)?;
     Ok(list)
 }

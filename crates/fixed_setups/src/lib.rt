@@ -2,7 +2,7 @@
 //!
 //! Family: plugins. It stands on `root_rows`, which names the rows, on `tableau`, which solves the programs, on
 //! `plan_rules`, which judges what comes out, on `own_plan`, by whose definitions a plan is a feasible one, on
-//! `item_lots`, which copies grids, and on `rand_pcg`; `plan_plugin` stands on it.
+//! `item_lots`, which copies grids, on `work_clock` for the time at which they end early, and on `rand_pcg`; `plan_plugin` stands on it.
 //!
 //! Where all setups are given, what is left of the linear model is a program of quantities, stocks and backlogs. It is small,
 //! and solved exactly. `planned` makes a plan of its least point, whose quantities are rounded up along their sums where

@@ -13,6 +13,7 @@ use lin_rows::{Bound, Column};
 use lot_model::Instance;
 use plan_rules::{Grid, Planned};
 use std::alloc::{AllocError, Global};
+use work_clock::Deadline;
 
 // A plan, if one was found, and whether there is more to be tried.
 #[derive(Drop)]
@@ -121,7 +122,7 @@ pub(crate) fn planned_on(
         if found.is_some() {
             return Ok(found);
         }
-        if !more {
+        if !more || base.is_over() {
             return Ok(None);
         }
     }
@@ -135,7 +136,7 @@ pub(crate) fn planned_on(
 /// The quantities are those of a least point, rounded up along their sums where they aren't whole; nothing is set up where
 /// nothing is made, nor where `high` is 0. Where that isn't feasible, the first quantity that isn't whole is bounded from
 /// below by the next whole number, or from above where there is no such point, and so on a few times. None where there is no
-/// point, where nothing that comes out is feasible, and past the limits: `MAX_GRID_CELLS` items times periods,
+/// point, where nothing that comes out is feasible before it is time to end, and past the limits: `MAX_GRID_CELLS` items times periods,
 /// `MAX_PROGRAM_CELLS` cells and `MAX_PIVOTS` pivots.
 ///
 /// The error is that memory ran out. It takes memory for the program and its tableau.
@@ -144,6 +145,7 @@ pub fn planned(
     instance: &Instance,
     low: &Grid,
     high: &Grid,
+    until: Deadline,
 ) -> Result<Option<Planned>, AllocError>
     requires low { Fits instance.now low.now }
     requires high { Fits instance.now high.now }
@@ -154,6 +156,6 @@ pub fn planned(
     if !is_few(instance) {
         return Ok(None);
     }
-    let base = Base::of(alloc, instance)?;
+    let base = Base::of(alloc, instance, until)?;
     planned_on(alloc, instance, &base, low, high, MAX_TIMES)
 }

@@ -18,6 +18,7 @@ use lot_model::Instance;
 use plan_rules::{Grid, Planned};
 use std::alloc::{AllocError, Global};
 use std::cmp::Ordering;
+use work_clock::Deadline;
 
 // A setup that is given on the way down.
 #[derive(Clone, Copy, Debug)]
@@ -260,7 +261,7 @@ fn visit(
 /// nearest to a whole number in its least point is given next, that number first. Where the quantities of the point, rounded
 /// up along their sums, come to no plan, the program is solved once more with all setups of which the point has some.
 ///
-/// None where no plan is found within so many nodes, and where the model has more than `MAX_GRID_CELLS` items times periods.
+/// None where no plan is found within so many nodes or before it is time to end, and where the model has more than `MAX_GRID_CELLS` items times periods.
 ///
 /// The error is that memory ran out. Each node takes the time of one or two programs.
 pub fn plunged(
@@ -269,6 +270,7 @@ pub fn plunged(
     low: &Grid,
     high: &Grid,
     nodes: u32,
+    until: Deadline,
 ) -> Result<Option<Planned>, AllocError>
     requires low { Fits instance.now low.now }
     requires high { Fits instance.now high.now }
@@ -278,7 +280,7 @@ pub fn plunged(
     if !is_few(instance) {
         return Ok(None);
     }
-    let base = Base::of(alloc, instance)?;
+    let base = Base::of(alloc, instance, until)?;
     let mut dive = Dive {
         low: copy(alloc, instance, low)?,
         high: copy(alloc, instance, high)?,
@@ -287,8 +289,8 @@ pub fn plunged(
     for _node in 0..nodes {
         match visit(alloc, instance, &base, &mut dive)? {
             After::Found(planned) => return Ok(Some(planned)),
-            After::Open => {}
-            After::Ended => return Ok(None),
+            After::Open if !base.is_over() => {}
+            After::Open | After::Ended => return Ok(None),
         }
     }
     Ok(None)

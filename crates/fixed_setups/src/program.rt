@@ -14,13 +14,15 @@ use plan_rules::Grid;
 use root_rows::{MAX_PIVOTS, base_names, column_costs};
 use std::alloc::{AllocError, Global};
 use tableau::{Lp, LpRow, Outcome, is_program};
+use work_clock::Deadline;
 
-/// What the programs of a model are made of: its rows, and its columns with their costs.
-#[derive(Debug, Drop)]
+/// What the programs of a model are made of: its rows, and its columns with their costs; and when solving them is to end.
+#[derive(Drop)]
 pub(crate) struct Base {
     rows: Vec<NamedRow>,
     columns: Vec<Column>,
     costs: Vec<u64>,
+    until: Deadline,
 }
 
 /// A least point of a program: the roles of the model's columns in it, and the values of its own columns.
@@ -75,7 +77,11 @@ fn all_columns(
 
 impl Base {
     /// That of a model.
-    pub(crate) fn of(alloc: Global, instance: &Instance) -> Result<Base, AllocError> {
+    pub(crate) fn of(
+        alloc: Global,
+        instance: &Instance,
+        until: Deadline,
+    ) -> Result<Base, AllocError> {
         let costs = column_costs(alloc, instance)?;
         let columns = all_columns(alloc, instance, costs.len())?;
         let rows = rows_of(alloc, instance)?;
@@ -83,7 +89,13 @@ impl Base {
             rows,
             columns,
             costs,
+            until,
         })
+    }
+
+    /// Whether no more programs are to be solved.
+    pub(crate) fn is_over(&self) -> bool {
+        self.until.is_past()
     }
 
     // The rows with the values of given setups put in.

@@ -15,6 +15,7 @@ use plan_rules::{Grid, Planned};
 use rand_core::utils::NextWord;
 use rand_pcg::Lcg64Xsh32;
 use std::alloc::{AllocError, Global};
+use work_clock::Deadline;
 
 // The random changes are drawn on this stream.
 const STREAM: u64 = 54;
@@ -144,7 +145,7 @@ fn changed_best(
     }
 }
 
-// The best plan that is found by so many changes.
+// The best plan that is found by so many changes, or by fewer where it is time to end.
 fn walked_on(
     alloc: Global,
     instance: &Instance,
@@ -165,6 +166,9 @@ fn walked_on(
     keep_below(instance, limit, &mut best, same);
     let mut words = Lcg64Xsh32::new(seed, STREAM);
     for _try in 0..tries {
+        if base.is_over() {
+            return Ok(best);
+        }
         let found = changed_best(alloc, instance, base, planned, &best, &mut words)?;
         keep_below(instance, limit, &mut best, found);
     }
@@ -174,7 +178,7 @@ fn walked_on(
 /// The cheapest plan that is found from this one, if one is cheaper: first by the program where its setups are given, and then
 /// when some of them are changed at random, so many times, each time from the best plan so far, and planned by the program
 /// where they are given. The changes are the same each time that `seed` is the same. None too where the model has more than
-/// `MAX_GRID_CELLS` items times periods.
+/// `MAX_GRID_CELLS` items times periods. It ends early when it is time.
 ///
 /// The error is that memory ran out. Each change takes the time of a few programs.
 pub fn walked(
@@ -183,6 +187,7 @@ pub fn walked(
     planned: &Planned,
     seed: u64,
     tries: u32,
+    until: Deadline,
 ) -> Result<Option<Planned>, AllocError>
     requires planned { IsMade instance.now planned.now }
     ensures plan { IfFound result (IsMade instance.now) }
@@ -192,6 +197,6 @@ pub fn walked(
     if instance.items() == 0 || instance.periods() == 0 || !is_few(instance) {
         return Ok(None);
     }
-    let base = Base::of(alloc, instance)?;
+    let base = Base::of(alloc, instance, until)?;
     walked_on(alloc, instance, &base, planned, seed, tries)
 }

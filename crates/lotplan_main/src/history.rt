@@ -10,6 +10,7 @@ pub(crate) struct History {
     bound_since: Option<u64>,
     plan: Option<u128>,
     plan_since: Option<u64>,
+    is_over: bool,
 }
 
 impl History {
@@ -39,6 +40,7 @@ impl History {
             nodes: self.nodes,
             bound_since: self.bound_since,
             plan_since: self.plan_since,
+            is_over: self.is_over,
         })
     }
 }
@@ -64,6 +66,8 @@ impl<W: Watch> Watch for Watched<W> {
     }
 
     fn stops(&mut self) -> bool {
-        self.teller.stops()
+        let is_over = self.teller.stops();
+        self.history.is_over = is_over;
+        is_over
     }
 }

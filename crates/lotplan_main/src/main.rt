@@ -2,10 +2,10 @@
 //! and standard output, so that each output is whole or as it was (`safe_files`), and ends with its status. Before that it writes
 //! to the error stream what `explain` says of the run. No other crate but of tests names `Prices` and `Plans`. A `Teller` watches:
 //! with the word `--progress` it tells on the error stream how far the search is, and with `--seconds` it ends the search when the
-//! time is over. A `History` watches too, for the words.
+//! time is over, which `Prices` and `Plans` know too. A `History` watches too, for the words.
 //!
 //! Family: commands. It stands on `lotplan` for what is done, on `price_plugin` and `plan_plugin` for what proposes, on
-//! `search_plugins` for what watches, on `command_line` for the seconds, on `explain` for words, and on `lot_io` and `safe_files` for
+//! `search_plugins` for what watches, on `work_clock` and `command_line` for the seconds, on `explain` for words, and on `lot_io` and `safe_files` for
 //! files and output; nothing stands on it.
 #![tactic(auto)]
 
@@ -26,6 +26,7 @@ use std::alloc::{AllocError, Global};
 use std::io::ErrorKind;
 use std::process::ExitCode;
 use std::{env, io};
+use work_clock::Deadline;
 
 // Writes words on a run to the error stream. Where that fails, or memory for them is short, the status and the lines stand as they
 // are.
@@ -63,6 +64,14 @@ fn status_of<K: Sink>(alloc: Global, status: u8, unplaced: Option<&str>, out: &m
     }
 }
 
+// The time at which work on a plan is to end, where so many seconds are given for it.
+fn deadline(rt: &HostRuntime, seconds: Option<u32>) -> Deadline {
+    match seconds {
+        Some(seconds) => Deadline::after(rt, seconds),
+        None => Deadline::none(),
+    }
+}
+
 // Does what the words ask for, says why it came out so, and gives the status.
 fn run_words(rt: &HostRuntime, alloc: Global, words: &[String]) -> Result<u8, AllocError> {
     let outputs = Outputs::new(alloc, words)?;
@@ -70,14 +79,15 @@ fn run_words(rt: &HostRuntime, alloc: Global, words: &[String]) -> Result<u8, Al
     let mut out = Remembering::new(alloc, SafeSink::new(rt, &outputs, io::writer(rt)));
     let is_asked = words.iter().any(|word| word.as_str() == "--progress");
     let seconds = seconds_asked(alloc, words).unwrap_or(None);
+    let until = deadline(rt, seconds);
     let mut watched = Watched {
-        teller: Teller::new(rt, is_asked, seconds),
+        teller: Teller::new(rt, is_asked, seconds.is_some(), until),
         history: History::default(),
     };
     let ended = run(
         alloc,
-        &Prices,
-        &Plans,
+        &Prices { until },
+        &Plans { until },
         &mut watched,
         words,
         &mut shelf,

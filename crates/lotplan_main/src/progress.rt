@@ -1,10 +1,11 @@
 // What tells on the error stream how far a search is, and ends it where its time is over. Nothing else is claimed of it.
-ghost use Rattle.std.specs.Prelude.{◌≡◌, is_some};
+ghost use Rattle.std.specs.Prelude.{◌≡◌};
 
 use search_plugins::Watch;
 use std::io::IsTerminal;
 use std::rt::Stderr;
 use std::time::{Duration, Instant};
+use work_clock::Deadline;
 
 // How long it is silent after a line, in milliseconds: on a terminal, where each line takes the place of the one before, and elsewhere.
 const TERMINAL_PACE: u64 = 200;
@@ -19,9 +20,9 @@ pub(crate) struct Teller {
     // Whether it tells anything.
     is_asked: bool,
     is_terminal: bool,
-    // When it was made, and the seconds after that in which a search may go on, if there is such a limit.
-    begun: Option<Instant>,
-    seconds: Option<u32>,
+    // The time at which it ends a search, if it may.
+    is_limited: bool,
+    until: Deadline,
     // What it was told so far.
     nodes: u64,
     bound: Option<u128>,
@@ -29,15 +30,20 @@ pub(crate) struct Teller {
 }
 
 impl Teller {
-    pub(crate) fn new(rt: &HostRuntime, is_asked: bool, seconds: Option<u32>) -> Teller {
+    pub(crate) fn new(
+        rt: &HostRuntime,
+        is_asked: bool,
+        is_limited: bool,
+        until: Deadline,
+    ) -> Teller {
         let to = rt.stderr();
         Teller {
             rt: *rt,
             to,
             is_asked,
             is_terminal: to.is_terminal(),
-            begun: Instant::now(rt).ok(),
-            seconds,
+            is_limited,
+            until,
             nodes: 0,
             bound: None,
             last: None,
@@ -46,7 +52,7 @@ impl Teller {
 
     // Whether it is time for a line, which is then the last one. Without a clock it is silent.
     fn is_due(&mut self) -> bool
-        ensures { self.new.seconds ≡ self.old.seconds }
+        ensures { self.new.is_limited ≡ self.old.is_limited }
     {
         let Ok(now) = Instant::now(&self.rt) else {
             return false;
@@ -63,16 +69,6 @@ impl Teller {
         };
         self.last = if is_due { Some(now) } else { self.last };
         is_due
-    }
-
-    // Whether so many seconds have gone since it was made.
-    fn is_over(&self, seconds: u32) -> bool {
-        match (self.begun, Instant::now(&self.rt)) {
-            (Some(begun), Ok(now)) => {
-                now.saturating_duration_since(begun) >= Duration::from_secs(u64::from(seconds))
-            }
-            _ => false,
-        }
     }
 
     // A line, on a terminal in the place of the one before. What can't be written is lost.
@@ -108,7 +104,7 @@ fn tenths_of_percent(bound: Option<u128>, best: Option<u128>) -> Option<u128> {
 }
 
 impl Watch for Teller {
-    ghost may_stop = { λ t. is_some t.seconds };
+    ghost may_stop = { λ t. t.is_limited };
 
     fn node(&mut self, depth: usize, says: Option<u128>, best: Option<u128>) {
         if !self.is_asked {
@@ -128,9 +124,6 @@ impl Watch for Teller {
 
     // Without a clock no time is over.
     fn stops(&mut self) -> bool {
-        match self.seconds {
-            Some(seconds) => self.is_over(seconds),
-            None => false,
-        }
+        self.is_limited && self.until.is_past()
     }
 }

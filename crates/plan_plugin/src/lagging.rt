@@ -4,6 +4,7 @@ ghost use Rattle.plan_rules.specs.Rows.{IfFound};
 ghost use Rattle.own_plan.specs.Made.{IsMade};
 ghost use Rattle.incumbent.specs.Kept.{IsBestSoFar, IsNoWorseBest};
 
+use crate::shares::{FIRST_SHARE, limit};
 use first_plans::candidates;
 use incumbent::keep_within;
 use lagged_plans::{improved_lagged, lagged_plan, plain_model, repaired};
@@ -11,6 +12,7 @@ use lot_model::{Instance, is_plain};
 use plan_rules::Planned;
 use search_ranges::Ranges;
 use std::alloc::{AllocError, Global};
+use work_clock::Deadline;
 
 // The random changes of the walks before the first node are begun with these seeds.
 const FIRST_SEED: u64 = 1;
@@ -31,32 +33,52 @@ const TREE_WORK: u64 = 10_000;
 // The most that a walk may take.
 const MOST_WORK: u64 = 20_000_000;
 
-// What a walk may take, by what it may for each item and period.
-fn work_of(instance: &Instance, each: u64) -> u64 {
+// Of the work of a walk so much is taken to need a millisecond, which is less than it does in one.
+const MILLI_WORK: u64 = 10_000;
+
+// What a walk may take at least, however little time is left.
+const LEAST_WORK: u64 = 1_000_000;
+
+// What a walk may take, by what it may for each item and period, and by the time that is left.
+fn work_of(instance: &Instance, each: u64, until: Deadline) -> u64 {
     let cells = u64::from(instance.items() * instance.periods());
-    cells.saturating_mul(each).min(MOST_WORK)
+    let work = cells.saturating_mul(each).min(MOST_WORK);
+    match until.millis_left() {
+        Some(millis) => work.min(millis.saturating_mul(MILLI_WORK).max(LEAST_WORK)),
+        None => work,
+    }
 }
 
-// Walks from no lots, and keeps what is found, if it lies within the ranges.
+// Walks from no lots where it isn't time to end or there is no plan yet, and keeps what is found, if it lies within the ranges.
 fn walk_anew(
     alloc: Global,
     instance: &Instance,
     ranges: &Ranges,
     seed: u64,
+    until: Deadline,
     best: &mut Option<Planned>,
 ) -> Result<(), AllocError>
     requires { IsBestSoFar instance.now ranges.now best.old }
     ensures { OnOk result (IsNoWorseBest instance.now ranges.now best.new best.old) }
 {
-    let found = lagged_plan(alloc, instance, seed, work_of(instance, FIRST_WORK))?;
+    let until = limit(until, best);
+    if best.is_some() && until.is_past() {
+        return Ok(());
+    }
+    let work = work_of(instance, FIRST_WORK, until);
+    let found = lagged_plan(alloc, instance, seed, work)?;
     keep_within(instance, ranges, best, found);
     Ok(())
 }
 
 // The cheapest one of the plans of a plain model that are made without a search, if there is one.
-fn cheapest_of(alloc: Global, plain: &Instance) -> Result<Option<Planned>, AllocError> {
+fn cheapest_of(
+    alloc: Global,
+    plain: &Instance,
+    until: Deadline,
+) -> Result<Option<Planned>, AllocError> {
     let mut best: Option<Planned> = None;
-    for made in candidates(alloc, plain)? {
+    for made in candidates(alloc, plain, until.first_of(FIRST_SHARE))? {
         let is_cheaper = match &best {
             Some(other) => made.cost < other.cost,
             None => true,
@@ -73,25 +95,32 @@ fn plan_by_plain(
     alloc: Global,
     instance: &Instance,
     plain: &Instance,
+    until: Deadline,
 ) -> Result<Option<Planned>, AllocError>
     ensures { IfFound result (IsMade instance.now) }
 {
-    let work = work_of(instance, FIRST_WORK);
-    match cheapest_of(alloc, plain)? {
-        Some(made) => repaired(alloc, instance, &made.plan.make, FIRST_SEED, work),
+    match cheapest_of(alloc, plain, until)? {
+        Some(made) => {
+            let work = work_of(instance, FIRST_WORK, until);
+            repaired(alloc, instance, &made.plan.make, FIRST_SEED, work)
+        }
         None => Ok(None),
     }
 }
 
 // The same, where the instance isn't plain itself and there is a plain model that says enough of it.
-fn found_by_plain(alloc: Global, instance: &Instance) -> Result<Option<Planned>, AllocError>
+fn found_by_plain(
+    alloc: Global,
+    instance: &Instance,
+    until: Deadline,
+) -> Result<Option<Planned>, AllocError>
     ensures { IfFound result (IsMade instance.now) }
 {
     if is_plain(instance) {
         return Ok(None);
     }
     match plain_model(alloc, instance)? {
-        Some(plain) => plan_by_plain(alloc, instance, &plain),
+        Some(plain) => plan_by_plain(alloc, instance, &plain, until),
         None => Ok(None),
     }
 }
@@ -101,46 +130,55 @@ fn walk_by_plain(
     alloc: Global,
     instance: &Instance,
     ranges: &Ranges,
+    until: Deadline,
     best: &mut Option<Planned>,
 ) -> Result<(), AllocError>
     requires { IsBestSoFar instance.now ranges.now best.old }
     ensures { OnOk result (IsNoWorseBest instance.now ranges.now best.new best.old) }
 {
-    let found = found_by_plain(alloc, instance)?;
+    let found = found_by_plain(alloc, instance, until)?;
     keep_within(instance, ranges, best, found);
     Ok(())
 }
 
-// A cheaper plan that a walk from the best one finds, if there is one.
+// A cheaper plan that a walk from the best one finds, if there is one. It takes so much work for each item and period at most.
 fn lagged_from(
     alloc: Global,
     instance: &Instance,
     best: &Option<Planned>,
     seed: u64,
-    work: u64,
+    each: u64,
+    until: Deadline,
 ) -> Result<Option<Planned>, AllocError>
     requires { IfSome best.now (IsMade instance.now) }
     ensures { IfFound result (IsMade instance.now) }
 {
+    if until.is_past() {
+        return Ok(None);
+    }
     match best {
-        Some(made) => improved_lagged(alloc, instance, made, seed, work),
+        Some(made) => {
+            let work = work_of(instance, each, until);
+            improved_lagged(alloc, instance, made, seed, work)
+        }
         None => Ok(None),
     }
 }
 
-// Walks from the best plan, and keeps what is found, if it lies within the ranges.
+// Walks from the best plan where it isn't time to end, and keeps what is found, if it lies within the ranges.
 fn walk_further(
     alloc: Global,
     instance: &Instance,
     ranges: &Ranges,
     seed: u64,
-    work: u64,
+    each: u64,
+    until: Deadline,
     best: &mut Option<Planned>,
 ) -> Result<(), AllocError>
     requires { IsBestSoFar instance.now ranges.now best.old }
     ensures { OnOk result (IsNoWorseBest instance.now ranges.now best.new best.old) }
 {
-    let found = lagged_from(alloc, instance, best, seed, work)?;
+    let found = lagged_from(alloc, instance, best, seed, each, until)?;
     keep_within(instance, ranges, best, found);
     Ok(())
 }
@@ -150,13 +188,14 @@ fn walk_twice(
     alloc: Global,
     instance: &Instance,
     ranges: &Ranges,
+    until: Deadline,
     best: &mut Option<Planned>,
 ) -> Result<(), AllocError>
     requires { IsBestSoFar instance.now ranges.now best.old }
     ensures { OnOk result (IsNoWorseBest instance.now ranges.now best.new best.old) }
 {
-    walk_anew(alloc, instance, ranges, FIRST_SEED, best)?;
-    walk_anew(alloc, instance, ranges, SECOND_SEED, best)
+    walk_anew(alloc, instance, ranges, FIRST_SEED, until, best)?;
+    walk_anew(alloc, instance, ranges, SECOND_SEED, until, best)
 }
 
 /// Walks from no lots and from the best plan, and keeps what is found, if it lies within the ranges.
@@ -164,15 +203,16 @@ pub(crate) fn lag_at_start(
     alloc: Global,
     instance: &Instance,
     ranges: &Ranges,
+    until: Deadline,
     best: &mut Option<Planned>,
 ) -> Result<(), AllocError>
     requires { IsBestSoFar instance.now ranges.now best.old }
     ensures { OnOk result (IsNoWorseBest instance.now ranges.now best.new best.old) }
 {
-    walk_by_plain(alloc, instance, ranges, best)?;
-    walk_twice(alloc, instance, ranges, best)?;
-    let work = work_of(instance, FIRST_WORK);
-    walk_further(alloc, instance, ranges, THIRD_SEED, work, best)
+    walk_by_plain(alloc, instance, ranges, until, best)?;
+    walk_twice(alloc, instance, ranges, until, best)?;
+    let end = limit(until, best);
+    walk_further(alloc, instance, ranges, THIRD_SEED, FIRST_WORK, end, best)
 }
 
 /// Walks from the best plan once more before the first node.
@@ -180,13 +220,14 @@ pub(crate) fn lag_after_programs(
     alloc: Global,
     instance: &Instance,
     ranges: &Ranges,
+    until: Deadline,
     best: &mut Option<Planned>,
 ) -> Result<(), AllocError>
     requires { IsBestSoFar instance.now ranges.now best.old }
     ensures { OnOk result (IsNoWorseBest instance.now ranges.now best.new best.old) }
 {
-    let work = work_of(instance, LAST_WORK);
-    walk_further(alloc, instance, ranges, LAST_SEED, work, best)
+    let end = limit(until, best);
+    walk_further(alloc, instance, ranges, LAST_SEED, LAST_WORK, end, best)
 }
 
 /// Walks from the best plan in the tree.
@@ -195,17 +236,11 @@ pub(crate) fn lag_in_tree(
     instance: &Instance,
     ranges: &Ranges,
     seed: u64,
+    until: Deadline,
     best: &mut Option<Planned>,
 ) -> Result<(), AllocError>
     requires { IsBestSoFar instance.now ranges.now best.old }
     ensures { OnOk result (IsNoWorseBest instance.now ranges.now best.new best.old) }
 {
-    walk_further(
-        alloc,
-        instance,
-        ranges,
-        seed,
-        work_of(instance, TREE_WORK),
-        best,
-    )
+    walk_further(alloc, instance, ranges, seed, TREE_WORK, until, best)
 }

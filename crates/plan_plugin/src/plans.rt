@@ -13,10 +13,14 @@ use price_rounds::Average;
 use search_plugins::Heuristic;
 use search_ranges::{Ranges, least_grid};
 use std::alloc::{AllocError, Global};
+use work_clock::Deadline;
 
 /// Plans without a search, with the setups that rounds of prices want, and with those that are chosen.
-#[derive(Clone, Copy, Debug)]
-pub struct Plans;
+#[derive(Clone, Copy)]
+pub struct Plans {
+    /// When work on plans is to end, where the search ends by a clock.
+    pub until: Deadline,
+}
 
 impl Heuristic<Average> for Plans {
     type State = Effort;
@@ -33,7 +37,7 @@ impl Heuristic<Average> for Plans {
         _state: &mut Effort,
         best: &mut Option<Planned>,
     ) -> Result<(), AllocError> {
-        try_at_start(alloc, instance, ranges, best)
+        try_at_start(alloc, instance, ranges, self.until, best)
     }
 
     fn by_hint(
@@ -45,7 +49,7 @@ impl Heuristic<Average> for Plans {
         state: &mut Effort,
         best: &mut Option<Planned>,
     ) -> Result<(), AllocError> {
-        try_average(alloc, instance, ranges, hint, state, best)
+        try_average(alloc, instance, ranges, hint, state, self.until, best)
     }
 
     fn at_node(

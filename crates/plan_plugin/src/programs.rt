@@ -9,12 +9,14 @@ ghost use Rattle.search_ranges.specs.Within.{HaveShape};
 
 use crate::effort::Effort;
 use crate::lagging::lag_in_tree;
+use crate::shares::limit;
 use fixed_setups::{planned, plunged, walked};
 use incumbent::keep_within;
 use lot_model::Instance;
 use plan_rules::{Grid, Planned};
 use search_ranges::Ranges;
 use std::alloc::{AllocError, Global};
+use work_clock::Deadline;
 
 // What a program takes is counted as the square of items times periods, and so much is what those of a walk may take: at the
 // root, and in the tree. `effort` says what those may take whose setups are wanted.
@@ -50,16 +52,17 @@ fn first_plan(
     alloc: Global,
     instance: &Instance,
     ranges: &Ranges,
+    until: Deadline,
 ) -> Result<Option<Planned>, AllocError>
     requires { HaveShape instance.now ranges.now }
     ensures { IfFound result (IsMade instance.now) }
 {
     let high = &ranges.setup_high;
-    if let Some(found) = planned(alloc, instance, high, high)? {
+    if let Some(found) = planned(alloc, instance, high, high, until)? {
         return Ok(Some(found));
     }
     let nodes = programs_for(instance, PLUNGE_WORK, MOST_NODES);
-    plunged(alloc, instance, &ranges.setup_low, high, nodes)
+    plunged(alloc, instance, &ranges.setup_low, high, nodes, until)
 }
 
 // The best plan that a walk finds from the best one, if there is one.
@@ -69,13 +72,17 @@ fn walked_from(
     best: &Option<Planned>,
     seed: u64,
     work: u64,
+    until: Deadline,
 ) -> Result<Option<Planned>, AllocError>
     requires { IfSome best.now (IsMade instance.now) }
     ensures { IfFound result (IsMade instance.now) }
 {
+    if until.is_past() {
+        return Ok(None);
+    }
     let tries = programs_for(instance, work, MOST_CHANGES);
     match best {
-        Some(made) => walked(alloc, instance, made, seed, tries),
+        Some(made) => walked(alloc, instance, made, seed, tries, until),
         None => Ok(None),
     }
 }
@@ -87,12 +94,13 @@ fn walk(
     ranges: &Ranges,
     seed: u64,
     work: u64,
+    until: Deadline,
     best: &mut Option<Planned>,
 ) -> Result<(), AllocError>
     requires { IsBestSoFar instance.now ranges.now best.old }
     ensures { OnOk result (IsNoWorseBest instance.now ranges.now best.new best.old) }
 {
-    let found = walked_from(alloc, instance, best, seed, work)?;
+    let found = walked_from(alloc, instance, best, seed, work, until)?;
     keep_within(instance, ranges, best, found);
     Ok(())
 }
@@ -102,15 +110,16 @@ pub(crate) fn look(
     alloc: Global,
     instance: &Instance,
     ranges: &Ranges,
+    until: Deadline,
     best: &mut Option<Planned>,
 ) -> Result<(), AllocError>
     requires { IsBestSoFar instance.now ranges.now best.old }
     ensures { OnOk result (IsNoWorseBest instance.now ranges.now best.new best.old) }
 {
-    if best.is_some() {
+    if best.is_some() || until.is_past() {
         return Ok(());
     }
-    let found = first_plan(alloc, instance, ranges)?;
+    let found = first_plan(alloc, instance, ranges, until)?;
     keep_within(instance, ranges, best, found);
     Ok(())
 }
@@ -120,12 +129,14 @@ pub(crate) fn walk_at_start(
     alloc: Global,
     instance: &Instance,
     ranges: &Ranges,
+    until: Deadline,
     best: &mut Option<Planned>,
 ) -> Result<(), AllocError>
     requires { IsBestSoFar instance.now ranges.now best.old }
     ensures { OnOk result (IsNoWorseBest instance.now ranges.now best.new best.old) }
 {
-    walk(alloc, instance, ranges, SEED, ROOT_WORK, best)
+    let end = limit(until, best);
+    walk(alloc, instance, ranges, SEED, ROOT_WORK, end, best)
 }
 
 /// Plans by the program with these setups, while there is room for the work, and keeps the better plan, if it lies within the
@@ -136,16 +147,17 @@ pub(crate) fn try_program(
     ranges: &Ranges,
     wanted: &Grid,
     effort: &mut Effort,
+    until: Deadline,
     best: &mut Option<Planned>,
 ) -> Result<(), AllocError>
     requires wanted { Fits instance.now wanted.now }
     requires best { IsBestSoFar instance.now ranges.now best.old }
     ensures { OnOk result (IsNoWorseBest instance.now ranges.now best.new best.old) }
 {
-    if !effort.takes_programs(work_of(instance)) {
+    if until.is_past() || !effort.takes_programs(work_of(instance)) {
         return Ok(());
     }
-    let found = planned(alloc, instance, wanted, wanted)?;
+    let found = planned(alloc, instance, wanted, wanted, until)?;
     keep_within(instance, ranges, best, found);
     Ok(())
 }
@@ -156,6 +168,7 @@ pub(crate) fn try_walk(
     instance: &Instance,
     ranges: &Ranges,
     effort: &mut Effort,
+    until: Deadline,
     best: &mut Option<Planned>,
 ) -> Result<(), AllocError>
     requires { IsBestSoFar instance.now ranges.now best.old }
@@ -163,8 +176,8 @@ pub(crate) fn try_walk(
 {
     match effort.next_walk() {
         Some(seed) => {
-            walk(alloc, instance, ranges, seed, TREE_WORK, best)?;
-            lag_in_tree(alloc, instance, ranges, seed, best)
+            walk(alloc, instance, ranges, seed, TREE_WORK, until, best)?;
+            lag_in_tree(alloc, instance, ranges, seed, until, best)
         }
         None => Ok(()),
     }

@@ -6,24 +6,27 @@ ghost use Rattle.search_ranges.specs.Within.{HaveShape, given_ranges};
 
 use crate::lagging::{lag_after_programs, lag_at_start};
 use crate::programs::{look, walk_at_start};
+use crate::shares::FIRST_SHARE;
 use first_plans::candidates;
 use incumbent::keep_within;
 use lot_model::Instance;
 use plan_rules::Planned;
 use search_ranges::Ranges;
 use std::alloc::{AllocError, Global};
+use work_clock::Deadline;
 
 // The best plan within the ranges of those that are made without a search, the later ones of the list first.
 fn best_candidate(
     alloc: Global,
     instance: &Instance,
     ranges: &Ranges,
+    until: Deadline,
 ) -> Result<Option<Planned>, AllocError>
     requires { HaveShape instance.now ranges.now }
     ensures { IfFound result (IsMadeWithin instance.now (given_ranges ranges.now)) }
 {
     let mut best = None;
-    let mut list = candidates(alloc, instance)?;
+    let mut list = candidates(alloc, instance, until.first_of(FIRST_SHARE))?;
     while let Some(made) = list.pop() {
         keep_within(instance, ranges, &mut best, Some(made));
     }
@@ -35,12 +38,13 @@ fn keep_candidate(
     alloc: Global,
     instance: &Instance,
     ranges: &Ranges,
+    until: Deadline,
     best: &mut Option<Planned>,
 ) -> Result<(), AllocError>
     requires { IsBestSoFar instance.now ranges.now best.old }
     ensures { OnOk result (IsNoWorseBest instance.now ranges.now best.new best.old) }
 {
-    let found = best_candidate(alloc, instance, ranges)?;
+    let found = best_candidate(alloc, instance, ranges, until)?;
     let before = best.take();
     *best = found;
     keep_within(instance, ranges, best, before);
@@ -52,18 +56,20 @@ fn walk_from_best(
     alloc: Global,
     instance: &Instance,
     ranges: &Ranges,
+    until: Deadline,
     best: &mut Option<Planned>,
 ) -> Result<(), AllocError>
     requires { IsBestSoFar instance.now ranges.now best.old }
     ensures { OnOk result (IsNoWorseBest instance.now ranges.now best.new best.old) }
 {
-    walk_at_start(alloc, instance, ranges, best)?;
-    lag_after_programs(alloc, instance, ranges, best)
+    walk_at_start(alloc, instance, ranges, until, best)?;
+    lag_after_programs(alloc, instance, ranges, until, best)
 }
 
 /// Plans before the first node: those that are made without a search, walks over the lots of items, where there is no plan yet one
 /// by the program with all setups or by a plunge, and walks from the best one, over setups and once more over lots. The best plan,
-/// with its cost in money, is kept, of those that lie within the ranges.
+/// with its cost in money, is kept, of those that lie within the ranges. Where there is a time at which the search ends, a half of it is
+/// taken at most once there is a plan.
 ///
 /// The ranges have a number for each item and period of the instance, and the best plan so far lies within them. The error is
 /// that memory ran out; it takes memory for the plans and for a tableau.
@@ -71,13 +77,14 @@ pub(crate) fn try_at_start(
     alloc: Global,
     instance: &Instance,
     ranges: &Ranges,
+    until: Deadline,
     best: &mut Option<Planned>,
 ) -> Result<(), AllocError>
     requires { IsBestSoFar instance.now ranges.now best.old }
     ensures { OnOk result (IsNoWorseBest instance.now ranges.now best.new best.old) }
 {
-    keep_candidate(alloc, instance, ranges, best)?;
-    lag_at_start(alloc, instance, ranges, best)?;
-    look(alloc, instance, ranges, best)?;
-    walk_from_best(alloc, instance, ranges, best)
+    keep_candidate(alloc, instance, ranges, until, best)?;
+    lag_at_start(alloc, instance, ranges, until, best)?;
+    look(alloc, instance, ranges, until, best)?;
+    walk_from_best(alloc, instance, ranges, until, best)
 }

@@ -17,6 +17,7 @@ use price_rounds::Average;
 use priced_items::numbers::ONE;
 use search_ranges::Ranges;
 use std::alloc::{AllocError, Global};
+use work_clock::Deadline;
 
 // How often all changes of a plan are tried: of one that is near the best.
 const SWEEPS: u32 = 2;
@@ -159,23 +160,24 @@ fn try_setups(
     average: &Average,
     least: i128,
     effort: &mut Effort,
+    until: Deadline,
     best: &mut Option<Planned>,
 ) -> Result<(), AllocError>
     requires { IsBestSoFar instance.now ranges.now best.old }
     ensures { OnOk result (IsNoWorseBest instance.now ranges.now best.new best.old) }
 {
-    if !effort.remember(mark_of(instance, average, least))? {
+    if until.is_past() || !effort.remember(mark_of(instance, average, least))? {
         return Ok(());
     }
     let wanted = wanted_of(alloc, instance, average, least)?;
     let found = built_near(alloc, instance, &wanted, effort, best)?;
     keep_within(instance, ranges, best, found);
-    try_program(alloc, instance, ranges, &wanted, effort, best)
+    try_program(alloc, instance, ranges, &wanted, effort, until, best)
 }
 
 /// Makes plans with the setups that are made in more than a half of the rounds of prices, and in more than a fifth, where there
 /// is still room for it and these setups weren't tried, and keeps the best plan, with its cost in money, of those that lie
-/// within the ranges. Once in a while it walks from that.
+/// within the ranges. Once in a while it walks from that. When it is time to end it makes no more.
 ///
 /// `average` says how often each item is set up in each period, on the average of the rounds. The ranges have a number for each
 /// item and period of the instance, and the best plan so far lies within them. The error is that memory ran out; it takes memory
@@ -186,12 +188,13 @@ pub(crate) fn try_average(
     ranges: &Ranges,
     average: &Average,
     effort: &mut Effort,
+    until: Deadline,
     best: &mut Option<Planned>,
 ) -> Result<(), AllocError>
     requires { IsBestSoFar instance.now ranges.now best.old }
     ensures { OnOk result (IsNoWorseBest instance.now ranges.now best.new best.old) }
 {
-    try_setups(alloc, instance, ranges, average, HALF, effort, best)?;
-    try_setups(alloc, instance, ranges, average, FIFTH, effort, best)?;
-    try_walk(alloc, instance, ranges, effort, best)
+    try_setups(alloc, instance, ranges, average, HALF, effort, until, best)?;
+    try_setups(alloc, instance, ranges, average, FIFTH, effort, until, best)?;
+    try_walk(alloc, instance, ranges, effort, until, best)
 }

@@ -5,7 +5,7 @@
 //! of nodes; its work at a node, `Round`, the rounds there; its hint to who proposes plans is the `Average` over the rounds.
 //!
 //! Family: plugins. It stands on `search_plugins`, whose trait it implements, on `priced_leaves` for prices, rounds and the leaves
-//! of them, and on `node_splits` for notes and branches; `lotplan_main` names it, and nothing of the search stands on it.
+//! of them, on `node_splits` for notes and branches, and on `work_clock` for the time; `lotplan_main` names it, and nothing of the search stands on it.
 #![tactic(auto)]
 
 mod prices;

@@ -17,6 +17,7 @@ use priced_leaves::{
 };
 use search_plugins::{Progress, Proposed, Proposer};
 use std::alloc::{AllocError, Global};
+use work_clock::Deadline;
 
 // At the root so many times so many rounds are made, with plans in between; at another node once.
 const ROOT_TIMES: u32 = 20;
@@ -55,8 +56,11 @@ pub struct Round {
 
 /// Leaves by rounds of prices: at the root up to 300 in 20 times, with plans in between, from the split of the holding costs;
 /// at a node below up to 40 and some more, from what those of the node above came to.
-#[derive(Clone, Copy, Debug)]
-pub struct Prices;
+#[derive(Clone, Copy)]
+pub struct Prices {
+    /// When rounds are to end, and branches to be tried, where the search ends by a clock.
+    pub until: Deadline,
+}
 
 // The rounds at a node, from what those of the node above came to or from the first prices.
 fn first_rounds(
@@ -114,7 +118,7 @@ fn came_closer(before: Option<i128>, after: Option<i128>) -> bool {
     }
 }
 
-// Makes rounds, and some more at a node below the root while they come to much more.
+// Makes rounds, and some more at a node below the root while they come to much more and it isn't time to end.
 fn go_further(
     alloc: Global,
     instance: &Instance,
@@ -123,6 +127,7 @@ fn go_further(
     rounds: &mut Rounds,
     fixed: &Fixed,
     cost: Option<u128>,
+    until: Deadline,
 ) -> Result<Reached, AllocError> {
     let count = count_at(instance, node);
     let times = if node.path.is_empty() { 1 } else { NODE_TIMES };
@@ -132,7 +137,7 @@ fn go_further(
             Reached::Open => {}
             reached => return Ok(reached),
         }
-        if !came_closer(before, lack(rounds, cost)) {
+        if !came_closer(before, lack(rounds, cost)) || until.is_past() {
             break;
         }
     }
@@ -286,9 +291,14 @@ impl Proposer for Prices {
         state: &Pricings,
         work: &mut Round,
     ) -> Result<Progress, AllocError> {
+        let until = self.until;
+        if until.is_past() {
+            return Ok(Progress::Done);
+        }
         let rounds = &mut work.rounds;
         let fixed = &work.fixed;
-        match go_further(alloc, instance, &state.pricing, node, rounds, fixed, cost)? {
+        let pricing = &state.pricing;
+        match go_further(alloc, instance, pricing, node, rounds, fixed, cost, until)? {
             Reached::Open => Ok(Progress::Open),
             Reached::Closed => Ok(Progress::Done),
             Reached::Refuted => {
@@ -336,7 +346,11 @@ impl Proposer for Prices {
         let Round { rounds, fixed, .. } = work;
         let mut held = fixed;
         let pricing = &state.pricing;
-        let choice = branch_at(alloc, instance, pricing, node, &rounds, &mut held, cost)?;
+        let choice = if self.until.is_past() {
+            None
+        } else {
+            branch_at(alloc, instance, pricing, node, &rounds, &mut held, cost)?
+        };
         Ok(Some(note_of(&mut state.notes, rounds, choice)?))
     }
 

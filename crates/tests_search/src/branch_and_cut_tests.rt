@@ -10,6 +10,7 @@ use price_plugin::Prices;
 use search_plugins::{Heuristic, Nothing, Proposer, Watch};
 use std::alloc::Global;
 use std::test::Fail;
+use work_clock::Deadline;
 
 // One item on a resource of this capacity.
 fn model(alloc: Global, periods: u32, demand: &[i64], capacity: i64) -> Result<Instance, Fail> {
@@ -134,7 +135,16 @@ fn a_best_plan_is_found(rt: HostRuntime) -> Result<(), Fail> {
 #[test]
 fn a_best_plan_is_found_by_prices(rt: HostRuntime) -> Result<(), Fail> {
     let alloc = rt.alloc();
-    let (found, nodes) = found_by(alloc, &Prices, &Plans, 2, &[2, 8], 6, 1_000)?;
+    let until = Deadline::none();
+    let (found, nodes) = found_by(
+        alloc,
+        &Prices { until },
+        &Plans { until },
+        2,
+        &[2, 8],
+        6,
+        1_000,
+    )?;
     let claim = found.certificate.claim;
     assert_eq!(rt; (claim, made(&found)?), (Claim::Optimal(23), (5, 5)));
     assert_eq!(rt; nodes, found.nodes);

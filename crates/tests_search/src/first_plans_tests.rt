@@ -9,6 +9,7 @@ use lot_model::Instance;
 use plan_rules::{Grid, Plan, Planned};
 use std::alloc::{AllocError, Global};
 use std::test::Fail;
+use work_clock::Deadline;
 
 // An item with a setup of 5, 2 a unit, and 1 a unit in stock.
 const MADE: Item<'static> = Item {
@@ -101,7 +102,7 @@ fn lots_without_time_have_no_plan(rt: HostRuntime) -> Result<(), Fail> {
 // The costs of the candidates.
 fn costs(alloc: Global, instance: &Instance) -> Result<Vec<u128>, AllocError> {
     let mut list = Vec::new(alloc);
-    for found in candidates(alloc, instance)? {
+    for found in candidates(alloc, instance, Deadline::none())? {
         list.push(found.cost)?;
     }
     Ok(list)
@@ -285,7 +286,7 @@ fn costs_by_families(alloc: Global, minutes: i64) -> Result<(u128, u128), Fail> 
     let instance = boards_and_beams(alloc, minutes)?;
     let own = own_period_plan(alloc, &instance)?.ok_or("no plan")?;
     let cost = own.cost;
-    let better = improved_by_families(alloc, &instance, own)?;
+    let better = improved_by_families(alloc, &instance, own, Deadline::none())?;
     Ok((cost, better.cost))
 }
 

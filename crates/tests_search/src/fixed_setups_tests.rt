@@ -7,6 +7,7 @@ use lot_model::Instance;
 use plan_rules::{Grid, Planned};
 use std::alloc::{AllocError, Global};
 use std::test::Fail;
+use work_clock::Deadline;
 
 // The item of the shop on a resource of this capacity.
 fn model(alloc: Global, capacity: i64) -> Result<Instance, Fail> {
@@ -41,7 +42,7 @@ fn cost_between(
 ) -> Result<u128, AllocError> {
     let low = filled(alloc, instance, low)?;
     let high = filled(alloc, instance, high)?;
-    Ok(cost_of(&planned(alloc, instance, &low, &high)?))
+    Ok(cost_of(&planned(alloc, instance, &low, &high, Deadline::none())?))
 }
 
 // What plans cost by the programs where each setup is 1, where it is 0 or 1, and where it is 0.
@@ -56,7 +57,7 @@ fn costs(alloc: Global, instance: &Instance) -> Result<(u128, u128, u128), Alloc
 fn cost_by_plunge(alloc: Global, instance: &Instance, nodes: u32) -> Result<u128, AllocError> {
     let low = filled(alloc, instance, 0)?;
     let high = filled(alloc, instance, 1)?;
-    Ok(cost_of(&plunged(alloc, instance, &low, &high, nodes)?))
+    Ok(cost_of(&plunged(alloc, instance, &low, &high, nodes, Deadline::none())?))
 }
 
 // Both periods make 5 units, of which 3 are held; a plunge finds no other plan, since there is none.
@@ -72,8 +73,8 @@ fn programs_plan_the_quantities(rt: HostRuntime) -> Result<(), Fail> {
 // What the plan costs in which each setup is 1, and what a walk from it finds.
 fn costs_of_walk(alloc: Global, instance: &Instance) -> Result<(u128, u128), Fail> {
     let all = filled(alloc, instance, 1)?;
-    let found = planned(alloc, instance, &all, &all)?.ok_or("no plan")?;
-    let cheaper = walked(alloc, instance, &found, 1, 20)?;
+    let found = planned(alloc, instance, &all, &all, Deadline::none())?.ok_or("no plan")?;
+    let cheaper = walked(alloc, instance, &found, 1, 20, Deadline::none())?;
     Ok((found.cost, cost_of(&cheaper)))
 }
 
