@@ -174,7 +174,7 @@ fn on_model_read<S: Shelf>(
             on_plan_file(alloc, instance, files, printed, shelf)
         }
         ("rejected", _) => on_certificate_file(alloc, files, printed, shelf),
-        _ => words_on_answer(alloc, instance, files.plan, printed, seen.course),
+        _ => words_on_answer(alloc, instance, files.plan, printed, seen.course, files.gap),
     }
 }
 
@@ -235,6 +235,7 @@ fn on_replanned<'a, S: Shelf>(
                 plan: later.1,
                 other: files.other,
                 later: None,
+                gap: None,
             };
             on_printed(alloc, files, printed, seen, shelf)
         }

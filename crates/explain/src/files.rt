@@ -20,6 +20,8 @@ pub(crate) struct Files<'a> {
     pub(crate) other: &'a str,
     /// The model file and the plan file of the later periods, where first ones stay.
     pub(crate) later: Option<(&'a str, &'a str)>,
+    /// The gap at which the search may end, in hundredths of a percent of the cost.
+    pub(crate) gap: Option<u32>,
 }
 
 // The plan file of a plan that what was printed is about: where it names a fault of one, the file to start from.
@@ -38,42 +40,49 @@ fn files_of<'a>(command: Command<'a>, printed: &str) -> Option<Files<'a>> {
             plan: planned_file(names, search, printed),
             other: names.certificate,
             later: None,
+            gap: search.gap,
         }),
         Command::Check(names) => Some(Files {
             model: names.model,
             plan: names.plan,
             other: names.certificate,
             later: None,
+            gap: None,
         }),
         Command::Judge(names) | Command::Report { names, .. } => Some(Files {
             model: names.model,
             plan: names.plan,
             other: "",
             later: None,
+            gap: None,
         }),
         Command::Schedule(names) | Command::CheckSchedule(names) => Some(Files {
             model: names.model,
             plan: names.plan,
             other: names.schedule,
             later: None,
+            gap: None,
         }),
         Command::Peg(names) => Some(Files {
             model: names.model,
             plan: names.plan,
             other: "",
             later: None,
+            gap: None,
         }),
         Command::Draw { names, certificate } => Some(Files {
             model: names.model,
             plan: names.plan,
             other: certificate.unwrap_or(""),
             later: None,
+            gap: None,
         }),
         Command::Replan { names, .. } => Some(Files {
             model: names.model,
             plan: names.plan,
             other: names.certificate,
             later: Some((names.next_model, names.next_plan)),
+            gap: None,
         }),
         // What is completed is a table, and no plan file that words on plans could be about.
         Command::Complete(names) => Some(Files {
@@ -81,18 +90,21 @@ fn files_of<'a>(command: Command<'a>, printed: &str) -> Option<Files<'a>> {
             plan: "",
             other: "",
             later: None,
+            gap: None,
         }),
         Command::Upgrade(names) => Some(Files {
             model: names.model,
             plan: "",
             other: "",
             later: None,
+            gap: None,
         }),
         Command::Bound(model) => Some(Files {
             model,
             plan: "",
             other: "",
             later: None,
+            gap: None,
         }),
         Command::Name | Command::Generate { .. } | Command::Demo(_) => None,
     }

@@ -1,6 +1,6 @@
 // Words on a command line that was refused by `refused words`.
 
-use command_line::LARGEST_BUDGET;
+use command_line::{LARGEST_BUDGET, LARGEST_SECONDS};
 use explain_lookup::plain;
 use instance_reader::FIRST_VERSION_PERIODS;
 use lot_sizing::limits::MAX_ITEMS;
@@ -18,6 +18,19 @@ const NODES: Bounds = Bounds {
     what: "The number behind `--nodes`",
     least: 1,
     most: LARGEST_BUDGET,
+};
+
+const SECONDS: Bounds = Bounds {
+    what: "The number behind `--seconds`",
+    least: 1,
+    most: LARGEST_SECONDS,
+};
+
+// The whole part of a percentage.
+const PERCENT: Bounds = Bounds {
+    what: "The percentage",
+    least: 0,
+    most: 100,
 };
 
 const SEED: Bounds = Bounds {
@@ -92,32 +105,73 @@ fn plain_words<'a>(alloc: Global, words: &'a [String]) -> Result<Vec<&'a str>, A
     Ok(found)
 }
 
-// The numbers that options take, by their names.
-fn bounds_of_option(name: &str) -> Option<Bounds> {
+// What an option takes: a whole number, or a percentage.
+#[derive(Clone, Copy)]
+enum Form {
+    Whole(Bounds),
+    Percent,
+}
+
+// What options take, by their names.
+fn form_of(name: &str) -> Option<Form> {
     match name {
-        "--nodes" => Some(NODES),
+        "--nodes" => Some(Form::Whole(NODES)),
+        "--seconds" => Some(Form::Whole(SECONDS)),
+        "--gap" => Some(Form::Percent),
         _ => None,
     }
 }
 
-// Words on the value of an option that stands in one word with it, where that is out of its bounds.
+// Whether a text is a percentage of at most 100 with a whole part and these decimals.
+fn is_percentage(whole: &str, decimals: &str) -> bool {
+    let are_digits = decimals.bytes().all(|byte| byte.is_ascii_digit());
+    let is_in = whole != "100" || decimals.bytes().all(|byte| byte == b'0');
+    let length = decimals.len();
+    is_within(whole, PERCENT) && is_in && are_digits && 1 <= length && length <= 2
+}
+
+// Words on a percentage that isn't one, or is too large; none where it is.
+fn on_percentage(alloc: Global, word: &str) -> Result<Option<String>, AllocError> {
+    let is_one = match word.split_once('.') {
+        Some((whole, decimals)) => is_percentage(whole, decimals),
+        None => is_within(word, PERCENT),
+    };
+    if is_one {
+        return Ok(None);
+    }
+    let shown = plain(alloc, word)?;
+    let words = format!(in alloc;
+        "The number behind `--gap` is a percentage from 0 to 100, with one or two digits behind a point or none; `{shown}` stands there.\n"
+    )?;
+    Ok(Some(words))
+}
+
+// Words on the value of an option that isn't what it takes; none where it is.
+fn on_value(alloc: Global, word: &str, form: Form) -> Result<Option<String>, AllocError> {
+    match form {
+        Form::Whole(bounds) => on_number(alloc, word, bounds),
+        Form::Percent => on_percentage(alloc, word),
+    }
+}
+
+// Words on the value of an option that stands in one word with it, where it isn't what the option takes.
 fn on_joined(alloc: Global, word: &str) -> Result<Option<String>, AllocError> {
     let Some((name, value)) = word.split_once('=') else {
         return Ok(None);
     };
-    match bounds_of_option(name) {
-        Some(bounds) => on_number(alloc, value, bounds),
+    match form_of(name) {
+        Some(form) => on_value(alloc, value, form),
         None => Ok(None),
     }
 }
 
-// Words on the first value of an option that is out of its bounds.
+// Words on the first value that isn't what its option takes.
 fn on_options(alloc: Global, words: &[String]) -> Result<Option<String>, AllocError> {
     let mut before = "";
     for word in words {
         let word = word.as_str();
-        let found = match bounds_of_option(before) {
-            Some(bounds) => on_number(alloc, word, bounds)?,
+        let found = match form_of(before) {
+            Some(form) => on_value(alloc, word, form)?,
             None => on_joined(alloc, word)?,
         };
         if found.is_some() {

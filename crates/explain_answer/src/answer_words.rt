@@ -81,11 +81,10 @@ fn on_open(
     file: &str,
     printed: &str,
     course: Option<Course>,
+    gap: Option<u32>,
 ) -> Result<String, AllocError> {
-    let line = line_with(printed, "undecided");
-    let has_plan = number_at(line, 3).is_some();
-    let mut words = on_undecided(alloc, file, line)?;
-    words.push_str(on_nodes(alloc, printed, has_plan, course)?.as_str())?;
+    let mut words = on_undecided(alloc, file, line_with(printed, "undecided"))?;
+    words.push_str(on_nodes(alloc, file, printed, course, gap)?.as_str())?;
     words.push_str(on_root(line_with(printed, "root")))?;
     Ok(words)
 }
@@ -93,7 +92,8 @@ fn on_open(
 /// Words on an answer: `infeasible`, `undecided ..` with the lines above it, what `bound` prints where it has no bound, and
 /// `accepted ..` of a certificate that claims no plan's cost; none where what was printed says nothing of these.
 ///
-/// `file` is the plan file of the command, and `course` how its search went, where that is known. A reason why there is no plan is one that a single item or resource shows: too
+/// `file` is the plan file of the command, `course` how its search went, where that is known, and `gap` the gap that it asked for, in
+/// hundredths of a percent of the cost. A reason why there is no plan is one that a single item or resource shows: too
 /// much opening stock, too long a lead time, a least lot without room, too little time on a resource up to some period.
 /// It takes time in the number of items times that of periods times those of items and resources.
 pub fn words_on_answer(
@@ -102,11 +102,12 @@ pub fn words_on_answer(
     file: &str,
     printed: &str,
     course: Option<Course>,
+    gap: Option<u32>,
 ) -> Result<String, AllocError> {
     let name = plain(alloc, file)?;
     let file = name.as_str();
     if !line_with(printed, "undecided").is_empty() {
-        return on_open(alloc, file, printed, course);
+        return on_open(alloc, file, printed, course, gap);
     }
     if !line_with(printed, "infeasible").is_empty() {
         let mut words = on_infeasible(alloc, instance)?;

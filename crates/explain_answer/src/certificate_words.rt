@@ -33,7 +33,7 @@ fn claims_no_cost(bytes: &[u8]) -> bool {
 fn meaning(code: &str) -> &'static str {
     match code {
         "C1" => {
-            "A certificate begins with a line `lotcert 1` or `lotcert 2`, one with its claim, and one with the number of its cuts. The file is none, or was changed by hand.\nPlan again.\n"
+            "A certificate begins with a line `lotcert 1`, `lotcert 2` or `lotcert 3`, one with its claim, and one with the number of its cuts. The file is none, or was changed by hand.\nPlan again.\n"
         }
         "C2" => {
             "No line of a certificate looks like this. The file is cut off, or was changed by hand.\nPlan again.\n"
@@ -60,6 +60,8 @@ fn meaning(code: &str) -> &'static str {
         "C9" =>
             "The potentials rise by more than the block costs: the certificate proves nothing of this model.\nMostly the model was changed since. Plan again.\n",
         "C10" => "Its numbers add up to 2^127 or more: the certificate can't be checked.\n",
+        "C15" =>
+            "Finding the number of the group is past the limits of work: the certificate can't be checked.\n",
         _ => "",
     }
 }

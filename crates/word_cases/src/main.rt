@@ -43,7 +43,7 @@ fn word_behind<'a>(text: &'a str, wanted: &str) -> Option<&'a str> {
     words.next()
 }
 
-// What was seen of a run: `nodes N bound N plan N` of its search, or `output NAME same NAME`.
+// What was seen of a run: `nodes N bound N plan N` of its search, and `over` where the time ended it, or `output NAME same NAME`.
 fn seen_of(text: &str) -> Seen<'_> {
     Seen {
         same: word_behind(text, "output").zip(word_behind(text, "same")),
@@ -51,6 +51,7 @@ fn seen_of(text: &str) -> Seen<'_> {
             nodes,
             bound_since: number_behind(text, "bound"),
             plan_since: number_behind(text, "plan"),
+            is_over: text.split_whitespace().any(|word| word == "over"),
         }),
     }
 }
