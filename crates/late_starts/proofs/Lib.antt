@@ -1,0 +1,11 @@
+pub mod Solving
+pub mod Starts
+pub mod Shortfalls
+pub mod Covering
+pub mod Places
+pub mod Filling
+pub mod Loading
+pub mod Choosing
+pub mod Servers
+pub mod Serving
+pub mod Tabling
