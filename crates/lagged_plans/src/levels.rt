@@ -1,6 +1,6 @@
 // How much may have been made of an item so far: the levels that its recursion knows.
 use crate::shop::{FAR, Product};
-use priced_items::numbers::{at, less, plus};
+use integer_grids::numbers::{at, less, plus};
 use std::alloc::{AllocError, Global};
 
 /// Which levels are wanted.

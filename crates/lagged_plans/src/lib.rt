@@ -9,7 +9,7 @@
 //! `plain_model` is a model of plain items whose plans are such lots.
 //!
 //! Family: plugins. It stands on `lot_model`, on `plan_rules`, which judges what comes out, on `own_plan`, by whose definitions a
-//! plan is a feasible one, on `priced_items` for grids of numbers with a sign, and on `rand_pcg`; `plan_plugin` stands on it.
+//! plan is a feasible one, on `integer_grids` for grids of numbers with a sign, and on `rand_pcg`; `plan_plugin` stands on it.
 #![tactic(auto)]
 
 mod drawing;

@@ -1,7 +1,7 @@
 // A plain model beside one with lead times and bounds on lots.
 use crate::shop::{Line, Load, Machine, Product, Shop};
+use integer_grids::numbers::{at, plus};
 use lot_model::{Draft, DraftItem, DraftNeed, DraftRefusal, DraftResource, DraftUse, Instance};
-use priced_items::numbers::{at, plus};
 use std::alloc::{AllocError, Global};
 
 // A setup, and a unit that is owed, costs so much where lots would arrive too late.

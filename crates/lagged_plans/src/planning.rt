@@ -7,10 +7,10 @@ ghost use Rattle.own_plan.specs.Made.{IsMade};
 
 use crate::shop::Shop;
 use crate::walking::{Best, walk_from};
+use integer_grids::IntegerGrid;
+use integer_grids::numbers::of_amount;
 use lot_model::Instance;
 use plan_rules::{Grid, Planned, complete_at_cost};
-use priced_items::IntegerGrid;
-use priced_items::numbers::of_amount;
 use std::alloc::{AllocError, Global};
 
 // Puts the lots of an item in its row, and a setup where there is a lot.

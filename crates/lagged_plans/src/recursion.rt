@@ -1,7 +1,7 @@
 // The lots of an item by a recursion over periods and what has been made so far.
 use crate::shop::FAR;
 use crate::windows::{Least, Window};
-use priced_items::numbers::{at, less, plus, times, write};
+use integer_grids::numbers::{at, less, plus, times, write};
 use std::alloc::{AllocError, Global};
 
 /// What a lot of a period costs, and how large it may be.

@@ -3,8 +3,8 @@ use crate::levels::{Wanted, levels_of};
 use crate::recursion::{Offer, Task};
 use crate::shop::{FAR, Line, Product, Shop};
 use crate::taking::{arriving, asked, is_marked, room_for};
-use priced_items::IntegerGrid;
-use priced_items::numbers::{at, less, plus, times, write};
+use integer_grids::IntegerGrid;
+use integer_grids::numbers::{at, less, plus, times, write};
 use std::alloc::{AllocError, Global};
 
 /// A whole setup or credit, of which parts are taken.

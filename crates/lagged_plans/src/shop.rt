@@ -2,8 +2,8 @@
 ghost use Rattle.std.specs.Prelude.{◌≤◌};
 ghost use Rattle.lot_sizing.specs.Problem.{item_count, resource_count};
 
+use integer_grids::numbers::{at, of_amount, plus, times};
 use lot_model::Instance;
-use priced_items::numbers::{at, of_amount, plus, times};
 use std::alloc::{AllocError, Global};
 
 /// More than all amounts and costs of shops: no bound, or no way.

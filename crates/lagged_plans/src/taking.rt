@@ -1,7 +1,7 @@
 // What lots take: units of components, and time.
 use crate::shop::{Product, Shop};
-use priced_items::IntegerGrid;
-use priced_items::numbers::{at, less, plus, times};
+use integer_grids::IntegerGrid;
+use integer_grids::numbers::{at, less, plus, times};
 
 /// Whether an item, counted from 1, is among those that are marked.
 pub(crate) fn is_marked(marks: &[bool], item: u32) -> bool {

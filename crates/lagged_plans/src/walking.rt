@@ -4,8 +4,8 @@ use crate::remaking::{Manner, STRICT, WHOLE, remake};
 use crate::shop::{Product, Shop};
 use crate::taking::{is_marked, mark};
 use crate::worth::{Worth, worth_of};
-use priced_items::IntegerGrid;
-use priced_items::numbers::{less, plus, times};
+use integer_grids::IntegerGrid;
+use integer_grids::numbers::{less, plus, times};
 use rand_pcg::Lcg64Xsh32;
 use std::alloc::{AllocError, Global};
 

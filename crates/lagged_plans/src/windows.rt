@@ -1,6 +1,6 @@
 // The least number of a window that moves over a list.
 use crate::shop::FAR;
-use priced_items::numbers::{less, times};
+use integer_grids::numbers::{less, times};
 use std::alloc::{AllocError, Global};
 
 // A number of the window, at a level.

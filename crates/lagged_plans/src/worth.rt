@@ -1,8 +1,8 @@
 // What a plan costs, and by how much it breaks rules.
 use crate::shop::{Machine, Product, Shop};
 use crate::taking::{arriving, asked, time_taken};
-use priced_items::IntegerGrid;
-use priced_items::numbers::{at, less, plus, times};
+use integer_grids::IntegerGrid;
+use integer_grids::numbers::{at, less, plus, times};
 
 /// What a plan costs, and the penalties of what it breaks, both in money.
 #[derive(Clone, Copy, Debug)]

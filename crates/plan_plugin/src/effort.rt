@@ -3,12 +3,13 @@ use std::alloc::{AllocError, Global};
 use std::collections::BTreeSet;
 
 /// Marks of the setups with which plans were built, what improving plans may still take, what programs may whose setups are
-/// wanted, and how often rounds of prices were followed by plans.
+/// wanted, what walks may that begin with the lots of rounds, and how often rounds of prices were followed by plans.
 #[derive(Debug, Drop)]
 pub struct Effort {
     tried: BTreeSet<u64>,
     work: u64,
     programs: u64,
+    walks: u64,
     times: u64,
 }
 
@@ -18,6 +19,9 @@ const ALL_WORK: u64 = 100_000_000;
 // What programs with the setups that rounds of prices want may take in all: so much, where a program takes the square of items
 // times periods.
 const PROGRAM_WORK: u64 = 1_000_000;
+
+// What walks by the lots of rounds of prices may take in all.
+const HINT_WALK_WORK: u64 = 40_000_000;
 
 // A walk begins once in so many times, first when the rounds at the root end.
 const WALK_EACH: u64 = 200;
@@ -33,6 +37,7 @@ impl Effort {
             tried: BTreeSet::new(alloc),
             work: ALL_WORK,
             programs: PROGRAM_WORK,
+            walks: HINT_WALK_WORK,
             times: 0,
         }
     }
@@ -57,6 +62,15 @@ impl Effort {
             return false;
         }
         self.programs -= work;
+        true
+    }
+
+    /// Whether there is room for the work of a walk by the lots of rounds of prices. It is taken then.
+    pub(crate) fn takes_walks(&mut self, work: u64) -> bool {
+        if self.walks < work {
+            return false;
+        }
+        self.walks -= work;
         true
     }
 

@@ -1,15 +1,19 @@
 // Plans by walks over the lots of single items.
-ghost use Rattle.std.specs.Prelude.{IfSome, OnOk};
+ghost use Rattle.std.specs.Prelude.{◌≤◌, IfOk, IfSome, OnOk};
+ghost use Rattle.lot_sizing.specs.Problem.{item_count};
+ghost use Rattle.plan_rules.specs.Cells.{Fits};
 ghost use Rattle.plan_rules.specs.Rows.{IfFound};
 ghost use Rattle.own_plan.specs.Made.{IsMade};
 ghost use Rattle.incumbent.specs.Kept.{IsBestSoFar, IsNoWorseBest};
 
+use crate::effort::Effort;
 use crate::shares::{FIRST_SHARE, limit};
 use first_plans::candidates;
 use incumbent::keep_within;
 use lagged_plans::{improved_lagged, lagged_plan, plain_model, repaired};
 use lot_model::{Instance, is_plain};
-use plan_rules::Planned;
+use plan_rules::{Grid, Planned};
+use price_rounds::Average;
 use search_ranges::Ranges;
 use std::alloc::{AllocError, Global};
 use work_clock::Deadline;
@@ -23,12 +27,20 @@ const THIRD_SEED: u64 = 3;
 
 const LAST_SEED: u64 = 4;
 
-// What each of the first walks may take for each item and period, the last one before the first node, and one in the tree.
+// What each of the first walks may take for each item and period, the last one before the first node, one in the tree, and
+// one that begins with the lots of rounds of prices.
 const FIRST_WORK: u64 = 40_000;
 
 const LAST_WORK: u64 = 160_000;
 
 const TREE_WORK: u64 = 10_000;
+
+const HINT_WORK: u64 = 2_000;
+
+// Marks of lots (FNV-1a).
+const FIRST_MARK: u64 = 14_695_981_039_346_656_037;
+
+const MARK_FACTOR: u64 = 1_099_511_628_211;
 
 // The most that a walk may take.
 const MOST_WORK: u64 = 20_000_000;
@@ -228,6 +240,80 @@ pub(crate) fn lag_after_programs(
 {
     let end = limit(until, best);
     walk_further(alloc, instance, ranges, LAST_SEED, LAST_WORK, end, best)
+}
+
+// The lots of an item that rounds of prices make on the average are written.
+fn write_lots(instance: &Instance, average: &Average, item: u32, lots: &mut Grid)
+    requires low { 1 ≤ item }
+    requires high { item ≤ item_count instance.now }
+    requires lots { Fits instance.now lots.old }
+    ensures { Fits instance.now lots.new }
+{
+    for period in 1..instance.periods() + 1 {
+        let units = average.lot(item, period);
+        if units > 0 {
+            lots.set(item, period, units);
+        }
+    }
+}
+
+// The lots that rounds of prices make on the average.
+fn lots_of(alloc: Global, instance: &Instance, average: &Average) -> Result<Grid, AllocError>
+    ensures { IfOk result (Fits instance.now) }
+{
+    let mut lots = Grid::filled(alloc, instance.items(), instance.periods(), 0)?;
+    for item in 1..instance.items() + 1 {
+        write_lots(instance, average, item, &mut lots);
+    }
+    Ok(lots)
+}
+
+// A mark, and the lots of an item.
+fn item_mark(instance: &Instance, average: &Average, item: u32, before: u64) -> u64 {
+    let mut mark = before;
+    for period in 1..instance.periods() + 1 {
+        mark = (mark ^ average.lot(item, period)).wrapping_mul(MARK_FACTOR);
+    }
+    mark
+}
+
+// The mark of these lots.
+fn mark_of(instance: &Instance, average: &Average) -> u64 {
+    let mut mark = FIRST_MARK;
+    for item in 1..instance.items() + 1 {
+        mark = item_mark(instance, average, item, mark);
+    }
+    mark
+}
+
+/// Walks from the lots that rounds of prices make on the average, where the model isn't plain and these lots weren't tried, and keeps
+/// what is found, if it lies within the ranges.
+pub(crate) fn lag_from_average(
+    alloc: Global,
+    instance: &Instance,
+    ranges: &Ranges,
+    average: &Average,
+    effort: &mut Effort,
+    until: Deadline,
+    best: &mut Option<Planned>,
+) -> Result<(), AllocError>
+    requires { IsBestSoFar instance.now ranges.now best.old }
+    ensures { OnOk result (IsNoWorseBest instance.now ranges.now best.new best.old) }
+{
+    if until.is_past() || is_plain(instance) {
+        return Ok(());
+    }
+    if !effort.remember(mark_of(instance, average))? {
+        return Ok(());
+    }
+    let work = work_of(instance, HINT_WORK, until);
+    if !effort.takes_walks(work) {
+        return Ok(());
+    }
+    let lots = lots_of(alloc, instance, average)?;
+    let found = repaired(alloc, instance, &lots, FIRST_SEED, work)?;
+    keep_within(instance, ranges, best, found);
+    Ok(())
 }
 
 /// Walks from the best plan in the tree.

@@ -7,14 +7,15 @@ ghost use Rattle.own_plan.specs.Made.{IsMade};
 ghost use Rattle.incumbent.specs.Kept.{IsBestSoFar, IsNoWorseBest};
 
 use crate::effort::Effort;
+use crate::lagging::lag_from_average;
 use crate::programs::{try_program, try_walk};
 use built_plans::built_plan;
 use first_plans::{improved, tries_for};
 use incumbent::keep_within;
+use integer_grids::numbers::ONE;
 use lot_model::Instance;
 use plan_rules::{Grid, Planned};
 use price_rounds::Average;
-use priced_items::numbers::ONE;
 use search_ranges::Ranges;
 use std::alloc::{AllocError, Global};
 use work_clock::Deadline;
@@ -194,6 +195,7 @@ pub(crate) fn try_average(
     requires { IsBestSoFar instance.now ranges.now best.old }
     ensures { OnOk result (IsNoWorseBest instance.now ranges.now best.new best.old) }
 {
+    lag_from_average(alloc, instance, ranges, average, effort, until, best)?;
     try_setups(alloc, instance, ranges, average, HALF, effort, until, best)?;
     try_setups(alloc, instance, ranges, average, FIFTH, effort, until, best)?;
     try_walk(alloc, instance, ranges, effort, until, best)

@@ -9,11 +9,12 @@ ghost use Rattle.search_plugins.specs.Proposals.{IsProposal};
 use branch_and_bound::{Node, Range};
 use cert_lines::{Leaf, Part};
 use echelon::Explosion;
+use grouped_items::Grouping;
 use lot_model::Instance;
 use node_splits::{Choice, Note, Notes, choice_for, split_of};
 use priced_leaves::{
-    Average, Fixed, Improved, Priced, Pricing, Reached, Rounds, dropped_leaf, fixed_setups,
-    priced_leaf, split_prices,
+    Average, Fixed, Grouped, Improved, Priced, Pricing, Reached, Rounds, dropped_grouped_leaf,
+    dropped_leaf, fixed_setups, grouped_leaf, priced_leaf, split_prices, tune_openings,
 };
 use search_plugins::{Progress, Proposed, Proposer};
 use std::alloc::{AllocError, Global};
@@ -35,6 +36,20 @@ const NODE_PART: i128 = 40;
 const NODE_WORK: u32 = 20_000;
 
 const LEAST_ROUNDS: u32 = 5;
+
+// Where items are planned in groups the rounds of one time take so many steps of their recursions at the root, and so many at
+// another node, but some rounds are made.
+const ROOT_STEPS: u64 = 160_000_000;
+
+const NODE_STEPS: u64 = 60_000_000;
+
+const FEWEST_ROUNDS: u32 = 2;
+
+// Before the first node so many rounds are made on trial, with items in groups and with each by itself; those with groups take
+// so many steps.
+const TRIAL_ROUNDS: u32 = 60;
+
+const TRIAL_STEPS: u64 = 640_000_000;
 
 // Branches are tried before one is chosen in a model with at most so many items times periods.
 const TRIED_SIZE: u32 = 400;
@@ -92,13 +107,67 @@ fn times_at(node: &Node) -> u32 {
     if node.path.is_empty() { ROOT_TIMES } else { 1 }
 }
 
+// How many rounds there is work for, where items are planned in groups; as many as are wanted where they aren't.
+fn within_work(instance: &Instance, pricing: &Pricing, work: u64, wanted: u32) -> u32 {
+    match pricing.grouping() {
+        Some(grouping) => {
+            let steps = grouping.steps(instance.periods()).max(1);
+            let count = u32::try_from(work / steps).unwrap_or(wanted);
+            count.max(FEWEST_ROUNDS).min(wanted)
+        }
+        None => wanted,
+    }
+}
+
+// What rounds at the root come to, of some that are made on trial.
+fn trial_number(
+    alloc: Global,
+    instance: &Instance,
+    pricing: &Pricing,
+) -> Result<Option<i128>, AllocError> {
+    let fixed = fixed_setups(alloc, instance, &[])?;
+    let prices = split_prices(alloc, instance, pricing)?;
+    let mut rounds = Rounds::start(alloc, instance, pricing, prices, None, &fixed)?;
+    let count = within_work(instance, pricing, TRIAL_STEPS, TRIAL_ROUNDS);
+    let _ = rounds.go_on(alloc, instance, pricing, &fixed, None, count)?;
+    Ok(rounds.number())
+}
+
+// Whether one number is more than another; not so where it doesn't fit.
+fn is_more(one: Option<i128>, other: Option<i128>) -> bool {
+    match (one, other) {
+        (Some(one), Some(other)) => one > other,
+        (Some(_), None) => true,
+        (None, _) => false,
+    }
+}
+
+// Items stay in groups but where rounds on trial come to more with each item by itself.
+fn choose_grouping(
+    alloc: Global,
+    instance: &Instance,
+    pricing: &mut Pricing,
+) -> Result<(), AllocError> {
+    if pricing.grouping().is_none() {
+        return Ok(());
+    }
+    let together = trial_number(alloc, instance, pricing)?;
+    let grouping = pricing.take_grouping();
+    let apart = trial_number(alloc, instance, pricing)?;
+    if !is_more(apart, together) {
+        pricing.set_grouping(grouping);
+    }
+    Ok(())
+}
+
 // How many rounds are made at a node each time.
-fn count_at(instance: &Instance, node: &Node) -> u32 {
+fn count_at(instance: &Instance, pricing: &Pricing, node: &Node) -> u32 {
     if node.path.is_empty() {
-        return ROOT_ROUNDS;
+        return within_work(instance, pricing, ROOT_STEPS, ROOT_ROUNDS);
     }
     let size = instance.items() * instance.periods();
-    (NODE_WORK / size.max(1)).min(NODE_ROUNDS).max(LEAST_ROUNDS)
+    let wanted = (NODE_WORK / size.max(1)).min(NODE_ROUNDS).max(LEAST_ROUNDS);
+    within_work(instance, pricing, NODE_STEPS, wanted)
 }
 
 // What the rounds lack of a cost, times the scale; None where there is no cost, or where it or their number doesn't fit.
@@ -129,7 +198,7 @@ fn go_further(
     cost: Option<u128>,
     until: Deadline,
 ) -> Result<Reached, AllocError> {
-    let count = count_at(instance, node);
+    let count = count_at(instance, pricing, node);
     let times = if node.path.is_empty() { 1 } else { NODE_TIMES };
     for _time in 0..times {
         let before = lack(rounds, cost);
@@ -187,6 +256,53 @@ fn proposed(instance: &Instance, priced: Priced, refuted: bool) -> Proposed
             cuts,
             leaf: linear(den, parts),
         }
+    }
+}
+
+// What was priced in groups, as it is proposed: a leaf over reduced costs.
+fn proposed_grouped(grouped: Grouped) -> Proposed
+    ensures { IsProposal result }
+{
+    let Grouped {
+        cuts,
+        parts,
+        lists,
+        groups,
+        den,
+    } = grouped;
+    Proposed {
+        cuts,
+        leaf: Leaf::Reduced {
+            den,
+            parts,
+            lists,
+            groups,
+        },
+    }
+}
+
+// What is proposed by the rounds of a node where items are planned in groups.
+fn grouped_at(
+    alloc: Global,
+    instance: &Instance,
+    pricing: &Pricing,
+    grouping: &Grouping,
+    rounds: &Rounds,
+    refuted: bool,
+    fixed: &Fixed,
+    first: u32,
+) -> Result<Option<Proposed>, AllocError>
+    ensures { IfFound result IsProposal }
+{
+    let prices = rounds.prices();
+    let found = if refuted {
+        dropped_grouped_leaf(alloc, instance, pricing, grouping, prices, fixed, first)?
+    } else {
+        grouped_leaf(alloc, instance, pricing, grouping, prices, fixed, first)?
+    };
+    match found {
+        Some(grouped) => Ok(Some(proposed_grouped(grouped))),
+        None => Ok(None),
     }
 }
 
@@ -253,8 +369,12 @@ impl Proposer for Prices {
 
     fn begin(&self, alloc: Global, instance: &Instance) -> Result<Pricings, AllocError> {
         let explosion = Explosion::of(alloc, instance)?;
+        let mut pricing = Pricing::new(alloc, instance, &explosion)?;
+        let prices = split_prices(alloc, instance, &pricing)?;
+        tune_openings(alloc, instance, &mut pricing, &prices)?;
+        choose_grouping(alloc, instance, &mut pricing)?;
         Ok(Pricings {
-            pricing: Pricing::new(alloc, instance, &explosion)?,
+            pricing,
             notes: Notes::new(alloc),
         })
     }
@@ -328,6 +448,11 @@ impl Proposer for Prices {
         }
         let fixed = &work.fixed;
         let pricing = &state.pricing;
+        if let Some(grouping) = pricing.grouping() {
+            return grouped_at(
+                alloc, instance, pricing, grouping, rounds, refuted, fixed, first_cut,
+            );
+        }
         match priced_at(alloc, instance, pricing, rounds, refuted, fixed, first_cut)? {
             Some(priced) => Ok(Some(proposed(instance, priced, refuted))),
             None => Ok(None),

@@ -9,10 +9,13 @@
 //! All of it is a proposal: nothing is claimed of what prices say. What is proved is that the calls are safe and return.
 #![tactic(auto)]
 
+mod groups;
 mod lots;
 mod rounds;
 mod slopes;
+mod tuning;
 mod valuing;
 
 pub use lots::Average;
 pub use rounds::{GROWTH_PARTS, Improved, Reached, Rounds};
+pub use tuning::tune_openings;

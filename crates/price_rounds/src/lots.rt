@@ -1,7 +1,8 @@
 // Quantities, setups, stocks and backlogs of single-item plans.
+use integer_grids::numbers::{UNIT, at, less, plus, times, write};
+use integer_grids::{IntegerGrid, clear};
 use path_setups::{Fixed, Held};
-use priced_items::numbers::{UNIT, at, less, plus, times, write};
-use priced_items::{IntegerGrid, Item, Served, clear};
+use priced_items::{Item, Served};
 use std::alloc::{AllocError, Global};
 
 /// Averages of single-item plans, by item and period, in units of 1/`UNIT`.
@@ -32,6 +33,11 @@ fn write_fixed(units: &mut [i64], setups: &mut [i64], held: &[Held]) {
             _ => 0,
         };
     }
+}
+
+// The last numbers of a list, without so many first ones.
+fn from_place(list: &[i64], place: usize) -> &[i64] {
+    &list[list.len().min(place)..]
 }
 
 // The lots of an item, from the last position to the first: each server makes all that its block asks for.
@@ -103,6 +109,12 @@ impl Average {
         i128::from(self.setups.get(item, period))
     }
 
+    /// What is made of an item in a period, as the nearest whole number.
+    pub fn lot(&self, item: u32, period: u32) -> u64 {
+        let units = plus(self.units.get(item, period), UNIT / 2) / UNIT;
+        u64::try_from(units).unwrap_or(0)
+    }
+
     // The lots of an item, by the servers of its positions, with what is made beyond them, if anything is.
     fn write_made(&mut self, item: &Item, places: &[Served], spare: Option<Spare>, fixed: &Fixed) {
         let Some(units) = self.units.line_mut(item.number) else {
@@ -137,6 +149,42 @@ impl Average {
                 write_owed(owed, units, item);
             }
         }
+    }
+
+    /// The plan of an item by its lots, which stand so many positions later than the periods in which they are started; before
+    /// them stands what is there before the first period. The setups that the path fixes are made. The answer is what is made in all.
+    pub(crate) fn write_positions(
+        &mut self,
+        item: u32,
+        made: &[i64],
+        opened: &[i64],
+        shift: usize,
+        fixed: &Fixed,
+    ) -> i64 {
+        let (Some(units), Some(setups)) = (self.units.line_mut(item), self.setups.line_mut(item))
+        else {
+            return 0;
+        };
+        write_fixed(units, setups, fixed.line(item));
+        let mut total = 0;
+        let lots = from_place(made, shift.saturating_add(1));
+        for (cell, lot) in units.iter_mut().zip(lots) {
+            *cell = times(*lot, UNIT);
+            total = plus(total, *lot);
+        }
+        let opened = from_place(opened, shift.saturating_add(1));
+        for (cell, is_open) in setups.iter_mut().zip(opened) {
+            if *is_open > 0 {
+                *cell = UNIT;
+            }
+        }
+        total
+    }
+
+    /// More is made of an item.
+    pub(crate) fn add_spare(&mut self, item: u32, spare: Spare) {
+        let more = plus(self.units.get(item, spare.period), times(spare.units, UNIT));
+        self.units.put(item, spare.period, more);
     }
 
     // Other plans enter with a weight, in units of 1/`UNIT`.

@@ -3,9 +3,10 @@ ghost use Rattle.std.specs.Prelude.{◌≤◌};
 ghost use Rattle.lot_sizing.specs.Problem.{item_count};
 
 use crate::lots::Average;
+use integer_grids::numbers::{Rate, UNIT, add_times, less, of_amount, plus, times};
+use integer_grids::{IntegerGrid, clear};
 use lot_model::Instance;
-use priced_items::numbers::{Rate, UNIT, less, of_amount, plus, times};
-use priced_items::{DualPrices, IntegerGrid, Pricing, clear};
+use priced_items::{DualPrices, Pricing};
 use std::alloc::{AllocError, Global};
 
 // By how much what the leaf says changes with each price, at plans of the items.
@@ -47,6 +48,27 @@ fn stay_below(line: &mut [i64], prices: &[i64], costs: &[u64], scale: i64) {
         if *price >= times(scale, of_amount(*cost)) {
             *slope = (*slope).min(0);
         }
+    }
+}
+
+// A direction is 0 where the price is as far below 0 as what a unit costs that is owed, or further, and would get lower.
+fn stay_above(line: &mut [i64], prices: &[i64], costs: Option<&[u64]>, scale: i64) {
+    let Some(costs) = costs else {
+        return;
+    };
+    for ((slope, price), cost) in line.iter_mut().zip(prices).zip(costs) {
+        if plus(*price, times(scale, of_amount(*cost))) <= 0 {
+            *slope = (*slope).max(0);
+        }
+    }
+}
+
+// Each number is the sum of a first one and of all up to it.
+fn add_up(line: &mut [i64], first: i64) {
+    let mut sum = first;
+    for cell in line.iter_mut() {
+        sum = plus(sum, *cell);
+        *cell = sum;
     }
 }
 
@@ -139,7 +161,67 @@ impl Slopes {
                     stay_owed(line, own, prices.back.line(item));
                 }
             }
+            None if pricing.grouping().is_some() => {
+                stay_below(line, own, instance.hold_costs(item), scale);
+                stay_above(line, own, instance.backlog_costs(item), scale);
+            }
             None => clear(line),
+        }
+    }
+
+    // What arrives of an item in each period, less what is demanded.
+    fn write_arrivals(&mut self, instance: &Instance, plan: &Average, item: u32)
+        requires low { 1 ≤ item }
+        requires high { item ≤ item_count instance.now }
+    {
+        let lead = instance.lead(item) as usize;
+        if let Some(line) = self.stock.line_mut(item) {
+            write_room(line, instance.demands(item));
+            let start = line.len().min(lead);
+            add_times(&mut line[start..], plan.units.line(item), 1);
+        }
+    }
+
+    // What an item takes of its components.
+    fn take_parts(&mut self, instance: &Instance, plan: &Average, item: u32)
+        requires low { 1 ≤ item }
+        requires high { item ≤ item_count instance.now }
+    {
+        for need in instance.needs(item) {
+            let units = less(0, of_amount(need.quantity));
+            self.stock
+                .add_times(need.item, plan.units.line(item), units);
+        }
+    }
+
+    // What of the backlogs of echelons isn't in those of the items that they go into.
+    fn add_owed(&mut self, instance: &Instance, plan: &Average, item: u32)
+        requires low { 1 ≤ item }
+        requires high { item ≤ item_count instance.now }
+    {
+        self.stock.add_times(item, plan.owed.line(item), 1);
+        for need in instance.needs(item) {
+            let units = less(0, of_amount(need.quantity));
+            self.stock.add_times(need.item, plan.owed.line(item), units);
+        }
+    }
+
+    // What is in stock of each item where items are planned in groups.
+    fn write_grouped_stock(&mut self, instance: &Instance, plan: &Average) {
+        for item in 1..instance.items() + 1 {
+            self.write_arrivals(instance, plan, item);
+        }
+        for item in 1..instance.items() + 1 {
+            self.take_parts(instance, plan, item);
+        }
+        for item in 1..instance.items() + 1 {
+            let opening = times(UNIT, of_amount(instance.opening(item)));
+            if let Some(line) = self.stock.line_mut(item) {
+                add_up(line, opening);
+            }
+        }
+        for item in 1..instance.items() + 1 {
+            self.add_owed(instance, plan, item);
         }
     }
 
@@ -158,8 +240,12 @@ impl Slopes {
         prices: &DualPrices,
         plan: &Average,
     ) {
-        self.stock.take_from(&plan.stocks);
-        self.take_all_stocks(instance, plan);
+        if pricing.grouping().is_some() {
+            self.write_grouped_stock(instance, plan);
+        } else {
+            self.stock.take_from(&plan.stocks);
+            self.take_all_stocks(instance, plan);
+        }
         for item in 1..instance.items() + 1 {
             self.keep_stock(instance, pricing, prices, item);
         }

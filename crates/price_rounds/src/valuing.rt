@@ -2,18 +2,23 @@
 ghost use Rattle.std.specs.Prelude.{◌≤◌};
 ghost use Rattle.lot_sizing.specs.Problem.{item_count};
 
+use crate::groups::GroupPlanning;
 use crate::lots::{Average, Spare};
+use grouped_items::Grouping;
+use integer_grids::numbers::{at, dot, dot_amounts, less, wide};
 use lot_model::Instance;
 use path_setups::{Fixed, Held};
-use priced_items::numbers::{at, dot, dot_amounts, less, wide};
 use priced_items::{Costs, DualPrices, Item, Pricing, Serving};
 use std::alloc::{AllocError, Global};
 
 // The lists in which single items are planned, one after the other.
-#[derive(Debug, Drop)]
+#[derive(Drop)]
 pub(crate) struct Planning {
+    alloc: Global,
     costs: Costs,
     serving: Serving,
+    // What groups are planned with, where they are.
+    groups: Option<GroupPlanning>,
 }
 
 // The right sides of the bounds of an item's setups that are at least 1.
@@ -61,8 +66,10 @@ impl Planning {
     // It takes no memory.
     pub(crate) fn new(alloc: Global) -> Planning {
         Planning {
+            alloc,
             costs: Costs::new(alloc),
             serving: Serving::new(alloc),
+            groups: None,
         }
     }
 
@@ -121,6 +128,68 @@ impl Planning {
         Ok(added(sum, Some(more)))
     }
 
+    // What an item costs that is planned alone beside groups: prices of its stock are moved to its units. Its plan is written. None where
+    // that doesn't fit.
+    fn alone_value(
+        &mut self,
+        instance: &Instance,
+        item: &Item,
+        prices: &DualPrices,
+        fixed: &Fixed,
+        plan: &mut Average,
+    ) -> Result<Option<i128>, AllocError> {
+        self.costs.write(instance, item, prices, fixed)?;
+        self.costs.move_all(item.backlogged)?;
+        self.serving.serve_all(item, &self.costs)?;
+        plan.write_item(item, &self.serving.places, self.spare(item), fixed);
+        Ok(self.serving.cost())
+    }
+
+    // What all items cost that are planned alone beside groups, and the setups that the path fixes.
+    fn rest_value(
+        &mut self,
+        instance: &Instance,
+        pricing: &Pricing,
+        prices: &DualPrices,
+        fixed: &Fixed,
+        plan: &mut Average,
+    ) -> Result<Option<i128>, AllocError> {
+        let mut sum = Some(0i128);
+        for number in 1..instance.items() + 1 {
+            if let Some(item) = pricing.get(number) {
+                if item.backlogged {
+                    let cost = self.alone_value(instance, item, prices, fixed, plan)?;
+                    sum = added(sum, cost);
+                }
+            }
+            self.costs.write_fees(instance, prices, number)?;
+            sum = added(sum, Some(fixed_value(&self.costs.fee, fixed.line(number))));
+        }
+        Ok(sum)
+    }
+
+    // What the leaf of prices says, times the scale, where items are planned in groups.
+    fn grouped_value(
+        &mut self,
+        instance: &Instance,
+        pricing: &Pricing,
+        grouping: &Grouping,
+        prices: &DualPrices,
+        fixed: &Fixed,
+        plan: &mut Average,
+    ) -> Result<Option<i128>, AllocError> {
+        let alloc = self.alloc;
+        let mut groups = match self.groups.take() {
+            Some(groups) => groups,
+            None => GroupPlanning::new(alloc, instance)?,
+        };
+        let sum = groups.value(alloc, instance, grouping, prices, fixed, plan)?;
+        self.groups = Some(groups);
+        let rest = self.rest_value(instance, pricing, prices, fixed, plan)?;
+        let used = 0i128.checked_sub(capacity_value(instance, prices));
+        Ok(added(added(sum, rest), used))
+    }
+
     // What the leaf of prices says, times the scale; None where that doesn't fit. The plan is that of all items by themselves.
     pub(crate) fn value(
         &mut self,
@@ -130,6 +199,9 @@ impl Planning {
         fixed: &Fixed,
         plan: &mut Average,
     ) -> Result<Option<i128>, AllocError> {
+        if let Some(grouping) = pricing.grouping() {
+            return self.grouped_value(instance, pricing, grouping, prices, fixed, plan);
+        }
         let mut sum = 0i128.checked_sub(capacity_value(instance, prices));
         for number in 1..instance.items() + 1 {
             let more = self.value_of(instance, pricing, prices, fixed, number, plan)?;

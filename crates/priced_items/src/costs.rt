@@ -2,13 +2,13 @@
 ghost use Rattle.std.specs.Prelude.{◌≤◌};
 ghost use Rattle.lot_sizing.specs.Problem.{item_count};
 
-use crate::grid::clear;
-use crate::numbers::{
-    add_times, less, none_is_negative, of_amount, plus, refill, refill_scaled, sum_of, times,
-};
 use crate::prices::DualPrices;
 use crate::pricing::Item;
 use echelon_rows::limits::MAX_PRICE;
+use integer_grids::clear;
+use integer_grids::numbers::{
+    add_times, less, none_is_negative, of_amount, plus, refill, refill_scaled, sum_of, times,
+};
 use lot_model::{Instance, Usage};
 use path_setups::{Fixed, Held};
 use std::alloc::{AllocError, Global};
@@ -147,6 +147,15 @@ impl Costs {
             add_times(&mut self.back, &self.hold, 1);
         }
         clear(&mut self.hold);
+        Ok(())
+    }
+
+    /// Prices of stock are moved to units, where they aren't yet: then stock costs nothing. `owing` says whether units may be owed. The
+    /// error is that memory ran out, of which none is taken where as many costs were written before.
+    pub fn move_all(&mut self, owing: bool) -> Result<(), AllocError> {
+        if self.shift.is_empty() {
+            self.move_stocks(owing)?;
+        }
         Ok(())
     }
 

@@ -15,8 +15,6 @@
 #![tactic(auto)]
 
 mod costs;
-mod grid;
-pub mod numbers;
 mod prices;
 mod pricing;
 mod quick;
@@ -25,7 +23,6 @@ mod settling;
 mod splitting;
 
 pub use costs::Costs;
-pub use grid::{IntegerGrid, clear};
 pub use prices::DualPrices;
 pub use pricing::{Item, Pricing};
 pub use recursion::{Served, Serving};

@@ -1,8 +1,8 @@
 // Prices of capacity, of stock and of backlog.
-use crate::grid::IntegerGrid;
-use crate::numbers::{less, of_amount, times};
 use crate::pricing::Pricing;
 use crate::settling::settle;
+use integer_grids::IntegerGrid;
+use integer_grids::numbers::{less, of_amount, times};
 use lot_model::Instance;
 use std::alloc::{AllocError, Global};
 

@@ -3,8 +3,9 @@ ghost use Rattle.std.specs.Prelude.{◌≤◌};
 ghost use Rattle.lot_sizing.specs.Problem.{item_count};
 ghost use Rattle.echelon.specs.Weights.{IsExplosionOf};
 
-use crate::numbers::{of_amount, of_total, plus, sum_of, times};
 use echelon::{EchelonItem, Explosion, echelon_of, lead_free, net_of};
+use grouped_items::Grouping;
+use integer_grids::numbers::{of_amount, of_total, plus, sum_of, times};
 use lot_model::Instance;
 use std::alloc::{AllocError, Global};
 
@@ -51,6 +52,8 @@ pub struct Pricing {
     order: Vec<u32>,
     // Whether something may be owed.
     may_owe: bool,
+    // The groups in which items are planned, where they say more than each item by itself.
+    grouping: Option<Grouping>,
 }
 
 impl Pricing {
@@ -73,6 +76,7 @@ impl Pricing {
             all,
             order: explosion.order().to_vec(alloc)?,
             may_owe,
+            grouping: Grouping::of(alloc, instance, explosion.order())?,
         })
     }
 
@@ -87,6 +91,26 @@ impl Pricing {
     /// All items, each one before its components.
     pub fn order(&self) -> &[u32] {
         &self.order
+    }
+
+    /// The groups in which items are planned together; None where each is planned by itself.
+    pub fn grouping(&self) -> Option<&Grouping> {
+        self.grouping.as_ref()
+    }
+
+    /// The same, to be changed.
+    pub fn grouping_mut(&mut self) -> Option<&mut Grouping> {
+        self.grouping.as_mut()
+    }
+
+    /// Each item is planned by itself from now on. The groups are given, if there were any.
+    pub fn take_grouping(&mut self) -> Option<Grouping> {
+        self.grouping.take()
+    }
+
+    /// Items are planned in these groups from now on, or each by itself.
+    pub fn set_grouping(&mut self, grouping: Option<Grouping>) {
+        self.grouping = grouping;
     }
 
     /// Whether something may be owed.

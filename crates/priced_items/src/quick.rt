@@ -1,8 +1,8 @@
 // The recursion over servers of one item, where all numbers fit 64 bits: most items at most prices.
 use crate::costs::Costs;
-use crate::numbers::{less, plus, times};
 use crate::pricing::Item;
 use crate::recursion::Served;
+use integer_grids::numbers::{less, plus, times};
 use std::alloc::{AllocError, Global};
 
 // No cost is as large where all numbers fit.

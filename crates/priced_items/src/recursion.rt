@@ -1,8 +1,8 @@
 // The recursion over servers of one item (Pochet and Wolsey).
 use crate::costs::Costs;
-use crate::numbers::{add_times, at, less, plus, refill, wide};
 use crate::pricing::Item;
 use crate::quick::Quick;
+use integer_grids::numbers::{add_times, at, less, plus, refill, wide};
 use std::alloc::{AllocError, Global};
 
 // A server that is open: what all positions so far cost with it, and the first position that it serves.

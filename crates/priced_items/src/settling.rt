@@ -2,10 +2,10 @@
 ghost use Rattle.std.specs.Prelude.{◌≤◌};
 ghost use Rattle.lot_sizing.specs.Problem.{item_count};
 
-use crate::grid::{IntegerGrid, clear};
-use crate::numbers::{less, lower, of_amount, over, plus, share, times};
 use crate::prices::DualPrices;
 use crate::pricing::Pricing;
+use integer_grids::numbers::{less, lower, of_amount, over, plus, share, times};
+use integer_grids::{IntegerGrid, clear};
 use lot_model::{Instance, Need};
 use std::alloc::{AllocError, Global};
 
@@ -23,8 +23,22 @@ fn bound_below(line: &mut [i64], backs: &[i64]) {
     }
 }
 
-// Prices of stock of an item are at most its holding costs, and 0 where the item isn't lead-free; where the echelon may be
-// owed, a unit in stock and one owed together cost no less than nothing.
+// Prices of stock of an item that is planned in a group are at most its holding costs, and at least as far below 0 as what a unit of it
+// costs that is owed, if it may be.
+fn bound_grouped(instance: &Instance, line: &mut [i64], item: u32, scale: i64)
+    requires low { 1 ≤ item }
+    requires high { item ≤ item_count instance.now }
+{
+    bound_above(line, instance.hold_costs(item), scale);
+    if let Some(costs) = instance.backlog_costs(item) {
+        for (cell, cost) in line.iter_mut().zip(costs) {
+            *cell = (*cell).max(less(0, times(scale, of_amount(*cost))));
+        }
+    }
+}
+
+// Prices of stock of an item are at most its holding costs, and 0 where the item isn't lead-free and no items are planned in groups;
+// where the echelon may be owed, a unit in stock and one owed together cost no less than nothing.
 fn bound_stock(instance: &Instance, pricing: &Pricing, prices: &mut DualPrices, item: u32)
     requires low { 1 ≤ item }
     requires high { item ≤ item_count instance.now }
@@ -38,6 +52,7 @@ fn bound_stock(instance: &Instance, pricing: &Pricing, prices: &mut DualPrices, 
                     bound_below(line, prices.back.line(item));
                 }
             }
+            None if pricing.grouping().is_some() => bound_grouped(instance, line, item, scale),
             None => clear(line),
         }
     }

@@ -1,9 +1,9 @@
 // The costs of items, split among the echelons.
-use crate::grid::IntegerGrid;
-use crate::numbers::{less, lower, of_amount, over, plus, times};
 use crate::prices::DualPrices;
 use crate::pricing::{Item, Pricing};
 use crate::settling::{settle, split_backs};
+use integer_grids::numbers::{less, lower, of_amount, over, plus, times};
+use integer_grids::{IntegerGrid, clear};
 use lot_model::Instance;
 use std::alloc::{AllocError, Global};
 
@@ -132,8 +132,28 @@ fn split_stocks(
     Ok(())
 }
 
+// Prices of stock of all items in groups are their holding costs.
+fn fill_stocks(
+    alloc: Global,
+    instance: &Instance,
+    pricing: &Pricing,
+    prices: &mut DualPrices,
+) -> Result<(), AllocError> {
+    let whole = scaled_costs(alloc, instance, prices.scale)?;
+    for item in 1..instance.items() + 1 {
+        if !pricing.is_backlogged(item) {
+            if let Some(line) = prices.stock.line_mut(item) {
+                clear(line);
+            }
+            prices.stock.add_times(item, whole.line(item), 1);
+        }
+    }
+    Ok(())
+}
+
 /// Prices by which capacity costs nothing, and the holding and backlog costs of items are split among the echelons that
-/// they are in: from the raw components up each echelon holds stock at all that the items in it leave to it. The scale is
+/// they are in: from the raw components up each echelon holds stock at all that the items in it leave to it. Where items are planned in
+/// groups, stock of those whose echelons are never late costs what it costs to hold. The scale is
 /// the largest power of two up to `MOST_SCALE` by which no cost gets past `MOST_SCALED`, or 1.
 ///
 /// The error is that memory ran out. It takes time in the square of the number of items times that of the periods.
@@ -146,6 +166,9 @@ pub fn split_prices(
     let mut prices = DualPrices::zero(alloc, instance, scale)?;
     split_stocks(alloc, instance, pricing, &mut prices)?;
     split_backs(alloc, instance, pricing, &mut prices)?;
+    if pricing.grouping().is_some() {
+        fill_stocks(alloc, instance, pricing, &mut prices)?;
+    }
     settle(instance, pricing, &mut prices);
     Ok(prices)
 }

@@ -1,8 +1,8 @@
 // The block cut of an item.
 use cert_lines::Cut;
 use echelon_rows::limits::{MAX_PRICE, MAX_STEP};
+use integer_grids::numbers::none_is_negative;
 use lin_rows::Potentials;
-use priced_items::numbers::none_is_negative;
 use priced_items::{Costs, Item, Served, Serving};
 use std::alloc::{AllocError, Global};
 

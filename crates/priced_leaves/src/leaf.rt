@@ -6,11 +6,12 @@ ghost use Rattle.priced_leaves.specs.Proposals.{IsProposal};
 use crate::cutting::item_cut;
 use crate::writable::tested;
 use cert_lines::{Cut, Part};
+use integer_grids::IntegerGrid;
+use integer_grids::numbers::{at, less, of_amount, times};
 use lin_rows::RowName;
 use lot_model::Instance;
 use path_setups::{Fixed, Held};
-use priced_items::numbers::{at, less, of_amount, times};
-use priced_items::{Costs, DualPrices, IntegerGrid, Item, Pricing, Serving};
+use priced_items::{Costs, DualPrices, Item, Pricing, Serving};
 use std::alloc::{AllocError, Global};
 
 /// Block cuts, and the parts of a leaf that takes each of them once.
@@ -24,9 +25,9 @@ pub struct Priced {
     pub den: u128,
 }
 
-// A leaf while it is made.
+/// A leaf while it is made.
 #[derive(Debug, Drop)]
-struct Making {
+pub(crate) struct Making {
     cuts: Vec<Cut>,
     parts: Vec<Part>,
     // How often the balance of each item and period is taken, and the largest end stock of each item.
@@ -37,7 +38,7 @@ struct Making {
 }
 
 impl Making {
-    fn new(alloc: Global, instance: &Instance) -> Result<Making, AllocError> {
+    pub(crate) fn new(alloc: Global, instance: &Instance) -> Result<Making, AllocError> {
         Ok(Making {
             cuts: Vec::new(alloc),
             parts: Vec::new(alloc),
@@ -48,7 +49,7 @@ impl Making {
     }
 
     // A row is taken so many times, if it is at all.
-    fn put(&mut self, row: RowName, times: i64) -> Result<(), AllocError> {
+    pub(crate) fn put(&mut self, row: RowName, times: i64) -> Result<(), AllocError> {
         if times != 0 {
             self.parts.push(Part {
                 row,
@@ -59,7 +60,7 @@ impl Making {
     }
 
     // A cut is taken once, by its number.
-    fn put_cut(&mut self, cut: Cut, first_cut: u32) -> Result<(), AllocError> {
+    pub(crate) fn put_cut(&mut self, cut: Cut, first_cut: u32) -> Result<(), AllocError> {
         match u32::try_from(self.cuts.len()) {
             Ok(before) => {
                 let number = first_cut.saturating_add(before);
@@ -71,6 +72,20 @@ impl Making {
             }
         }
         Ok(())
+    }
+
+    // Some cut can't be made.
+    pub(crate) fn fail(&mut self) {
+        self.is_whole = false;
+    }
+
+    // The cuts and the parts, where all cuts could be made.
+    pub(crate) fn into_lines(self) -> Option<(Vec<Cut>, Vec<Part>)> {
+        if self.is_whole {
+            Some((self.cuts, self.parts))
+        } else {
+            None
+        }
     }
 
     // The rows of all items in an echelon, by which prices of its stock were moved to units.
@@ -86,7 +101,7 @@ impl Making {
     }
 
     // The bounds of the path on an item's setups: what the cut's setup lacks or has too much.
-    fn put_fixed(
+    pub(crate) fn put_fixed(
         &mut self,
         fees: &[i64],
         setups: &[i64],

@@ -15,11 +15,13 @@
 #![tactic(auto)]
 
 mod cutting;
+mod grouped;
 mod leaf;
 mod writable;
 
+pub use grouped::{Grouped, dropped_grouped_leaf, grouped_leaf};
+pub use integer_grids::numbers::ONE;
 pub use leaf::{Priced, dropped_leaf, priced_leaf};
 pub use path_setups::{Fixed, Held, fixed_setups};
-pub use price_rounds::{Average, GROWTH_PARTS, Improved, Reached, Rounds};
-pub use priced_items::numbers::ONE;
+pub use price_rounds::{Average, GROWTH_PARTS, Improved, Reached, Rounds, tune_openings};
 pub use priced_items::{DualPrices, Pricing, split_prices};

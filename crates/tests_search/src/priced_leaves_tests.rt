@@ -6,8 +6,8 @@ use fixtures::{Item, MADE, Resource, instance};
 use lin_rows::{Bound, Column, RowName};
 use lot_model::Instance;
 use priced_leaves::{
-    DualPrices, Fixed, Held, Priced, Pricing, Reached, Rounds, dropped_leaf, fixed_setups,
-    priced_leaf, split_prices,
+    DualPrices, Fixed, Grouped, Held, Priced, Pricing, Reached, Rounds, dropped_grouped_leaf,
+    dropped_leaf, fixed_setups, grouped_leaf, priced_leaf, split_prices, tune_openings,
 };
 use std::alloc::{AllocError, Global};
 use std::boxed::Box;
@@ -97,7 +97,10 @@ fn rounded(number: i128, scale: u64) -> u128 {
 // What is needed of an instance.
 fn pricing_of(alloc: Global, instance: &Instance) -> Result<Pricing, Fail> {
     let explosion = Explosion::of(alloc, instance)?;
-    Ok(Pricing::new(alloc, instance, &explosion)?)
+    let mut pricing = Pricing::new(alloc, instance, &explosion)?;
+    let prices = split_prices(alloc, instance, &pricing)?;
+    tune_openings(alloc, instance, &mut pricing, &prices)?;
+    Ok(pricing)
 }
 
 // Rounds that start at the prices of the split.
@@ -128,25 +131,60 @@ fn improved(
     Ok((improved.prices, says, reached))
 }
 
+// A leaf and the cuts that it takes.
+#[derive(Drop)]
+struct Proposal {
+    cuts: Vec<Cut>,
+    leaf: Leaf,
+    // The version of texts that have its lines.
+    version: u32,
+}
+
+// Block cuts, and the leaf by linear duality that takes them.
+fn linear(found: Priced) -> Proposal {
+    Proposal {
+        cuts: found.cuts,
+        leaf: Leaf::Linear {
+            den: i128::try_from(found.den).unwrap_or(0),
+            parts: found.parts,
+        },
+        version: 1,
+    }
+}
+
+// Block cuts, and the leaf over reduced costs that takes them.
+fn reduced(found: Grouped) -> Proposal {
+    Proposal {
+        cuts: found.cuts,
+        leaf: Leaf::Reduced {
+            den: found.den,
+            parts: found.parts,
+            lists: found.lists,
+            groups: found.groups,
+        },
+        version: 3,
+    }
+}
+
 // The leaf of prices at a node.
-fn proposal(
+fn leaf_of_prices(
     alloc: Global,
     instance: &Instance,
     path: &[Bound],
     prices: &DualPrices,
-    first_cut: u32,
-) -> Result<Priced, Fail> {
+    first: u32,
+) -> Result<Proposal, Fail> {
     let pricing = pricing_of(alloc, instance)?;
     let fixed = fixed_setups(alloc, instance, path)?;
-    let found = priced_leaf(alloc, instance, &pricing, prices, &fixed, first_cut)?;
-    Ok(found.ok_or("no leaf")?)
-}
-
-// A leaf of a proposal.
-fn leaf(found: Vec<Part>, den: u128) -> Leaf {
-    Leaf::Linear {
-        den: i128::try_from(den).unwrap_or(0),
-        parts: found,
+    match pricing.grouping() {
+        Some(groups) => {
+            let found = grouped_leaf(alloc, instance, &pricing, groups, prices, &fixed, first)?;
+            Ok(reduced(found.ok_or("no leaf")?))
+        }
+        None => {
+            let found = priced_leaf(alloc, instance, &pricing, prices, &fixed, first)?;
+            Ok(linear(found.ok_or("no leaf")?))
+        }
     }
 }
 
@@ -157,12 +195,12 @@ fn says(
     prices: &DualPrices,
     amount: u128,
 ) -> Result<bool, Fail> {
-    let found = proposal(alloc, instance, &[], prices, 1)?;
+    let found = leaf_of_prices(alloc, instance, &[], prices, 1)?;
     let made = Certificate {
-        version: 1,
+        version: found.version,
         claim: Claim::Bound(amount),
         cuts: found.cuts,
-        tree: Tree::Leaf(leaf(found.parts, found.den)),
+        tree: Tree::Leaf(found.leaf),
     };
     is_accepted(alloc, instance, &made)
 }
@@ -174,9 +212,9 @@ fn leaf_of_rounds(
     path: &[Bound],
     count: u32,
     first_cut: u32,
-) -> Result<(Priced, u128), Fail> {
+) -> Result<(Proposal, u128), Fail> {
     let (prices, amount, _) = improved(alloc, instance, path, count)?;
-    let found = proposal(alloc, instance, path, &prices, first_cut)?;
+    let found = leaf_of_prices(alloc, instance, path, &prices, first_cut)?;
     Ok((found, amount))
 }
 
@@ -203,13 +241,14 @@ fn split(alloc: Global, low: Leaf, high: Leaf) -> Result<Tree, AllocError> {
 fn split_certificate(
     alloc: Global,
     claim: Claim,
-    low: Priced,
-    high: Priced,
+    low: Proposal,
+    high: Proposal,
 ) -> Result<Certificate, AllocError> {
-    let tree = split(alloc, leaf(low.parts, low.den), leaf(high.parts, high.den))?;
+    let version = low.version.max(high.version);
+    let tree = split(alloc, low.leaf, high.leaf)?;
     let cuts = joined(low.cuts, high.cuts)?;
     Ok(Certificate {
-        version: 1,
+        version,
         claim,
         cuts,
         tree,
@@ -246,8 +285,11 @@ fn a_split_leaf_has_an_amount(rt: HostRuntime) -> Result<(), Fail> {
 // The leaf of the prices of the split, whose cuts have numbers from this one.
 fn split_leaf(alloc: Global, hours: i64, first_cut: u32) -> Result<Priced, Fail> {
     let instance = alone(alloc, hours)?;
-    let (found, _) = leaf_of_rounds(alloc, &instance, &[], 0, first_cut)?;
-    Ok(found)
+    let (prices, _, _) = improved(alloc, &instance, &[], 0)?;
+    let pricing = pricing_of(alloc, &instance)?;
+    let fixed = fixed_setups(alloc, &instance, &[])?;
+    let found = priced_leaf(alloc, &instance, &pricing, &prices, &fixed, first_cut)?;
+    Ok(found.ok_or("no leaf")?)
 }
 
 #[test]
@@ -388,6 +430,35 @@ fn too_few_hours_are_refuted(rt: HostRuntime) -> Result<(), Fail> {
     // 10 units and a setup take 11 hours.
     let instance = alone(alloc, 5)?;
     assert_eq!(rt; refuted(alloc, &instance, 60)?, (Reached::Refuted, true));
+    Ok(())
+}
+
+// What so many rounds reach of a chain whose machine has so many hours, and whether the leaf of their prices with all costs dropped
+// refutes that there is a plan.
+fn refuted_in_groups(alloc: Global, hours: i64, count: u32) -> Result<(Reached, bool), Fail> {
+    let instance = instance(alloc, 4, &[machine(&[hours])], &[FIRST, SECOND, THIRD])?;
+    let (prices, _, reached) = improved(alloc, &instance, &[], count)?;
+    let pricing = pricing_of(alloc, &instance)?;
+    let fixed = fixed_setups(alloc, &instance, &[])?;
+    let groups = pricing.grouping().ok_or("no groups")?;
+    let found = dropped_grouped_leaf(alloc, &instance, &pricing, groups, &prices, &fixed, 1)?;
+    let found = reduced(found.ok_or("no leaf")?);
+    let made = Certificate {
+        version: found.version,
+        claim: Claim::Infeasible,
+        cuts: found.cuts,
+        tree: Tree::Leaf(found.leaf),
+    };
+    Ok((reached, is_accepted(alloc, &instance, &made)?))
+}
+
+#[test]
+fn too_few_hours_are_refuted_in_groups(rt: HostRuntime) -> Result<(), Fail> {
+    // 14 units of A, 31 of B and 24 of C are to be made, and 40 hours are there.
+    assert_eq!(rt;
+        refuted_in_groups(rt.alloc(), 10, 60)?,
+        (Reached::Refuted, true)
+    );
     Ok(())
 }
 

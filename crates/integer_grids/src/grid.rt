@@ -127,7 +127,7 @@ fn copy_line(line: &mut [i64], from: &[i64]) {
 }
 
 // No number stays below 0.
-pub(crate) fn cut_line(line: &mut [i64]) {
+pub fn cut_line(line: &mut [i64]) {
     for cell in line.iter_mut() {
         *cell = (*cell).max(0);
     }

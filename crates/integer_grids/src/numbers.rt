@@ -51,7 +51,7 @@ pub fn over(a: i64, b: i64) -> i64 {
 }
 
 // `a * b / c`, and 0 by 0.
-pub(crate) fn share(a: i64, b: i64, c: i64) -> i64 {
+pub fn share(a: i64, b: i64, c: i64) -> i64 {
     if c == 0 {
         0
     } else {
@@ -69,7 +69,7 @@ pub fn of_amount(number: u64) -> i64
     }
 }
 
-pub(crate) fn of_total(number: u128) -> i64 {
+pub fn of_total(number: u128) -> i64 {
     match i64::try_from(number) {
         Ok(small) => small,
         Err(_) => i64::MAX,
@@ -132,7 +132,7 @@ pub fn write(list: &mut [i64], place: u32, number: i64) {
 }
 
 // Each number gets so many times that of another list.
-pub(crate) fn add_times(list: &mut [i64], other: &[i64], factor: i64) {
+pub fn add_times(list: &mut [i64], other: &[i64], factor: i64) {
     for (cell, number) in list.iter_mut().zip(other) {
         *cell = plus(*cell, times(factor, *number));
     }
@@ -164,7 +164,7 @@ pub fn none_is_negative(list: &[i64]) -> bool
 }
 
 // The lower one of two numbers, the first of which there may not be.
-pub(crate) fn lower(one: Option<i64>, other: i64) -> i64 {
+pub fn lower(one: Option<i64>, other: i64) -> i64 {
     match one {
         Some(number) => number.min(other),
         None => other,
@@ -172,7 +172,7 @@ pub(crate) fn lower(one: Option<i64>, other: i64) -> i64 {
 }
 
 // The sum of numbers.
-pub(crate) fn sum_of(list: &[i64]) -> i64 {
+pub fn sum_of(list: &[i64]) -> i64 {
     let mut sum = 0;
     for number in list {
         sum = plus(sum, *number);
@@ -181,7 +181,7 @@ pub(crate) fn sum_of(list: &[i64]) -> i64 {
 }
 
 // A list is a copy of another one.
-pub(crate) fn refill(list: &mut Vec<i64>, from: &[i64]) -> Result<(), AllocError> {
+pub fn refill(list: &mut Vec<i64>, from: &[i64]) -> Result<(), AllocError> {
     list.clear();
     for number in from {
         list.push(*number)?;
@@ -190,11 +190,7 @@ pub(crate) fn refill(list: &mut Vec<i64>, from: &[i64]) -> Result<(), AllocError
 }
 
 // A list has so many times each of some amounts.
-pub(crate) fn refill_scaled(
-    list: &mut Vec<i64>,
-    amounts: &[u64],
-    scale: i64,
-) -> Result<(), AllocError> {
+pub fn refill_scaled(list: &mut Vec<i64>, amounts: &[u64], scale: i64) -> Result<(), AllocError> {
     list.clear();
     for amount in amounts {
         list.push(times(scale, of_amount(*amount)))?;

@@ -1,0 +1,139 @@
+// Which items are planned in which group.
+ghost use Rattle.std.specs.Prelude.{◌≤◌};
+ghost use Rattle.lot_sizing.specs.Problem.{item_count};
+
+use integer_grids::numbers::{of_amount, plus};
+use item_groups::{ChainLink, Group};
+use lot_model::Instance;
+use std::alloc::{AllocError, Global};
+
+// A unit that is there before the first period costs so much where none is.
+const NONE_THERE: u128 = 100_000_000_000;
+
+// Chains of three items are planned over at most so many periods.
+const LONG_CHAIN: u32 = 72;
+
+/// Which items may be in groups, and which are.
+#[derive(Debug, Drop)]
+pub(crate) struct Cover {
+    // By item whether it is left: neither planned alone nor in a group yet.
+    left: Vec<bool>,
+    /// The groups so far.
+    pub(crate) groups: Vec<Group>,
+}
+
+// What the setups of an item cost in all periods.
+fn fees_of(instance: &Instance, item: u32) -> i64
+    requires low { 1 ≤ item }
+    requires high { item ≤ item_count instance.now }
+{
+    let mut sum = 0;
+    for cost in instance.setup_costs(item) {
+        sum = plus(sum, of_amount(*cost));
+    }
+    sum
+}
+
+// A link of a chain.
+fn link(item: u32) -> ChainLink {
+    ChainLink {
+        item,
+        opening_price: NONE_THERE,
+    }
+}
+
+impl Cover {
+    /// No groups yet. `alone` says by item whether it is planned alone. It takes no memory.
+    pub(crate) fn new(alloc: Global, alone: &[bool]) -> Result<Cover, AllocError> {
+        let mut left = Vec::with_capacity(alloc, alone.len())?;
+        for is_alone in alone {
+            left.push(!*is_alone)?;
+        }
+        Ok(Cover {
+            left,
+            groups: Vec::new(alloc),
+        })
+    }
+
+    // Whether an item is left.
+    fn is_left(&self, item: u32) -> bool {
+        match self.left.get((item as usize).wrapping_sub(1)) {
+            Some(left) => *left,
+            None => false,
+        }
+    }
+
+    // An item isn't left.
+    fn take(&mut self, item: u32) {
+        if let Some(left) = self.left.get_mut((item as usize).wrapping_sub(1)) {
+            *left = false;
+        }
+    }
+
+    // Whether an item may stand below another one in a chain: it is left, and none of its own is ever late.
+    fn may_be_below(&self, instance: &Instance, item: u32) -> bool {
+        if item < 1 || item > instance.items() {
+            return false;
+        }
+        self.is_left(item) && !instance.has_backlog_cost(item)
+    }
+
+    // The component of an item whose setups cost most, of those that may stand below it.
+    fn below(&self, instance: &Instance, item: u32) -> Option<u32> {
+        if item < 1 || item > instance.items() {
+            return None;
+        }
+        let mut best = None;
+        let mut most = 0;
+        for need in instance.needs(item) {
+            if need.quantity >= 1 && self.may_be_below(instance, need.item) {
+                let fees = fees_of(instance, need.item);
+                if fees > most {
+                    most = fees;
+                    best = Some(need.item);
+                }
+            }
+        }
+        best
+    }
+
+    // A group of an item and, where there are such, of a component of it and of one of that.
+    fn group_below(&mut self, instance: &Instance, top: u32) -> Group {
+        self.take(top);
+        let Some(mid) = self.below(instance, top) else {
+            return Group::Item { item: top };
+        };
+        self.take(mid);
+        match self.below(instance, mid) {
+            Some(low) if is_short(instance, mid) => {
+                self.take(low);
+                Group::Triple {
+                    low: link(low),
+                    mid: link(mid),
+                    top: link(top),
+                }
+            }
+            _ => Group::Pair {
+                low: link(mid),
+                top: link(top),
+            },
+        }
+    }
+
+    /// An item that is left begins a group with its components. The error is that memory ran out.
+    pub(crate) fn put(&mut self, instance: &Instance, item: u32) -> Result<(), AllocError> {
+        if self.is_left(item) {
+            let group = self.group_below(instance, item);
+            self.groups.push(group)?;
+        }
+        Ok(())
+    }
+}
+
+// Whether a chain of three items with this one in the middle isn't too long.
+fn is_short(instance: &Instance, mid: u32) -> bool {
+    if mid < 1 || mid > instance.items() {
+        return false;
+    }
+    instance.periods().saturating_add(instance.lead(mid)) <= LONG_CHAIN
+}
