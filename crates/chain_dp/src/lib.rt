@@ -1,7 +1,7 @@
 //! The least cost of a chain of up to three items that are planned together: one setup of a part may serve
 //! several lots of what it goes into, which items that are planned by themselves don't know.
 //!
-//! Family: single items. It stands on `lot_sizing`. No command uses it yet.
+//! Family: single items. It stands on `lot_sizing`; `reduced_groups` stands on it.
 //!
 //! A chain is a list of levels, the lowest first, each of which goes into the next one. A level has a cost
 //! of a setup and of a unit in each period, needs of its own beside those of the next level, and a lead time

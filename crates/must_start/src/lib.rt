@@ -1,6 +1,6 @@
 //! What every feasible plan must have started of an item, and the largest lots that it can start.
 //!
-//! Family: single items. It stands on `lot_sizing` and `lot_model`. Nothing stands on it yet.
+//! Family: single items. It stands on `lot_sizing` and `lot_model`; `reduced_groups` and `late_starts` stand on it.
 //!
 //! A lot arrives its lead time after its start. So what must have arrived of an item by some period, for its
 //! demand, its required end stock and the items that it goes into, must have been started the lead time before.

@@ -1,6 +1,6 @@
 //! The cheapest way to start what must be started of one item, in whole quantities with largest lots.
 //!
-//! Family: single items. It stands on `lot_sizing` and `must_start`. Nothing stands on it yet.
+//! Family: single items. It stands on `lot_sizing` and `must_start`; `reduced_groups` stands on it.
 //!
 //! A `LotPeriod` has for one period the price of a setup and of a unit, what must have been started by its end, and
 //! the largest lot. `least_price` gives the least price of quantities that keep these, or none exactly where no

@@ -1,6 +1,7 @@
 //! Groups of items, and the numbers that their parts of the reduced costs can't fall below.
 //!
-//! Family: single items. It stands on `lin_rows`, `must_start`, `quantity_dp` and `chain_dp`. Nothing stands on it yet.
+//! Family: single items. It stands on `lin_rows`, `must_start`, `quantity_dp` and `chain_dp`;
+//! `reduced_leaf` stands on it.
 //!
 //! A sum of multiples of rows leaves of the costs a reduced cost of each column. Where none is below 0, linear
 //! duality takes them for nothing. A *group* takes those of the setups and quantities of some items, and a recursion

@@ -1,6 +1,7 @@
 //! What a sum of multiples of rows and the numbers of groups of items bound.
 //!
-//! Family: single items. It stands on `lin_rows`, `must_start` and `reduced_groups`. Nothing stands on it yet.
+//! Family: single items. It stands on `lin_rows`, `must_start` and `reduced_groups`; `acceptance` and
+//! `cert_checker` stand on it.
 //!
 //! A sum of multiples of rows leaves of each column's cost its reduced cost. Where none is below 0, the right sides and
 //! the numbers of groups of items that lie apart add to a *reduced sum*, which is at most `den` times the cost of every
