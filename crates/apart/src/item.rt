@@ -91,7 +91,8 @@ fn single_apart(
     item: u32,
 ) -> Result<SingleItem, AllocError>
     requires { IsOwnEchelon instance.now item echelon.now }
-    ensures single { IfOk result (λ single. single_of_item single ≡ own_single instance.now item echelon.now) }
+    ensures single { IfOk result (λ single. single_of_item single
+        ≡ own_single instance.now item echelon.now) }
     ensures within { IfOk result (λ single. IsWithinBounds (single_of_item single)) }
 {
     let Net { net, left: _ } = net_of(alloc, echelon)?;

@@ -45,7 +45,8 @@ fn terms_of(
     requires within { IsEchelonWithinBounds echelon.now }
     requires lengths { HavePrices (length echelon.now.demand.items) potentials.now }
     requires small { AreSmall potentials.now }
-    ensures { IfOk result (λ terms. terms.items ≡ block_terms (echelon_in echelon.now) potentials.now) }
+    ensures { IfOk result (λ terms. terms.items
+        ≡ block_terms (echelon_in echelon.now) potentials.now) }
 {
     let setups = wide(alloc, &potentials.setup)?;
     let terms = cost_terms_of(
@@ -62,9 +63,11 @@ fn terms_of(
 // The last potential, and the holding of what is left.
 fn right_of(echelon: &EchelonItem, left: &[u128], potentials: &Potentials) -> i128
     requires within { IsEchelonWithinBounds echelon.now }
-    requires left { HasEach (length echelon.now.demand.items) (left_after (asked_of_echelon echelon.now)) left.now }
+    requires left { HasEach (length echelon.now.demand.items)
+        (left_after (asked_of_echelon echelon.now)) left.now }
     requires lengths { HavePrices (length echelon.now.demand.items) potentials.now }
-    requires steps { length potentials.now.steps.items ≡ position_count (priced_by (echelon_in echelon.now) potentials.now) }
+    requires steps { length potentials.now.steps.items
+        ≡ position_count (priced_by (echelon_in echelon.now) potentials.now) }
     requires small { AreSmall potentials.now }
     ensures { result ≡ pos (block_right (echelon_in echelon.now) potentials.now) }
 {
@@ -82,7 +85,8 @@ fn row_by(
     potentials: &Potentials,
 ) -> Result<Row, AllocError>
     requires within { IsEchelonWithinBounds echelon.now }
-    requires left { HasEach (length echelon.now.demand.items) (left_after (asked_of_echelon echelon.now)) left.now }
+    requires left { HasEach (length echelon.now.demand.items)
+        (left_after (asked_of_echelon echelon.now)) left.now }
     requires lengths { HaveLengths (echelon_in echelon.now) potentials.now }
     requires small { AreSmall potentials.now }
     ensures { IfOk result (λ row. row ≡ block_row_of (echelon_in echelon.now) potentials.now) }
@@ -106,7 +110,9 @@ fn have_prices(potentials: &Potentials, periods: usize) -> bool
 // Whether there is a potential for each position.
 fn have_steps(alloc: Global, net: &[u128], steps: &[u128]) -> Result<bool, AllocError>
     requires { length net.now ≤ MAX_PERIODS }
-    ensures { IfOk result (λ found. IsTrue found ↔ (length steps.now ≡ position_count (single_with net.now [] [] [] [] false))) }
+    ensures { IfOk result (λ found.
+        IsTrue found ↔ (length steps.now
+        ≡ position_count (single_with net.now [] [] [] [] false))) }
 {
     let periods = periods_of(alloc, net)?;
     let found = periods.len() == steps.len();
@@ -121,9 +127,11 @@ fn have_lengths(
     potentials: &Potentials,
 ) -> Result<bool, AllocError>
     requires within { IsEchelonWithinBounds echelon.now }
-    requires net { HasEach (length echelon.now.demand.items) (net_in (asked_of_echelon echelon.now)) net.now }
+    requires net { HasEach (length echelon.now.demand.items) (net_in (asked_of_echelon echelon.now))
+        net.now }
     requires prices { HavePrices (length echelon.now.demand.items) potentials.now }
-    ensures { IfOk result (λ found. IsTrue found ↔ HaveLengths (echelon_in echelon.now) potentials.now) }
+    ensures { IfOk result (λ found.
+        IsTrue found ↔ HaveLengths (echelon_in echelon.now) potentials.now) }
 {
     let found = have_steps(alloc, net, &potentials.steps)?;
     Ok(found)
@@ -150,9 +158,11 @@ fn broken_block(
     requires periods { length net.now ≤ MAX_PERIODS }
     requires net { sum_to (length net.now) (entry net.now) ≤ MAX_ASKED }
     requires lengths { HavePrices (length net.now) potentials.now }
-    requires steps { length potentials.now.steps.items ≡ position_count (single_by net.now potentials.now backlogged) }
+    requires steps { length potentials.now.steps.items
+        ≡ position_count (single_by net.now potentials.now backlogged) }
     requires small { AreSmall potentials.now }
-    ensures { IfOk result (IsFirstBrokenOrNone (single_by net.now potentials.now backlogged) potentials.now.steps.items) }
+    ensures { IfOk result (IsFirstBrokenOrNone (single_by net.now potentials.now backlogged)
+        potentials.now.steps.items) }
 {
     let broken = first_broken(
         alloc,
@@ -175,10 +185,13 @@ fn test_blocks(
     potentials: &Potentials,
 ) -> Result<(), CutFault>
     requires within { IsEchelonWithinBounds echelon.now }
-    requires net { HasEach (length echelon.now.demand.items) (net_in (asked_of_echelon echelon.now)) net.now }
+    requires net { HasEach (length echelon.now.demand.items) (net_in (asked_of_echelon echelon.now))
+        net.now }
     requires lengths { HaveLengths (echelon_in echelon.now) potentials.now }
     requires small { AreSmall potentials.now }
-    ensures blocks { IfOk result (λ _. ArePotentials (priced_by (echelon_in echelon.now) potentials.now) potentials.now.steps.items) }
+    ensures blocks { IfOk result (λ _.
+        ArePotentials (priced_by (echelon_in echelon.now) potentials.now)
+        potentials.now.steps.items) }
     ensures fault { IfErr result (IsBlockFault (echelon_in echelon.now) potentials.now) }
 {
     nets_are_small();
@@ -222,7 +235,8 @@ pub fn block_row(
     ensures columns_exist { IfOk result (λ row. AreColumnsOf echelon.now row.terms) }
     ensures allowed { IfOk result (λ _. IsAllowed (echelon_in echelon.now) potentials.now) }
     ensures fault { IfErr result (IsBlockFault (echelon_in echelon.now) potentials.now) }
-    ensures allowed_is_made { IfErr result (λ fault. IsAllowed (echelon_in echelon.now) potentials.now → fault ≡ Memory) }
+    ensures allowed_is_made { IfErr result (λ fault.
+        IsAllowed (echelon_in echelon.now) potentials.now → fault ≡ Memory) }
 {
     if !have_prices(potentials, echelon.demand.len()) {
         return Err(CutFault::Length);

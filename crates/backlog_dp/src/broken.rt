@@ -61,7 +61,8 @@ fn search_of(
     requires size { length costs.now ≡ length steps.now }
     requires periods { length periods.now ≡ length steps.now }
     requires costs { sum_to (length costs.now) (entry costs.now) ≤ MAX_PERIODS * MAX_STEP }
-    ensures { BreaksOf steps.now costs.now periods.now setup backlogged server (length steps.now) result }
+    ensures { BreaksOf steps.now costs.now periods.now setup backlogged server (length steps.now)
+        result }
 {
     for first in 1..steps.len() + 1 {
         if may_serve(backlogged, server, periods[first - 1]) {
@@ -91,7 +92,8 @@ fn broken_of(
     requires size { length costs.now ≡ length steps.now }
     requires periods { length periods.now ≡ length steps.now }
     requires costs { sum_to (length costs.now) (entry costs.now) ≤ MAX_PERIODS * MAX_STEP }
-    ensures { BreaksOf steps.now costs.now periods.now setup backlogged server (length steps.now) result }
+    ensures { BreaksOf steps.now costs.now periods.now setup backlogged server (length steps.now)
+        result }
 {
     if holds_for(steps, costs, periods, setup, backlogged, server) {
         None
@@ -144,9 +146,11 @@ pub fn first_broken(
     requires setup { length setup.now ≡ length net.now }
     requires prices { ArePriced (length net.now) unit.now hold.now back.now }
     requires net { sum_to (length net.now) (entry net.now) ≤ MAX_ASKED }
-    requires size { length steps.now ≡ position_count (single_with net.now setup.now unit.now hold.now back.now backlogged) }
+    requires size { length steps.now
+        ≡ position_count (single_with net.now setup.now unit.now hold.now back.now backlogged) }
     requires steps { AllAtMost MAX_STEP steps.now }
-    ensures { IfOk result (IsFirstBrokenOrNone (single_with net.now setup.now unit.now hold.now back.now backlogged) steps.now) }
+    ensures { IfOk result (IsFirstBrokenOrNone
+        (single_with net.now setup.now unit.now hold.now back.now backlogged) steps.now) }
 {
     let list = periods_of(alloc, net)?;
     let periods = list.as_slice();

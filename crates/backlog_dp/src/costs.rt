@@ -16,7 +16,8 @@ use std::alloc::{AllocError, Global};
 /// The periods of the positions: those with a net demand, in order. The error is that memory ran out.
 pub fn periods_of(alloc: Global, net: &[u128]) -> Result<Vec<u32>, AllocError>
     requires { length net.now ≤ MAX_PERIODS }
-    ensures { IfOk result (λ found. found.items ≡ positions (single_with net.now [] [] [] [] false)) }
+    ensures { IfOk result (λ found. found.items
+        ≡ positions (single_with net.now [] [] [] [] false)) }
 {
     let mut periods = Vec::new(alloc);
     for period in 1..net.len() as u32 + 1 {
@@ -27,7 +28,8 @@ pub fn periods_of(alloc: Global, net: &[u128]) -> Result<Vec<u32>, AllocError>
 
 // A period, where something is asked for.
 fn put_period(list: &mut Vec<u32>, asked: u128, period: u32) -> Result<(), AllocError>
-    ensures { IfOk result (λ _. list.new.items ≡ list.old.items ++ (if asked == 0 then [] else period ∷ [])) }
+    ensures { IfOk result (λ _. list.new.items
+        ≡ list.old.items ++ (if asked == 0 then [] else period ∷ [])) }
 {
     if asked != 0 {
         list.push(period)?;
@@ -45,8 +47,12 @@ fn costs_at(
     requires net { AllAtMost MAX_ASKED net.now }
     requires prices { IsSeries (length net.now) (MAX_PERIODS * MAX_PRICE) prices.now }
     requires low { (p : ℕ) → 1 ≤ p → p ≤ length periods.now → 1 ≤ entry periods.now p }
-    requires high { (p : ℕ) → 1 ≤ p → p ≤ length periods.now → entry periods.now p ≤ length net.now }
-    ensures { IfOk result (λ costs. HasEach (length periods.now) (λ p. entry net.now (entry periods.now p) * entry prices.now (entry periods.now p)) costs.items) }
+    requires high { (p : ℕ) → 1 ≤ p → p ≤ length periods.now
+        → entry periods.now p ≤ length net.now }
+    ensures { IfOk result (λ costs.
+        HasEach (length periods.now)
+        (λ p. entry net.now (entry periods.now p) * entry prices.now (entry periods.now p))
+        costs.items) }
 {
     let mut costs = Vec::with_capacity(alloc, periods.len())?;
     for position in 1..periods.len() + 1 {
@@ -74,8 +80,10 @@ pub fn serving_costs(
     requires periods { periods.now ≡ positions (single_with net.now [] [] [] [] false) }
     requires low { 1 ≤ server }
     requires high { server ≤ length net.now }
-    ensures each { IfOk result (λ found. AreServingCosts net.now unit.now hold.now back.now backlogged server found.items) }
-    ensures small { IfOk result (λ found. sum_to (length found.items) (entry found.items) ≤ MAX_PERIODS * MAX_STEP) }
+    ensures each { IfOk result (λ found.
+        AreServingCosts net.now unit.now hold.now back.now backlogged server found.items) }
+    ensures small { IfOk result (λ found. sum_to (length found.items) (entry found.items)
+        ≤ MAX_PERIODS * MAX_STEP) }
 {
     let prices = serving_prices(alloc, unit, hold, back, backlogged, server)?;
     let costs = costs_at(alloc, net, periods, &prices)?;

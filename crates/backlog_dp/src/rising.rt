@@ -80,7 +80,8 @@ pub fn holds_for(
     requires size { length costs.now ≡ length steps.now }
     requires periods { length periods.now ≡ length steps.now }
     requires costs { sum_to (length costs.now) (entry costs.now) ≤ MAX_PERIODS * MAX_STEP }
-    ensures { IsTrue result ↔ HoldsTo steps.now costs.now periods.now setup backlogged server (length steps.now) }
+    ensures { IsTrue result ↔ HoldsTo steps.now costs.now periods.now setup backlogged server
+        (length steps.now) }
 {
     let mut kept = None;
     let mut here = Start {

@@ -65,7 +65,8 @@ impl Reach {
 
     // The first item that is its own component, over one or more lines.
     fn first_on_cycle(&self) -> Option<u32>
-        ensures { (b : Bill) → IsReachOf b self.now → MatchOption result (HasNoCycle b) (IsFirstOnCycle b) }
+        ensures { (b : Bill) → IsReachOf b self.now
+            → MatchOption result (HasNoCycle b) (IsFirstOnCycle b) }
     {
         for item in 1..self.items() + 1 {
             if self.goes_into(item, item) {
@@ -95,8 +96,10 @@ impl Reach {
     fn all_others(&self, room: Vec<u32>) -> Vec<u32>
         requires { length room.items ≡ length self.now }
         ensures size { length result.items ≡ length self.now }
-        ensures each { (j : ℕ) → 1 ≤ j → j ≤ length self.now → entry result.items j ≡ missing (set_of self.now j) }
-        ensures small { (j : ℕ) → 1 ≤ j → j ≤ length self.now → entry result.items j ≤ length self.now }
+        ensures each { (j : ℕ) → 1 ≤ j → j ≤ length self.now
+            → entry result.items j ≡ missing (set_of self.now j) }
+        ensures small { (j : ℕ) → 1 ≤ j → j ≤ length self.now
+            → entry result.items j ≤ length self.now }
     {
         let mut counts = room;
         for item in 1..self.items() + 1 {
@@ -147,8 +150,10 @@ impl Ranking {
     pub fn into_ranks(self) -> Result<Vec<u32>, CycleFault>
         ensures size { IfOk result (λ ranks. length ranks.items ≡ length self) }
         ensures small { IfOk result (λ ranks. (i : ℕ) → entry ranks.items i ≤ length self) }
-        ensures ranks { (b : Bill) → IsReachOf b self → IfOk result (λ ranks. HasRanks b (entry ranks.items)) }
-        ensures refused { (b : Bill) → IsReachOf b self → IfErr result (λ fault. IsFirstOnCycle b fault.item) }
+        ensures ranks { (b : Bill) → IsReachOf b self
+            → IfOk result (λ ranks. HasRanks b (entry ranks.items)) }
+        ensures refused { (b : Bill) → IsReachOf b self
+            → IfErr result (λ fault. IsFirstOnCycle b fault.item) }
     {
         let Ranking { reach, room } = self;
         if let Some(item) = reach.first_on_cycle() {

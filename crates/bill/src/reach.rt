@@ -35,7 +35,8 @@ fn add_lines(needs: &[Need], set: &mut [bool]) -> bool
     ensures size { length set.new ≡ length set.old }
     ensures keeps { (i : ℕ) → has set.old i ≡ true → has set.new i ≡ true }
     ensures named { (n : ℕ) → n < length needs.now → has set.new (line_at needs.now n).item ≡ true }
-    ensures only { (i : ℕ) → 1 ≤ i → has set.new i ≡ true → (has set.old i ≡ true) ⊎ Names needs.now i }
+    ensures only { (i : ℕ) → 1 ≤ i → has set.new i ≡ true
+        → (has set.old i ≡ true) ⊎ Names needs.now i }
     ensures same { result ≡ false → set.new ≡ set.old }
     ensures grown { result ≡ true → missing set.new < missing set.old }
     ensures fewer { missing set.new ≤ missing set.old }
@@ -56,8 +57,10 @@ fn spread_from(lines: &BillLines, item: u32, set: &mut [bool]) -> bool
     requires high { item ≤ length lines.now }
     ensures size { length set.new ≡ length set.old }
     ensures keeps { (i : ℕ) → has set.old i ≡ true → has set.new i ≡ true }
-    ensures sound { (j : ℕ) → AllGoInto (bill_of_lines lines.now) j set.old → AllGoInto (bill_of_lines lines.now) j set.new }
-    ensures closed { result ≡ false → has set.new item ≡ true → HasLinesOf (bill_of_lines lines.now) item set.new }
+    ensures sound { (j : ℕ) → AllGoInto (bill_of_lines lines.now) j set.old
+        → AllGoInto (bill_of_lines lines.now) j set.new }
+    ensures closed { result ≡ false → has set.new item ≡ true
+        → HasLinesOf (bill_of_lines lines.now) item set.new }
     ensures same { result ≡ false → set.new ≡ set.old }
     ensures grown { result ≡ true → missing set.new < missing set.old }
     ensures fewer { missing set.new ≤ missing set.old }
@@ -73,8 +76,10 @@ fn spread(lines: &BillLines, set: &mut [bool]) -> bool
     requires size { length set.now ≡ length lines.now }
     ensures size { length set.new ≡ length set.old }
     ensures keeps { (i : ℕ) → has set.old i ≡ true → has set.new i ≡ true }
-    ensures sound { (j : ℕ) → AllGoInto (bill_of_lines lines.now) j set.old → AllGoInto (bill_of_lines lines.now) j set.new }
-    ensures closed { result ≡ false → (k : ℕ) → 1 ≤ k → k ≤ length lines.now → has set.new k ≡ true → HasLinesOf (bill_of_lines lines.now) k set.new }
+    ensures sound { (j : ℕ) → AllGoInto (bill_of_lines lines.now) j set.old
+        → AllGoInto (bill_of_lines lines.now) j set.new }
+    ensures closed { result ≡ false → (k : ℕ) → 1 ≤ k → k ≤ length lines.now → has set.new k ≡ true
+        → HasLinesOf (bill_of_lines lines.now) k set.new }
     ensures grown { result ≡ true → missing set.new < missing set.old }
 {
     let mut grown = false;

@@ -80,7 +80,8 @@ fn weight_of(lines: &BillLines, weights: &[Vec<u64>], item: u32, whole: u32) -> 
     requires small { AreSmall (map (λ v. v.items) weights.now) }
     requires low { 1 ≤ whole }
     requires high { whole ≤ length lines.now }
-    ensures { result ≡ weight_by (bill_of_lines lines.now) (map (λ v. v.items) weights.now) item whole }
+    ensures { result ≡ weight_by (bill_of_lines lines.now) (map (λ v. v.items) weights.now) item
+        whole }
 {
     let mut sum = if item == whole { 1u128 } else { 0 };
     for other in 1..lines.items() + 1 {
@@ -98,8 +99,10 @@ fn write_row(lines: &BillLines, weights: &[Vec<u64>], item: u32, row: &mut [u64]
     requires small { AreSmall (map (λ v. v.items) weights.now) }
     requires row { AreRows (length lines.now) row.now }
     ensures kept { AreRows (length lines.now) row.new }
-    ensures row { result ≡ true → IsRowOf (bill_of_lines lines.now) (map (λ v. v.items) weights.now) item row.new }
-    ensures large { result ≡ false → HasLargeWeight (bill_of_lines lines.now) (map (λ v. v.items) weights.now) item }
+    ensures row { result ≡ true → IsRowOf (bill_of_lines lines.now) (map (λ v. v.items) weights.now)
+        item row.new }
+    ensures large { result ≡ false → HasLargeWeight (bill_of_lines lines.now)
+        (map (λ v. v.items) weights.now) item }
 {
     for whole in 1..lines.items() + 1 {
         let weight = weight_of(lines, weights, item, whole);
@@ -131,10 +134,13 @@ fn numbers_of(
     requires tables { HasTables (length lines.now) known.now }
     ensures tables { HasTables (length lines.now) known.new }
     ensures same { AreSame known.old known.new }
-    ensures total { IfSome result (λ total. total ≡ total_by (bill_of_lines lines.now) asked there known.old.totals.items item) }
+    ensures total { IfSome result (λ total. total
+        ≡ total_by (bill_of_lines lines.now) asked there known.old.totals.items item) }
     ensures small { IfSome result (λ total. total ≤ MAX_TOTAL) }
-    ensures row { IfSome result (λ _. IsRowOf (bill_of_lines lines.now) (weights_in known.old) item known.new.row.items) }
-    ensures none { result ≡ None → HasLargeNumber (bill_of_lines lines.now) asked there known.old item }
+    ensures row { IfSome result (λ _.
+        IsRowOf (bill_of_lines lines.now) (weights_in known.old) item known.new.row.items) }
+    ensures none { result ≡ None → HasLargeNumber (bill_of_lines lines.now) asked there known.old
+        item }
 {
     let total = total_of(lines, &known.totals, asked, there, item);
     if total > MAX_TOTAL as u128 {
@@ -210,7 +216,8 @@ fn settle_of_rank(
     ensures tables { HasTables (length lines.now) known.new }
     ensures keeps { StaysDone known.old.done.items known.new.done.items }
     ensures progress { IsProgress lines.now asked.now there.now known.new }
-    ensures settled { entry ranks.now item ≡ rank → IsSettledIn lines.now asked.now there.now known.new.done.items item }
+    ensures settled { entry ranks.now item ≡ rank
+        → IsSettledIn lines.now asked.now there.now known.new.done.items item }
 {
     if ranks[(item - 1) as usize] == rank {
         settle(lines, asked, there, known, item);
@@ -235,7 +242,8 @@ fn settle_rank(
     requires before { AreSettled lines.now asked.now there.now known.now.done.items ranks.now rank }
     ensures tables { HasTables (length lines.now) known.new }
     ensures progress { IsProgress lines.now asked.now there.now known.new }
-    ensures after { AreSettled lines.now asked.now there.now known.new.done.items ranks.now (rank + 1) }
+    ensures after { AreSettled lines.now asked.now there.now known.new.done.items ranks.now
+        (rank + 1) }
 {
     for item in 1..lines.items() + 1 {
         settle_of_rank(lines, asked, there, ranks, rank, known, item);
@@ -261,7 +269,8 @@ fn is_stuck(lines: &BillLines, done: &[bool], item: u32) -> bool
 // first one past the bound.
 fn first_stuck(lines: &BillLines, done: &[bool]) -> Option<u32>
     requires size { length done.now ≡ length lines.now }
-    ensures { MatchOption result (HasNoneStuck (bill_of_lines lines.now) done.now) (IsFirstStuck (bill_of_lines lines.now) done.now) }
+    ensures { MatchOption result (HasNoneStuck (bill_of_lines lines.now) done.now)
+        (IsFirstStuck (bill_of_lines lines.now) done.now) }
 {
     for item in 1..lines.items() + 1 {
         if is_stuck(lines, done, item) {
@@ -383,7 +392,8 @@ impl Totals {
         ensures row_sizes { IfOk result (λ found. HaveSize (length lines.now) found.weights) }
         ensures small { IfOk result (λ found. (i : ℕ) → entry found.totals i ≤ MAX_TOTAL) }
         ensures ok { IfOk result (AreAll (bill_of_lines lines.now) asked.now there.now) }
-        ensures refused { IfErr result (λ fault. IsFirstOverIn (bill_of_lines lines.now) asked.now there.now fault.item) }
+        ensures refused { IfErr result (λ fault.
+            IsFirstOverIn (bill_of_lines lines.now) asked.now there.now fault.item) }
     {
         let mut known = tables.known;
         for rank in 0..lines.items() + 1 {

@@ -27,7 +27,8 @@ fn ask_leaf<S, G: Guide<S>>(
     requires sound { AtNode node.now (IsSoundLeaf G.Guide guide.now state.old proposal) }
     ensures later { OnOk result (IsLater G.Guide guide.now state.old state.new) }
     ensures sound { IfOk result (λ p. AtNode node.now (IsSoundLeaf G.Guide guide.now state.new p)) }
-    ensures fewer { IfOk result (λ p. unexamined_at p + wanted_at bound proposal ≡ unexamined_at proposal) }
+    ensures fewer { IfOk result (λ p. unexamined_at p + wanted_at bound proposal
+        ≡ unexamined_at proposal) }
     ensures more { IfOk result (λ p. IsAtMost proposal.says p.says) }
 {
     if is_wanted(&proposal, bound) {
@@ -55,7 +56,8 @@ pub fn ask_tree<S, G: Guide<S>>(
     ensures count { IfOk result (λ t. branches t ≡ branches tree) }
     ensures tree { IfOk result (λ t. AtNode node.old (IsSoundTree G.Guide guide.now state.new t)) }
     ensures fewer { IfOk result (λ t. unexamined t + wanted bound tree ≡ unexamined tree) }
-    ensures deep { IfOk result (λ t. AtNode node.old (StaysDeep G.Guide state.old state.new tree t)) }
+    ensures deep { IfOk result (λ t.
+        AtNode node.old (StaysDeep G.Guide state.old state.new tree t)) }
     ensures risen { IfOk result (λ t. IsAtMost (least_said tree) (least_said t)) }
 {
     match tree {
@@ -104,8 +106,10 @@ fn ask_branch<S, G: Guide<S>>(
     ensures tree { IfOk result (λ t. AtNode node.old (IsSoundTree G.Guide guide.now state.new t)) }
     ensures fewer { IfOk result (λ t.
         unexamined t + wanted bound low + wanted bound high ≡ unexamined low + unexamined high) }
-    ensures deep { IfOk result (StaysDeepJoined G.Guide state.old state.new node.old split low high) }
-    ensures risen { IfOk result (λ t. IsAtMost (lesser (least_said low) (least_said high)) (least_said t)) }
+    ensures deep { IfOk result (StaysDeepJoined G.Guide state.old state.new node.old split low
+        high) }
+    ensures risen { IfOk result (λ t.
+        IsAtMost (lesser (least_said low) (least_said high)) (least_said t)) }
 {
     let left = ask_side(alloc, guide, node, state, bound, split, true, low)?;
     let right = ask_side(alloc, guide, node, state, bound, split, false, high)?;
@@ -131,7 +135,8 @@ fn ask_side<S, G: Guide<S>>(
     ensures same_node { OnOk result (IsSameNode node.old node.new) }
     ensures later { OnOk result (IsLater G.Guide guide.now state.old state.new) }
     ensures count { IfOk result (λ t. branches t ≡ branches tree) }
-    ensures tree { IfOk result (λ t. AtSide most node.old split (IsSoundTree G.Guide guide.now state.new t)) }
+    ensures tree { IfOk result (λ t.
+        AtSide most node.old split (IsSoundTree G.Guide guide.now state.new t)) }
     ensures fewer { IfOk result (λ t. unexamined t + wanted bound tree ≡ unexamined tree) }
     ensures deep { IfOk result (λ t.
         AtSide most node.old split (StaysDeep G.Guide state.old state.new tree t)) }

@@ -18,7 +18,8 @@ pub fn least_number(tree: &Sought) -> Option<u128>
 
 // Whether evidence is still to be asked for at a leaf, if it says just this number.
 pub fn is_wanted(proposal: &Proposal, bound: u128) -> bool
-    ensures is { result ≡ true → (wanted_at bound proposal.now ≡ 1) × (unexamined_at proposal.now ≡ 1) }
+    ensures is { result ≡ true → (wanted_at bound proposal.now ≡ 1)
+        × (unexamined_at proposal.now ≡ 1) }
     ensures not { result ≡ false → wanted_at bound proposal.now ≡ 0 }
 {
     match proposal.says {

@@ -23,7 +23,8 @@ fn is_branched(
     best: Option<u128>,
 ) -> bool
     ensures open { result ≡ true → ((1 ≤ room) × (depth < MAX_BRANCHES) × IsBelow says best) }
-    ensures shut { result ≡ false → 1 ≤ room → IsBelow says mark → IsBelow says best → MAX_BRANCHES ≤ depth }
+    ensures shut { result ≡ false → 1 ≤ room → IsBelow says mark → IsBelow says best
+        → MAX_BRANCHES ≤ depth }
 {
     room >= 1 && depth < MAX_BRANCHES as usize && is_below(says, mark) && is_below(says, best)
 }
@@ -39,7 +40,8 @@ fn goes_on<S, G: Guide<S>>(
 ) -> bool
     requires state { G.IsState guide.now state.old }
     ensures later { IsLater G.Guide guide.now state.old state.new }
-    ensures open { result ≡ true → ((1 ≤ room) × (depth < MAX_BRANCHES) × IsBelow says (G.cost state.old)) }
+    ensures open { result ≡ true → ((1 ≤ room) × (depth < MAX_BRANCHES)
+        × IsBelow says (G.cost state.old)) }
     ensures shut { result ≡ false → G.may_stop guide.now state.old ≡ false
         → 1 ≤ room → IsBelow says mark → IsBelow says (G.cost state.new) → MAX_BRANCHES ≤ depth }
 {
@@ -167,7 +169,8 @@ fn grow_branch<S, G: Guide<S>>(
     ensures same_node { OnOk result (IsSameNode node.old node.new) }
     ensures later { OnOk result (IsLater G.Guide guide.now state.old state.new) }
     ensures less { OnOk result (room.new ≤ room.old) }
-    ensures rest { IfOk result (λ t. branches t + room.new ≡ branches low + branches high + 1 + room.old) }
+    ensures rest { IfOk result (λ t. branches t + room.new
+        ≡ branches low + branches high + 1 + room.old) }
     ensures tree { IfOk result (λ t. AtNode node.old (IsSoundTree G.Guide guide.now state.new t)) }
     ensures deep { IfOk result (λ t. G.may_stop guide.now state.old ≡ false
         → 1 ≤ room.new → AtNode node.old (AreDeep mark (G.cost state.new) t)) }
@@ -198,7 +201,8 @@ fn grow_side<S, G: Guide<S>>(
     ensures later { OnOk result (IsLater G.Guide guide.now state.old state.new) }
     ensures less { OnOk result (room.new ≤ room.old) }
     ensures rest { IfOk result (λ t. branches t + room.new ≡ branches tree + room.old) }
-    ensures tree { IfOk result (λ t. AtSide most node.old split (IsSoundTree G.Guide guide.now state.new t)) }
+    ensures tree { IfOk result (λ t.
+        AtSide most node.old split (IsSoundTree G.Guide guide.now state.new t)) }
     ensures deep { IfOk result (λ t. G.may_stop guide.now state.old ≡ false
         → 1 ≤ room.new → AtSide most node.old split (AreDeep mark (G.cost state.new) t)) }
 {

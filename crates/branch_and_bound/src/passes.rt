@@ -44,7 +44,8 @@ fn is_over<S, G: Guide<S>>(
 ) -> bool
     requires state { G.IsState guide.now state.old }
     ensures later { IsLater G.Guide guide.now state.old state.new }
-    ensures over { result ≡ true → G.may_stop guide.now state.old ≡ false → IsNear limits.gap least best }
+    ensures over { result ≡ true → G.may_stop guide.now state.old ≡ false
+        → IsNear limits.gap least best }
 {
     is_near(limits.gap, least, best) || guide.stops(least, state)
 }
@@ -92,7 +93,8 @@ fn grow_once<S, G: Guide<S>>(
     ensures same_node { OnOk result (IsSameNode node.old node.new) }
     ensures later { OnOk result (IsLater G.Guide guide.now state.old state.new) }
     ensures rest { IfOk result (λ p. branches p.tree + room.new ≡ branches first + room.old) }
-    ensures tree { IfOk result (λ p. AtNode node.old (IsSoundTree G.Guide guide.now state.new p.tree)) }
+    ensures tree { IfOk result (λ p.
+        AtNode node.old (IsSoundTree G.Guide guide.now state.new p.tree)) }
     ensures ended { IfOk result (λ p. p.is_over ≡ true → G.may_stop guide.now state.old ≡ false
         → 1 ≤ room.new → AtNode node.old (IsEnded limits.gap (G.cost state.new) p.tree)) }
     ensures last { IfOk result (λ p. is_last ≡ true → p.is_over ≡ true) }

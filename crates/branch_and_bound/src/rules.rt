@@ -54,9 +54,12 @@ pub trait Guide<S> {
         ensures state { OnOk result (IsState self.now state.new) }
         ensures grows { OnOk result (Grows state.old state.new) }
         ensures kept { OnOk result (IsAtMost (cost state.new) (cost state.old)) }
-        ensures holds { IfOk result (λ p. Holds self.now state.new node.now.ranges.items node.now.path.items p) }
-        ensures evident { IfOk result (λ p. p.examined ≡ true → IsEvident self.now node.now.ranges.items node.now.path.items p) }
-        ensures point { IfOk result (λ p. IsBelow p.says (cost state.new) → IsPoint node.now.ranges.items → ⊥) };
+        ensures holds { IfOk result (λ p.
+            Holds self.now state.new node.now.ranges.items node.now.path.items p) }
+        ensures evident { IfOk result (λ p. p.examined ≡ true
+            → IsEvident self.now node.now.ranges.items node.now.path.items p) }
+        ensures point { IfOk result (λ p. IsBelow p.says (cost state.new)
+            → IsPoint node.now.ranges.items → ⊥) };
 
     /// A leaf for a side of a branch, where `above` is the leaf of the node that was branched on. It may better
     /// the best plan, and does so at a point that the leaf leaves open.
@@ -70,13 +73,17 @@ pub trait Guide<S> {
         requires ordered { AreOrdered node.now.ranges.items }
         requires node { IsNode self.now node.now.ranges.items node.now.path.items }
         requires state { IsState self.now state.old }
-        requires heir { IsHeir self.now state.old node.now.ranges.items node.now.path.items above.now }
+        requires heir { IsHeir self.now state.old node.now.ranges.items node.now.path.items
+            above.now }
         ensures state { OnOk result (IsState self.now state.new) }
         ensures grows { OnOk result (Grows state.old state.new) }
         ensures kept { OnOk result (IsAtMost (cost state.new) (cost state.old)) }
-        ensures holds { IfOk result (λ p. Holds self.now state.new node.now.ranges.items node.now.path.items p) }
-        ensures evident { IfOk result (λ p. p.examined ≡ true → IsEvident self.now node.now.ranges.items node.now.path.items p) }
-        ensures point { IfOk result (λ p. IsBelow p.says (cost state.new) → IsPoint node.now.ranges.items → ⊥) };
+        ensures holds { IfOk result (λ p.
+            Holds self.now state.new node.now.ranges.items node.now.path.items p) }
+        ensures evident { IfOk result (λ p. p.examined ≡ true
+            → IsEvident self.now node.now.ranges.items node.now.path.items p) }
+        ensures point { IfOk result (λ p. IsBelow p.says (cost state.new)
+            → IsPoint node.now.ranges.items → ⊥) };
 
     /// A branch of a node with this leaf.
     fn branch(&self, node: &Node, proposal: &Proposal, state: &S) -> Split
@@ -86,7 +93,8 @@ pub trait Guide<S> {
         requires open { IsPoint node.now.ranges.items → ⊥ }
         ensures place { (rules self.now).place result.column ≡ result.place }
         ensures split { IsSplitAt node.now.ranges.items result.place result.at }
-        ensures allowed { IsAllowed (length node.now.path.items) node.now.ranges.items result.place result.at };
+        ensures allowed { IsAllowed (length node.now.path.items) node.now.ranges.items result.place
+            result.at };
 
     /// The leaf of a node once evidence was asked for there: it says at least as much.
     fn ask(
@@ -99,14 +107,18 @@ pub trait Guide<S> {
         requires ordered { AreOrdered node.now.ranges.items }
         requires node { IsNode self.now node.now.ranges.items node.now.path.items }
         requires state { IsState self.now state.old }
-        requires holds { Holds self.now state.old node.now.ranges.items node.now.path.items proposal }
-        requires point { IsBelow proposal.says (cost state.old) → IsPoint node.now.ranges.items → ⊥ }
+        requires holds { Holds self.now state.old node.now.ranges.items node.now.path.items
+            proposal }
+        requires point { IsBelow proposal.says (cost state.old) → IsPoint node.now.ranges.items
+            → ⊥ }
         ensures state { OnOk result (IsState self.now state.new) }
         ensures grows { OnOk result (Grows state.old state.new) }
         ensures kept { OnOk result (IsAtMost (cost state.new) (cost state.old)) }
-        ensures holds { IfOk result (λ p. Holds self.now state.new node.now.ranges.items node.now.path.items p) }
+        ensures holds { IfOk result (λ p.
+            Holds self.now state.new node.now.ranges.items node.now.path.items p) }
         ensures examined { IfOk result (λ p. p.examined ≡ true) }
-        ensures evident { IfOk result (λ p. IsEvident self.now node.now.ranges.items node.now.path.items p) }
+        ensures evident { IfOk result (λ p.
+            IsEvident self.now node.now.ranges.items node.now.path.items p) }
         ensures more { IfOk result (λ p. IsAtMost proposal.says p.says) };
 
     /// Whether the search is to end now, though leaves are open. It is asked before each pass over the tree, with the

@@ -90,12 +90,18 @@ pub fn search<S, G: Guide<S>>(
     ensures within { IfOk result (λ s. s.nodes ≤ budget) }
     ensures short { IfOk result (λ s. longest s.tree ≤ MAX_BRANCHES) }
     ensures split { IfOk result (λ s. IsSplitTree (G.rules guide.now).place ranges.items s.tree) }
-    ensures holds { IfOk result (λ s. EachLeaf (G.rules guide.now).place (G.Holds guide.now state.new) ranges.items [] s.tree) }
-    ensures shown { IfOk result (λ s. IsShown (G.rules guide.now) (G.cost state.new) ranges.items s.tree s.claim) }
-    ensures evidence { IfOk result (λ s. IsEvidenced (G.rules guide.now) (G.IsEvident guide.now) ranges.items s.tree s.claim) }
-    ensures cause { IfOk result (λ s. HasCause (G.rules guide.now) (G.cost state.new) budget limits.gap (G.may_stop guide.now state.old) ranges.items s.tree s.claim) }
+    ensures holds { IfOk result (λ s.
+        EachLeaf (G.rules guide.now).place (G.Holds guide.now state.new) ranges.items [] s.tree) }
+    ensures shown { IfOk result (λ s.
+        IsShown (G.rules guide.now) (G.cost state.new) ranges.items s.tree s.claim) }
+    ensures evidence { IfOk result (λ s.
+        IsEvidenced (G.rules guide.now) (G.IsEvident guide.now) ranges.items s.tree s.claim) }
+    ensures cause { IfOk result (λ s.
+        HasCause (G.rules guide.now) (G.cost state.new) budget limits.gap
+        (G.may_stop guide.now state.old) ranges.items s.tree s.claim) }
     ensures decided { IfOk result (λ s. limits.gap ≡ None → G.may_stop guide.now state.old ≡ false
-        → 2 * volume ranges.items ≤ budget + 1 → height ranges.items ≤ MAX_BRANCHES → IsBound s.claim → ⊥) }
+        → 2 * volume ranges.items ≤ budget + 1 → height ranges.items ≤ MAX_BRANCHES
+        → IsBound s.claim → ⊥) }
 {
     let all = (budget - 1) / 2;
     let mut room = all;

@@ -37,7 +37,8 @@ fn ask_least<S, G: Guide<S>>(
     ensures count { IfOk result (λ t. branches t ≡ branches tree) }
     ensures tree { IfOk result (λ t. AtNode node.old (IsSoundTree G.Guide guide.now state.new t)) }
     ensures fewer { IfOk result (λ t. IsWanting tree → unexamined t < unexamined tree) }
-    ensures ended { IfOk result (λ t. AtNode node.old (StaysEnded G.Guide state.old state.new tree t)) }
+    ensures ended { IfOk result (λ t.
+        AtNode node.old (StaysEnded G.Guide state.old state.new tree t)) }
 {
     match least_number(&tree) {
         Some(bound) => {
@@ -64,7 +65,8 @@ pub fn settle<S, G: Guide<S>>(
     ensures count { IfOk result (λ t. branches t ≡ branches first) }
     ensures tree { IfOk result (λ t. AtNode node.old (IsSoundTree G.Guide guide.now state.new t)) }
     ensures settled { IfOk result (λ t. IsSettled (G.cost state.new) t) }
-    ensures ended { IfOk result (λ t. AtNode node.old (StaysEnded G.Guide state.old state.new first t)) }
+    ensures ended { IfOk result (λ t.
+        AtNode node.old (StaysEnded G.Guide state.old state.new first t)) }
 {
     let mut tree = first;
     while wants_evidence(guide.best(state), &tree) {

@@ -44,7 +44,8 @@ fn go_down(node: &mut Node, split: Split, most: bool) -> Result<Range, AllocErro
     requires { IsSplitAt node.old.ranges.items split.place split.at }
     ensures side { OnOk result (IsSideOf most node.old split node.new) }
     ensures range { IfOk result (λ range. range ≡ range_at node.old.ranges.items split.place) }
-    ensures ordered { OnOk result (AreOrdered node.old.ranges.items → AreOrdered node.new.ranges.items) }
+    ensures ordered { OnOk result (AreOrdered node.old.ranges.items
+        → AreOrdered node.new.ranges.items) }
 {
     let range = node.ranges[split.place];
     node.path.push(bound(most, split.column, range, split.at))?;

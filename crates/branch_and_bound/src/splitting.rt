@@ -28,10 +28,12 @@ fn propose_side<S, G: Guide<S>>(
     requires node { AtNode node.old (IsGuided G.Guide guide.now) }
     requires state { G.IsState guide.now state.old }
     requires branch { AtNode node.old (IsBranchOf (G.rules guide.now) split) }
-    requires holds { G.Holds guide.now state.old node.old.ranges.items node.old.path.items above.now }
+    requires holds { G.Holds guide.now state.old node.old.ranges.items node.old.path.items
+        above.now }
     ensures same_node { OnOk result (IsSameNode node.old node.new) }
     ensures later { OnOk result (IsLater G.Guide guide.now state.old state.new) }
-    ensures sound { IfOk result (λ p. AtSide most node.old split (IsSoundLeaf G.Guide guide.now state.new p)) }
+    ensures sound { IfOk result (λ p.
+        AtSide most node.old split (IsSoundLeaf G.Guide guide.now state.new p)) }
 {
     let range = enter::<S, G>(guide, node, split, most)?;
     let proposal = guide.propose(alloc, node, above, state)?;
@@ -51,7 +53,8 @@ pub fn propose_sides<S, G: Guide<S>>(
     requires node { AtNode node.old (IsGuided G.Guide guide.now) }
     requires state { G.IsState guide.now state.old }
     requires branch { AtNode node.old (IsBranchOf (G.rules guide.now) split) }
-    requires holds { G.Holds guide.now state.old node.old.ranges.items node.old.path.items above.now }
+    requires holds { G.Holds guide.now state.old node.old.ranges.items node.old.path.items
+        above.now }
     ensures same_node { OnOk result (IsSameNode node.old node.new) }
     ensures later { OnOk result (IsLater G.Guide guide.now state.old state.new) }
     ensures node { OnOk result (AtNode node.new (IsGuided G.Guide guide.now)) }

@@ -35,7 +35,8 @@ fn next_row(
 ) -> Result<Option<Row>, AllocError>
     requires known { IsKnown model.now known.now }
     requires block { IsBlockCut (cut_shape cut.now) }
-    ensures { IfFound result (IsNextRow model.now.instance.now known.now.rows.items (cut_shape cut.now)) }
+    ensures { IfFound result (IsNextRow model.now.instance.now known.now.rows.items
+        (cut_shape cut.now)) }
 {
     match cut_row_in(alloc, model.instance, &model.explosion, &known.rows, cut, 0) {
         Ok(row) => Ok(Some(row)),

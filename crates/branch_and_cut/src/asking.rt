@@ -51,7 +51,8 @@ pub(crate) fn with_evidence(
 ) -> Result<Proposal, AllocError>
     requires version { HasVersion model.now.instance.now model.now.version }
     requires node { IsNodeIn model.now node.now.ranges.items node.now.path.items }
-    ensures kept { IfOk result (IsKeptAs model.now node.now.ranges.items node.now.path.items proposal) }
+    ensures kept { IfOk result (IsKeptAs model.now node.now.ranges.items node.now.path.items
+        proposal) }
     ensures evident { IfOk result (IsEvidentIn model.now node.now.path.items) }
     ensures examined { IfOk result (λ p. p.examined ≡ true) }
     ensures more { IfOk result (λ p. IsAtMost proposal.says p.says) }

@@ -63,7 +63,9 @@ fn row_of(
     requires rows { AreOfProblem instance.now rows.now }
     requires ls { IsLs (cut_shape cut.now) }
     ensures row { IfOk result (IsRowOfCut instance.now rows.now (cut_shape cut.now)) }
-    ensures small { IfOk result (λ _. WithTotals instance.now (λ total. IsSmallCut instance.now total rows.now (cut_shape cut.now))) }
+    ensures small { IfOk result (λ _.
+        WithTotals instance.now
+        (λ total. IsSmallCut instance.now total rows.now (cut_shape cut.now))) }
     ensures columns_exist { IfOk result (HasItsColumns instance.now) }
 {
     match cut_row_in(alloc, instance, explosion, rows, cut, 0) {
@@ -76,7 +78,8 @@ fn row_of(
 // The rows of (l,S) cuts, each after those before it.
 fn rows_of(alloc: Global, instance: &Instance, cuts: &[Cut]) -> Result<Vec<Row>, AllocError>
     requires { All (λ c. IsLs (cut_shape c)) cuts.now }
-    ensures rows { IfOk result (λ rows. HaveGoodRows instance.now (map cut_shape cuts.now) rows.items) }
+    ensures rows { IfOk result (λ rows.
+        HaveGoodRows instance.now (map cut_shape cuts.now) rows.items) }
     ensures columns_exist { IfOk result (λ rows. AreOfProblem instance.now rows.items) }
 {
     cut_rows_go_on();
@@ -100,7 +103,8 @@ fn count_of(cuts: &[Cut]) -> u32
 // Begins with the cuts of the items apart.
 fn begin_apart(alloc: Global, apart: Apart) -> Result<Opening, AllocError>
     requires { length apart.cuts.items ≤ MAX_ITEMS }
-    ensures begins { IfOk result (λ b. (m : Problem) (version : ℕ) → HasVersion m version → AreApart m apart → BeginsWith m version b) }
+    ensures begins { IfOk result (λ b. (m : Problem) (version : ℕ) → HasVersion m version
+        → AreApart m apart → BeginsWith m version b) }
     ensures least { IfOk result (λ b. b.least ≡ apart.amount) }
 {
     let count = count_of(&apart.cuts);
@@ -122,7 +126,8 @@ fn begin_closed(
     amount: u128,
 ) -> Result<Opening, AllocError>
     requires { IsClosedBy instance.now (map cut_shape cuts.items) (leaf_shape leaf) amount }
-    ensures begins { IfOk result (λ b. (version : ℕ) → HasVersion instance.now version → BeginsWith instance.now version b) }
+    ensures begins { IfOk result (λ b. (version : ℕ) → HasVersion instance.now version
+        → BeginsWith instance.now version b) }
     ensures least { IfOk result (λ b. b.least ≡ amount) }
 {
     cut_rows_are_one();
@@ -149,9 +154,11 @@ pub(crate) fn begin(
     requires writable { AreWritable instance.now (root_cuts root) root.leaf }
     requires bounds { BoundsPlans instance.now root.says }
     requires apart { AreApart instance.now apart }
-    ensures begins { IfOk result (λ b. (version : ℕ) → HasVersion instance.now version → BeginsWith instance.now version b) }
+    ensures begins { IfOk result (λ b. (version : ℕ) → HasVersion instance.now version
+        → BeginsWith instance.now version b) }
     ensures apart { IfOk result (λ b. apart.amount ≤ b.least) }
-    ensures closed { IfOk result (λ b. (amount : ℕ) → root.says ≡ Closed amount → amount ≤ b.least) }
+    ensures closed { IfOk result (λ b. (amount : ℕ) → root.says ≡ Closed amount
+        → amount ≤ b.least) }
 {
     let Root { says, cuts, leaf } = root;
     match says {

@@ -94,8 +94,10 @@ fn leaf_between<P: Proposer, H: Heuristic<P::Hint>>(
     requires reached { IsReached guided.now.model state.old.known node.now }
     requires above { IsLastingIn guided.now.model state.old.known node.now.path.items above.now }
     ensures more { OnOk result (KnowsMore guided.now.model state.old.known state.new.known) }
-    ensures leaf { IfOk result (IsKeptIn guided.now.model state.new.known node.now.ranges.items node.now.path.items) }
-    ensures evident { IfOk result (λ p. p.examined ≡ true → IsEvidentIn guided.now.model node.now.path.items p) }
+    ensures leaf { IfOk result (IsKeptIn guided.now.model state.new.known node.now.ranges.items
+        node.now.path.items) }
+    ensures evident { IfOk result (λ p. p.examined ≡ true
+        → IsEvidentIn guided.now.model node.now.path.items p) }
 {
     let model = &guided.model;
     let same = inherited(alloc, model, node, above, &state.known)?;
@@ -127,9 +129,12 @@ fn leaf_for<P: Proposer, H: Heuristic<P::Hint>>(
     requires reached { IsReached guided.now.model state.old.known node.now }
     requires above { IsLastingIn guided.now.model state.old.known node.now.path.items above.now }
     ensures more { OnOk result (KnowsMore guided.now.model state.old.known state.new.known) }
-    ensures leaf { IfOk result (IsKeptIn guided.now.model state.new.known node.now.ranges.items node.now.path.items) }
-    ensures evident { IfOk result (λ p. p.examined ≡ true → IsEvidentIn guided.now.model node.now.path.items p) }
-    ensures closed { IfOk result (λ p. IsBelow p.says (cost_kept state.new.known.best) → IsPoint node.now.ranges.items → ⊥) }
+    ensures leaf { IfOk result (IsKeptIn guided.now.model state.new.known node.now.ranges.items
+        node.now.path.items) }
+    ensures evident { IfOk result (λ p. p.examined ≡ true
+        → IsEvidentIn guided.now.model node.now.path.items p) }
+    ensures closed { IfOk result (λ p. IsBelow p.says (cost_kept state.new.known.best)
+        → IsPoint node.now.ranges.items → ⊥) }
 {
     if open_place(&node.ranges).is_none() {
         return at_point(alloc, &guided.model, node, &mut state.known);
@@ -147,11 +152,16 @@ fn watched_leaf<P: Proposer, H: Heuristic<P::Hint>, W: Watch>(
 ) -> Result<Proposal, AllocError>
     requires ordered { AreOrdered node.now.ranges.items }
     requires reached { IsReached guided.now.model state.old.work.known node.now }
-    requires above { IsLastingIn guided.now.model state.old.work.known node.now.path.items above.now }
-    ensures more { OnOk result (KnowsMore guided.now.model state.old.work.known state.new.work.known) }
-    ensures leaf { IfOk result (IsKeptIn guided.now.model state.new.work.known node.now.ranges.items node.now.path.items) }
-    ensures evident { IfOk result (λ p. p.examined ≡ true → IsEvidentIn guided.now.model node.now.path.items p) }
-    ensures closed { IfOk result (λ p. IsBelow p.says (cost_kept state.new.work.known.best) → IsPoint node.now.ranges.items → ⊥) }
+    requires above { IsLastingIn guided.now.model state.old.work.known node.now.path.items
+        above.now }
+    ensures more { OnOk result (KnowsMore guided.now.model state.old.work.known
+        state.new.work.known) }
+    ensures leaf { IfOk result (IsKeptIn guided.now.model state.new.work.known node.now.ranges.items
+        node.now.path.items) }
+    ensures evident { IfOk result (λ p. p.examined ≡ true
+        → IsEvidentIn guided.now.model node.now.path.items p) }
+    ensures closed { IfOk result (λ p. IsBelow p.says (cost_kept state.new.work.known.best)
+        → IsPoint node.now.ranges.items → ⊥) }
     ensures may { W.may_stop state.new.watch ≡ W.may_stop state.old.watch }
     ensures ended { state.new.is_ended ≡ state.old.is_ended }
 {

@@ -25,7 +25,8 @@ pub(crate) fn at_point(
     requires reached { IsReached model.now known.old node.now }
     requires point { IsPoint node.now.ranges.items }
     ensures more { OnOk result (KnowsMore model.now known.old known.new) }
-    ensures leaf { IfOk result (IsKeptIn model.now known.new node.now.ranges.items node.now.path.items) }
+    ensures leaf { IfOk result (IsKeptIn model.now known.new node.now.ranges.items
+        node.now.path.items) }
     ensures examined { IfOk result (λ p. p.examined ≡ false) }
     ensures closed { IfOk result (λ p. IsBelow p.says (cost_kept known.new.best) → ⊥) }
 {

@@ -38,7 +38,8 @@ fn improve<P: Proposer, H: Heuristic<P::Hint>>(
     best: &mut Option<Planned>,
 ) -> Result<(), AllocError>
     requires { IsBestSoFar guided.now.model.instance.now guided.now.model.ranges.now best.old }
-    ensures { OnOk result (IsNoWorseBest guided.now.model.instance.now guided.now.model.ranges.now best.new best.old) }
+    ensures { OnOk result (IsNoWorseBest guided.now.model.instance.now guided.now.model.ranges.now
+        best.new best.old) }
 {
     let (instance, ranges) = (guided.model.instance, guided.model.ranges);
     let proposer = guided.proposer;
@@ -143,7 +144,8 @@ pub(crate) fn priced<P: Proposer, H: Heuristic<P::Hint>>(
     requires lasting { IsLastingIn guided.now.model state.old.known node.now.path.items proposal }
     requires examined { proposal.examined ≡ false }
     ensures more { OnOk result (KnowsMore guided.now.model state.old.known state.new.known) }
-    ensures lasting { IfOk result (IsLastingIn guided.now.model state.new.known node.now.path.items) }
+    ensures lasting { IfOk result (IsLastingIn guided.now.model state.new.known
+        node.now.path.items) }
     ensures examined { IfOk result (λ p. p.examined ≡ false) }
 {
     let model = &guided.model;

@@ -72,7 +72,8 @@ fn searched<P: Proposer, H: Heuristic<P::Hint>, W: Watch + Drop>(
     requires some { said.says ≡ Empty → ⊥ }
     requires apart { AreApart instance.now apart }
     ensures { IfOk result
-        (IsAnswerWithin instance.now (given_ranges ranges.now) budget limits (W.may_stop watch) first) }
+        (IsAnswerWithin instance.now (given_ranges ranges.now) budget limits (W.may_stop watch)
+        first) }
 {
     apart_is_one();
     lie_in_whole(instance);
@@ -137,7 +138,8 @@ fn alone<P: Proposer, H: Heuristic<P::Hint>, W: Watch + Drop>(
     requires uncoupled { said.says ≡ Uncoupled }
     requires apart { AreApart instance.now apart }
     ensures { IfOk result
-        (IsAnswerWithin instance.now (given_ranges ranges.now) budget limits (W.may_stop watch) first) }
+        (IsAnswerWithin instance.now (given_ranges ranges.now) budget limits (W.may_stop watch)
+        first) }
 {
     apart_is_one();
     lie_in_whole(instance);
@@ -161,7 +163,8 @@ fn impossible(
     requires start { StartsWell instance.now ranges.now budget first said }
     requires none { said.says ≡ Empty }
     ensures { (limits : Limits) (stopping : Bool)
-        → IsAnswerWithin instance.now (given_ranges ranges.now) budget limits stopping first result }
+        → IsAnswerWithin instance.now (given_ranges ranges.now) budget limits stopping first
+        result }
 {
     whole_is_proved(instance);
     let version = usual_version(instance);
@@ -185,7 +188,8 @@ fn answer<P: Proposer, H: Heuristic<P::Hint>, W: Watch + Drop>(
     requires start { StartsWell instance.now ranges.now budget first said }
     requires apart { AreApart instance.now apart }
     ensures { IfOk result
-        (IsAnswerWithin instance.now (given_ranges ranges.now) budget limits (W.may_stop watch) first) }
+        (IsAnswerWithin instance.now (given_ranges ranges.now) budget limits (W.may_stop watch)
+        first) }
 {
     match said.says {
         RootSays::Uncoupled => alone(
@@ -247,14 +251,20 @@ pub fn search<P: Proposer, H: Heuristic<P::Hint>, W: Watch + Drop>(
     requires ranges { AreGiven instance.now ranges }
     requires first { IfSome first (IsGoodWithin instance.now (given_ranges ranges)) }
     ensures proved { IfOk result (IsProvedWithin instance.now (given_ranges ranges)) }
-    ensures plan { IfOk result (λ found. IfSome found.plan (IsGoodWithin instance.now (given_ranges ranges))) }
+    ensures plan { IfOk result (λ found.
+        IfSome found.plan (IsGoodWithin instance.now (given_ranges ranges))) }
     ensures within { IfOk result (λ found. found.nodes ≤ budget) }
     ensures kept { IfOk result (λ found. KeepsFirst instance.now first found.plan) }
-    ensures goes { IfOk result (λ found. GoesTogether instance.now found.certificate.claim found.plan) }
+    ensures goes { IfOk result (λ found.
+        GoesTogether instance.now found.certificate.claim found.plan) }
     ensures cause { IfOk result (λ found. IfBound found.certificate.claim (λ amount.
         WithRows instance.now found
-        (IsUndecidedWithin instance.now (given_ranges ranges) budget limits (W.may_stop watch) found))) }
-    ensures evidence { IfOk result (λ found. IfBound found.certificate.claim (λ amount. WithRows instance.now found (HasEvidenceWithin instance.now (given_ranges ranges) found amount))) }
+        (IsUndecidedWithin instance.now (given_ranges ranges) budget limits (W.may_stop watch)
+        found))) }
+    ensures evidence { IfOk result (λ found.
+        IfBound found.certificate.claim
+        (λ amount. WithRows instance.now found
+        (HasEvidenceWithin instance.now (given_ranges ranges) found amount))) }
     ensures root { IfOk result (λ found. IsSaidAtRoot instance.now found.root) }
     ensures uncoupled { IfOk result (λ found. found.root ≡ Uncoupled ↔ IsUncoupled instance.now) }
     ensures apart { IfOk result (λ found. IsNoLessThanApart instance.now found.certificate.claim) }
@@ -323,11 +333,14 @@ pub fn search_all<P: Proposer, H: Heuristic<P::Hint>, W: Watch + Drop>(
     ensures within { IfOk result (λ found. found.nodes ≤ budget) }
     ensures kept { IfOk result (λ found. KeepsFirst instance.now first found.plan) }
     ensures own { IfOk result (λ found. KeepsOwn instance.now found.plan) }
-    ensures goes { IfOk result (λ found. GoesTogether instance.now found.certificate.claim found.plan) }
+    ensures goes { IfOk result (λ found.
+        GoesTogether instance.now found.certificate.claim found.plan) }
     ensures cause { IfOk result (λ found. IfBound found.certificate.claim (λ amount.
         WithRows instance.now found
         (IsUndecided instance.now budget limits (W.may_stop watch) found))) }
-    ensures evidence { IfOk result (λ found. IfBound found.certificate.claim (λ amount. WithRows instance.now found (HasEvidence instance.now found amount))) }
+    ensures evidence { IfOk result (λ found.
+        IfBound found.certificate.claim
+        (λ amount. WithRows instance.now found (HasEvidence instance.now found amount))) }
     ensures root { IfOk result (λ found. IsSaidAtRoot instance.now found.root) }
     ensures uncoupled { IfOk result (λ found. found.root ≡ Uncoupled ↔ IsUncoupled instance.now) }
     ensures uses { IfOk result (λ found. UsesRoot found found.root) }

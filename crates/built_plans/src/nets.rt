@@ -24,7 +24,9 @@ pub fn net_demands(
     requires low { 1 ≤ item }
     requires high { item ≤ item_count instance.now }
     requires make { Fits instance.now make.now }
-    ensures { IfOk result (λ nets. HasEach instance.now.periods (net_in (asked_with instance.now (table_of make.now) item)) nets.items) }
+    ensures { IfOk result (λ nets.
+        HasEach instance.now.periods (net_in (asked_with instance.now (table_of make.now) item))
+        nets.items) }
 {
     let mut list = Vec::new(alloc);
     let mut asked = 0u128;

@@ -67,7 +67,8 @@ fn single_with(
     requires low { 1 ≤ item }
     requires high { item ≤ item_count instance.now }
     requires make { Fits instance.now make.now }
-    ensures periods { IfOk result (λ single. period_count (single_of_item single) ≡ instance.now.periods) }
+    ensures periods { IfOk result (λ single. period_count (single_of_item single)
+        ≡ instance.now.periods) }
     ensures no_backlog { IfOk result (λ single. IsNone single.back) }
 {
     let net = net_demands(alloc, instance, item, make)?;

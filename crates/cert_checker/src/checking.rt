@@ -44,10 +44,12 @@ fn cut_rows(
     requires explosion { IsExplosionOf instance.now explosion.now }
     requires divisors { All HasDivisor (map cut_shape cuts.now) }
     requires lines { first_line + length (all_cut_values (map cut_shape cuts.now)) < 2 ^ 64 }
-    ensures good { IfOk result (λ made. HaveGoodRows instance.now (map cut_shape cuts.now) made.rows.items) }
+    ensures good { IfOk result (λ made.
+        HaveGoodRows instance.now (map cut_shape cuts.now) made.rows.items) }
     ensures hold { IfOk result (λ made. HoldAtPlans instance.now made.rows.items) }
     ensures columns_exist { IfOk result (λ made. AreOfProblem instance.now made.rows.items) }
-    ensures next { IfOk result (λ made. made.next ≡ first_line + length (all_cut_values (map cut_shape cuts.now))) }
+    ensures next { IfOk result (λ made. made.next
+        ≡ first_line + length (all_cut_values (map cut_shape cuts.now))) }
     ensures fault { IfErr result (CutsHaveFault instance.now (map cut_shape cuts.now)) }
 {
     cut_rows_go_on();
@@ -70,8 +72,10 @@ fn examine(
 ) -> Result<(), CheckFault>
     requires writable { IsWritable (shape_of certificate.now) }
     requires lines { line_count (shape_of certificate.now) < 2 ^ 63 }
-    ensures certified { IfOk result (λ _. IsGoodCertificate instance.now (shape_of certificate.now) (option_copied plan.entry)) }
-    ensures fault { IfErr result (HasFault instance.now (shape_of certificate.now) (option_copied plan.entry)) }
+    ensures certified { IfOk result (λ _.
+        IsGoodCertificate instance.now (shape_of certificate.now) (option_copied plan.entry)) }
+    ensures fault { IfErr result (HasFault instance.now (shape_of certificate.now)
+        (option_copied plan.entry)) }
 {
     plans_are_within();
     if let Err(rejected) = judge_claim(instance, certificate.claim, plan) {
@@ -128,10 +132,14 @@ pub fn check(
 ) -> Result<(), CheckFault>
     requires writable { IsWritable (shape_of certificate.now) }
     requires lines { line_count (shape_of certificate.now) < 2 ^ 63 }
-    ensures certified { IfOk result (λ _. IsGoodCertificate instance.now (shape_of certificate.now) (option_copied plan.entry)) }
-    ensures claim { IfOk result (λ _. IsTrueOf instance.now certificate.now.claim (plan_given (option_copied plan.entry))) }
-    ensures fault { IfErr result (HasFault instance.now (shape_of certificate.now) (option_copied plan.entry)) }
-    ensures never { IfErr result (IsNeverRefused instance.now (shape_of certificate.now) (option_copied plan.entry)) }
+    ensures certified { IfOk result (λ _.
+        IsGoodCertificate instance.now (shape_of certificate.now) (option_copied plan.entry)) }
+    ensures claim { IfOk result (λ _.
+        IsTrueOf instance.now certificate.now.claim (plan_given (option_copied plan.entry))) }
+    ensures fault { IfErr result (HasFault instance.now (shape_of certificate.now)
+        (option_copied plan.entry)) }
+    ensures never { IfErr result (IsNeverRefused instance.now (shape_of certificate.now)
+        (option_copied plan.entry)) }
 {
     totals_exist();
     accepted_is_true();

@@ -29,7 +29,8 @@ fn is_enough(claim: Claim, says: LeafSays) -> bool
 /// amount for none of an infeasible problem.
 pub fn shortfall(claim: Claim, says: LeafSays) -> Option<u128>
     ensures enough { IsNone result → IsEnough claim says }
-    ensures short { IfSome result (λ amount. (says ≡ AtLeast amount) × (IsEnough claim (AtLeast amount) → ⊥)) }
+    ensures short { IfSome result (λ amount. (says ≡ AtLeast amount)
+        × (IsEnough claim (AtLeast amount) → ⊥)) }
 {
     match says {
         LeafSays::NoPlan => None,
@@ -60,7 +61,8 @@ fn judge_cost(instance: &Instance, cost: u128, plan: Option<&Plan>) -> Result<()
 /// is claimed. The refusals are `PlanMissing`, `Plan` and `Costs`, in this order, on `CLAIM_LINE`.
 pub fn judge_claim(instance: &Instance, claim: Claim, plan: Option<&Plan>) -> Result<(), Rejected>
     ensures comes { OnOk result (ComesWith instance.now claim (option_copied plan.entry)) }
-    ensures fault { IfErr result (λ r. IsPlanFault instance.now claim (option_copied plan.entry) r.line r.why) }
+    ensures fault { IfErr result (λ r.
+        IsPlanFault instance.now claim (option_copied plan.entry) r.line r.why) }
 {
     match claim {
         Claim::Optimal(cost) => match judge_cost(instance, cost, plan) {

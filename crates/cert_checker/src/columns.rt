@@ -80,7 +80,8 @@ fn first_of_item(
 ) -> Option<Column>
     requires den { pos 0 ≤ℤ den }
     ensures some { IfSome result (IsFirstLarge instance.now den sums.now (IsOfItem kind item)) }
-    ensures none { IsNone result → (c : Column) → IsOfItem kind item c → IsWithinCost instance.now den sums.now c }
+    ensures none { IsNone result → (c : Column) → IsOfItem kind item c
+        → IsWithinCost instance.now den sums.now c }
 {
     for period in 1..instance.periods() + 1 {
         let column = column_of(kind, item, period);
@@ -95,7 +96,8 @@ fn first_of_item(
 fn first_of_kind(instance: &Instance, sums: &Sums, den: i128, kind: Kind) -> Option<Column>
     requires den { pos 0 ≤ℤ den }
     ensures some { IfSome result (IsFirstLarge instance.now den sums.now (IsOfKind kind)) }
-    ensures none { IsNone result → (c : Column) → IsOfKind kind c → IsWithinCost instance.now den sums.now c }
+    ensures none { IsNone result → (c : Column) → IsOfKind kind c
+        → IsWithinCost instance.now den sums.now c }
 {
     for item in 1..instance.items() + 1 {
         match first_of_item(instance, sums, den, kind, item) {

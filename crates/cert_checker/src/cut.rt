@@ -59,7 +59,9 @@ pub fn cut_row_in(
     requires divisor { HasDivisor (cut_shape cut.now) }
     requires lines { line + length (cut_parts (cut_shape cut.now)) < 2 ^ 64 }
     ensures row { IfOk result (IsRowOfCut instance.now earlier.now (cut_shape cut.now)) }
-    ensures small { IfOk result (λ _. WithTotals instance.now (λ total. IsSmallCut instance.now total earlier.now (cut_shape cut.now))) }
+    ensures small { IfOk result (λ _.
+        WithTotals instance.now
+        (λ total. IsSmallCut instance.now total earlier.now (cut_shape cut.now))) }
     ensures holds { IfOk result (HoldsAfter instance.now earlier.now) }
     ensures columns_exist { IfOk result (HasItsColumns instance.now) }
     ensures fault { IfErr result (IsFaultOfCut instance.now earlier.now (cut_shape cut.now) line) }
@@ -93,7 +95,9 @@ pub fn cut_row(
     requires divisor { HasDivisor (cut_shape cut.now) }
     requires lines { line + length (cut_parts (cut_shape cut.now)) < 2 ^ 64 }
     ensures row { IfOk result (IsRowOfCut instance.now earlier.now (cut_shape cut.now)) }
-    ensures small { IfOk result (λ _. WithTotals instance.now (λ total. IsSmallCut instance.now total earlier.now (cut_shape cut.now))) }
+    ensures small { IfOk result (λ _.
+        WithTotals instance.now
+        (λ total. IsSmallCut instance.now total earlier.now (cut_shape cut.now))) }
     ensures holds { IfOk result (HoldsAfter instance.now earlier.now) }
     ensures columns_exist { IfOk result (HasItsColumns instance.now) }
     ensures fault { IfErr result (IsFaultOfCut instance.now earlier.now (cut_shape cut.now) line) }

@@ -116,10 +116,12 @@ pub(crate) fn price_cut(
     line: u64,
 ) -> Result<Row, CheckFault>
     requires explosion { IsExplosionOf instance.now explosion.now }
-    ensures row { IfOk result (IsRowOfCut instance.now [] (PriceCut item (price_lists prices.now))) }
+    ensures row { IfOk result (IsRowOfCut instance.now []
+        (PriceCut item (price_lists prices.now))) }
     ensures holds { IfOk result (HoldsAlways instance.now) }
     ensures columns_exist { IfOk result (HasItsColumns instance.now) }
-    ensures fault { IfErr result (IsFaultOfCut instance.now [] (PriceCut item (price_lists prices.now)) line) }
+    ensures fault { IfErr result (IsFaultOfCut instance.now []
+        (PriceCut item (price_lists prices.now)) line) }
 {
     if !has_price_form(instance, item, prices) {
         return Err(refused(line, Why::Range));
@@ -144,10 +146,12 @@ pub(crate) fn block_cut(
     line: u64,
 ) -> Result<Row, CheckFault>
     requires explosion { IsExplosionOf instance.now explosion.now }
-    ensures row { IfOk result (IsRowOfCut instance.now [] (BlockCut item (block_lists potentials.now))) }
+    ensures row { IfOk result (IsRowOfCut instance.now []
+        (BlockCut item (block_lists potentials.now))) }
     ensures holds { IfOk result (HoldsAlways instance.now) }
     ensures columns_exist { IfOk result (HasItsColumns instance.now) }
-    ensures fault { IfErr result (IsFaultOfCut instance.now [] (BlockCut item (block_lists potentials.now)) line) }
+    ensures fault { IfErr result (IsFaultOfCut instance.now []
+        (BlockCut item (block_lists potentials.now)) line) }
 {
     if !has_block_form(instance, item, potentials) {
         return Err(refused(line, Why::Range));

@@ -93,12 +93,16 @@ fn rounded(
     requires earlier { AreOfProblem instance.now earlier.now }
     requires least { 1 ≤ divisor }
     requires most { divisor ≤ MAX_DIVISOR }
-    requires parts { (total : ℕ → ℕ) → AreParts (names instance.now total earlier.now []) parts.now }
+    requires parts { (total : ℕ → ℕ) → AreParts (names instance.now total earlier.now [])
+        parts.now }
     ensures row { IfOk result (IsRowOfCut instance.now earlier.now (RoundCut divisor parts.now)) }
-    ensures small { IfOk result (λ _. WithTotals instance.now (λ total. AreSmall (names instance.now total earlier.now []) parts.now)) }
+    ensures small { IfOk result (λ _.
+        WithTotals instance.now
+        (λ total. AreSmall (names instance.now total earlier.now []) parts.now)) }
     ensures holds { IfOk result (HoldsAfter instance.now earlier.now) }
     ensures columns_exist { IfOk result (HasItsColumns instance.now) }
-    ensures fault { IfErr result (IsFaultOfCut instance.now earlier.now (RoundCut divisor parts.now) line) }
+    ensures fault { IfErr result (IsFaultOfCut instance.now earlier.now (RoundCut divisor parts.now)
+        line) }
 {
     let rows = rows_of(alloc, instance, earlier, parts)?;
     let times = times_of(alloc, parts)?;
@@ -131,10 +135,13 @@ pub(crate) fn round_cut(
     requires most { divisor ≤ MAX_DIVISOR }
     requires lines { line + length parts.now < 2 ^ 64 }
     ensures row { IfOk result (IsRowOfCut instance.now earlier.now (RoundCut divisor parts.now)) }
-    ensures small { IfOk result (λ _. WithTotals instance.now (λ total. AreSmall (names instance.now total earlier.now []) parts.now)) }
+    ensures small { IfOk result (λ _.
+        WithTotals instance.now
+        (λ total. AreSmall (names instance.now total earlier.now []) parts.now)) }
     ensures holds { IfOk result (HoldsAfter instance.now earlier.now) }
     ensures columns_exist { IfOk result (HasItsColumns instance.now) }
-    ensures fault { IfErr result (IsFaultOfCut instance.now earlier.now (RoundCut divisor parts.now) line) }
+    ensures fault { IfErr result (IsFaultOfCut instance.now earlier.now (RoundCut divisor parts.now)
+        line) }
 {
     match test_parts(instance, earlier, &[], parts, line) {
         Ok(()) => rounded(alloc, instance, earlier, divisor, parts, line),

@@ -35,8 +35,10 @@ fn leaf_says(
     requires lines { line + length (leaf_values (leaf_shape leaf.now)) < 2 ^ 64 }
     ensures ready { IsReadyFor instance.now named.new }
     ensures says { IfOk result (LeafSaysThis instance.now cuts.now path.now (leaf_shape leaf.now)) }
-    ensures small { IfOk result (λ _. LeafIsSmall instance.now cuts.now path.now (leaf_shape leaf.now)) }
-    ensures fault { IfErr result (IsFaultOfLeaf instance.now cuts.now path.now (leaf_shape leaf.now) line) }
+    ensures small { IfOk result (λ _.
+        LeafIsSmall instance.now cuts.now path.now (leaf_shape leaf.now)) }
+    ensures fault { IfErr result (IsFaultOfLeaf instance.now cuts.now path.now (leaf_shape leaf.now)
+        line) }
 {
     match leaf {
         Leaf::Linear { den, parts } => {
@@ -74,8 +76,8 @@ fn leaf_says(
 /// |---|---|---|
 /// | `Range` | the part's | there is no row of this name; the parts are looked at one by one |
 /// | `Sign` | the part's | a row that isn't an equation is taken a negative number of times |
-/// | `Range` | the list's | it hasn't an entry for each period, or a row of it doesn't exist, before any of the next kind; the lists are looked at one by one, after all parts |
-/// | `Sign` | the list's | it takes an inequality a negative number of times |
+/// | `Range` | the list's | it hasn't an entry for each period; the lists are looked at one by one, after all parts |
+/// | `Range`, `Sign` | the list's | the first of its rows that may not be taken: it doesn't exist, or it is an inequality and is taken a negative number of times |
 /// | `TooLarge` | the leaf's | the absolute values of what is added up of one column, or of the right sides, reach 2^127 |
 /// | `Column` | the leaf's | the sum takes a column more often than it may: the first one by kind, then by item, then by period |
 /// | `Range` | the group's | an item of it doesn't exist, or doesn't go into the next one of its chain or may be late |
@@ -108,9 +110,11 @@ pub fn leaf_bound_in(
     requires lines { line + length (leaf_values (leaf_shape leaf.now)) < 2 ^ 64 }
     ensures ready { IsReadyFor instance.now named.new }
     ensures says { IfOk result (LeafSaysThis instance.now cuts.now path.now (leaf_shape leaf.now)) }
-    ensures small { IfOk result (λ _. LeafIsSmall instance.now cuts.now path.now (leaf_shape leaf.now)) }
+    ensures small { IfOk result (λ _.
+        LeafIsSmall instance.now cuts.now path.now (leaf_shape leaf.now)) }
     ensures bounds { IfOk result (IsSoOfPlans instance.now cuts.now path.now) }
-    ensures fault { IfErr result (IsFaultOfLeaf instance.now cuts.now path.now (leaf_shape leaf.now) line) }
+    ensures fault { IfErr result (IsFaultOfLeaf instance.now cuts.now path.now (leaf_shape leaf.now)
+        line) }
 {
     leaves_bound();
     plans_are_within();
@@ -133,9 +137,11 @@ pub fn leaf_bound(
     requires den { HasDenominator (leaf_shape leaf.now) }
     requires lines { line + length (leaf_values (leaf_shape leaf.now)) < 2 ^ 64 }
     ensures says { IfOk result (LeafSaysThis instance.now cuts.now path.now (leaf_shape leaf.now)) }
-    ensures small { IfOk result (λ _. LeafIsSmall instance.now cuts.now path.now (leaf_shape leaf.now)) }
+    ensures small { IfOk result (λ _.
+        LeafIsSmall instance.now cuts.now path.now (leaf_shape leaf.now)) }
     ensures bounds { IfOk result (IsSoOfPlans instance.now cuts.now path.now) }
-    ensures fault { IfErr result (IsFaultOfLeaf instance.now cuts.now path.now (leaf_shape leaf.now) line) }
+    ensures fault { IfErr result (IsFaultOfLeaf instance.now cuts.now path.now (leaf_shape leaf.now)
+        line) }
 {
     let mut named = NamedSums::new(alloc, instance)?;
     leaf_bound_in(alloc, instance, &mut named, cuts, path, leaf, line)

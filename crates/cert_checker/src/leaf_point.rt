@@ -24,8 +24,10 @@ use std::alloc::Global;
 // The value that a path leaves to a quantity or a setup, if it is one.
 fn one_value(instance: &Instance, path: &[Bound], column: Column) -> Option<u64>
     requires { IsChoice instance.now column }
-    ensures some { IfSome result (λ value. WithTotals instance.now (λ total. IsLeftOne total path.now column value)) }
-    ensures none { IsNone result → WithTotals instance.now (λ total. HasOneValue (left_by (whole_ranges total) path.now column) → ⊥) }
+    ensures some { IfSome result (λ value.
+        WithTotals instance.now (λ total. IsLeftOne total path.now column value)) }
+    ensures none { IsNone result → WithTotals instance.now
+        (λ total. HasOneValue (left_by (whole_ranges total) path.now column) → ⊥) }
 {
     let (low, high) = branch_range(instance, path, column)?;
     if low == high { Some(low) } else { None }
@@ -45,7 +47,8 @@ fn fill_cell(
     requires setup { Fits instance.now setup.old }
     ensures make { Fits instance.now make.new }
     ensures setup { Fits instance.now setup.new }
-    ensures here { IsTrue result → WithTotals instance.now (λ total. IsPointAt total path.now (table_of make.new) (table_of setup.new) item period) }
+    ensures here { IsTrue result → WithTotals instance.now
+        (λ total. IsPointAt total path.now (table_of make.new) (table_of setup.new) item period) }
     ensures other_quantities { SameApart make.old make.new item period }
     ensures other_setups { SameApart setup.old setup.new item period }
     ensures open { result ≡ false → HasOpenChoice instance.now path.now }
@@ -75,7 +78,8 @@ fn fill_item(
     requires setup { Fits instance.now setup.old }
     ensures make { Fits instance.now make.new }
     ensures setup { Fits instance.now setup.new }
-    ensures row { IsTrue result → WithTotals instance.now (λ total. (t : ℕ) → 1 ≤ t → t ≤ instance.now.periods
+    ensures row { IsTrue result → WithTotals instance.now (λ total. (t : ℕ) → 1 ≤ t
+        → t ≤ instance.now.periods
         → IsPointAt total path.now (table_of make.new) (table_of setup.new) item t) }
     ensures other_quantities { OtherRowsSame make.old make.new item }
     ensures other_setups { OtherRowsSame setup.old setup.new item }
@@ -96,7 +100,8 @@ fn fill(instance: &Instance, path: &[Bound], make: &mut Grid, setup: &mut Grid) 
     ensures make { Fits instance.now make.new }
     ensures setup { Fits instance.now setup.new }
     ensures cells { IsTrue result → WithTotals instance.now
-        (λ total. EachCell instance.now (IsPointAt total path.now (table_of make.new) (table_of setup.new))) }
+        (λ total. EachCell instance.now
+        (IsPointAt total path.now (table_of make.new) (table_of setup.new))) }
     ensures open { result ≡ false → HasOpenChoice instance.now path.now }
 {
     for item in 1..instance.items() + 1 {
@@ -121,7 +126,8 @@ pub(crate) fn point_leaf(
         → Says (names instance.now total cuts path.now) (whole_ranges total) PointLeaf says)) }
     ensures fault { IfErr result (λ fault. IfRejected fault (λ at why. WithTotals instance.now
         (λ total. (cuts : List LinRow)
-        → IsPointFault (names instance.now total cuts path.now) (whole_ranges total) line at why))) }
+        → IsPointFault (names instance.now total cuts path.now) (whole_ranges total) line at
+        why))) }
 {
     let mut make = Grid::filled(alloc, instance.items(), instance.periods(), 0)?;
     let mut setup = Grid::filled(alloc, instance.items(), instance.periods(), 0)?;

@@ -59,9 +59,11 @@ fn list_parts(
     line: u64,
 ) -> Result<Vec<Part>, CheckFault>
     ensures parts { IfOk result (λ parts. parts.items ≡ parts_of_list (list_shape list.now)) }
-    ensures list { IfOk result (λ _. (total : ℕ → ℕ) → IsList (names instance.now total cuts.now path.now) (list_shape list.now)) }
+    ensures list { IfOk result (λ _. (total : ℕ → ℕ)
+        → IsList (names instance.now total cuts.now path.now) (list_shape list.now)) }
     ensures wrong { IfErr result (λ fault. IfRejected fault (λ at why. (at ≡ line)
-        × ((total : ℕ → ℕ) → IsWrongList (names instance.now total cuts.now path.now) (list_shape list.now) why))) }
+        × ((total : ℕ → ℕ)
+        → IsWrongList (names instance.now total cuts.now path.now) (list_shape list.now) why))) }
 {
     if list.times.len() != instance.periods() as usize {
         return Err(refused(line, Why::Range));
@@ -89,7 +91,8 @@ fn with_lists(
     ensures lists { IfOk result (λ _. (total : ℕ → ℕ)
         → All (IsList (names instance.now total cuts.now path.now)) (map list_shape lists.now)) }
     ensures fault { IfErr result (λ fault. IfRejected fault (λ at why. (total : ℕ → ℕ)
-        → IsFirstWrongList (names instance.now total cuts.now path.now) (map list_shape lists.now) line at why)) }
+        → IsFirstWrongList (names instance.now total cuts.now path.now) (map list_shape lists.now)
+        line at why)) }
 {
     let mut all = Vec::new(alloc);
     all.extend_from_slice(parts)?;
@@ -125,7 +128,8 @@ fn refusal(fault: ReducedFault, line: u64, first: u64) -> CheckFault
 // What a leaf says whose right sides and numbers of groups add to this.
 fn said_by(sum: i128, den: u64, line: u64) -> Result<LeafSays, CheckFault>
     ensures says { IfOk result (IsSaidBy den sum) }
-    ensures short { IfErr result (λ fault. IfRejected fault (λ at why. IsShortBy den sum line at why)) }
+    ensures short { IfErr result (λ fault.
+        IfRejected fault (λ at why. IsShortBy den sum line at why)) }
 {
     if den > 0 {
         return Ok(LeafSays::AtLeast(rounded_up(sum, den as i128)));
@@ -155,9 +159,13 @@ pub(crate) fn reduced_leaf(
     requires path { AreChoices instance.now path.now }
     requires lines { line + 1 + length parts.now + length lists.now + length groups.now < 2 ^ 64 }
     ensures ready { IsReadyFor instance.now named.new }
-    ensures says { IfOk result (LeafSaysThis instance.now cuts.now path.now (ReducedLeaf den parts.now (map list_shape lists.now) groups.now)) }
-    ensures small { IfOk result (λ _. LeafIsSmall instance.now cuts.now path.now (ReducedLeaf den parts.now (map list_shape lists.now) groups.now)) }
-    ensures fault { IfErr result (IsFaultOfLeaf instance.now cuts.now path.now (ReducedLeaf den parts.now (map list_shape lists.now) groups.now) line) }
+    ensures says { IfOk result (LeafSaysThis instance.now cuts.now path.now
+        (ReducedLeaf den parts.now (map list_shape lists.now) groups.now)) }
+    ensures small { IfOk result (λ _.
+        LeafIsSmall instance.now cuts.now path.now
+        (ReducedLeaf den parts.now (map list_shape lists.now) groups.now)) }
+    ensures fault { IfErr result (IsFaultOfLeaf instance.now cuts.now path.now
+        (ReducedLeaf den parts.now (map list_shape lists.now) groups.now) line) }
 {
     reduced_sums_are_one();
     an_instance_breaks_no_rule(instance);

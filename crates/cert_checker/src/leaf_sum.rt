@@ -47,7 +47,8 @@ pub(crate) fn sum_within_costs(
     requires cuts { AreOfProblem instance.now cuts.now }
     requires path { AreChoices instance.now path.now }
     requires den { pos 0 ≤ℤ den }
-    requires parts { (total : ℕ → ℕ) → AreParts (names instance.now total cuts.now path.now) parts.now }
+    requires parts { (total : ℕ → ℕ) → AreParts (names instance.now total cuts.now path.now)
+        parts.now }
     ensures ready { IsReadyFor instance.now named.new }
     ensures good { IfOk result (λ _. WithNames instance.now cuts.now path.now
         (λ n ranges. IsGoodSum n (linear_most n den) parts.now)) }
@@ -55,8 +56,10 @@ pub(crate) fn sum_within_costs(
         (λ n ranges. right ≡ sum_of_right n parts.now)) }
     ensures sums { IfOk result (λ _. WithNames instance.now cuts.now path.now
         (λ n ranges. AreSumsOf n parts.now named.new.sums)) }
-    ensures within { IfOk result (λ _. (c : Column) → IsWithinCost instance.now den named.new.sums c) }
-    ensures fault { IfErr result (IsFaultOfLeaf instance.now cuts.now path.now (LinearLeaf den parts.now) line) }
+    ensures within { IfOk result (λ _. (c : Column)
+        → IsWithinCost instance.now den named.new.sums c) }
+    ensures fault { IfErr result (IsFaultOfLeaf instance.now cuts.now path.now
+        (LinearLeaf den parts.now) line) }
 {
     match named.sum_parts(alloc, instance, cuts, path, parts) {
         Ok(()) => {}
@@ -96,7 +99,8 @@ fn summed(
         (λ n ranges. IsGoodSum n (linear_most n den) parts.now)) }
     ensures right { IfOk result (λ right. WithNames instance.now cuts.now path.now
         (λ n ranges. right ≡ sum_of_right n parts.now)) }
-    ensures fault { IfErr result (IsFaultOfLeaf instance.now cuts.now path.now (LinearLeaf den parts.now) line) }
+    ensures fault { IfErr result (IsFaultOfLeaf instance.now cuts.now path.now
+        (LinearLeaf den parts.now) line) }
 {
     match test_parts(instance, cuts, path, parts, line) {
         Ok(()) => {}
@@ -123,9 +127,12 @@ pub(crate) fn linear_leaf(
     requires den { pos 1 ≤ℤ den }
     requires lines { line + length parts.now < 2 ^ 64 }
     ensures ready { IsReadyFor instance.now named.new }
-    ensures says { IfOk result (LeafSaysThis instance.now cuts.now path.now (LinearLeaf den parts.now)) }
-    ensures small { IfOk result (λ _. LeafIsSmall instance.now cuts.now path.now (LinearLeaf den parts.now)) }
-    ensures fault { IfErr result (IsFaultOfLeaf instance.now cuts.now path.now (LinearLeaf den parts.now) line) }
+    ensures says { IfOk result (LeafSaysThis instance.now cuts.now path.now
+        (LinearLeaf den parts.now)) }
+    ensures small { IfOk result (λ _.
+        LeafIsSmall instance.now cuts.now path.now (LinearLeaf den parts.now)) }
+    ensures fault { IfErr result (IsFaultOfLeaf instance.now cuts.now path.now
+        (LinearLeaf den parts.now) line) }
 {
     let right = match summed(alloc, instance, named, cuts, path, den, parts, line) {
         Ok(right) => right,
@@ -150,9 +157,12 @@ pub(crate) fn farkas_leaf(
     requires path { AreChoices instance.now path.now }
     requires lines { line + length parts.now < 2 ^ 64 }
     ensures ready { IsReadyFor instance.now named.new }
-    ensures says { IfOk result (LeafSaysThis instance.now cuts.now path.now (FarkasLeaf parts.now)) }
-    ensures small { IfOk result (λ _. LeafIsSmall instance.now cuts.now path.now (FarkasLeaf parts.now)) }
-    ensures fault { IfErr result (IsFaultOfLeaf instance.now cuts.now path.now (FarkasLeaf parts.now) line) }
+    ensures says { IfOk result (LeafSaysThis instance.now cuts.now path.now
+        (FarkasLeaf parts.now)) }
+    ensures small { IfOk result (λ _.
+        LeafIsSmall instance.now cuts.now path.now (FarkasLeaf parts.now)) }
+    ensures fault { IfErr result (IsFaultOfLeaf instance.now cuts.now path.now
+        (FarkasLeaf parts.now) line) }
 {
     let right = match summed(alloc, instance, named, cuts, path, 0, parts, line) {
         Ok(right) => right,

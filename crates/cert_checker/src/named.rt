@@ -204,8 +204,11 @@ impl NamedSums {
         requires name { HasRow instance.now name }
         ensures ready { IsReadyFor instance.now self.new }
         ensures added { IfOk result (λ _. WithTotals instance.now
-            (λ total. AddsWithin self.old.sums self.new.sums (row_of instance.now total name) times)) }
-        ensures passed { result ≡ Err TooLarge → WithTotals instance.now (λ total. PassesWith self.old.sums (row_of instance.now total name) times) }
+            (λ total. AddsWithin self.old.sums self.new.sums (row_of instance.now total name)
+            times)) }
+        ensures passed { result ≡ Err TooLarge
+            → WithTotals instance.now
+            (λ total. PassesWith self.old.sums (row_of instance.now total name) times) }
     {
         let place = row_place(instance, name);
         let row = self.take_row(alloc, instance, place, name)?;
@@ -229,9 +232,11 @@ impl NamedSums {
         requires name { HasName instance.now (length cuts.now) (length path.now) part.row }
         ensures ready { IsReadyFor instance.now self.new }
         ensures added { IfOk result (λ _. WithTotals instance.now
-            (λ total. AddsPart self.old.sums self.new.sums part (names instance.now total cuts.now path.now))) }
+            (λ total. AddsPart self.old.sums self.new.sums part
+            (names instance.now total cuts.now path.now))) }
         ensures passed { result ≡ Err TooLarge
-            → WithTotals instance.now (λ total. PassesPart self.old.sums part (names instance.now total cuts.now path.now)) }
+            → WithTotals instance.now
+            (λ total. PassesPart self.old.sums part (names instance.now total cuts.now path.now)) }
     {
         match part.row {
             RowName::Cut(number) => {
@@ -260,11 +265,15 @@ impl NamedSums {
         requires ready { IsReadyFor instance.now self.old }
         requires cuts { AreOfProblem instance.now cuts.now }
         requires path { AreChoices instance.now path.now }
-        requires parts { All (λ part. HasName instance.now (length cuts.now) (length path.now) part.row) parts.now }
+        requires parts { All (λ part. HasName instance.now (length cuts.now) (length path.now)
+            part.row) parts.now }
         ensures ready { IsReadyFor instance.now self.new }
         ensures sums { IfOk result (λ _. WithTotals instance.now
-            (λ total. AreSumsOf (names instance.now total cuts.now path.now) parts.now self.new.sums)) }
-        ensures small { IfOk result (λ _. WithTotals instance.now (λ total. AreSmall (names instance.now total cuts.now path.now) parts.now)) }
+            (λ total. AreSumsOf (names instance.now total cuts.now path.now) parts.now
+            self.new.sums)) }
+        ensures small { IfOk result (λ _.
+            WithTotals instance.now
+            (λ total. AreSmall (names instance.now total cuts.now path.now) parts.now)) }
         ensures large { result ≡ Err TooLarge
             → WithTotals instance.now
             (λ total. AreSmall (names instance.now total cuts.now path.now) parts.now → ⊥) }

@@ -34,7 +34,8 @@ fn has_name(instance: &Instance, cuts: usize, bounds: usize, name: RowName) -> b
 // say so.
 fn is_equation(cuts: &[Row], name: RowName) -> bool
     requires { (k : ℕ) → name ≡ Cut k → (1 ≤ k) × (k ≤ length cuts.now) }
-    ensures { (m : Problem) (total : ℕ → ℕ) (path : List Bound) → result ≡ (row_named (names m total cuts.now path) name).equal }
+    ensures { (m : Problem) (total : ℕ → ℕ) (path : List Bound)
+        → result ≡ (row_named (names m total cuts.now path) name).equal }
 {
     match name {
         RowName::Balance(_, _) => true,
@@ -45,8 +46,10 @@ fn is_equation(cuts: &[Row], name: RowName) -> bool
 
 // Whether a part may be taken, and else why not.
 fn test_part(instance: &Instance, cuts: &[Row], path: &[Bound], part: Part) -> Result<(), Why>
-    ensures part { IfOk result (λ _. (total : ℕ → ℕ) → IsPart (names instance.now total cuts.now path.now) part) }
-    ensures wrong { IfErr result (λ why. (total : ℕ → ℕ) → IsWrongPart (names instance.now total cuts.now path.now) part why) }
+    ensures part { IfOk result (λ _. (total : ℕ → ℕ)
+        → IsPart (names instance.now total cuts.now path.now) part) }
+    ensures wrong { IfErr result (λ why. (total : ℕ → ℕ)
+        → IsWrongPart (names instance.now total cuts.now path.now) part why) }
 {
     if !has_name(instance, cuts.len(), path.len(), part.row) {
         return Err(Why::Range);
@@ -68,8 +71,10 @@ pub(crate) fn test_parts(
     line: u64,
 ) -> Result<(), Rejected>
     requires lines { line + length parts.now < 2 ^ 64 }
-    ensures parts { IfOk result (λ _. (total : ℕ → ℕ) → AreParts (names instance.now total cuts.now path.now) parts.now) }
-    ensures fault { IfErr result (λ r. (total : ℕ → ℕ) → IsFirstWrong (names instance.now total cuts.now path.now) parts.now line r.line r.why) }
+    ensures parts { IfOk result (λ _. (total : ℕ → ℕ)
+        → AreParts (names instance.now total cuts.now path.now) parts.now) }
+    ensures fault { IfErr result (λ r. (total : ℕ → ℕ)
+        → IsFirstWrong (names instance.now total cuts.now path.now) parts.now line r.line r.why) }
 {
     for place in 0..parts.len() {
         match test_part(instance, cuts, path, parts[place]) {

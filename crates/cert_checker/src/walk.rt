@@ -20,7 +20,8 @@ use std::alloc::{AllocError, Global};
 
 // Goes down to one side of a branch.
 fn go_down(path: &mut Vec<Bound>, column: Column, most: bool, number: u64) -> Result<(), AllocError>
-    ensures { IfOk result (λ _. path.new.items ≡ path.old.items ++ (record { column = column; most = most; number = number } ∷ [])) }
+    ensures { IfOk result (λ _. path.new.items
+        ≡ path.old.items ++ (record { column = column; most = most; number = number } ∷ [])) }
 {
     path.push(Bound {
         column,
@@ -32,7 +33,8 @@ fn go_down(path: &mut Vec<Bound>, column: Column, most: bool, number: u64) -> Re
 
 // Goes back up.
 fn go_up(path: &mut Vec<Bound>)
-    ensures { (before : List Bound) (last : Bound) → path.old.items ≡ before ++ (last ∷ []) → path.new.items ≡ before }
+    ensures { (before : List Bound) (last : Bound) → path.old.items ≡ before ++ (last ∷ [])
+        → path.new.items ≡ before }
 {
     path.pop();
 }
@@ -54,9 +56,11 @@ fn check_leaf(
     requires den { HasDenominator (leaf_shape leaf.now) }
     requires lines { line + length (leaf_values (leaf_shape leaf.now)) < 2 ^ 64 }
     ensures ready { IsReadyFor instance.now named.new }
-    ensures good { IfOk result (λ _. LeafIsGood instance.now cuts.now claim path.now (leaf_shape leaf.now)) }
+    ensures good { IfOk result (λ _.
+        LeafIsGood instance.now cuts.now claim path.now (leaf_shape leaf.now)) }
     ensures line { IfOk result (λ next. next ≡ line + length (leaf_values (leaf_shape leaf.now))) }
-    ensures fault { IfErr result (LeafHasFault instance.now cuts.now claim path.now (leaf_shape leaf.now) line) }
+    ensures fault { IfErr result (LeafHasFault instance.now cuts.now claim path.now
+        (leaf_shape leaf.now) line) }
 {
     let says = leaf_bound_in(alloc, instance, named, cuts, path, leaf, line)?;
     match shortfall(claim, says) {
@@ -89,9 +93,11 @@ pub fn walk(
     requires lines { line + length (tree_values (tree_shape tree.now)) < 2 ^ 64 }
     ensures ready { IsReadyFor instance.now named.new }
     ensures path { IfOk result (λ _. path.new.items ≡ path.old.items) }
-    ensures good { IfOk result (λ _. TreeIsGood instance.now cuts.now claim path.old.items (tree_shape tree.now)) }
+    ensures good { IfOk result (λ _.
+        TreeIsGood instance.now cuts.now claim path.old.items (tree_shape tree.now)) }
     ensures line { IfOk result (λ next. next ≡ line + length (tree_values (tree_shape tree.now))) }
-    ensures fault { IfErr result (TreeHasFault instance.now cuts.now claim path.old.items (tree_shape tree.now) line) }
+    ensures fault { IfErr result (TreeHasFault instance.now cuts.now claim path.old.items
+        (tree_shape tree.now) line) }
 {
     match tree {
         Tree::Branch {

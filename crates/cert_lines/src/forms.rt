@@ -21,7 +21,8 @@ use round_cuts::MAX_DIVISOR;
 pub(crate) fn one_after(words: &[&[u8]], place: usize, text: &[u8]) -> Option<u32>
     requires low { place ≤ 1 }
     requires some { 0 < length text.now }
-    ensures some { IfSome result (λ a. StandFrom (map (λ w. w.now) words.now) place (one_words text.now a) × Is32 a) }
+    ensures some { IfSome result (λ a.
+        StandFrom (map (λ w. w.now) words.now) place (one_words text.now a) × Is32 a) }
     ensures none { IsNone result → HasNoOne (map (λ w. w.now) words.now) place text.now }
 {
     if !is_word(words, place, text) {
@@ -37,7 +38,9 @@ pub(crate) fn one_after(words: &[&[u8]], place: usize, text: &[u8]) -> Option<u3
 fn two_after(words: &[&[u8]], place: usize, text: &[u8]) -> Option<(u32, u32)>
     requires low { place ≤ 1 }
     requires some { 0 < length text.now }
-    ensures some { IfSome result (λ p. StandFrom (map (λ w. w.now) words.now) place (two_words text.now p.0 p.1) × Is32 p.0 × Is32 p.1) }
+    ensures some { IfSome result (λ p.
+        StandFrom (map (λ w. w.now) words.now) place (two_words text.now p.0 p.1) × Is32 p.0
+        × Is32 p.1) }
     ensures none { IsNone result → HasNoTwo (map (λ w. w.now) words.now) place text.now }
 {
     if !is_word(words, place, text) {
@@ -54,7 +57,8 @@ fn two_after(words: &[&[u8]], place: usize, text: &[u8]) -> Option<(u32, u32)>
 
 // The column at place 1.
 fn column_at(words: &[&[u8]]) -> Option<Column>
-    ensures some { IfSome result (λ column. StandFrom (map (λ w. w.now) words.now) 1 (column_words column) × IsSmallColumn column) }
+    ensures some { IfSome result (λ column.
+        StandFrom (map (λ w. w.now) words.now) 1 (column_words column) × IsSmallColumn column) }
     ensures none { IsNone result → HasNoColumn (map (λ w. w.now) words.now) }
 {
     if let Some((item, period)) = two_after(words, 1, b"x") {
@@ -74,7 +78,8 @@ fn column_at(words: &[&[u8]]) -> Option<Column>
 
 // The name with one number at place 1.
 fn short_name_at(words: &[&[u8]]) -> Option<RowName>
-    ensures some { IfSome result (λ row. StandFrom (map (λ w. w.now) words.now) 1 (name_words row) × IsSmallName row
+    ensures some { IfSome result (λ row. StandFrom (map (λ w. w.now) words.now) 1 (name_words row)
+        × IsSmallName row
         × (length (name_words row) ≡ 2)) }
     ensures none { IsNone result → HasNoShortName (map (λ w. w.now) words.now) }
 {
@@ -95,7 +100,8 @@ fn short_name_at(words: &[&[u8]]) -> Option<RowName>
 
 // The name with two numbers at place 1.
 fn long_name_at(words: &[&[u8]]) -> Option<RowName>
-    ensures some { IfSome result (λ row. StandFrom (map (λ w. w.now) words.now) 1 (name_words row) × IsSmallName row
+    ensures some { IfSome result (λ row. StandFrom (map (λ w. w.now) words.now) 1 (name_words row)
+        × IsSmallName row
         × (length (name_words row) ≡ 3)) }
     ensures none { IsNone result → HasNoLongName (map (λ w. w.now) words.now) }
 {
@@ -122,10 +128,12 @@ fn long_name_at(words: &[&[u8]]) -> Option<RowName>
 
 // A divisor and a number of parts.
 pub(crate) fn read_round(words: &[&[u8]]) -> Option<(u64, u32)>
-    ensures some { IfSome result (λ p. HasWords (map (λ w. w.now) words.now) (round_words p.0 p.1) × (1 ≤ p.0)
+    ensures some { IfSome result (λ p. HasWords (map (λ w. w.now) words.now) (round_words p.0 p.1)
+        × (1 ≤ p.0)
         × (p.0 ≤ MAX_DIVISOR) × (p.1 ≤ MAX_ROUND_PARTS)) }
     ensures none { IsNone result → (divisor parts : ℕ) → 1 ≤ divisor → divisor ≤ MAX_DIVISOR
-        → parts ≤ MAX_ROUND_PARTS → HasWords (map (λ w. w.now) words.now) (round_words divisor parts) → ⊥ }
+        → parts ≤ MAX_ROUND_PARTS
+        → HasWords (map (λ w. w.now) words.now) (round_words divisor parts) → ⊥ }
 {
     if words.len() != 3 || !is_word(words, 0, b"round") {
         return None;
@@ -141,7 +149,8 @@ pub(crate) fn read_round(words: &[&[u8]]) -> Option<(u64, u32)>
 
 // A denominator and a number of parts.
 pub(crate) fn read_linear(words: &[&[u8]]) -> Option<(u128, u32)>
-    ensures some { IfSome result (λ p. HasWords (map (λ w. w.now) words.now) (linear_words (pos p.0) p.1)
+    ensures some { IfSome result (λ p.
+        HasWords (map (λ w. w.now) words.now) (linear_words (pos p.0) p.1)
         × (1 ≤ p.0) × (p.0 < bound_127) × (p.1 ≤ MAX_PARTS)) }
     ensures none { IsNone result → (den parts : ℕ) → 1 ≤ den → den < bound_127 → parts ≤ MAX_PARTS
         → HasWords (map (λ w. w.now) words.now) (linear_words (pos den) parts) → ⊥ }
@@ -160,8 +169,10 @@ pub(crate) fn read_linear(words: &[&[u8]]) -> Option<(u128, u32)>
 
 // A number of parts.
 pub(crate) fn read_farkas(words: &[&[u8]]) -> Option<u32>
-    ensures some { IfSome result (λ parts. HasWords (map (λ w. w.now) words.now) (farkas_words parts) × (parts ≤ MAX_PARTS)) }
-    ensures none { IsNone result → (parts : ℕ) → parts ≤ MAX_PARTS → HasWords (map (λ w. w.now) words.now) (farkas_words parts) → ⊥ }
+    ensures some { IfSome result (λ parts.
+        HasWords (map (λ w. w.now) words.now) (farkas_words parts) × (parts ≤ MAX_PARTS)) }
+    ensures none { IsNone result → (parts : ℕ) → parts ≤ MAX_PARTS
+        → HasWords (map (λ w. w.now) words.now) (farkas_words parts) → ⊥ }
 {
     if words.len() != 2 || !is_word(words, 0, b"farkas") {
         return None;
@@ -174,7 +185,8 @@ pub(crate) fn read_farkas(words: &[&[u8]]) -> Option<u32>
 
 // A column and the greatest value on the low side.
 pub(crate) fn read_branch(words: &[&[u8]]) -> Option<(Column, u64)>
-    ensures some { IfSome result (λ p. HasWords (map (λ w. w.now) words.now) (branch_words p.0 p.1) × IsSmallColumn p.0 × Is64 p.1) }
+    ensures some { IfSome result (λ p. HasWords (map (λ w. w.now) words.now) (branch_words p.0 p.1)
+        × IsSmallColumn p.0 × Is64 p.1) }
     ensures none { IsNone result → (column : Column) (at : ℕ) → IsSmallColumn column → Is64 at
         → HasWords (map (λ w. w.now) words.now) (branch_words column at) → ⊥ }
 {
@@ -192,7 +204,8 @@ pub(crate) fn read_branch(words: &[&[u8]]) -> Option<(Column, u64)>
 
 // A multiple of a row.
 pub(crate) fn read_part(words: &[&[u8]]) -> Option<Part>
-    ensures some { IfSome result (λ part. HasWords (map (λ w. w.now) words.now) (part_words part.row part.times)
+    ensures some { IfSome result (λ part.
+        HasWords (map (λ w. w.now) words.now) (part_words part.row part.times)
         × IsSmallName part.row × IsSmallPart part) }
     ensures none { IsNone result → (part : Part) → IsSmallName part.row → IsSmallPart part
         → HasWords (map (λ w. w.now) words.now) (part_words part.row part.times) → ⊥ }

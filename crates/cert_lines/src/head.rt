@@ -38,8 +38,10 @@ pub(crate) fn number_after(line: &[u8], before: &[u8], most: u128) -> Option<u12
 
 // The version of a line.
 fn read_version(line: &[u8]) -> Option<u32>
-    ensures some { IfSome result (λ version. (line.now ≡ head_line (Mark version)) × IsVersion version) }
-    ensures none { IsNone result → (version : ℕ) → IsVersion version → line.now ≡ head_line (Mark version) → ⊥ }
+    ensures some { IfSome result (λ version. (line.now ≡ head_line (Mark version))
+        × IsVersion version) }
+    ensures none { IsNone result → (version : ℕ) → IsVersion version
+        → line.now ≡ head_line (Mark version) → ⊥ }
 {
     match number_after(line, b"lotcert ", MAX_CERT_VERSION as u128) {
         Some(version) => {
@@ -55,7 +57,8 @@ fn read_version(line: &[u8]) -> Option<u32>
 // The claim of a line.
 fn read_claim(line: &[u8]) -> Option<Claim>
     ensures some { IfSome result (λ claim. (line.now ≡ claim_line claim) × IsSmallClaim claim) }
-    ensures none { IsNone result → (claim : Claim) → IsSmallClaim claim → line.now ≡ claim_line claim → ⊥ }
+    ensures none { IsNone result → (claim : Claim) → IsSmallClaim claim
+        → line.now ≡ claim_line claim → ⊥ }
 {
     if line == b"claim infeasible".as_slice() {
         return Some(Claim::Infeasible);

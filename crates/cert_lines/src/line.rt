@@ -97,8 +97,10 @@ impl From<AllocError> for LineFault {
 
 // The words of a line as a cut.
 fn read_cut(alloc: Global, words: &[&[u8]]) -> Result<Option<Cut>, AllocError>
-    ensures some { IfOk result (λ read. IfSome read (λ c. IsCutOf (map (λ w. w.now) words.now) (cut_shape c))) }
-    ensures none { IfOk result (λ read. IsNone read → (c : CutShape) → IsCutOf (map (λ w. w.now) words.now) c → ⊥) }
+    ensures some { IfOk result (λ read.
+        IfSome read (λ c. IsCutOf (map (λ w. w.now) words.now) (cut_shape c))) }
+    ensures none { IfOk result (λ read. IsNone read → (c : CutShape)
+        → IsCutOf (map (λ w. w.now) words.now) c → ⊥) }
 {
     if let Some((item, last, chosen)) = read_ls(alloc, words)? {
         return Ok(Some(Cut::Ls { item, last, chosen }));
@@ -142,8 +144,10 @@ fn read_reduced_words(alloc: Global, words: &[&[u8]]) -> Result<Option<CertLine>
 
 // The words of a line are tried against each form.
 fn read_words(alloc: Global, words: &[&[u8]]) -> Result<Option<CertLine>, AllocError>
-    ensures some { IfOk result (λ read. IfSome read (λ l. IsLineOf (map (λ w. w.now) words.now) (line_shape l))) }
-    ensures none { IfOk result (λ read. IsNone read → (l : LineShape) → IsLineOf (map (λ w. w.now) words.now) l → ⊥) }
+    ensures some { IfOk result (λ read.
+        IfSome read (λ l. IsLineOf (map (λ w. w.now) words.now) (line_shape l))) }
+    ensures none { IfOk result (λ read. IsNone read → (l : LineShape)
+        → IsLineOf (map (λ w. w.now) words.now) l → ⊥) }
 {
     if let Some(part) = read_part(words) {
         return Ok(Some(CertLine::Part(part)));

@@ -13,7 +13,8 @@ use std::alloc::{AllocError, Global};
 // The bits of a word.
 pub(crate) fn read_bits(alloc: Global, word: &[u8]) -> Result<Option<Vec<bool>>, AllocError>
     ensures some { IfOk result (λ read. IfSome read (λ bits. word.now ≡ bits_text bits.items)) }
-    ensures none { IfOk result (λ read. IsNone read → (bits : List Bool) → word.now ≡ bits_text bits → ⊥) }
+    ensures none { IfOk result (λ read. IsNone read → (bits : List Bool) → word.now ≡ bits_text bits
+        → ⊥) }
 {
     let mut bits = Vec::new(alloc);
     for place in 0..word.len() {
@@ -32,7 +33,8 @@ pub(crate) fn read_bits(alloc: Global, word: &[u8]) -> Result<Option<Vec<bool>>,
 // The numbers of 64 bits from a place on, as many as there are.
 fn numbers_from(alloc: Global, words: &[&[u8]], from: usize) -> Result<Vec<u64>, AllocError>
     requires { from ≤ length words.now }
-    ensures list { IfOk result (λ list. IsListFrom (map (λ w. w.now) words.now) bound_64 from list.items) }
+    ensures list { IfOk result (λ list.
+        IsListFrom (map (λ w. w.now) words.now) bound_64 from list.items) }
     ensures room { IfOk result (λ list. from + length list.items ≤ length words.now) }
 {
     let mut list = Vec::new(alloc);
@@ -48,7 +50,8 @@ fn numbers_from(alloc: Global, words: &[&[u8]], from: usize) -> Result<Vec<u64>,
 // The amounts from a place on, as many as there are.
 fn amounts_from(alloc: Global, words: &[&[u8]], from: usize) -> Result<Vec<u128>, AllocError>
     requires { from ≤ length words.now }
-    ensures list { IfOk result (λ list. IsListFrom (map (λ w. w.now) words.now) bound_127 from list.items) }
+    ensures list { IfOk result (λ list.
+        IsListFrom (map (λ w. w.now) words.now) bound_127 from list.items) }
     ensures room { IfOk result (λ list. from + length list.items ≤ length words.now) }
 {
     let mut list = Vec::new(alloc);
@@ -69,10 +72,15 @@ fn list_after(
     letter: &[u8],
 ) -> Result<Option<Vec<u64>>, AllocError>
     requires { 0 < length letter.now }
-    ensures letter { IfOk result (λ read. IfSome read (λ list. word_at (map (λ w. w.now) words.now) place ≡ letter.now)) }
-    ensures list { IfOk result (λ read. IfSome read (λ list. IsListFrom (map (λ w. w.now) words.now) bound_64 (place + 1) list.items)) }
-    ensures room { IfOk result (λ read. IfSome read (λ list. place + 1 + length list.items ≤ length words.now)) }
-    ensures none { IfOk result (λ read. IsNone read → word_at (map (λ w. w.now) words.now) place ≡ letter.now → ⊥) }
+    ensures letter { IfOk result (λ read.
+        IfSome read (λ list. word_at (map (λ w. w.now) words.now) place ≡ letter.now)) }
+    ensures list { IfOk result (λ read.
+        IfSome read (λ list.
+        IsListFrom (map (λ w. w.now) words.now) bound_64 (place + 1) list.items)) }
+    ensures room { IfOk result (λ read.
+        IfSome read (λ list. place + 1 + length list.items ≤ length words.now)) }
+    ensures none { IfOk result (λ read. IsNone read
+        → word_at (map (λ w. w.now) words.now) place ≡ letter.now → ⊥) }
 {
     if place >= words.len() {
         return Ok(None);
@@ -104,7 +112,8 @@ fn read_four(
     requires word { 0 < length word.now }
     requires letter { 0 < length letter.now }
     ensures some { IfOk result (λ read. IfSome read (λ f.
-        IsFour (map (λ w. w.now) words.now) word.now letter.now f.item f.first.items f.unit.items f.hold.items f.back.items f.next)) }
+        IsFour (map (λ w. w.now) words.now) word.now letter.now f.item f.first.items f.unit.items
+        f.hold.items f.back.items f.next)) }
     ensures room { IfOk result (λ read. IfSome read (λ f. f.next ≤ length words.now)) }
     ensures none { IfOk result (λ read. IsNone read → (item : ℕ) (xs bs cs ds : List ℕ) (next : ℕ)
         → IsFour (map (λ w. w.now) words.now) word.now letter.now item xs bs cs ds next → ⊥) }
@@ -150,7 +159,8 @@ pub(crate) fn read_price(
         IsFour (map (λ w. w.now) words.now) (codes "price") (codes "w")
         p.0 p.1.price.items p.1.unit.items p.1.hold.items p.1.back.items (length words.now))) }
     ensures none { IfOk result (λ read. IsNone read → (item : ℕ) (xs bs cs ds : List ℕ)
-        → IsFour (map (λ w. w.now) words.now) (codes "price") (codes "w") item xs bs cs ds (length words.now) → ⊥) }
+        → IsFour (map (λ w. w.now) words.now) (codes "price") (codes "w")
+        item xs bs cs ds (length words.now) → ⊥) }
 {
     let Some(four) = read_four(alloc, words, b"price", b"w")? else {
         return Ok(None);
@@ -183,7 +193,8 @@ pub(crate) fn read_block(
     words: &[&[u8]],
 ) -> Result<Option<(u32, Potentials)>, AllocError>
     ensures some { IfOk result (λ read. IfSome read (λ p.
-        HasBlockWords (map (λ w. w.now) words.now) p.0 p.1.setup.items p.1.unit.items p.1.hold.items p.1.back.items p.1.steps.items)) }
+        HasBlockWords (map (λ w. w.now) words.now) p.0 p.1.setup.items p.1.unit.items p.1.hold.items
+        p.1.back.items p.1.steps.items)) }
     ensures none { IfOk result (λ read. IsNone read → (item : ℕ) (xs bs cs ds es : List ℕ)
         → HasBlockWords (map (λ w. w.now) words.now) item xs bs cs ds es → ⊥) }
 {
@@ -226,10 +237,13 @@ pub(crate) fn read_ls(
     words: &[&[u8]],
 ) -> Result<Option<(u32, u32, Vec<bool>)>, AllocError>
     ensures some { IfOk result (λ read. IfSome read (λ p.
-        HasWords (map (λ w. w.now) words.now) (ls_words p.0 p.1 p.2.items) × Is32 p.0 × (1 ≤ p.1) × Is32 p.1
+        HasWords (map (λ w. w.now) words.now) (ls_words p.0 p.1 p.2.items) × Is32 p.0 × (1 ≤ p.1)
+        × Is32 p.1
         × (length p.2.items ≡ p.1))) }
-    ensures none { IfOk result (λ read. IsNone read → (item last : ℕ) (chosen : List Bool) → Is32 item → 1 ≤ last
-        → Is32 last → length chosen ≡ last → HasWords (map (λ w. w.now) words.now) (ls_words item last chosen) → ⊥) }
+    ensures none { IfOk result (λ read. IsNone read → (item last : ℕ) (chosen : List Bool)
+        → Is32 item → 1 ≤ last
+        → Is32 last → length chosen ≡ last
+        → HasWords (map (λ w. w.now) words.now) (ls_words item last chosen) → ⊥) }
 {
     if words.len() != 4 || !is_word(words, 0, b"ls") {
         return Ok(None);

@@ -34,8 +34,10 @@ pub fn is_word(words: &[&[u8]], place: usize, text: &[u8]) -> bool
 
 /// The number that a word is, if it lies between these.
 pub fn number_at(words: &[&[u8]], place: usize, least: u128, most: u128) -> Option<u128>
-    ensures some { IfSome result (λ n. (word_at (map (λ w. w.now) words.now) place ≡ decimal n) × (least ≤ n) × (n ≤ most)) }
-    ensures none { IsNone result → (n : ℕ) → least ≤ n → n ≤ most → word_at (map (λ w. w.now) words.now) place ≡ decimal n → ⊥ }
+    ensures some { IfSome result (λ n. (word_at (map (λ w. w.now) words.now) place ≡ decimal n)
+        × (least ≤ n) × (n ≤ most)) }
+    ensures none { IsNone result → (n : ℕ) → least ≤ n → n ≤ most
+        → word_at (map (λ w. w.now) words.now) place ≡ decimal n → ⊥ }
 {
     if place >= words.len() {
         return None;
@@ -54,8 +56,11 @@ pub fn number_at(words: &[&[u8]], place: usize, least: u128, most: u128) -> Opti
 
 /// The number with its sign that a word is, if its absolute value is below 2^127.
 pub fn integer_at(words: &[&[u8]], place: usize) -> Option<i128>
-    ensures some { IfSome result (λ z. (word_at (map (λ w. w.now) words.now) place ≡ signed_decimal z) × (unsigned_abs z < bound_127)) }
-    ensures none { IsNone result → (z : ℤ) → unsigned_abs z < bound_127 → word_at (map (λ w. w.now) words.now) place ≡ signed_decimal z → ⊥ }
+    ensures some { IfSome result (λ z.
+        (word_at (map (λ w. w.now) words.now) place ≡ signed_decimal z)
+        × (unsigned_abs z < bound_127)) }
+    ensures none { IsNone result → (z : ℤ) → unsigned_abs z < bound_127
+        → word_at (map (λ w. w.now) words.now) place ≡ signed_decimal z → ⊥ }
 {
     if let Some(number) = number_at(words, place, 0, MOST_127) {
         return Some(number as i128);

@@ -14,7 +14,8 @@ use std::alloc::AllocError;
 
 /// Adds the first line, with the version of the text.
 pub fn add_mark(text: &mut String, version: u32) -> Result<(), AllocError>
-    ensures { OnOk result (string_bytes text.new ≡ string_bytes text.old ++ line_text (head_line (Mark version))) }
+    ensures { OnOk result (string_bytes text.new
+        ≡ string_bytes text.old ++ line_text (head_line (Mark version))) }
 {
     write!(text, "lotcert {version}\n")?;
     Ok(())
@@ -22,7 +23,8 @@ pub fn add_mark(text: &mut String, version: u32) -> Result<(), AllocError>
 
 /// Adds the claim.
 pub fn add_claim(text: &mut String, claim: Claim) -> Result<(), AllocError>
-    ensures { OnOk result (string_bytes text.new ≡ string_bytes text.old ++ line_text (claim_line claim)) }
+    ensures { OnOk result (string_bytes text.new
+        ≡ string_bytes text.old ++ line_text (claim_line claim)) }
 {
     match claim {
         Claim::Optimal(cost) => write!(text, "claim optimal {cost}\n")?,
@@ -34,7 +36,8 @@ pub fn add_claim(text: &mut String, claim: Claim) -> Result<(), AllocError>
 
 /// Adds the number of cuts.
 pub fn add_count(text: &mut String, count: usize) -> Result<(), AllocError>
-    ensures { OnOk result (string_bytes text.new ≡ string_bytes text.old ++ line_text (count_line count)) }
+    ensures { OnOk result (string_bytes text.new
+        ≡ string_bytes text.old ++ line_text (count_line count)) }
 {
     write!(text, "cuts {count}\n")?;
     Ok(())
@@ -84,7 +87,8 @@ fn add_bits(text: &mut String, bits: &[bool]) -> Result<(), AllocError>
 
 /// Adds the line of a part.
 pub fn add_part(text: &mut String, part: Part) -> Result<(), AllocError>
-    ensures { OnOk result (string_bytes text.new ≡ string_bytes text.old ++ line_text (part_line part)) }
+    ensures { OnOk result (string_bytes text.new
+        ≡ string_bytes text.old ++ line_text (part_line part)) }
 {
     let Part { row, times } = part;
     write!(text, "part {row} {times}\n")?;
@@ -109,7 +113,8 @@ fn add_block_head(text: &mut String, item: u32) -> Result<(), AllocError>
 
 // Adds the line of a price row.
 fn add_prices(text: &mut String, item: u32, prices: &Prices) -> Result<(), AllocError>
-    ensures { OnOk result (string_bytes text.new ≡ string_bytes text.old ++ line_text (price_line item (price_lists prices.now))) }
+    ensures { OnOk result (string_bytes text.new
+        ≡ string_bytes text.old ++ line_text (price_line item (price_lists prices.now))) }
 {
     add_price_head(text, item)?;
     add_list(text, &prices.price)?;
@@ -125,7 +130,8 @@ fn add_prices(text: &mut String, item: u32, prices: &Prices) -> Result<(), Alloc
 
 // Adds the line of a block row.
 fn add_potentials(text: &mut String, item: u32, potentials: &Potentials) -> Result<(), AllocError>
-    ensures { OnOk result (string_bytes text.new ≡ string_bytes text.old ++ line_text (block_line item (block_lists potentials.now))) }
+    ensures { OnOk result (string_bytes text.new
+        ≡ string_bytes text.old ++ line_text (block_line item (block_lists potentials.now))) }
 {
     add_block_head(text, item)?;
     add_list(text, &potentials.setup)?;
@@ -143,7 +149,8 @@ fn add_potentials(text: &mut String, item: u32, potentials: &Potentials) -> Resu
 
 /// Adds the line of a cut, without its parts.
 pub fn add_cut_line(text: &mut String, cut: &Cut) -> Result<(), AllocError>
-    ensures { OnOk result (string_bytes text.new ≡ string_bytes text.old ++ line_text (later_line (cut_first (cut_shape cut.now)))) }
+    ensures { OnOk result (string_bytes text.new
+        ≡ string_bytes text.old ++ line_text (later_line (cut_first (cut_shape cut.now)))) }
 {
     match cut {
         Cut::Ls { item, last, chosen } => {
@@ -163,7 +170,8 @@ pub fn add_cut_line(text: &mut String, cut: &Cut) -> Result<(), AllocError>
 
 /// Adds the first line of a leaf.
 pub fn add_leaf_line(text: &mut String, leaf: &Leaf) -> Result<(), AllocError>
-    ensures { OnOk result (string_bytes text.new ≡ string_bytes text.old ++ line_text (later_line (leaf_first (leaf_shape leaf.now)))) }
+    ensures { OnOk result (string_bytes text.new
+        ≡ string_bytes text.old ++ line_text (later_line (leaf_first (leaf_shape leaf.now)))) }
 {
     match leaf {
         Leaf::Linear { den, parts } => {
@@ -288,7 +296,8 @@ pub fn add_group_line(text: &mut String, group: &Group) -> Result<(), AllocError
 
 /// Adds the line of a branch.
 pub fn add_branch(text: &mut String, column: Column, at: u64) -> Result<(), AllocError>
-    ensures { OnOk result (string_bytes text.new ≡ string_bytes text.old ++ line_text (branch_line column at)) }
+    ensures { OnOk result (string_bytes text.new
+        ≡ string_bytes text.old ++ line_text (branch_line column at)) }
 {
     write!(text, "branch {column} {at}\n")?;
     Ok(())

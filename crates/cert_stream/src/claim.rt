@@ -44,11 +44,14 @@ fn take_line<S: Shelf>(
     requires version { IsVersion version }
     ensures sound { OnOk result (IsSound reader.new) }
     ensures step { IfOk result (λ step. IsTrue (S.shown shelf.old).told
-        → IsStep version (dues_in dues.old) (rest_in (S.shown shelf.old) name.now reader.old) reader.old.number step
+        → IsStep version (dues_in dues.old) (rest_in (S.shown shelf.old) name.now reader.old)
+        reader.old.number step
         (dues_in dues.new) (rest_in (S.shown shelf.new) name.now reader.new) reader.new.number) }
     ensures given { IfOk result (λ step. IsStepGiven step reader.old reader.new) }
-    ensures goes_on { OnOk result (GoesOn name.now (S.shown shelf.old) (S.shown shelf.new) reader.old reader.new) }
-    ensures broken { IfErr result (IsBroken name.now reader.old.at (S.shown shelf.old) (S.shown shelf.new)) }
+    ensures goes_on { OnOk result (GoesOn name.now (S.shown shelf.old) (S.shown shelf.new)
+        reader.old reader.new) }
+    ensures broken { IfErr result (IsBroken name.now reader.old.at (S.shown shelf.old)
+        (S.shown shelf.new)) }
     ensures reads { OnlyReads (S.shown shelf.old) (S.shown shelf.new) }
 {
     let number = reader.number;
@@ -84,10 +87,13 @@ fn read_body<S: Shelf>(
     ensures all { IfOk result (λ read. OnOk read (IsTrue (S.shown shelf.old).told
         → AreAll version (dues_in dues.old) (rest_in (S.shown shelf.old) name.now reader.old))) }
     ensures refused { IfOk result (λ read. IfErr read (λ f. IsTrue (S.shown shelf.old).told
-        → IsFaultFrom version (dues_in dues.old) (rest_in (S.shown shelf.old) name.now reader.old) reader.old.number f)) }
+        → IsFaultFrom version (dues_in dues.old) (rest_in (S.shown shelf.old) name.now reader.old)
+        reader.old.number f)) }
     ensures plain { IfOk result (λ read. IfErr read (λ f. f ≢ fault.Memory)) }
-    ensures goes_on { OnOk result (GoesOn name.now (S.shown shelf.old) (S.shown shelf.new) reader.old reader.new) }
-    ensures broken { IfErr result (IsBroken name.now reader.old.at (S.shown shelf.old) (S.shown shelf.new)) }
+    ensures goes_on { OnOk result (GoesOn name.now (S.shown shelf.old) (S.shown shelf.new)
+        reader.old reader.new) }
+    ensures broken { IfErr result (IsBroken name.now reader.old.at (S.shown shelf.old)
+        (S.shown shelf.new)) }
     ensures reads { OnlyReads (S.shown shelf.old) (S.shown shelf.new) }
 {
     loop {
@@ -114,8 +120,10 @@ fn walk<S: Shelf>(
     ensures refused { IfOk result (λ read. IfErr read (λ f. IsTrue (S.shown shelf.old).told
         → IsCertTextFault (rest_in (S.shown shelf.old) name.now reader.old) f)) }
     ensures plain { IfOk result (λ read. IfErr read (λ f. f ≢ fault.Memory)) }
-    ensures goes_on { OnOk result (GoesOn name.now (S.shown shelf.old) (S.shown shelf.new) reader.old reader.new) }
-    ensures broken { IfErr result (IsBroken name.now reader.old.at (S.shown shelf.old) (S.shown shelf.new)) }
+    ensures goes_on { OnOk result (GoesOn name.now (S.shown shelf.old) (S.shown shelf.new)
+        reader.old reader.new) }
+    ensures broken { IfErr result (IsBroken name.now reader.old.at (S.shown shelf.old)
+        (S.shown shelf.new)) }
     ensures reads { OnlyReads (S.shown shelf.old) (S.shown shelf.new) }
 {
     let heads = match read_heads(reader, shelf, name)? {
@@ -138,30 +146,37 @@ pub fn read_claim<S: Shelf>(alloc: Global, shelf: &mut S, name: &str) -> Result<
     // What the file is. Out of memory stands in for no other refusal.
     ensures claim { IfOk result (λ claim. IsTrue (S.shown shelf.old).told
         → IsFileOfClaim ((S.shown shelf.old).file name.now) claim) }
-    ensures text { (f : CertTextFault) → IsErrOf result (ClaimFault.Text f) → IsTrue (S.shown shelf.old).told
+    ensures text { (f : CertTextFault) → IsErrOf result (ClaimFault.Text f)
+        → IsTrue (S.shown shelf.old).told
         → IsFileFault ((S.shown shelf.old).file name.now) f }
     ensures plain { IsErrOf result (ClaimFault.Text fault.Memory) → ⊥ }
     ensures within { WhenWhole result (IsTrue (S.shown shelf.old).told
         → length (bytes_of (S.shown shelf.old) name.now) ≤ MAX_BYTES) }
     ensures given { WhenWhole result (IsTrue (S.shown shelf.old).told
-        → GrewBy (length (bytes_of (S.shown shelf.old) name.now)) (S.shown shelf.old).given (S.shown shelf.new).given) }
+        → GrewBy (length (bytes_of (S.shown shelf.old) name.now)) (S.shown shelf.old).given
+        (S.shown shelf.new).given) }
     ensures found { WhenWhole result (Finds (S.shown shelf.old) (S.shown shelf.new)) }
 
     // Why it may not be read.
-    ensures missing { IsErrOf result ClaimFault.Missing → Misses (S.shown shelf.old) (S.shown shelf.new) }
+    ensures missing { IsErrOf result ClaimFault.Missing
+        → Misses (S.shown shelf.old) (S.shown shelf.new) }
     ensures absent { IsErrOf result ClaimFault.Missing → IsTrue (S.shown shelf.old).told
         → (S.shown shelf.old).file name.now ≡ None }
-    ensures failed { IsErrOf result ClaimFault.Failed → Fails (S.shown shelf.old) (S.shown shelf.new) }
+    ensures failed { IsErrOf result ClaimFault.Failed
+        → Fails (S.shown shelf.old) (S.shown shelf.new) }
     ensures too_much { IsErrOf result ClaimFault.TooLong
         → RoseBy (MAX_BYTES + 1) (S.shown shelf.old).given (S.shown shelf.new).given }
     ensures too_long { IsErrOf result ClaimFault.TooLong → IsTrue (S.shown shelf.old).told
         → IsTooLong ((S.shown shelf.old).file name.now) }
-    ensures long_found { IsErrOf result ClaimFault.TooLong → Finds (S.shown shelf.old) (S.shown shelf.new) }
-    ensures memory { IsErrOf result ClaimFault.Memory → Finds (S.shown shelf.old) (S.shown shelf.new) }
+    ensures long_found { IsErrOf result ClaimFault.TooLong
+        → Finds (S.shown shelf.old) (S.shown shelf.new) }
+    ensures memory { IsErrOf result ClaimFault.Memory
+        → Finds (S.shown shelf.old) (S.shown shelf.new) }
 
     // Nothing is written, and what is fetched has a limit.
     ensures reads { OnlyReads (S.shown shelf.old) (S.shown shelf.new) }
-    ensures given_bound { (S.shown shelf.new).given ≤ (S.shown shelf.old).given + MAX_BYTES + piece_size }
+    ensures given_bound { (S.shown shelf.new).given
+        ≤ (S.shown shelf.old).given + MAX_BYTES + piece_size }
 {
     let mut reader = LineReader::new(alloc)?;
     let read = walk(alloc, &mut reader, shelf, name)?;

@@ -70,7 +70,8 @@ pub fn read_heads<S: Shelf>(
     requires sound { IsSound reader.old }
     requires first { reader.old.number ≡ 1 }
     ensures sound { OnOk result (IsSound reader.new) }
-    ensures lines { IfOk result (λ heads. IfOk heads (λ h. AreHeads 1 (head_values h.version h.claim h.count))) }
+    ensures lines { IfOk result (λ heads.
+        IfOk heads (λ h. AreHeads 1 (head_values h.version h.claim h.count))) }
     ensures text { IfOk result (λ heads. IfOk heads (λ h. IsTrue (S.shown shelf.old).told
         → rest_in (S.shown shelf.old) name.now reader.old
         ≡ heads_of h ++ rest_in (S.shown shelf.new) name.now reader.new)) }
@@ -80,12 +81,15 @@ pub fn read_heads<S: Shelf>(
     ensures plain { IfOk result (λ heads. IfErr heads (λ f. f ≢ fault.Memory)) }
 
     // Where the text begins with three such lines, those are given.
-    ensures awaited { IfOk result (λ heads. IsTrue (S.shown shelf.old).told → (h : Heads) → (more : List ℕ)
+    ensures awaited { IfOk result (λ heads. IsTrue (S.shown shelf.old).told → (h : Heads)
+        → (more : List ℕ)
         → AreHeads 1 (head_values h.version h.claim h.count)
         → rest_in (S.shown shelf.old) name.now reader.old ≡ heads_of h ++ more
         → AreTheseHeads h more heads (rest_in (S.shown shelf.new) name.now reader.new)) }
-    ensures goes_on { OnOk result (GoesOn name.now (S.shown shelf.old) (S.shown shelf.new) reader.old reader.new) }
-    ensures broken { IfErr result (IsBroken name.now reader.old.at (S.shown shelf.old) (S.shown shelf.new)) }
+    ensures goes_on { OnOk result (GoesOn name.now (S.shown shelf.old) (S.shown shelf.new)
+        reader.old reader.new) }
+    ensures broken { IfErr result (IsBroken name.now reader.old.at (S.shown shelf.old)
+        (S.shown shelf.new)) }
     ensures reads { OnlyReads (S.shown shelf.old) (S.shown shelf.new) }
 {
     let Some(version) = version_of(next_head(reader, shelf, name, 1)?) else {

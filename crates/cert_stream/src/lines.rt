@@ -90,15 +90,18 @@ impl LineReader {
         requires given { self.old.start ≡ self.old.end }
         ensures sound { OnOk result (IsSound self.new) }
         ensures rest { OnOk result (IsTrue (S.shown shelf.old).told
-            → rest_in (S.shown shelf.new) name.now self.new ≡ rest_in (S.shown shelf.old) name.now self.old) }
+            → rest_in (S.shown shelf.new) name.now self.new
+            ≡ rest_in (S.shown shelf.old) name.now self.old) }
         ensures piece { IfOk result (λ n. (self.new.start ≡ 0) × (self.new.end ≡ n)) }
         ensures at { IfOk result (λ n. self.new.at ≡ self.old.at + n) }
         ensures ends { IfOk result (λ n. n ≡ 0 → IsTrue (S.shown shelf.old).told
             → IsWhole ((S.shown shelf.old).file name.now) self.new.at) }
         ensures line { OnOk result (self.new.line ≡ self.old.line) }
         ensures number { OnOk result (self.new.number ≡ self.old.number) }
-        ensures goes_on { OnOk result (GoesOn name.now (S.shown shelf.old) (S.shown shelf.new) self.old self.new) }
-        ensures broken { IfErr result (IsBroken name.now self.old.at (S.shown shelf.old) (S.shown shelf.new)) }
+        ensures goes_on { OnOk result (GoesOn name.now (S.shown shelf.old) (S.shown shelf.new)
+            self.old self.new) }
+        ensures broken { IfErr result (IsBroken name.now self.old.at (S.shown shelf.old)
+            (S.shown shelf.new)) }
         ensures reads { OnlyReads (S.shown shelf.old) (S.shown shelf.new) }
     {
         let count = match shelf.fetch(name, self.at, &mut self.room) {
@@ -120,15 +123,18 @@ impl LineReader {
         requires sound { IsSound self.old }
         ensures sound { OnOk result (IsSound self.new) }
         ensures rest { OnOk result (IsTrue (S.shown shelf.old).told
-            → rest_in (S.shown shelf.new) name.now self.new ≡ rest_in (S.shown shelf.old) name.now self.old) }
+            → rest_in (S.shown shelf.new) name.now self.new
+            ≡ rest_in (S.shown shelf.old) name.now self.old) }
         ensures more { IfOk result (λ more. more ≡ true → self.new.start < self.new.end) }
         ensures ends { IfOk result (λ more. more ≡ false → IsTrue (S.shown shelf.old).told
             → rest_in (S.shown shelf.new) name.now self.new ≡ []) }
         ensures left { OnOk result (left_of self.new ≡ left_of self.old) }
         ensures line { OnOk result (self.new.line ≡ self.old.line) }
         ensures number { OnOk result (self.new.number ≡ self.old.number) }
-        ensures goes_on { OnOk result (GoesOn name.now (S.shown shelf.old) (S.shown shelf.new) self.old self.new) }
-        ensures broken { IfErr result (IsBroken name.now self.old.at (S.shown shelf.old) (S.shown shelf.new)) }
+        ensures goes_on { OnOk result (GoesOn name.now (S.shown shelf.old) (S.shown shelf.new)
+            self.old self.new) }
+        ensures broken { IfErr result (IsBroken name.now self.old.at (S.shown shelf.old)
+            (S.shown shelf.new)) }
         ensures reads { OnlyReads (S.shown shelf.old) (S.shown shelf.new) }
     {
         if self.start < self.end {
@@ -167,15 +173,19 @@ impl LineReader {
         ensures next { IfOk result (λ step. IfSome step (λ next. IsTrue (S.shown shelf.old).told
             → IsNext next self.new.line.items (text_from (S.shown shelf.old) name.now self.old)
             (rest_in (S.shown shelf.new) name.now self.new))) }
-        ensures counted { IfOk result (λ step. IfSome step (λ next. IsCounted next self.old self.new)) }
+        ensures counted { IfOk result (λ step.
+            IfSome step (λ next. IsCounted next self.old self.new)) }
         ensures begun { IfOk result (λ step. IsNone step
             → IsBegun self.new × (length self.old.line.items < length self.new.line.items)) }
         ensures text { IfOk result (λ step. IsNone step → IsTrue (S.shown shelf.old).told
-            → text_from (S.shown shelf.new) name.now self.new ≡ text_from (S.shown shelf.old) name.now self.old) }
+            → text_from (S.shown shelf.new) name.now self.new
+            ≡ text_from (S.shown shelf.old) name.now self.old) }
         ensures kept { IfOk result (λ step. IsNone step
             → (self.new.number ≡ self.old.number) × (left_of self.new ≤ left_of self.old)) }
-        ensures goes_on { OnOk result (GoesOn name.now (S.shown shelf.old) (S.shown shelf.new) self.old self.new) }
-        ensures broken { IfErr result (IsBroken name.now self.old.at (S.shown shelf.old) (S.shown shelf.new)) }
+        ensures goes_on { OnOk result (GoesOn name.now (S.shown shelf.old) (S.shown shelf.new)
+            self.old self.new) }
+        ensures broken { IfErr result (IsBroken name.now self.old.at (S.shown shelf.old)
+            (S.shown shelf.new)) }
         ensures reads { OnlyReads (S.shown shelf.old) (S.shown shelf.new) }
     {
         if !self.has_more(shelf, name)? {
@@ -204,8 +214,10 @@ impl LineReader {
             → IsNext next self.new.line.items (rest_in (S.shown shelf.old) name.now self.old)
             (rest_in (S.shown shelf.new) name.now self.new)) }
         ensures counted { IfOk result (λ next. IsCounted next self.old self.new) }
-        ensures goes_on { OnOk result (GoesOn name.now (S.shown shelf.old) (S.shown shelf.new) self.old self.new) }
-        ensures broken { IfErr result (IsBroken name.now self.old.at (S.shown shelf.old) (S.shown shelf.new)) }
+        ensures goes_on { OnOk result (GoesOn name.now (S.shown shelf.old) (S.shown shelf.new)
+            self.old self.new) }
+        ensures broken { IfErr result (IsBroken name.now self.old.at (S.shown shelf.old)
+            (S.shown shelf.new)) }
         ensures reads { OnlyReads (S.shown shelf.old) (S.shown shelf.new) }
     {
         self.line.clear();
@@ -222,8 +234,10 @@ impl LineReader {
         ensures sound { OnOk result (IsSound self.new) }
         ensures whole { OnOk result (IsTrue (S.shown shelf.old).told
             → IsWhole ((S.shown shelf.old).file name.now) self.new.at) }
-        ensures goes_on { OnOk result (GoesOn name.now (S.shown shelf.old) (S.shown shelf.new) self.old self.new) }
-        ensures broken { IfErr result (IsBroken name.now self.old.at (S.shown shelf.old) (S.shown shelf.new)) }
+        ensures goes_on { OnOk result (GoesOn name.now (S.shown shelf.old) (S.shown shelf.new)
+            self.old self.new) }
+        ensures broken { IfErr result (IsBroken name.now self.old.at (S.shown shelf.old)
+            (S.shown shelf.new)) }
         ensures reads { OnlyReads (S.shown shelf.old) (S.shown shelf.new) }
     {
         self.start = self.end;

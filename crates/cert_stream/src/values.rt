@@ -44,12 +44,15 @@ pub fn next_head<S: Shelf>(
     ensures given { IfOk result (λ head. IsHeadGiven place head reader.old reader.new) }
 
     // Where the text goes on with a line of this number, that line is given.
-    ensures awaited { IfOk result (λ head. IsTrue (S.shown shelf.old).told → (h : HeadLine) → (more : List ℕ)
+    ensures awaited { IfOk result (λ head. IsTrue (S.shown shelf.old).told → (h : HeadLine)
+        → (more : List ℕ)
         → IsHead place (head_line h) h
         → rest_in (S.shown shelf.old) name.now reader.old ≡ head_text h ++ more
         → (head ≡ Some h) × (rest_in (S.shown shelf.new) name.now reader.new ≡ more)) }
-    ensures goes_on { OnOk result (GoesOn name.now (S.shown shelf.old) (S.shown shelf.new) reader.old reader.new) }
-    ensures broken { IfErr result (IsBroken name.now reader.old.at (S.shown shelf.old) (S.shown shelf.new)) }
+    ensures goes_on { OnOk result (GoesOn name.now (S.shown shelf.old) (S.shown shelf.new)
+        reader.old reader.new) }
+    ensures broken { IfErr result (IsBroken name.now reader.old.at (S.shown shelf.old)
+        (S.shown shelf.new)) }
     ensures reads { OnlyReads (S.shown shelf.old) (S.shown shelf.new) }
 {
     match reader.next_line(shelf, name)? {
@@ -75,12 +78,15 @@ pub fn next_value<S: Shelf>(
     ensures given { IfOk result (λ value. IsGiven version value reader.old reader.new) }
 
     // Where the text goes on with a line of this version, that line is given.
-    ensures awaited { IfOk result (λ value. IsTrue (S.shown shelf.old).told → (l : LineShape) → (more : List ℕ)
+    ensures awaited { IfOk result (λ value. IsTrue (S.shown shelf.old).told → (l : LineShape)
+        → (more : List ℕ)
         → HasLine version l
         → rest_in (S.shown shelf.old) name.now reader.old ≡ value_text l ++ more
         → IsThisLine l more value (rest_in (S.shown shelf.new) name.now reader.new)) }
-    ensures goes_on { OnOk result (GoesOn name.now (S.shown shelf.old) (S.shown shelf.new) reader.old reader.new) }
-    ensures broken { IfErr result (IsBroken name.now reader.old.at (S.shown shelf.old) (S.shown shelf.new)) }
+    ensures goes_on { OnOk result (GoesOn name.now (S.shown shelf.old) (S.shown shelf.new)
+        reader.old reader.new) }
+    ensures broken { IfErr result (IsBroken name.now reader.old.at (S.shown shelf.old)
+        (S.shown shelf.new)) }
     ensures reads { OnlyReads (S.shown shelf.old) (S.shown shelf.new) }
 {
     match reader.next_line(shelf, name)? {

@@ -80,8 +80,10 @@ impl Dues {
     /// Takes the next line: what it needs itself comes first then. The line is another one than is needed, or a
     /// branch too deep, exactly where this is the answer. Memory is taken for a branch alone.
     pub fn take(&mut self, line: &CertLine) -> Result<(), Misfit>
-        ensures taken { OnOk result (TakesAll (dues_in self.old) (line_shape line.now ∷ []) (dues_in self.new)) }
-        ensures unwanted { IsErrOf result Unwanted → IsUnwanted (dues_in self.old) (line_shape line.now) }
+        ensures taken { OnOk result (TakesAll (dues_in self.old) (line_shape line.now ∷ [])
+            (dues_in self.new)) }
+        ensures unwanted { IsErrOf result Unwanted
+            → IsUnwanted (dues_in self.old) (line_shape line.now) }
         ensures deep { IsErrOf result Deep → IsTooDeep (dues_in self.old) (line_shape line.now) }
     {
         if self.parts > 0 {
@@ -127,8 +129,10 @@ impl Dues {
     // A line where a part is needed.
     fn take_part(&mut self, line: &CertLine) -> Result<(), Misfit>
         requires some { 1 ≤ self.old.parts }
-        ensures taken { OnOk result (TakesAll (dues_in self.old) (line_shape line.now ∷ []) (dues_in self.new)) }
-        ensures unwanted { IsErrOf result Unwanted → IsUnwanted (dues_in self.old) (line_shape line.now) }
+        ensures taken { OnOk result (TakesAll (dues_in self.old) (line_shape line.now ∷ [])
+            (dues_in self.new)) }
+        ensures unwanted { IsErrOf result Unwanted
+            → IsUnwanted (dues_in self.old) (line_shape line.now) }
         ensures deep { IsErrOf result Deep → ⊥ }
     {
         match line {
@@ -144,8 +148,10 @@ impl Dues {
     fn take_list(&mut self, line: &CertLine) -> Result<(), Misfit>
         requires parts { self.old.parts ≡ 0 }
         requires some { 1 ≤ self.old.lists }
-        ensures taken { OnOk result (TakesAll (dues_in self.old) (line_shape line.now ∷ []) (dues_in self.new)) }
-        ensures unwanted { IsErrOf result Unwanted → IsUnwanted (dues_in self.old) (line_shape line.now) }
+        ensures taken { OnOk result (TakesAll (dues_in self.old) (line_shape line.now ∷ [])
+            (dues_in self.new)) }
+        ensures unwanted { IsErrOf result Unwanted
+            → IsUnwanted (dues_in self.old) (line_shape line.now) }
         ensures deep { IsErrOf result Deep → ⊥ }
     {
         match line {
@@ -162,8 +168,10 @@ impl Dues {
         requires parts { self.old.parts ≡ 0 }
         requires lists { self.old.lists ≡ 0 }
         requires some { 1 ≤ self.old.groups }
-        ensures taken { OnOk result (TakesAll (dues_in self.old) (line_shape line.now ∷ []) (dues_in self.new)) }
-        ensures unwanted { IsErrOf result Unwanted → IsUnwanted (dues_in self.old) (line_shape line.now) }
+        ensures taken { OnOk result (TakesAll (dues_in self.old) (line_shape line.now ∷ [])
+            (dues_in self.new)) }
+        ensures unwanted { IsErrOf result Unwanted
+            → IsUnwanted (dues_in self.old) (line_shape line.now) }
         ensures deep { IsErrOf result Deep → ⊥ }
     {
         match line {
@@ -181,8 +189,10 @@ impl Dues {
         requires lists { self.old.lists ≡ 0 }
         requires groups { self.old.groups ≡ 0 }
         requires some { 1 ≤ self.old.cuts }
-        ensures taken { OnOk result (TakesAll (dues_in self.old) (line_shape line.now ∷ []) (dues_in self.new)) }
-        ensures unwanted { IsErrOf result Unwanted → IsUnwanted (dues_in self.old) (line_shape line.now) }
+        ensures taken { OnOk result (TakesAll (dues_in self.old) (line_shape line.now ∷ [])
+            (dues_in self.new)) }
+        ensures unwanted { IsErrOf result Unwanted
+            → IsUnwanted (dues_in self.old) (line_shape line.now) }
         ensures deep { IsErrOf result Deep → ⊥ }
     {
         match line {
@@ -205,9 +215,12 @@ impl Dues {
         requires lists { self.old.lists ≡ 0 }
         requires groups { self.old.groups ≡ 0 }
         requires cuts { self.old.cuts ≡ 0 }
-        ensures taken { OnOk result (TakesAll (a_tree above ∷ dues_in self.old) (line_shape line.now ∷ []) (dues_in self.new)) }
-        ensures unwanted { IsErrOf result Unwanted → IsUnwanted (a_tree above ∷ dues_in self.old) (line_shape line.now) }
-        ensures deep { IsErrOf result Deep → IsTooDeep (a_tree above ∷ dues_in self.old) (line_shape line.now) }
+        ensures taken { OnOk result (TakesAll (a_tree above ∷ dues_in self.old)
+            (line_shape line.now ∷ []) (dues_in self.new)) }
+        ensures unwanted { IsErrOf result Unwanted
+            → IsUnwanted (a_tree above ∷ dues_in self.old) (line_shape line.now) }
+        ensures deep { IsErrOf result Deep
+            → IsTooDeep (a_tree above ∷ dues_in self.old) (line_shape line.now) }
     {
         match line {
             CertLine::Branch { .. } => {
@@ -249,8 +262,10 @@ impl Dues {
         requires groups { self.old.groups ≡ 0 }
         requires cuts { self.old.cuts ≡ 0 }
         requires trees { self.old.trees.items ≡ [] }
-        ensures taken { OnOk result (TakesAll (dues_in self.old) (line_shape line.now ∷ []) (dues_in self.new)) }
-        ensures unwanted { IsErrOf result Unwanted → IsUnwanted (dues_in self.old) (line_shape line.now) }
+        ensures taken { OnOk result (TakesAll (dues_in self.old) (line_shape line.now ∷ [])
+            (dues_in self.new)) }
+        ensures unwanted { IsErrOf result Unwanted
+            → IsUnwanted (dues_in self.old) (line_shape line.now) }
         ensures deep { IsErrOf result Deep → ⊥ }
     {
         if !self.end {

@@ -100,7 +100,8 @@ fn has_tree_lines(tree: &Tree, version: u32) -> bool
 
 // Whether the lines after the first three are within the limits.
 fn has_body_lines(certificate: &Certificate) -> bool
-    ensures { IsTrue result ↔ AreLines certificate.now.version (body_values (shape_of certificate.now)) }
+    ensures { IsTrue result ↔ AreLines certificate.now.version
+        (body_values (shape_of certificate.now)) }
 {
     if !have_cut_lines(&certificate.cuts, certificate.version) {
         return false;

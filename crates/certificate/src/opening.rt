@@ -19,7 +19,8 @@ fn next_head(rest: &mut Rest, place: u32) -> Option<HeadLine>
     ensures line { IfSome result (λ h. IsHead place (head_line h) h) }
     ensures text { IfSome result (λ h. rest.old.text.now ≡ head_text h ++ rest.new.text.now) }
     ensures number { IfSome result (λ h. rest.new.line ≡ rest.old.line + 1) }
-    ensures room { IfSome result (λ h. rest.new.line + length rest.new.text.now ≤ rest.old.line + length rest.old.text.now) }
+    ensures room { IfSome result (λ h. rest.new.line + length rest.new.text.now
+        ≤ rest.old.line + length rest.old.text.now) }
     ensures none { IsNone result → (h : HeadLine) → StartsWithHead place rest.old.text.now h → ⊥ }
 {
     let Some((line, text)) = split_line(rest.text) else {
@@ -39,9 +40,11 @@ fn next_head(rest: &mut Rest, place: u32) -> Option<HeadLine>
 fn next_mark(rest: &mut Rest) -> Option<u32>
     requires room { rest.old.line + length rest.old.text.now < 2 ^ 64 }
     ensures line { IfSome result (λ v. IsHead 1 (head_line (value.Mark v)) (value.Mark v)) }
-    ensures text { IfSome result (λ v. rest.old.text.now ≡ head_text (value.Mark v) ++ rest.new.text.now) }
+    ensures text { IfSome result (λ v. rest.old.text.now
+        ≡ head_text (value.Mark v) ++ rest.new.text.now) }
     ensures number { IfSome result (λ v. rest.new.line ≡ rest.old.line + 1) }
-    ensures room { IfSome result (λ v. rest.new.line + length rest.new.text.now ≤ rest.old.line + length rest.old.text.now) }
+    ensures room { IfSome result (λ v. rest.new.line + length rest.new.text.now
+        ≤ rest.old.line + length rest.old.text.now) }
     ensures none { IsNone result → (h : HeadLine) → StartsWithHead 1 rest.old.text.now h → ⊥ }
 {
     match next_head(rest, 1) {
@@ -57,9 +60,11 @@ fn next_mark(rest: &mut Rest) -> Option<u32>
 fn next_claim(rest: &mut Rest) -> Option<Claim>
     requires room { rest.old.line + length rest.old.text.now < 2 ^ 64 }
     ensures line { IfSome result (λ c. IsHead 2 (head_line (value.Claim c)) (value.Claim c)) }
-    ensures text { IfSome result (λ c. rest.old.text.now ≡ head_text (value.Claim c) ++ rest.new.text.now) }
+    ensures text { IfSome result (λ c. rest.old.text.now
+        ≡ head_text (value.Claim c) ++ rest.new.text.now) }
     ensures number { IfSome result (λ c. rest.new.line ≡ rest.old.line + 1) }
-    ensures room { IfSome result (λ c. rest.new.line + length rest.new.text.now ≤ rest.old.line + length rest.old.text.now) }
+    ensures room { IfSome result (λ c. rest.new.line + length rest.new.text.now
+        ≤ rest.old.line + length rest.old.text.now) }
     ensures none { IsNone result → (h : HeadLine) → StartsWithHead 2 rest.old.text.now h → ⊥ }
 {
     match next_head(rest, 2) {
@@ -75,9 +80,11 @@ fn next_claim(rest: &mut Rest) -> Option<Claim>
 fn next_count(rest: &mut Rest) -> Option<u32>
     requires room { rest.old.line + length rest.old.text.now < 2 ^ 64 }
     ensures line { IfSome result (λ n. IsHead 3 (head_line (value.Cuts n)) (value.Cuts n)) }
-    ensures text { IfSome result (λ n. rest.old.text.now ≡ head_text (value.Cuts n) ++ rest.new.text.now) }
+    ensures text { IfSome result (λ n. rest.old.text.now
+        ≡ head_text (value.Cuts n) ++ rest.new.text.now) }
     ensures number { IfSome result (λ n. rest.new.line ≡ rest.old.line + 1) }
-    ensures room { IfSome result (λ n. rest.new.line + length rest.new.text.now ≤ rest.old.line + length rest.old.text.now) }
+    ensures room { IfSome result (λ n. rest.new.line + length rest.new.text.now
+        ≤ rest.old.line + length rest.old.text.now) }
     ensures none { IsNone result → (h : HeadLine) → StartsWithHead 3 rest.old.text.now h → ⊥ }
 {
     match next_head(rest, 3) {
@@ -95,9 +102,11 @@ pub fn read_heads(rest: &mut Rest) -> Result<(u32, Claim, u32), CertTextFault>
     requires room { rest.old.line + length rest.old.text.now < 2 ^ 64 }
     ensures version { IfOk result (λ p. IsVersion p.0) }
     ensures lines { IfOk result (λ p. AreHeads 1 (head_values p.0 p.1 p.2)) }
-    ensures text { IfOk result (λ p. rest.old.text.now ≡ heads_text (head_values p.0 p.1 p.2) ++ rest.new.text.now) }
+    ensures text { IfOk result (λ p. rest.old.text.now
+        ≡ heads_text (head_values p.0 p.1 p.2) ++ rest.new.text.now) }
     ensures number { IfOk result (λ p. rest.new.line ≡ FIRST_CUT_LINE) }
-    ensures room { IfOk result (λ p. rest.new.line + length rest.new.text.now ≤ rest.old.line + length rest.old.text.now) }
+    ensures room { IfOk result (λ p. rest.new.line + length rest.new.text.now
+        ≤ rest.old.line + length rest.old.text.now) }
     ensures refused { IfErr result (IsCertTextFault rest.old.text.now) }
 {
     let Some(version) = next_mark(rest) else {

@@ -37,8 +37,10 @@ fn read_part(alloc: Global, rest: &mut Rest, version: u32) -> Result<Part, CertT
     requires version { IsVersion version }
     requires room { rest.old.line + length rest.old.text.now < 2 ^ 64 }
     ensures part { IfOk result (λ part. AreRead version rest.old rest.new (PartLine part ∷ [])) }
-    ensures room { OnOk result (rest.new.line + length rest.new.text.now ≤ rest.old.line + length rest.old.text.now) }
-    ensures refused { IfErr result (λ f. (later : List Due) → IsFaultFrom version (a_part ∷ later) rest.old.text.now rest.old.line f) }
+    ensures room { OnOk result (rest.new.line + length rest.new.text.now
+        ≤ rest.old.line + length rest.old.text.now) }
+    ensures refused { IfErr result (λ f. (later : List Due)
+        → IsFaultFrom version (a_part ∷ later) rest.old.text.now rest.old.line f) }
 {
     let number = rest.line;
     match part_of(next_line(alloc, rest, version)?) {
@@ -56,9 +58,11 @@ fn read_parts(
 ) -> Result<Vec<Part>, CertTextFault>
     requires version { IsVersion version }
     requires room { rest.old.line + length rest.old.text.now < 2 ^ 64 }
-    ensures parts { IfOk result (λ parts. AreRead version rest.old rest.new (part_values parts.items)) }
+    ensures parts { IfOk result (λ parts.
+        AreRead version rest.old rest.new (part_values parts.items)) }
     ensures count { IfOk result (λ parts. length parts.items ≡ count) }
-    ensures room { OnOk result (rest.new.line + length rest.new.text.now ≤ rest.old.line + length rest.old.text.now) }
+    ensures room { OnOk result (rest.new.line + length rest.new.text.now
+        ≤ rest.old.line + length rest.old.text.now) }
     ensures refused { IfErr result (λ f. (later : List Due)
         → IsFaultFrom version (replicate count a_part ++ later) rest.old.text.now rest.old.line f) }
 {
@@ -84,9 +88,12 @@ fn list_of(line: CertLine) -> Option<PartList>
 fn read_list(alloc: Global, rest: &mut Rest, version: u32) -> Result<PartList, CertTextFault>
     requires version { IsVersion version }
     requires room { rest.old.line + length rest.old.text.now < 2 ^ 64 }
-    ensures list { IfOk result (λ list. AreRead version rest.old rest.new (ListLine (list_shape list) ∷ [])) }
-    ensures room { OnOk result (rest.new.line + length rest.new.text.now ≤ rest.old.line + length rest.old.text.now) }
-    ensures refused { IfErr result (λ f. (later : List Due) → IsFaultFrom version (a_list ∷ later) rest.old.text.now rest.old.line f) }
+    ensures list { IfOk result (λ list.
+        AreRead version rest.old rest.new (ListLine (list_shape list) ∷ [])) }
+    ensures room { OnOk result (rest.new.line + length rest.new.text.now
+        ≤ rest.old.line + length rest.old.text.now) }
+    ensures refused { IfErr result (λ f. (later : List Due)
+        → IsFaultFrom version (a_list ∷ later) rest.old.text.now rest.old.line f) }
 {
     let number = rest.line;
     match list_of(next_line(alloc, rest, version)?) {
@@ -104,9 +111,11 @@ fn read_lists(
 ) -> Result<Vec<PartList>, CertTextFault>
     requires version { IsVersion version }
     requires room { rest.old.line + length rest.old.text.now < 2 ^ 64 }
-    ensures lists { IfOk result (λ lists. AreRead version rest.old rest.new (list_values (map list_shape lists.items))) }
+    ensures lists { IfOk result (λ lists.
+        AreRead version rest.old rest.new (list_values (map list_shape lists.items))) }
     ensures count { IfOk result (λ lists. length lists.items ≡ count) }
-    ensures room { OnOk result (rest.new.line + length rest.new.text.now ≤ rest.old.line + length rest.old.text.now) }
+    ensures room { OnOk result (rest.new.line + length rest.new.text.now
+        ≤ rest.old.line + length rest.old.text.now) }
     ensures refused { IfErr result (λ f. (later : List Due)
         → IsFaultFrom version (replicate count a_list ++ later) rest.old.text.now rest.old.line f) }
 {
@@ -132,9 +141,12 @@ fn group_of(line: CertLine) -> Option<Group>
 fn read_group(alloc: Global, rest: &mut Rest, version: u32) -> Result<Group, CertTextFault>
     requires version { IsVersion version }
     requires room { rest.old.line + length rest.old.text.now < 2 ^ 64 }
-    ensures group { IfOk result (λ group. AreRead version rest.old rest.new (GroupLine group ∷ [])) }
-    ensures room { OnOk result (rest.new.line + length rest.new.text.now ≤ rest.old.line + length rest.old.text.now) }
-    ensures refused { IfErr result (λ f. (later : List Due) → IsFaultFrom version (a_group ∷ later) rest.old.text.now rest.old.line f) }
+    ensures group { IfOk result (λ group.
+        AreRead version rest.old rest.new (GroupLine group ∷ [])) }
+    ensures room { OnOk result (rest.new.line + length rest.new.text.now
+        ≤ rest.old.line + length rest.old.text.now) }
+    ensures refused { IfErr result (λ f. (later : List Due)
+        → IsFaultFrom version (a_group ∷ later) rest.old.text.now rest.old.line f) }
 {
     let number = rest.line;
     match group_of(next_line(alloc, rest, version)?) {
@@ -152,11 +164,14 @@ fn read_groups(
 ) -> Result<Vec<Group>, CertTextFault>
     requires version { IsVersion version }
     requires room { rest.old.line + length rest.old.text.now < 2 ^ 64 }
-    ensures groups { IfOk result (λ groups. AreRead version rest.old rest.new (group_values (groups.items))) }
+    ensures groups { IfOk result (λ groups.
+        AreRead version rest.old rest.new (group_values (groups.items))) }
     ensures count { IfOk result (λ groups. length groups.items ≡ count) }
-    ensures room { OnOk result (rest.new.line + length rest.new.text.now ≤ rest.old.line + length rest.old.text.now) }
+    ensures room { OnOk result (rest.new.line + length rest.new.text.now
+        ≤ rest.old.line + length rest.old.text.now) }
     ensures refused { IfErr result (λ f. (later : List Due)
-        → IsFaultFrom version (replicate count a_group ++ later) rest.old.text.now rest.old.line f) }
+        → IsFaultFrom version (replicate count a_group ++ later) rest.old.text.now rest.old.line
+        f) }
 {
     let mut groups = Vec::new(alloc);
     for _ in 0..count {
@@ -186,9 +201,11 @@ fn read_reduced(
     ensures parts { IfOk result (λ rows. length rows.parts.items ≡ counts.0) }
     ensures lists { IfOk result (λ rows. length rows.lists.items ≡ counts.1) }
     ensures groups { IfOk result (λ rows. length rows.groups.items ≡ counts.2) }
-    ensures room { OnOk result (rest.new.line + length rest.new.text.now ≤ rest.old.line + length rest.old.text.now) }
+    ensures room { OnOk result (rest.new.line + length rest.new.text.now
+        ≤ rest.old.line + length rest.old.text.now) }
     ensures refused { IfErr result (λ f. (later : List Due)
-        → IsFaultFrom version (row_dues counts.0 counts.1 counts.2 ++ later) rest.old.text.now rest.old.line f) }
+        → IsFaultFrom version (row_dues counts.0 counts.1 counts.2 ++ later) rest.old.text.now
+        rest.old.line f) }
 {
     let parts = read_parts(alloc, rest, version, counts.0)?;
     let lists = read_lists(alloc, rest, version, counts.1)?;
@@ -204,9 +221,12 @@ fn read_reduced(
 fn read_cut(alloc: Global, rest: &mut Rest, version: u32) -> Result<Cut, CertTextFault>
     requires version { IsVersion version }
     requires room { rest.old.line + length rest.old.text.now < 2 ^ 64 }
-    ensures cut { IfOk result (λ cut. AreRead version rest.old rest.new (cut_values (cut_shape cut))) }
-    ensures room { OnOk result (rest.new.line + length rest.new.text.now ≤ rest.old.line + length rest.old.text.now) }
-    ensures refused { IfErr result (λ f. (later : List Due) → IsFaultFrom version (a_cut ∷ later) rest.old.text.now rest.old.line f) }
+    ensures cut { IfOk result (λ cut.
+        AreRead version rest.old rest.new (cut_values (cut_shape cut))) }
+    ensures room { OnOk result (rest.new.line + length rest.new.text.now
+        ≤ rest.old.line + length rest.old.text.now) }
+    ensures refused { IfErr result (λ f. (later : List Due)
+        → IsFaultFrom version (a_cut ∷ later) rest.old.text.now rest.old.line f) }
 {
     let number = rest.line;
     match next_line(alloc, rest, version)? {
@@ -231,9 +251,11 @@ fn read_cuts(
 ) -> Result<Vec<Cut>, CertTextFault>
     requires version { IsVersion version }
     requires room { rest.old.line + length rest.old.text.now < 2 ^ 64 }
-    ensures cuts { IfOk result (λ cuts. AreRead version rest.old rest.new (all_cut_values (map cut_shape cuts.items))) }
+    ensures cuts { IfOk result (λ cuts.
+        AreRead version rest.old rest.new (all_cut_values (map cut_shape cuts.items))) }
     ensures count { IfOk result (λ cuts. length cuts.items ≡ count) }
-    ensures room { OnOk result (rest.new.line + length rest.new.text.now ≤ rest.old.line + length rest.old.text.now) }
+    ensures room { OnOk result (rest.new.line + length rest.new.text.now
+        ≤ rest.old.line + length rest.old.text.now) }
     ensures refused { IfErr result (λ f. (later : List Due)
         → IsFaultFrom version (replicate count a_cut ++ later) rest.old.text.now rest.old.line f) }
 {
@@ -263,8 +285,10 @@ fn read_node(
     requires above { above ≤ MAX_BRANCHES }
     ensures node { IfOk result (λ node. AreRead version rest.old rest.new (node_values node)) }
     ensures high { IfOk result (λ node. IsHigh above node) }
-    ensures room { OnOk result (rest.new.line + length rest.new.text.now ≤ rest.old.line + length rest.old.text.now) }
-    ensures refused { IfErr result (λ f. (later : List Due) → IsFaultFrom version (a_tree above ∷ later) rest.old.text.now rest.old.line f) }
+    ensures room { OnOk result (rest.new.line + length rest.new.text.now
+        ≤ rest.old.line + length rest.old.text.now) }
+    ensures refused { IfErr result (λ f. (later : List Due)
+        → IsFaultFrom version (a_tree above ∷ later) rest.old.text.now rest.old.line f) }
 {
     let number = rest.line;
     match next_line(alloc, rest, version)? {
@@ -311,10 +335,13 @@ fn read_tree(
     requires version { IsVersion version }
     requires room { rest.old.line + length rest.old.text.now < 2 ^ 64 }
     requires above { above ≤ MAX_BRANCHES }
-    ensures tree { IfOk result (λ tree. AreRead version rest.old rest.new (tree_values (tree_shape tree))) }
+    ensures tree { IfOk result (λ tree.
+        AreRead version rest.old rest.new (tree_values (tree_shape tree))) }
     ensures paths { IfOk result (λ tree. above + longest_path (tree_shape tree) ≤ MAX_BRANCHES) }
-    ensures room { OnOk result (rest.new.line + length rest.new.text.now ≤ rest.old.line + length rest.old.text.now) }
-    ensures refused { IfErr result (λ f. (later : List Due) → IsFaultFrom version (a_tree above ∷ later) rest.old.text.now rest.old.line f) }
+    ensures room { OnOk result (rest.new.line + length rest.new.text.now
+        ≤ rest.old.line + length rest.old.text.now) }
+    ensures refused { IfErr result (λ f. (later : List Due)
+        → IsFaultFrom version (a_tree above ∷ later) rest.old.text.now rest.old.line f) }
 {
     match read_node(alloc, rest, version, above)? {
         Node::Branch { column, at } => {
@@ -335,8 +362,10 @@ fn read_tree(
 fn read_end(alloc: Global, rest: &mut Rest, version: u32) -> Result<(), CertTextFault>
     requires version { IsVersion version }
     requires room { rest.old.line + length rest.old.text.now < 2 ^ 64 }
-    ensures end { OnOk result (AreRead version rest.old rest.new (EndLine ∷ []) × (rest.new.text.now ≡ [])) }
-    ensures refused { IfErr result (λ f. IsFaultFrom version (the_end ∷ []) rest.old.text.now rest.old.line f) }
+    ensures end { OnOk result (AreRead version rest.old rest.new (EndLine ∷ [])
+        × (rest.new.text.now ≡ [])) }
+    ensures refused { IfErr result (λ f.
+        IsFaultFrom version (the_end ∷ []) rest.old.text.now rest.old.line f) }
 {
     let number = rest.line;
     match next_line(alloc, rest, version)? {

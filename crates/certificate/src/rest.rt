@@ -37,9 +37,11 @@ pub fn next_line(alloc: Global, rest: &mut Rest, version: u32) -> Result<CertLin
     requires version { IsVersion version }
     requires room { rest.old.line + length rest.old.text.now < 2 ^ 64 }
     ensures line { IfOk result (λ l. HasLine version (line_shape l)) }
-    ensures text { IfOk result (λ l. rest.old.text.now ≡ value_text (line_shape l) ++ rest.new.text.now) }
+    ensures text { IfOk result (λ l. rest.old.text.now
+        ≡ value_text (line_shape l) ++ rest.new.text.now) }
     ensures number { OnOk result (rest.new.line ≡ rest.old.line + 1) }
-    ensures room { OnOk result (rest.new.line + length rest.new.text.now ≤ rest.old.line + length rest.old.text.now) }
+    ensures room { OnOk result (rest.new.line + length rest.new.text.now
+        ≤ rest.old.line + length rest.old.text.now) }
     ensures refused { IfErr result (λ f. (dues : List Due) → (rest.old.text.now ≡ [] → dues ≢ [])
         → IsStop version dues rest.old.text.now rest.old.line f) }
 {

@@ -16,7 +16,8 @@ use std::alloc::{AllocError, Global};
 
 // Adds a line for each part.
 fn add_parts(text: &mut String, parts: &[Part]) -> Result<(), AllocError>
-    ensures { OnOk result (string_bytes text.new ≡ string_bytes text.old ++ values_text (part_values parts.now)) }
+    ensures { OnOk result (string_bytes text.new
+        ≡ string_bytes text.old ++ values_text (part_values parts.now)) }
 {
     for part in parts {
         add_part(text, *part)?;
@@ -26,7 +27,8 @@ fn add_parts(text: &mut String, parts: &[Part]) -> Result<(), AllocError>
 
 // Adds a line for each list.
 fn add_lists(text: &mut String, lists: &[PartList]) -> Result<(), AllocError>
-    ensures { OnOk result (string_bytes text.new ≡ string_bytes text.old ++ values_text (list_values (map list_shape lists.now))) }
+    ensures { OnOk result (string_bytes text.new
+        ≡ string_bytes text.old ++ values_text (list_values (map list_shape lists.now))) }
 {
     for list in lists {
         add_list_line(text, list)?;
@@ -36,7 +38,8 @@ fn add_lists(text: &mut String, lists: &[PartList]) -> Result<(), AllocError>
 
 // Adds a line for each group.
 fn add_groups(text: &mut String, groups: &[Group]) -> Result<(), AllocError>
-    ensures { OnOk result (string_bytes text.new ≡ string_bytes text.old ++ values_text (group_values groups.now)) }
+    ensures { OnOk result (string_bytes text.new
+        ≡ string_bytes text.old ++ values_text (group_values groups.now)) }
 {
     for group in groups {
         add_group_line(text, group)?;
@@ -46,7 +49,8 @@ fn add_groups(text: &mut String, groups: &[Group]) -> Result<(), AllocError>
 
 // Adds a cut, with its parts.
 fn add_cut(text: &mut String, cut: &Cut) -> Result<(), AllocError>
-    ensures { OnOk result (string_bytes text.new ≡ string_bytes text.old ++ values_text (cut_values (cut_shape cut.now))) }
+    ensures { OnOk result (string_bytes text.new
+        ≡ string_bytes text.old ++ values_text (cut_values (cut_shape cut.now))) }
 {
     add_cut_line(text, cut)?;
     add_parts(text, cut.parts())?;
@@ -55,7 +59,8 @@ fn add_cut(text: &mut String, cut: &Cut) -> Result<(), AllocError>
 
 // Adds the cuts.
 fn add_cuts(text: &mut String, cuts: &[Cut]) -> Result<(), AllocError>
-    ensures { OnOk result (string_bytes text.new ≡ string_bytes text.old ++ values_text (all_cut_values (map cut_shape cuts.now))) }
+    ensures { OnOk result (string_bytes text.new
+        ≡ string_bytes text.old ++ values_text (all_cut_values (map cut_shape cuts.now))) }
 {
     for cut in cuts {
         add_cut(text, cut)?;
@@ -65,7 +70,8 @@ fn add_cuts(text: &mut String, cuts: &[Cut]) -> Result<(), AllocError>
 
 // Adds a leaf, with its parts, lists and groups.
 fn add_leaf(text: &mut String, leaf: &Leaf) -> Result<(), AllocError>
-    ensures { OnOk result (string_bytes text.new ≡ string_bytes text.old ++ values_text (leaf_values (leaf_shape leaf.now))) }
+    ensures { OnOk result (string_bytes text.new
+        ≡ string_bytes text.old ++ values_text (leaf_values (leaf_shape leaf.now))) }
 {
     add_leaf_line(text, leaf)?;
     add_parts(text, leaf.parts())?;
@@ -76,7 +82,8 @@ fn add_leaf(text: &mut String, leaf: &Leaf) -> Result<(), AllocError>
 
 // Adds a tree: a branch, its low side and its high side.
 fn add_tree(text: &mut String, tree: &Tree) -> Result<(), AllocError>
-    ensures { OnOk result (string_bytes text.new ≡ string_bytes text.old ++ values_text (tree_values (tree_shape tree.now))) }
+    ensures { OnOk result (string_bytes text.new
+        ≡ string_bytes text.old ++ values_text (tree_values (tree_shape tree.now))) }
 {
     match tree {
         Tree::Branch {
@@ -98,8 +105,10 @@ fn add_tree(text: &mut String, tree: &Tree) -> Result<(), AllocError>
 ///
 /// It calls itself once for each branch on the way to a leaf, and takes time in the length of the text.
 pub fn write_certificate(alloc: Global, certificate: &Certificate) -> Result<Vec<u8>, AllocError>
-    ensures text { IfOk result (λ bytes. bytes.items ≡ certificate_text (shape_of certificate.now)) }
-    ensures means { IfOk result (λ bytes. IsWritable (shape_of certificate.now) → IsTextOf bytes.items (shape_of certificate.now)) }
+    ensures text { IfOk result (λ bytes. bytes.items
+        ≡ certificate_text (shape_of certificate.now)) }
+    ensures means { IfOk result (λ bytes. IsWritable (shape_of certificate.now)
+        → IsTextOf bytes.items (shape_of certificate.now)) }
 {
     let mut text = String::from_str(alloc, "")?;
     add_mark(&mut text, certificate.version)?;

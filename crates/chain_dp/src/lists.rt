@@ -149,7 +149,8 @@ pub(crate) fn lists_of(
 ) -> Result<LevelLists, AllocError>
     requires level { HasPeriods (period_count level.now) level.now }
     requires horizon { horizon < 2 ^ 63 }
-    ensures { IfOk result (AreListsOf horizon (moved_level shift next (period_count level.now) (level_of level.now))) }
+    ensures { IfOk result (AreListsOf horizon
+        (moved_level shift next (period_count level.now) (level_of level.now))) }
 {
     let setup_cost = by_lots(alloc, spare, 0, &level.setup_cost, 0, shift, horizon)?;
     let price = level.opening_price;

@@ -132,7 +132,8 @@ fn gap_entries(
     requires wide { (u : ℕ) → u < lot → lot < length (row_of stretches.now u) }
     requires firsts { length firsts.now ≡ lot + 1 }
     ensures length { IfOk result (λ row. length row ≡ lot + 1) }
-    ensures row { IfOk result (λ row. (v : ℕ) → v ≤ lot → IsGapEntry mid.now gaps.now stretches.now (at firsts.now v) v lot (at row v)) }
+    ensures row { IfOk result (λ row. (v : ℕ) → v ≤ lot
+        → IsGapEntry mid.now gaps.now stretches.now (at firsts.now v) v lot (at row v)) }
 {
     let mut cells = spare.take(alloc);
     for served in 0..lot + 1 {
@@ -184,7 +185,8 @@ pub(crate) fn pair_plane(
     requires wide { AreWide (length mid.now.asked.items) stretches.now }
     requires lots { length firsts.now ≤ length mid.now.asked.items }
     requires firsts { AreTriangular firsts.now }
-    ensures { IfOk result (λ plane. IsPairPlane low.now mid.now stretches.now firsts.now (length firsts.now) plane.items) }
+    ensures { IfOk result (λ plane.
+        IsPairPlane low.now mid.now stretches.now firsts.now (length firsts.now) plane.items) }
 {
     let mut plane = Vec::new(alloc);
     for lot in 0..firsts.len() {
@@ -265,7 +267,8 @@ fn least_end(
     requires lot { lot < length plane.now }
     requires before { lot < length mid.now.asked.items }
     requires last { last < length mid.now.asked.items }
-    ensures { IsLeastOf 0 (lot + 1) (end_cost low.now mid.now stretches.now plane.now last lot) result }
+    ensures { IsLeastOf 0 (lot + 1) (end_cost low.now mid.now stretches.now plane.now last lot)
+        result }
 {
     let mut least = u128::MAX;
     for served in 0..lot + 1 {

@@ -110,7 +110,8 @@ fn top_row(
     requires to { to ≤ length planes.now }
     requires high { to < length top.now.asked.items }
     ensures length { IfOk result (λ row. length row ≡ lot + 1) }
-    ensures row { IfOk result (λ row. (v : ℕ) → v ≤ lot → IsLeastOf lot to (top_step low.now mid.now top.now planes.now to lot v) (at row v)) }
+    ensures row { IfOk result (λ row. (v : ℕ) → v ≤ lot
+        → IsLeastOf lot to (top_step low.now mid.now top.now planes.now to lot v) (at row v)) }
 {
     let mut cells = spare.take(alloc);
     for served in 0..lot + 1 {
@@ -139,7 +140,8 @@ fn top_firsts(
     requires count { lots < length top.now.asked.items }
     requires to { to ≤ length planes.now }
     requires high { to < length top.now.asked.items }
-    ensures { IfOk result (λ rows. AreTopFirsts low.now mid.now top.now planes.now to lots rows.items) }
+    ensures { IfOk result (λ rows.
+        AreTopFirsts low.now mid.now top.now planes.now to lots rows.items) }
 {
     let mut rows = Vec::new(alloc);
     for lot in 0..lots {
@@ -189,7 +191,8 @@ fn later_plane(
     requires to { to ≤ length planes.now }
     requires high { to < length top.now.asked.items }
     requires some { 1 ≤ to }
-    ensures { IfOk result (IsChainPlane low.now mid.now top.now stretches.now planes.now (length top.now.asked.items) to) }
+    ensures { IfOk result (IsChainPlane low.now mid.now top.now stretches.now planes.now
+        (length top.now.asked.items) to) }
 {
     let lots = lots_up_to(top.asked.len(), to);
     let firsts = top_firsts(alloc, spare, low, mid, top, planes, to, lots)?;
@@ -218,7 +221,8 @@ fn plane(
     requires to { to ≤ length planes.now }
     requires high { to < length top.now.asked.items }
     requires some { 2 ≤ length top.now.asked.items }
-    ensures { IfOk result (IsChainPlane low.now mid.now top.now stretches.now planes.now (length top.now.asked.items) to) }
+    ensures { IfOk result (IsChainPlane low.now mid.now top.now stretches.now planes.now
+        (length top.now.asked.items) to) }
 {
     if to == 0 {
         first_plane(alloc, spare)
@@ -243,7 +247,9 @@ pub(crate) fn all_planes(
     requires wide { AreWide (length top.now.asked.items) stretches.now }
     requires some { 2 ≤ length top.now.asked.items }
     ensures length { IfOk result (λ planes. length planes.items ≡ length top.now.asked.items) }
-    ensures planes { IfOk result (λ planes. AreChainPlanes low.now mid.now top.now stretches.now (length top.now.asked.items) planes.items) }
+    ensures planes { IfOk result (λ planes.
+        AreChainPlanes low.now mid.now top.now stretches.now (length top.now.asked.items)
+        planes.items) }
 {
     let mut planes = Vec::new(alloc);
     for to in 0..top.asked.len() {

@@ -76,8 +76,10 @@ impl ChainTables {
     /// and that memory ran out.
     pub fn solve_one(&mut self, alloc: Global, level: &ChainLevel) -> Result<u128, ChainError>
         requires { HasPeriods (period_count level.now) level.now }
-        ensures least { IfOk result (IsLeastChainCost (period_count level.now) (levels_of (level.now ∷ []))) }
-        ensures too_dear { (result ≡ Err TooDear) ↔ (most ≤ opening_cost (period_count level.now) (levels_of (level.now ∷ []))) }
+        ensures least { IfOk result (IsLeastChainCost (period_count level.now)
+            (levels_of (level.now ∷ []))) }
+        ensures too_dear { (result ≡ Err TooDear) ↔
+            (most ≤ opening_cost (period_count level.now) (levels_of (level.now ∷ []))) }
     {
         if opening_cost(level) == u128::MAX {
             return Err(ChainError::TooDear);
@@ -107,8 +109,10 @@ impl ChainTables {
     ) -> Result<u128, ChainError>
         requires low { HasPeriods (period_count top.now) low.now }
         requires top { HasPeriods (period_count top.now) top.now }
-        ensures least { IfOk result (IsLeastChainCost (period_count top.now) (levels_of (low.now ∷ top.now ∷ []))) }
-        ensures too_dear { (result ≡ Err TooDear) ↔ (most ≤ opening_cost (period_count top.now) (levels_of (low.now ∷ top.now ∷ []))) }
+        ensures least { IfOk result (IsLeastChainCost (period_count top.now)
+            (levels_of (low.now ∷ top.now ∷ []))) }
+        ensures too_dear { (result ≡ Err TooDear) ↔
+            (most ≤ opening_cost (period_count top.now) (levels_of (low.now ∷ top.now ∷ []))) }
     {
         if opening_cost(low).saturating_add(opening_cost(top)) == u128::MAX {
             return Err(ChainError::TooDear);
@@ -139,8 +143,11 @@ impl ChainTables {
         requires low { HasPeriods (period_count top.now) low.now }
         requires mid { HasPeriods (period_count top.now) mid.now }
         requires top { HasPeriods (period_count top.now) top.now }
-        ensures least { IfOk result (IsLeastChainCost (period_count top.now) (levels_of (low.now ∷ mid.now ∷ top.now ∷ []))) }
-        ensures too_dear { (result ≡ Err TooDear) ↔ (most ≤ opening_cost (period_count top.now) (levels_of (low.now ∷ mid.now ∷ top.now ∷ []))) }
+        ensures least { IfOk result (IsLeastChainCost (period_count top.now)
+            (levels_of (low.now ∷ mid.now ∷ top.now ∷ []))) }
+        ensures too_dear { (result ≡ Err TooDear) ↔
+            (most ≤ opening_cost (period_count top.now)
+            (levels_of (low.now ∷ mid.now ∷ top.now ∷ []))) }
     {
         let parts = opening_cost(low).saturating_add(opening_cost(mid));
         if parts.saturating_add(opening_cost(top)) == u128::MAX {

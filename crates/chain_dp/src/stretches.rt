@@ -42,7 +42,8 @@ fn stretch_entry(row: &[u128], level: &LevelLists, first: usize, to: usize) -> u
     requires level { HaveWidth (length level.now.asked.items) level.now }
     requires to { to < length level.now.asked.items }
     ensures none { to ≤ first → result ≡ 0 }
-    ensures next { first < to → IsLeastOf first to (λ w. step_cost row.now level.now to w + at level.now.setup_cost.items to) result }
+    ensures next { first < to → IsLeastOf first to
+        (λ w. step_cost row.now level.now to w + at level.now.setup_cost.items to) result }
 {
     if to <= first {
         return 0;

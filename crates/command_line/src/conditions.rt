@@ -45,7 +45,8 @@ pub(crate) fn are_five_names(
     next_plan: &str,
     certificate: &str,
 ) -> bool
-    ensures { result ≡ are_five_names model.now plan.now next_model.now next_plan.now certificate.now }
+    ensures { result ≡ are_five_names model.now plan.now next_model.now next_plan.now
+        certificate.now }
 {
     are_file_names(model, plan, next_model)
         && are_file_names(model, next_plan, certificate)
@@ -62,7 +63,8 @@ pub(crate) fn are_two_names(model: &str, other: &str) -> bool
 
 // The number that a text is, if it is one from the least to the most.
 pub(crate) fn read_number(text: &str, least: u64, most: u64) -> Option<u64>
-    ensures some { IfSome result (λ n. (is_number least most text.now ≡ true) × (n ≡ digits_value 10 text.now)) }
+    ensures some { IfSome result (λ n. (is_number least most text.now ≡ true)
+        × (n ≡ digits_value 10 text.now)) }
     ensures most { IfSome result (λ n. n ≤ most) }
     ensures none { IsNone result → is_number least most text.now ≡ false }
 {
@@ -74,7 +76,8 @@ pub(crate) fn read_number(text: &str, least: u64, most: u64) -> Option<u64>
 
 // Whether a file to start from, if there is one, is neither the model file nor the certificate file.
 pub(crate) fn is_start_name(model: &str, certificate: &str, start: Option<&str>) -> bool
-    ensures { result ≡ is_start_name model.now certificate.now (option_map (λ s. s.now) start.entry) }
+    ensures { result ≡ is_start_name model.now certificate.now
+        (option_map (λ s. s.now) start.entry) }
 {
     match start {
         Some(start) => are_file_names(model, start, certificate),
@@ -84,7 +87,8 @@ pub(crate) fn is_start_name(model: &str, certificate: &str, start: Option<&str>)
 
 // The hundredths that one digit or two are behind a point.
 fn read_decimals(text: &[u8]) -> Option<u32>
-    ensures some { IfSome result (λ n. (are_decimals text.now ≡ true) × (n ≡ decimals_value text.now)) }
+    ensures some { IfSome result (λ n. (are_decimals text.now ≡ true)
+        × (n ≡ decimals_value text.now)) }
     ensures most { IfSome result (λ n. n ≤ 99) }
     ensures none { IsNone result → are_decimals text.now ≡ false }
 {
@@ -99,8 +103,11 @@ fn read_decimals(text: &[u8]) -> Option<u32>
 
 // The hundredths of a percent that a whole number and what stands behind its point give.
 fn read_parts(whole: &str, decimals: &str) -> Option<u32>
-    ensures some { IfSome result (λ n. (is_number 0 100 whole.now ≡ true) × (are_decimals decimals.now ≡ true) × (n ≡ 100 * digits_value 10 whole.now + decimals_value decimals.now)) }
-    ensures none { IsNone result → (is_number 0 100 whole.now && are_decimals decimals.now) ≡ false }
+    ensures some { IfSome result (λ n. (is_number 0 100 whole.now ≡ true)
+        × (are_decimals decimals.now ≡ true)
+        × (n ≡ 100 * digits_value 10 whole.now + decimals_value decimals.now)) }
+    ensures none { IsNone result → (is_number 0 100 whole.now && are_decimals decimals.now)
+        ≡ false }
 {
     let percents = read_number(whole, 0, 100)? as u32;
     let rest = read_decimals(decimals.as_bytes())?;
@@ -109,7 +116,8 @@ fn read_parts(whole: &str, decimals: &str) -> Option<u32>
 
 // The hundredths of a percent that a text with a point or without gives.
 fn read_hundredths(text: &str) -> Option<u32>
-    ensures some { IfSome result (λ n. (is_percentage text.now ≡ true) × (n ≡ hundredths text.now)) }
+    ensures some { IfSome result (λ n. (is_percentage text.now ≡ true)
+        × (n ≡ hundredths text.now)) }
     ensures none { IsNone result → is_percentage text.now ≡ false }
 {
     match text.split_once('.') {

@@ -56,7 +56,8 @@ fn optional<'a>(alloc: Global, given: Choice) -> Arg<'a>
 // The command of a row, without its options.
 #[tactic(auto, using(crate::proofs::Rows::argument_more))]
 fn placed<'a>(alloc: Global, row: Row) -> Result<Command<'a>, AllocError>
-    ensures shape { IfOk result (λ c. app_of c ≡ placed row.name.now (map (λ a. a.id.now) row.arguments.now)) }
+    ensures shape { IfOk result (λ c. app_of c
+        ≡ placed row.name.now (map (λ a. a.id.now) row.arguments.now)) }
     ensures local { IfOk result (λ c. (out-Command c).has_globals ≡ false) }
 {
     let mut command = Command::new(alloc, row.name)
@@ -71,7 +72,9 @@ fn placed<'a>(alloc: Global, row: Row) -> Result<Command<'a>, AllocError>
 // The command of a row.
 #[tactic(auto, using(crate::proofs::Rows::option_more))]
 fn command<'a>(alloc: Global, row: Row) -> Result<Command<'a>, AllocError>
-    ensures shape { IfOk result (λ c. app_of c ≡ subcommand row.name.now (map (λ a. a.id.now) row.arguments.now) (map choice_of row.options.now)) }
+    ensures shape { IfOk result (λ c. app_of c
+        ≡ subcommand row.name.now (map (λ a. a.id.now) row.arguments.now)
+        (map choice_of row.options.now)) }
     ensures local { IfOk result (λ c. (out-Command c).has_globals ≡ false) }
 {
     let mut command = placed(alloc, row)?;

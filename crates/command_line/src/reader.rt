@@ -44,7 +44,8 @@ pub fn read_words<'a>(alloc: Global, words: &'a [String]) -> Result<Reading<'a>,
 ///
 /// `Err` comes where memory runs out.
 pub fn seconds_asked(alloc: Global, words: &[String]) -> Result<Option<u32>, AllocError>
-    ensures { IfOk result (λ seconds. seconds ≡ seconds_of (command_of (map string_bytes words.now))) }
+    ensures { IfOk result (λ seconds. seconds
+        ≡ seconds_of (command_of (map string_bytes words.now))) }
 {
     match read_words(alloc, words)? {
         Reading::Command(Command::Plan { search, .. }) => Ok(search.seconds),

@@ -76,7 +76,10 @@ pub(crate) struct PlanTexts<'a> {
 
 // How a plan is searched, where the numbers are in order.
 fn search_of<'a>(given: PlanTexts<'a>) -> Option<Search<'a>>
-    ensures { option_map search_by result ≡ search_from (option_map (λ s. s.now) given.entry.nodes) (option_map (λ s. s.now) given.entry.start) (option_map (λ s. s.now) given.entry.gap) (option_map (λ s. s.now) given.entry.seconds) }
+    ensures { option_map search_by result
+        ≡ search_from (option_map (λ s. s.now) given.entry.nodes)
+        (option_map (λ s. s.now) given.entry.start) (option_map (λ s. s.now) given.entry.gap)
+        (option_map (λ s. s.now) given.entry.seconds) }
 {
     let budget = budget_of(given.nodes)?;
     let gap = gap_of(given.gap)?;
@@ -91,7 +94,9 @@ fn search_of<'a>(given: PlanTexts<'a>) -> Option<Search<'a>>
 
 // A plan, where its names are in order.
 fn planned<'a>(names: Names<'a>, search: Option<Search<'a>>) -> Option<Command<'a>>
-    ensures { option_map request_by result ≡ planned names.entry.model.now names.entry.plan.now names.entry.certificate.now (option_map search_by search.entry) }
+    ensures { option_map request_by result
+        ≡ planned names.entry.model.now names.entry.plan.now names.entry.certificate.now
+        (option_map search_by search.entry) }
 {
     let search = search?;
     if !is_start_name(names.model, names.certificate, search.start)
@@ -103,8 +108,12 @@ fn planned<'a>(names: Names<'a>, search: Option<Search<'a>>) -> Option<Command<'
 }
 
 pub(crate) fn plan<'a>(given: PlanTexts<'a>) -> Option<Command<'a>>
-    ensures { option_map request_by result ≡ planning_from (option_map (λ s. s.now) given.entry.model) (option_map (λ s. s.now) given.entry.plan) (option_map (λ s. s.now) given.entry.certificate)
-        (search_from (option_map (λ s. s.now) given.entry.nodes) (option_map (λ s. s.now) given.entry.start) (option_map (λ s. s.now) given.entry.gap) (option_map (λ s. s.now) given.entry.seconds)) }
+    ensures { option_map request_by result
+        ≡ planning_from (option_map (λ s. s.now) given.entry.model)
+        (option_map (λ s. s.now) given.entry.plan) (option_map (λ s. s.now) given.entry.certificate)
+        (search_from (option_map (λ s. s.now) given.entry.nodes)
+        (option_map (λ s. s.now) given.entry.start) (option_map (λ s. s.now) given.entry.gap)
+        (option_map (λ s. s.now) given.entry.seconds)) }
 {
     let (Some(model), Some(plan), Some(certificate)) = (given.model, given.plan, given.certificate)
     else {
@@ -119,7 +128,8 @@ pub(crate) fn plan<'a>(given: PlanTexts<'a>) -> Option<Command<'a>>
 }
 
 pub(crate) fn judge<'a>(model: Option<&'a str>, plan: Option<&'a str>) -> Option<Command<'a>>
-    ensures { option_map request_by result ≡ judging_from (option_map (λ s. s.now) model.entry) (option_map (λ s. s.now) plan.entry) }
+    ensures { option_map request_by result
+        ≡ judging_from (option_map (λ s. s.now) model.entry) (option_map (λ s. s.now) plan.entry) }
 {
     match (model, plan) {
         (Some(model), Some(plan)) if are_two_names(model, plan) => Some(Command::Judge(TwoNames {
@@ -135,7 +145,9 @@ pub(crate) fn check<'a>(
     plan: Option<&'a str>,
     certificate: Option<&'a str>,
 ) -> Option<Command<'a>>
-    ensures { option_map request_by result ≡ checking_from (option_map (λ s. s.now) model.entry) (option_map (λ s. s.now) plan.entry) (option_map (λ s. s.now) certificate.entry) }
+    ensures { option_map request_by result
+        ≡ checking_from (option_map (λ s. s.now) model.entry) (option_map (λ s. s.now) plan.entry)
+        (option_map (λ s. s.now) certificate.entry) }
 {
     match (model, plan, certificate) {
         (Some(model), Some(plan), Some(certificate)) if are_file_names(model, plan, certificate) =>
@@ -162,7 +174,8 @@ fn is_set(flag: Option<&str>) -> bool
 
 // What a report tells, by its two options, of which one is there at most.
 fn form_of(full: Option<&str>, table: Option<&str>) -> Option<ReportForm>
-    ensures { result ≡ form_from (option_map (λ s. s.now) full.entry) (option_map (λ s. s.now) table.entry) }
+    ensures { result ≡ form_from (option_map (λ s. s.now) full.entry)
+        (option_map (λ s. s.now) table.entry) }
 {
     if is_set(full) {
         if is_set(table) {
@@ -183,7 +196,9 @@ pub(crate) fn report<'a>(
     full: Option<&'a str>,
     table: Option<&'a str>,
 ) -> Option<Command<'a>>
-    ensures { option_map request_by result ≡ reporting_from (option_map (λ s. s.now) model.entry) (option_map (λ s. s.now) plan.entry) (option_map (λ s. s.now) full.entry) (option_map (λ s. s.now) table.entry) }
+    ensures { option_map request_by result
+        ≡ reporting_from (option_map (λ s. s.now) model.entry) (option_map (λ s. s.now) plan.entry)
+        (option_map (λ s. s.now) full.entry) (option_map (λ s. s.now) table.entry) }
 {
     let (Some(model), Some(plan)) = (model, plan) else {
         return None;
@@ -199,7 +214,8 @@ pub(crate) fn report<'a>(
 
 // A model to be drawn, by the texts of its numbers.
 fn generated<'a>(seed: &str, items: &str, periods: &str, model: &'a str) -> Option<Command<'a>>
-    ensures { option_map request_by result ≡ generated seed.now items.now periods.now model.entry.now }
+    ensures { option_map request_by result
+        ≡ generated seed.now items.now periods.now model.entry.now }
 {
     if !is_file_name(model) {
         return None;
@@ -221,7 +237,9 @@ pub(crate) fn generate<'a>(
     periods: Option<&'a str>,
     model: Option<&'a str>,
 ) -> Option<Command<'a>>
-    ensures { option_map request_by result ≡ generating_from (option_map (λ s. s.now) seed.entry) (option_map (λ s. s.now) items.entry) (option_map (λ s. s.now) periods.entry) (option_map (λ s. s.now) model.entry) }
+    ensures { option_map request_by result
+        ≡ generating_from (option_map (λ s. s.now) seed.entry) (option_map (λ s. s.now) items.entry)
+        (option_map (λ s. s.now) periods.entry) (option_map (λ s. s.now) model.entry) }
 {
     match (seed, items, periods, model) {
         (Some(seed), Some(items), Some(periods), Some(model)) => {
@@ -232,7 +250,8 @@ pub(crate) fn generate<'a>(
 }
 
 pub(crate) fn demo<'a>(seed: Option<&'a str>) -> Option<Command<'a>>
-    ensures { option_map request_by result ≡ demonstrating_from (option_map (λ s. s.now) seed.entry) }
+    ensures { option_map request_by result
+        ≡ demonstrating_from (option_map (λ s. s.now) seed.entry) }
 {
     match read_number(seed?, 0, u64::MAX) {
         Some(seed) => Some(Command::Demo(seed)),
@@ -241,7 +260,9 @@ pub(crate) fn demo<'a>(seed: Option<&'a str>) -> Option<Command<'a>>
 }
 
 pub(crate) fn upgrade<'a>(model: Option<&'a str>, upgraded: Option<&'a str>) -> Option<Command<'a>>
-    ensures { option_map request_by result ≡ upgrading_from (option_map (λ s. s.now) model.entry) (option_map (λ s. s.now) upgraded.entry) }
+    ensures { option_map request_by result
+        ≡ upgrading_from (option_map (λ s. s.now) model.entry)
+        (option_map (λ s. s.now) upgraded.entry) }
 {
     match (model, upgraded) {
         (Some(model), Some(upgraded)) if are_two_names(model, upgraded) => {
@@ -265,7 +286,9 @@ pub(crate) fn schedule<'a>(
     plan: Option<&'a str>,
     schedule: Option<&'a str>,
 ) -> Option<Command<'a>>
-    ensures { option_map request_by result ≡ scheduling_from (option_map (λ s. s.now) model.entry) (option_map (λ s. s.now) plan.entry) (option_map (λ s. s.now) schedule.entry) }
+    ensures { option_map request_by result
+        ≡ scheduling_from (option_map (λ s. s.now) model.entry) (option_map (λ s. s.now) plan.entry)
+        (option_map (λ s. s.now) schedule.entry) }
 {
     match (model, plan, schedule) {
         (Some(model), Some(plan), Some(schedule)) if are_file_names(model, plan, schedule) => {
@@ -284,7 +307,9 @@ pub(crate) fn check_schedule<'a>(
     plan: Option<&'a str>,
     schedule: Option<&'a str>,
 ) -> Option<Command<'a>>
-    ensures { option_map request_by result ≡ schedule_checking_from (option_map (λ s. s.now) model.entry) (option_map (λ s. s.now) plan.entry) (option_map (λ s. s.now) schedule.entry) }
+    ensures { option_map request_by result
+        ≡ schedule_checking_from (option_map (λ s. s.now) model.entry)
+        (option_map (λ s. s.now) plan.entry) (option_map (λ s. s.now) schedule.entry) }
 {
     match (model, plan, schedule) {
         (Some(model), Some(plan), Some(schedule)) if are_file_names(model, plan, schedule) => {
@@ -303,7 +328,9 @@ pub(crate) fn peg<'a>(
     plan: Option<&'a str>,
     pegs: Option<&'a str>,
 ) -> Option<Command<'a>>
-    ensures { option_map request_by result ≡ pegging_from (option_map (λ s. s.now) model.entry) (option_map (λ s. s.now) plan.entry) (option_map (λ s. s.now) pegs.entry) }
+    ensures { option_map request_by result
+        ≡ pegging_from (option_map (λ s. s.now) model.entry) (option_map (λ s. s.now) plan.entry)
+        (option_map (λ s. s.now) pegs.entry) }
 {
     match (model, plan, pegs) {
         (Some(model), Some(plan), Some(pegs)) if are_file_names(model, plan, pegs) => {
@@ -318,7 +345,9 @@ pub(crate) fn complete<'a>(
     quantities: Option<&'a str>,
     completed: Option<&'a str>,
 ) -> Option<Command<'a>>
-    ensures { option_map request_by result ≡ completing_from (option_map (λ s. s.now) model.entry) (option_map (λ s. s.now) quantities.entry) (option_map (λ s. s.now) completed.entry) }
+    ensures { option_map request_by result
+        ≡ completing_from (option_map (λ s. s.now) model.entry)
+        (option_map (λ s. s.now) quantities.entry) (option_map (λ s. s.now) completed.entry) }
 {
     match (model, quantities, completed) {
         (Some(model), Some(quantities), Some(completed))
@@ -339,7 +368,9 @@ pub(crate) fn draw<'a>(
     page: Option<&'a str>,
     certificate: Option<&'a str>,
 ) -> Option<Command<'a>>
-    ensures { option_map request_by result ≡ drawing_from (option_map (λ s. s.now) model.entry) (option_map (λ s. s.now) plan.entry) (option_map (λ s. s.now) page.entry) (option_map (λ s. s.now) certificate.entry) }
+    ensures { option_map request_by result
+        ≡ drawing_from (option_map (λ s. s.now) model.entry) (option_map (λ s. s.now) plan.entry)
+        (option_map (λ s. s.now) page.entry) (option_map (λ s. s.now) certificate.entry) }
 {
     let (Some(model), Some(plan), Some(page)) = (model, plan, page) else {
         return None;
@@ -357,7 +388,9 @@ pub(crate) fn draw<'a>(
 
 // A plan that goes on, by the text of its periods and its nodes.
 fn replanned<'a>(names: ReplanNames<'a>, periods: &str, nodes: Option<u64>) -> Option<Command<'a>>
-    ensures { option_map request_by result ≡ replanned names.entry.model.now names.entry.plan.now periods.now names.entry.next_model.now names.entry.next_plan.now names.entry.certificate.now nodes }
+    ensures { option_map request_by result
+        ≡ replanned names.entry.model.now names.entry.plan.now periods.now
+        names.entry.next_model.now names.entry.next_plan.now names.entry.certificate.now nodes }
 {
     let budget = nodes?;
     if !are_five_names(
@@ -390,8 +423,13 @@ pub(crate) struct ReplanTexts<'a> {
 }
 
 pub(crate) fn replan<'a>(given: ReplanTexts<'a>) -> Option<Command<'a>>
-    ensures { option_map request_by result ≡ replanning_from (option_map (λ s. s.now) given.entry.model) (option_map (λ s. s.now) given.entry.plan) (option_map (λ s. s.now) given.entry.periods)
-        (option_map (λ s. s.now) given.entry.next_model) (option_map (λ s. s.now) given.entry.next_plan) (option_map (λ s. s.now) given.entry.certificate) (option_map (λ s. s.now) given.entry.nodes) }
+    ensures { option_map request_by result
+        ≡ replanning_from (option_map (λ s. s.now) given.entry.model)
+        (option_map (λ s. s.now) given.entry.plan) (option_map (λ s. s.now) given.entry.periods)
+        (option_map (λ s. s.now) given.entry.next_model)
+        (option_map (λ s. s.now) given.entry.next_plan)
+        (option_map (λ s. s.now) given.entry.certificate)
+        (option_map (λ s. s.now) given.entry.nodes) }
 {
     let (Some(model), Some(plan), Some(periods)) = (given.model, given.plan, given.periods) else {
         return None;

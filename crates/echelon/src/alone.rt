@@ -14,7 +14,8 @@ use std::alloc::{AllocError, Global};
 fn owing_costs(alloc: Global, instance: &Instance, item: u32) -> Result<Vec<u64>, AllocError>
     requires low { 1 ≤ item }
     requires high { item ≤ item_count instance.now }
-    ensures { IfOk result (λ found. IfSome (item_at instance.now item).backlog_cost (λ costs. found.items ≡ costs)) }
+    ensures { IfOk result (λ found.
+        IfSome (item_at instance.now item).backlog_cost (λ costs. found.items ≡ costs)) }
 {
     let mut list = Vec::new(alloc);
     for period in 1..instance.periods() + 1 {
@@ -31,7 +32,8 @@ fn backlog_costs(
 ) -> Result<Option<Vec<u64>>, AllocError>
     requires low { 1 ≤ item }
     requires high { item ≤ item_count instance.now }
-    ensures { IfOk result (λ found. option_map (λ v. v.items) found ≡ (item_at instance.now item).backlog_cost) }
+    ensures { IfOk result (λ found. option_map (λ v. v.items) found
+        ≡ (item_at instance.now item).backlog_cost) }
 {
     if !instance.has_backlog_cost(item) {
         return Ok(None);

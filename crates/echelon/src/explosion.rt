@@ -45,7 +45,9 @@ fn row_of(alloc: Global, instance: &Instance, item: u32) -> Result<Vec<u64>, All
 fn order_rank(order: &mut Vec<u32>, ranks: &[u32], rank: u32) -> Result<(), AllocError>
     requires before { IsOrderedTo (entry ranks.now) (length ranks.now) rank 1 order.now.items }
     requires count { length ranks.now ≤ MAX_ITEMS }
-    ensures { IfOk result (λ _. IsOrderedTo (entry ranks.now) (length ranks.now) rank (length ranks.now + 1) order.new.items) }
+    ensures { IfOk result (λ _.
+        IsOrderedTo (entry ranks.now) (length ranks.now) rank (length ranks.now + 1)
+        order.new.items) }
 {
     for item in 1..ranks.len() as u32 + 1 {
         if ranks[(item - 1) as usize] == rank {
@@ -58,7 +60,8 @@ fn order_rank(order: &mut Vec<u32>, ranks: &[u32], rank: u32) -> Result<(), Allo
 // The items by rank, and by number where ranks are equal.
 fn order_of(alloc: Global, ranks: &[u32]) -> Result<Vec<u32>, AllocError>
     requires count { length ranks.now ≤ MAX_ITEMS }
-    ensures { IfOk result (λ order. IsOrderedTo (entry ranks.now) (length ranks.now) (length ranks.now + 1) 1 order.items) }
+    ensures { IfOk result (λ order.
+        IsOrderedTo (entry ranks.now) (length ranks.now) (length ranks.now + 1) 1 order.items) }
 {
     let mut order = Vec::with_capacity(alloc, ranks.len())?;
     for rank in 0..ranks.len() as u32 + 1 {

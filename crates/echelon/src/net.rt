@@ -44,7 +44,8 @@ pub const MAX_ASKED: u128 = 10_000_000_000_000_000_000_000_000;
 
 // Whether all demands, the opening stock and the required end stock add to at most the most.
 fn is_small_in_all(echelon: &EchelonItem) -> bool
-    ensures { IsTrue result ↔ (sum_to (length echelon.now.demand.items) (entry echelon.now.demand.items) + echelon.now.opening + echelon.now.end_min ≤ MAX_ASKED) }
+    ensures { IsTrue result ↔ (sum_to (length echelon.now.demand.items)
+        (entry echelon.now.demand.items) + echelon.now.opening + echelon.now.end_min ≤ MAX_ASKED) }
 {
     if echelon.opening > MAX_ASKED || echelon.end_min > MAX_ASKED - echelon.opening {
         return false;
@@ -76,7 +77,8 @@ fn has_marked(weights: &[u64], marks: &[bool]) -> bool
 // Whether the echelon says that it may be owed exactly where an item that counts has a backlog mark.
 fn marks_agree(echelon: &EchelonItem) -> bool
     requires { length echelon.now.backs.items ≡ length echelon.now.weights.items }
-    ensures { IsTrue result ↔ (IsTrue echelon.now.backlogged ↔ HasMarked echelon.now.weights.items echelon.now.backs.items) }
+    ensures { IsTrue result ↔ (IsTrue echelon.now.backlogged ↔ HasMarked echelon.now.weights.items
+        echelon.now.backs.items) }
 {
     let marked = has_marked(&echelon.weights, &echelon.backs);
     echelon.backlogged == marked
@@ -117,8 +119,12 @@ pub(crate) fn net_of_demand(
     end_min: u128,
 ) -> Result<Net, AllocError>
     requires { sum_to (length demands.now) (entry demands.now) + opening + end_min ≤ MAX_ASKED }
-    ensures net { IfOk result (λ found. HasEach (length demands.now) (net_in (asked_in demands.now opening end_min)) found.net.items) }
-    ensures left { IfOk result (λ found. HasEach (length demands.now) (left_after (asked_in demands.now opening end_min)) found.left.items) }
+    ensures net { IfOk result (λ found.
+        HasEach (length demands.now) (net_in (asked_in demands.now opening end_min))
+        found.net.items) }
+    ensures left { IfOk result (λ found.
+        HasEach (length demands.now) (left_after (asked_in demands.now opening end_min))
+        found.left.items) }
 {
     let periods = demands.len();
     let mut net = Vec::with_capacity(alloc, periods)?;
@@ -140,8 +146,12 @@ pub(crate) fn net_of_demand(
 /// The net demands of an echelon, and what is left of its opening stock. The error is that memory ran out.
 pub fn net_of(alloc: Global, echelon: &EchelonItem) -> Result<Net, AllocError>
     requires within { IsEchelonWithinBounds echelon.now }
-    ensures net { IfOk result (λ found. HasEach (length echelon.now.demand.items) (net_in (asked_of_echelon echelon.now)) found.net.items) }
-    ensures left { IfOk result (λ found. HasEach (length echelon.now.demand.items) (left_after (asked_of_echelon echelon.now)) found.left.items) }
+    ensures net { IfOk result (λ found.
+        HasEach (length echelon.now.demand.items) (net_in (asked_of_echelon echelon.now))
+        found.net.items) }
+    ensures left { IfOk result (λ found.
+        HasEach (length echelon.now.demand.items) (left_after (asked_of_echelon echelon.now))
+        found.left.items) }
 {
     net_of_demand(alloc, &echelon.demand, echelon.opening, echelon.end_min)
 }

@@ -57,7 +57,8 @@ fn is_optional_series(list: &Option<Vec<u64>>, periods: usize) -> bool
 
 // Whether the net demands add to at most `MAX_TOTAL`.
 fn is_small_in_all(single: &SingleItem) -> bool
-    ensures { IsTrue result ↔ (sum_to (period_count (single_of_item single.now)) (net_demand (single_of_item single.now)) ≤ MAX_TOTAL) }
+    ensures { IsTrue result ↔ (sum_to (period_count (single_of_item single.now))
+        (net_demand (single_of_item single.now)) ≤ MAX_TOTAL) }
 {
     let mut sum = 0u128;
     for period in 0..single.net.len() {
@@ -84,7 +85,8 @@ pub fn is_within_bounds(single: &SingleItem) -> bool
 /// The positions: the periods with a net demand, in order. The error is that memory ran out.
 pub fn positions(alloc: Global, single: &SingleItem) -> Result<Vec<u32>, AllocError>
     requires within { IsWithinBounds (single_of_item single.now) }
-    ensures positions { IfOk result (λ periods. periods.items ≡ positions (single_of_item single.now)) }
+    ensures positions { IfOk result (λ periods. periods.items
+        ≡ positions (single_of_item single.now)) }
 {
     let mut periods = Vec::new(alloc);
     for period in 1..single.net.len() as u32 + 1 {

@@ -70,7 +70,9 @@ fn demands_of(
     requires explosion { IsExplosionOf instance.now explosion.now }
     requires low { 1 ≤ item }
     requires high { item ≤ item_count instance.now }
-    ensures { IfOk result (λ found. HasEach instance.now.periods (echelon_demand instance.now (weight_in explosion.now) item) found.items) }
+    ensures { IfOk result (λ found.
+        HasEach instance.now.periods (echelon_demand instance.now (weight_in explosion.now) item)
+        found.items) }
 {
     let mut list = Vec::with_capacity(alloc, instance.periods() as usize)?;
     for period in 1..instance.periods() + 1 {
@@ -89,7 +91,8 @@ fn weights_of(
     requires explosion { IsExplosionOf instance.now explosion.now }
     requires low { 1 ≤ item }
     requires high { item ≤ item_count instance.now }
-    ensures { IfOk result (λ found. HasEach (item_count instance.now) (weight_in explosion.now item) found.items) }
+    ensures { IfOk result (λ found.
+        HasEach (item_count instance.now) (weight_in explosion.now item) found.items) }
 {
     let mut list = Vec::with_capacity(alloc, instance.items() as usize)?;
     for other in 1..instance.items() + 1 {
@@ -160,8 +163,10 @@ pub fn echelon_of(
     ensures echelon { IfOk result (IsEchelonOf instance.now (weight_in explosion.now) item) }
     ensures asks { IfOk result (AsksAs instance.now (weight_in explosion.now) item) }
     ensures within { IfOk result IsEchelonWithinBounds }
-    ensures balances { IfOk result (λ e. (p : Plan) → IsFeasible instance.now p → IsBalancedIn instance.now p e) }
-    ensures net { IfOk result (λ e. (total : ℕ → ℕ) → AreLargestTotals instance.now total → net_of_all e ≤ total item) }
+    ensures balances { IfOk result (λ e. (p : Plan) → IsFeasible instance.now p
+        → IsBalancedIn instance.now p e) }
+    ensures net { IfOk result (λ e. (total : ℕ → ℕ) → AreLargestTotals instance.now total
+        → net_of_all e ≤ total item) }
     ensures net_small { IfOk result (λ e. net_of_all e ≤ MAX_TOTAL) }
 {
     Ok(EchelonItem {

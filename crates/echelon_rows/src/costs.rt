@@ -72,7 +72,8 @@ pub fn cost_terms_of(
     requires within { IsEchelonWithinBounds echelon.now }
     requires setup { IsSeries (length echelon.now.demand.items) MAX_STEP setup.now }
     requires prices { ArePriced (length echelon.now.demand.items) unit.now hold.now back.now }
-    ensures { IfOk result (λ terms. AreCostTerms (echelon_in echelon.now) setup.now unit.now hold.now back.now terms.items) }
+    ensures { IfOk result (λ terms.
+        AreCostTerms (echelon_in echelon.now) setup.now unit.now hold.now back.now terms.items) }
 {
     let mut terms = Vec::new(alloc);
     let periods = echelon.demand.len();

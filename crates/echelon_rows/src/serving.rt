@@ -29,7 +29,8 @@ fn first_price(unit: &[u64], hold: &[u64], back: &[u64], backlogged: bool, serve
     requires periods { length unit.now ≤ MAX_PERIODS }
     requires low { 1 ≤ server }
     requires high { server ≤ length unit.now }
-    ensures { result ≡ unit_price (single_with [] [] unit.now hold.now back.now backlogged) server 1 }
+    ensures { result ≡ unit_price (single_with [] [] unit.now hold.now back.now backlogged) server
+        1 }
 {
     let mut price = unit[server as usize - 1];
     for period in 1..server {
@@ -68,7 +69,8 @@ pub fn serving_prices(
     requires periods { length unit.now ≤ MAX_PERIODS }
     requires low { 1 ≤ server }
     requires high { server ≤ length unit.now }
-    ensures each { IfOk result (λ found. AreServingPrices unit.now hold.now back.now backlogged server found.items) }
+    ensures each { IfOk result (λ found.
+        AreServingPrices unit.now hold.now back.now backlogged server found.items) }
     ensures small { IfOk result (λ found. AllAtMost (MAX_PERIODS * MAX_PRICE) found.items) }
 {
     let mut list = Vec::with_capacity(alloc, unit.len())?;

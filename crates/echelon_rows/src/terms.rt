@@ -13,7 +13,8 @@ use std::alloc::AllocError;
 // A term is put after the others, where it isn't 0 times its column.
 fn push_term(terms: &mut Vec<Term>, column: Column, times: u128) -> Result<(), AllocError>
     requires { times ≤ MAX_STEP }
-    ensures { IfOk result (λ _. PutTerms terms.old.items (term column (pos times) ∷ []) terms.new.items) }
+    ensures { IfOk result (λ _.
+        PutTerms terms.old.items (term column (pos times) ∷ []) terms.new.items) }
 {
     if times != 0 {
         terms.push(Term {
@@ -28,7 +29,8 @@ fn push_term(terms: &mut Vec<Term>, column: Column, times: u128) -> Result<(), A
 /// error is that memory ran out.
 pub fn push_units(terms: &mut Vec<Term>, item: u32, times: &[u64]) -> Result<(), AllocError>
     requires periods { length times.now ≤ MAX_PERIODS }
-    ensures { IfOk result (λ _. PutTerms terms.old.items (units_by item times.now) terms.new.items) }
+    ensures { IfOk result (λ _.
+        PutTerms terms.old.items (units_by item times.now) terms.new.items) }
 {
     for period in 1..times.len() as u32 + 1 {
         let units = times[period as usize - 1] as u128;
@@ -42,7 +44,8 @@ pub fn push_units(terms: &mut Vec<Term>, item: u32, times: &[u64]) -> Result<(),
 pub fn push_setups(terms: &mut Vec<Term>, item: u32, times: &[u128]) -> Result<(), AllocError>
     requires periods { length times.now ≤ MAX_PERIODS }
     requires small { AllAtMost MAX_STEP times.now }
-    ensures { IfOk result (λ _. PutTerms terms.old.items (setups_by item times.now) terms.new.items) }
+    ensures { IfOk result (λ _.
+        PutTerms terms.old.items (setups_by item times.now) terms.new.items) }
 {
     for period in 1..times.len() as u32 + 1 {
         let setups = times[period as usize - 1];
@@ -61,7 +64,8 @@ fn push_item_stocks(
     requires weight { weight ≤ MAX_TOTAL }
     requires periods { length times.now ≤ MAX_PERIODS }
     requires small { AllAtMost MAX_PRICE times.now }
-    ensures { IfOk result (λ _. PutTerms terms.old.items (stocks_of item weight times.now) terms.new.items) }
+    ensures { IfOk result (λ _.
+        PutTerms terms.old.items (stocks_of item weight times.now) terms.new.items) }
 {
     for period in 1..times.len() as u32 + 1 {
         let stocks = times[period as usize - 1] as u128 * weight as u128;
@@ -94,7 +98,8 @@ fn push_item_backlogs(
     requires weight { weight ≤ MAX_TOTAL }
     requires periods { length times.now ≤ MAX_PERIODS }
     requires small { AllAtMost MAX_PRICE times.now }
-    ensures { IfOk result (λ _. PutTerms terms.old.items (backlogs_of item weight back periods times.now) terms.new.items) }
+    ensures { IfOk result (λ _.
+        PutTerms terms.old.items (backlogs_of item weight back periods times.now) terms.new.items) }
 {
     for period in 1..times.len() as u32 + 1 {
         let owed = owed_times(periods, back, weight, period as usize);
@@ -111,7 +116,8 @@ pub fn push_stocks(terms: &mut Vec<Term>, weights: &[u64], times: &[u64]) -> Res
     requires items { length weights.now ≤ MAX_ITEMS }
     requires periods { length times.now ≤ MAX_PERIODS }
     requires small { AllAtMost MAX_PRICE times.now }
-    ensures { IfOk result (λ _. PutTerms terms.old.items (stocks_by weights.now times.now) terms.new.items) }
+    ensures { IfOk result (λ _.
+        PutTerms terms.old.items (stocks_by weights.now times.now) terms.new.items) }
 {
     for item in 1..weights.len() as u32 + 1 {
         push_item_stocks(terms, item, weights[item as usize - 1], times)?;
@@ -136,7 +142,9 @@ pub fn push_backlogs(
     requires items { length weights.now ≤ MAX_ITEMS }
     requires periods { length times.now ≤ MAX_PERIODS }
     requires small { AllAtMost MAX_PRICE times.now }
-    ensures { IfOk result (λ _. PutTerms terms.old.items (backlogs_by weights.now backs.now periods times.now) terms.new.items) }
+    ensures { IfOk result (λ _.
+        PutTerms terms.old.items (backlogs_by weights.now backs.now periods times.now)
+        terms.new.items) }
 {
     for item in 1..weights.len() as u32 + 1 {
         let place = item as usize - 1;

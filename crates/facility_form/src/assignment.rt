@@ -25,7 +25,8 @@ impl Model for Assignment {
 // The sums of the first quantities, that of none first.
 fn sums_made(alloc: Global, make: &[u64]) -> Result<Vec<u128>, AllocError>
     ensures size { IfOk result (λ sums. length sums.items ≡ length make.now + 1) }
-    ensures each { IfOk result (λ sums. (t : ℕ) → t ≤ length make.now → slice_index_or sums.items t 0 ≡ sum_to t (entry make.now)) }
+    ensures each { IfOk result (λ sums. (t : ℕ) → t ≤ length make.now
+        → slice_index_or sums.items t 0 ≡ sum_to t (entry make.now)) }
 {
     let mut sums = Vec::with_capacity(alloc, make.len() + 1)?;
     let mut sum = 0u128;
@@ -41,7 +42,8 @@ fn sums_made(alloc: Global, make: &[u64]) -> Result<Vec<u128>, AllocError>
 fn sums_asked(alloc: Global, net: &[u128]) -> Result<Vec<u128>, AllocError>
     requires small { sum_to (length net.now) (entry net.now) < 2 ^ 128 }
     ensures size { IfOk result (λ sums. length sums.items ≡ length net.now + 1) }
-    ensures each { IfOk result (λ sums. (t : ℕ) → t ≤ length net.now → slice_index_or sums.items t 0 ≡ sum_to t (entry net.now)) }
+    ensures each { IfOk result (λ sums. (t : ℕ) → t ≤ length net.now
+        → slice_index_or sums.items t 0 ≡ sum_to t (entry net.now)) }
 {
     let mut sums = Vec::with_capacity(alloc, net.len() + 1)?;
     let mut sum = 0u128;
@@ -60,7 +62,8 @@ fn sums_asked(alloc: Global, net: &[u128]) -> Result<Vec<u128>, AllocError>
 /// most what it makes. The error is that memory ran out.
 pub fn assign(alloc: Global, make: &[u64], net: &[u128]) -> Result<Assignment, AllocError>
     requires periods { length make.now ≡ length net.now }
-    requires enough { sum_to (length net.now) (entry net.now) ≤ sum_to (length make.now) (entry make.now) }
+    requires enough { sum_to (length net.now) (entry net.now)
+        ≤ sum_to (length make.now) (entry make.now) }
     ensures sums { IfOk result (AreSumsOf make.now net.now) }
     ensures serves { IfOk result (λ _. Serves (length make.now) (entry make.now) (entry net.now)) }
 {
@@ -76,7 +79,8 @@ impl Assignment {
         requires server_high { server < length self.now.made }
         requires low { 1 ≤ period }
         requires high { period < length self.now.asked }
-        ensures { (make net : List ℕ) → AreSumsOf make net self.now → result ≡ overlap (entry make) (entry net) server period }
+        ensures { (make net : List ℕ) → AreSumsOf make net self.now
+            → result ≡ overlap (entry make) (entry net) server period }
     {
         let end = self.made[server as usize].min(self.asked[period as usize]);
         let start = self.made[(server - 1) as usize].max(self.asked[(period - 1) as usize]);

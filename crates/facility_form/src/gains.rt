@@ -40,7 +40,8 @@ fn gain_of(net: &[u128], price: &[u64], costs: &[u64], backlogged: bool, server:
     requires price { IsSeries (length net.now) MAX_PRICE price.now }
     requires costs { length costs.now ≡ length net.now }
     requires net { sum_to (length net.now) (entry net.now) ≤ MAX_ASKED }
-    ensures value { result ≡ sum_to (length net.now) (gain_by net.now price.now costs.now backlogged server) }
+    ensures value { result ≡ sum_to (length net.now)
+        (gain_by net.now price.now costs.now backlogged server) }
     ensures small { result ≤ MAX_STEP }
 {
     let mut sum = 0u128;
@@ -64,7 +65,9 @@ fn costs_of(
     requires small { AreSmall prices.now }
     requires low { 1 ≤ server }
     requires high { server ≤ length prices.now.unit.items }
-    ensures { IfOk result (λ found. AreServingPrices prices.now.unit.items prices.now.hold.items prices.now.back.items backlogged server found.items) }
+    ensures { IfOk result (λ found.
+        AreServingPrices prices.now.unit.items prices.now.hold.items prices.now.back.items
+        backlogged server found.items) }
 {
     serving_prices(
         alloc,
@@ -87,7 +90,8 @@ pub(crate) fn gains_of(
     requires lengths { HaveLengths (length net.now) prices.now }
     requires small { AreSmall prices.now }
     requires net { sum_to (length net.now) (entry net.now) ≤ MAX_ASKED }
-    ensures each { IfOk result (λ found. HasEach (length net.now) (gain_over net.now prices.now backlogged) found.items) }
+    ensures each { IfOk result (λ found.
+        HasEach (length net.now) (gain_over net.now prices.now backlogged) found.items) }
     ensures small { IfOk result (λ found. AllAtMost MAX_STEP found.items) }
 {
     let mut list = Vec::with_capacity(alloc, net.len())?;

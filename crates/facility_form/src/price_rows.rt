@@ -26,10 +26,13 @@ fn terms_of(
     prices: &Prices,
 ) -> Result<Vec<Term>, AllocError>
     requires within { IsEchelonWithinBounds echelon.now }
-    requires net { HasEach (length echelon.now.demand.items) (net_in (asked_of_echelon echelon.now)) net.now }
+    requires net { HasEach (length echelon.now.demand.items) (net_in (asked_of_echelon echelon.now))
+        net.now }
     requires lengths { HaveLengths (length echelon.now.demand.items) prices.now }
     requires small { AreSmall prices.now }
-    ensures { IfOk result (λ terms. terms.items ≡ some_terms (price_terms (echelon_in echelon.now) prices.now.price.items prices.now.unit.items prices.now.hold.items prices.now.back.items)) }
+    ensures { IfOk result (λ terms. terms.items
+        ≡ some_terms (price_terms (echelon_in echelon.now) prices.now.price.items
+        prices.now.unit.items prices.now.hold.items prices.now.back.items)) }
 {
     nets_are_small();
     priced_is_net();
@@ -48,11 +51,15 @@ fn terms_of(
 // What the net demands are worth, and the holding of what is left.
 fn right_of(echelon: &EchelonItem, net: &[u128], left: &[u128], prices: &Prices) -> i128
     requires within { IsEchelonWithinBounds echelon.now }
-    requires net { HasEach (length echelon.now.demand.items) (net_in (asked_of_echelon echelon.now)) net.now }
-    requires left { HasEach (length echelon.now.demand.items) (left_after (asked_of_echelon echelon.now)) left.now }
+    requires net { HasEach (length echelon.now.demand.items) (net_in (asked_of_echelon echelon.now))
+        net.now }
+    requires left { HasEach (length echelon.now.demand.items)
+        (left_after (asked_of_echelon echelon.now)) left.now }
     requires lengths { HaveLengths (length echelon.now.demand.items) prices.now }
     requires small { AreSmall prices.now }
-    ensures { result ≡ pos (price_right (asked_of_echelon echelon.now) prices.now.price.items prices.now.hold.items) }
+    ensures { result
+        ≡ pos (price_right (asked_of_echelon echelon.now) prices.now.price.items
+        prices.now.hold.items) }
 {
     nets_are_small();
     let worth = worth_of(net, &prices.price);

@@ -117,7 +117,8 @@ fn keep_everywhere(
 /// How many plans may be built to improve one within `BUILDING_WORK`: fewer of a large instance, each of which takes longer.
 #[tactic(auto, using(crate::proofs::Tries::tries_fit))]
 pub fn tries_for(instance: &Instance) -> u32
-    ensures { result * (item_count instance.now * item_count instance.now * instance.now.periods) ≤ BUILDING_WORK }
+    ensures { result * (item_count instance.now * item_count instance.now * instance.now.periods)
+        ≤ BUILDING_WORK }
 {
     let size = instance.items() * instance.items() * instance.periods();
     match BUILDING_WORK.checked_div(size) {

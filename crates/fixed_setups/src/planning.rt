@@ -92,7 +92,8 @@ fn try_bounds(
 ) -> Result<Tried, AllocError>
     requires { Fits instance.now high.now }
     ensures plan { IfOk result (λ tried. IfSome tried.found (IsMade instance.now)) }
-    ensures within { IfOk result (λ tried. IfSome tried.found (SetsUpWithin instance.now high.now)) }
+    ensures within { IfOk result (λ tried.
+        IfSome tried.found (SetsUpWithin instance.now high.now)) }
 {
     let Some(solved) = base.solve(alloc, instance, low, high, bounds)? else {
         let more = turn_last(bounds)?;

@@ -157,7 +157,8 @@ impl Base {
 
 // A least point of a program, if it has one and the run is within the limits.
 fn least_point(alloc: Global, program: &Lp) -> Result<Option<Vec<Frac>>, AllocError>
-    ensures { IfFound result (λ _. (row_count program.now + 1) * (column_count program.now + 1) ≤ MAX_PROGRAM_CELLS) }
+    ensures { IfFound result (λ _. (row_count program.now + 1) * (column_count program.now + 1)
+        ≤ MAX_PROGRAM_CELLS) }
 {
     if program.cells() > MAX_PROGRAM_CELLS {
         return Ok(None);

@@ -74,7 +74,8 @@ impl Frac {
     // The number num/den with this sign, if it fits in lowest terms.
     fn of_parts(negative: bool, num: u128, den: u128) -> Option<Frac>
         requires { 0 < den }
-        ensures { SomeIff result (Fits (make (signed negative num) (pos den))) (make (signed negative num) (pos den)) }
+        ensures { SomeIff result (Fits (make (signed negative num) (pos den)))
+            (make (signed negative num) (pos den)) }
     {
         let shared = gcd(num, den);
         let top = part(num, shared);
@@ -138,7 +139,8 @@ impl Frac {
 
     /// The quotient. None exactly where the other number is 0, or it doesn't fit in lowest terms.
     pub fn div(self, other: Frac) -> Option<Frac>
-        ensures { SomeIff result ((other ≢ whole (pos 0)) × Fits (divided_ℚ self other)) (divided_ℚ self other) }
+        ensures { SomeIff result ((other ≢ whole (pos 0)) × Fits (divided_ℚ self other))
+            (divided_ℚ self other) }
     {
         if other.num == 0 {
             return None;

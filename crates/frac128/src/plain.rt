@@ -83,7 +83,8 @@ fn aligned(a: i128, b: i128, c: i128, d: i128) -> Option<Alignment>
     requires d_positive { pos 0 <ℤ d }
     requires a_small { IsSmall a }
     requires c_small { IsSmall c }
-    ensures { MatchOption result (AlignFits a b c d → ⊥) (λ parts. AlignFits a b c d × Aligns a b c d parts) }
+    ensures { MatchOption result (AlignFits a b c d → ⊥)
+        (λ parts. AlignFits a b c d × Aligns a b c d parts) }
 {
     if b == d {
         return Some(Alignment {
@@ -153,7 +154,8 @@ pub fn mul(one: Frac, other: Frac) -> Option<Frac>
 
 /// The quotient. None exactly where the other number is 0, or it doesn't fit in lowest terms.
 pub fn div(one: Frac, other: Frac) -> Option<Frac>
-    ensures { SomeIff result ((other ≢ whole (pos 0)) × Fits (divided_ℚ one other)) (divided_ℚ one other) }
+    ensures { SomeIff result ((other ≢ whole (pos 0)) × Fits (divided_ℚ one other))
+        (divided_ℚ one other) }
 {
     if other.num == 0 {
         return None;

@@ -41,7 +41,8 @@ impl Frac {
     /// The quotient, to be compared. None exactly where `div` is None, so where the other number is 0 or the quotient
     /// doesn't fit in lowest terms.
     pub fn ratio(self, other: Frac) -> Option<Ratio>
-        ensures { SomeIff result ((other ≢ whole (pos 0)) × Fits (divided_ℚ self other)) (divided_ℚ self other) }
+        ensures { SomeIff result ((other ≢ whole (pos 0)) × Fits (divided_ℚ self other))
+            (divided_ℚ self other) }
     {
         if other.num == 0 {
             return None;

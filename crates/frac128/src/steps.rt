@@ -88,7 +88,8 @@ pub fn aligned(a: i128, b: i128, c: i128, d: i128) -> Option<Alignment>
     requires d_positive { pos 0 <ℤ d }
     requires a_small { IsSmall a }
     requires c_small { IsSmall c }
-    ensures { MatchOption result (AlignFits a b c d → ⊥) (λ parts. AlignFits a b c d × Aligns a b c d parts) }
+    ensures { MatchOption result (AlignFits a b c d → ⊥)
+        (λ parts. AlignFits a b c d × Aligns a b c d parts) }
 {
     if b == d {
         return Some(Alignment {

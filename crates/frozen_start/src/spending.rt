@@ -22,7 +22,8 @@ fn owed_cost(instance: &Instance, make: &Grid, item: u32, period: u32, flows: Fl
     requires low { 1 ≤ period }
     requires high { period ≤ instance.now.periods }
     requires flows { AreFlows instance.now (table_of make.now) item period flows }
-    ensures value { result ≡ backlog_cost instance.now item period * least_backlog instance.now (table_of make.now) item period }
+    ensures value { result ≡ backlog_cost instance.now item period
+        * least_backlog instance.now (table_of make.now) item period }
     ensures small { result ≤ MAX_AMOUNT * (MAX_PERIODS * MAX_AMOUNT) }
 {
     an_instance_breaks_no_rule(instance);
@@ -48,7 +49,8 @@ fn cost_in(
     requires low { 1 ≤ period }
     requires high { period ≤ instance.now.periods }
     requires flows { AreFlows instance.now (table_of make.now) item period flows }
-    ensures value { result ≡ cost_at instance.now (least_plan instance.now (table_of make.now) (table_of setup.now)) item period }
+    ensures value { result ≡ cost_at instance.now
+        (least_plan instance.now (table_of make.now) (table_of setup.now)) item period }
     ensures small { result ≤ most_start_cost }
 {
     an_instance_breaks_no_rule(instance);
@@ -66,7 +68,9 @@ fn item_spent(instance: &Instance, make: &Grid, setup: &Grid, item: u32, first: 
     requires item_low { 1 ≤ item }
     requires item_high { item ≤ item_count instance.now }
     requires inside { first ≤ instance.now.periods }
-    ensures value { result ≡ sum_to first (λ t. cost_at instance.now (least_plan instance.now (table_of make.now) (table_of setup.now)) item t) }
+    ensures value { result ≡ sum_to first
+        (λ t. cost_at instance.now
+        (least_plan instance.now (table_of make.now) (table_of setup.now)) item t) }
     ensures small { result ≤ MAX_PERIODS * most_start_cost }
 {
     an_instance_breaks_no_rule(instance);

@@ -20,7 +20,8 @@ fn may_be_made(instance: &Instance, make: &Grid, setup: &Grid, item: u32, period
     requires item_high { item ≤ item_count instance.now }
     requires low { 1 ≤ period }
     requires high { period ≤ instance.now.periods }
-    ensures { let p = start_of make.now setup.now in IsTrue result ↔ IsSetup p item period × IsMadeWithSetup p item period × IsLot instance.now p item period }
+    ensures { let p = start_of make.now setup.now in IsTrue result ↔ IsSetup p item period
+        × IsMadeWithSetup p item period × IsLot instance.now p item period }
 {
     let made = make.get(item, period);
     let set = setup.get(item, period);
@@ -65,7 +66,8 @@ fn item_stands(instance: &Instance, make: &Grid, setup: &Grid, item: u32, first:
     requires low { 1 ≤ item }
     requires high { item ≤ item_count instance.now }
     requires inside { first ≤ instance.now.periods }
-    ensures { IsTrue result ↔ HoldsInRow first (CellStands instance.now (start_of make.now setup.now)) item }
+    ensures { IsTrue result ↔ HoldsInRow first
+        (CellStands instance.now (start_of make.now setup.now)) item }
 {
     an_instance_breaks_no_rule(instance);
     let mut flows = Flows::before(instance, item);
@@ -83,7 +85,8 @@ fn items_stand(instance: &Instance, make: &Grid, setup: &Grid, first: u32) -> bo
     requires make { Fits instance.now make.now }
     requires setup { Fits instance.now setup.now }
     requires inside { first ≤ instance.now.periods }
-    ensures { IsTrue result ↔ Each (item_count instance.now) first (CellStands instance.now (start_of make.now setup.now)) }
+    ensures { IsTrue result ↔ Each (item_count instance.now) first
+        (CellStands instance.now (start_of make.now setup.now)) }
 {
     for item in 1..instance.items() + 1 {
         if !item_stands(instance, make, setup, item, first) {
@@ -116,7 +119,8 @@ fn times_suffice(instance: &Instance, make: &Grid, setup: &Grid, first: u32) -> 
     requires make { Fits instance.now make.now }
     requires setup { Fits instance.now setup.now }
     requires inside { first ≤ instance.now.periods }
-    ensures { IsTrue result ↔ Each (resource_count instance.now) first (IsWithinCapacity instance.now (start_of make.now setup.now)) }
+    ensures { IsTrue result ↔ Each (resource_count instance.now) first
+        (IsWithinCapacity instance.now (start_of make.now setup.now)) }
 {
     for resource in 1..instance.resources() + 1 {
         for period in 1..first + 1 {

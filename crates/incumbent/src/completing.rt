@@ -23,7 +23,8 @@ pub fn plan_at(
 ) -> Result<Option<Planned>, AllocError>
     requires { length ranges.now ≡ choice_count instance.now }
     ensures made { IfFound result (IsMade instance.now) }
-    ensures choice { IfFound result (λ made. HasLeastNumbers instance.now ranges.now (plan_of made.plan)) }
+    ensures choice { IfFound result (λ made.
+        HasLeastNumbers instance.now ranges.now (plan_of made.plan)) }
     ensures least { IfFound result (λ made. IsLeastCostOfLeast instance.now ranges.now made.cost) }
     ensures none { IfNoneFound result (NoneHasLeast instance.now ranges.now) }
 {

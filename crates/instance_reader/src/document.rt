@@ -60,7 +60,8 @@ pub fn has_only(table: &Table, keys: &[&str]) -> bool
 
 /// The value under a key, if the key is there.
 pub fn value_at<'a>(table: &'a Table, key: Key) -> Option<&'a Value>
-    ensures { option_map (λ value. view value.now) result ≡ value_at key (table_view table.entry.now) }
+    ensures { option_map (λ value. view value.now) result
+        ≡ value_at key (table_view table.entry.now) }
 {
     table.get(key.name())
 }

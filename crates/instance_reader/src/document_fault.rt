@@ -11,7 +11,8 @@ use toml::Table;
 
 // Table n of the array under a key, counted from 1.
 fn table_at<'a>(table: &'a Table, key: Key, n: u32) -> Option<&'a Table>
-    ensures { option_map (λ t. table_view t.now) result ≡ table_at key n (table_view table.entry.now) }
+    ensures { option_map (λ t. table_view t.now) result
+        ≡ table_at key n (table_view table.entry.now) }
 {
     match value_at(table, key) {
         Some(list) => match list.get(n.saturating_sub(1) as usize) {
@@ -24,7 +25,8 @@ fn table_at<'a>(table: &'a Table, key: Key, n: u32) -> Option<&'a Table>
 
 // The table of a resource or an item.
 fn table_of<'a>(table: &'a Table, place: Place) -> Option<&'a Table>
-    ensures { option_map (λ t. table_view t.now) result ≡ table_of place (table_view table.entry.now) }
+    ensures { option_map (λ t. table_view t.now) result
+        ≡ table_of place (table_view table.entry.now) }
 {
     match place {
         Place::Resource(k) => table_at(table, Key::Resource, k),

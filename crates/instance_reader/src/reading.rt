@@ -39,7 +39,8 @@ pub fn needed_text(
     place: Place,
     key: Key,
 ) -> Result<String, ReadModelFault>
-    ensures ok { IfOk result (λ found. needed_text place key (table_view table.now) ≡ Ok (string_bytes found)) }
+    ensures ok { IfOk result (λ found. needed_text place key (table_view table.now)
+        ≡ Ok (string_bytes found)) }
     ensures refused { IfErr result (IsWhyNot (needed_text place key (table_view table.now))) }
 {
     match value_at(table, key) {
@@ -72,7 +73,8 @@ pub fn number_or_zero(table: &Table, place: Place, key: Key) -> Result<i64, Read
 
 /// The whole number under a key, if the key is there.
 pub fn optional_number(table: &Table, place: Place, key: Key) -> Result<Option<i64>, ReadModelFault>
-    ensures ok { IfOk result (λ found. optional_number place key (table_view table.now) ≡ Ok found) }
+    ensures ok { IfOk result (λ found. optional_number place key (table_view table.now)
+        ≡ Ok found) }
     ensures refused { IfErr result (IsWhyNot (optional_number place key (table_view table.now))) }
 {
     match value_at(table, key) {
@@ -150,8 +152,10 @@ pub fn needed_series(
     key: Key,
     periods: u32,
 ) -> Result<Vec<i64>, ReadModelFault>
-    ensures ok { IfOk result (λ found. needed_series periods place key (table_view table.now) ≡ Ok found.items) }
-    ensures refused { IfErr result (IsWhyNot (needed_series periods place key (table_view table.now))) }
+    ensures ok { IfOk result (λ found. needed_series periods place key (table_view table.now)
+        ≡ Ok found.items) }
+    ensures refused { IfErr result (IsWhyNot
+        (needed_series periods place key (table_view table.now))) }
 {
     match value_at(table, key) {
         Some(value) => series(alloc, value, place, key, periods),
@@ -167,8 +171,10 @@ pub fn series_or_zeros(
     key: Key,
     periods: u32,
 ) -> Result<Vec<i64>, ReadModelFault>
-    ensures ok { IfOk result (λ found. series_or_zeros periods place key (table_view table.now) ≡ Ok found.items) }
-    ensures refused { IfErr result (IsWhyNot (series_or_zeros periods place key (table_view table.now))) }
+    ensures ok { IfOk result (λ found. series_or_zeros periods place key (table_view table.now)
+        ≡ Ok found.items) }
+    ensures refused { IfErr result (IsWhyNot
+        (series_or_zeros periods place key (table_view table.now))) }
 {
     match value_at(table, key) {
         Some(value) => series(alloc, value, place, key, periods),
@@ -184,8 +190,10 @@ pub fn optional_series(
     key: Key,
     periods: u32,
 ) -> Result<Option<Vec<i64>>, ReadModelFault>
-    ensures ok { IfOk result (λ found. optional_series periods place key (table_view table.now) ≡ Ok (option_map (λ v. v.items) found)) }
-    ensures refused { IfErr result (IsWhyNot (optional_series periods place key (table_view table.now))) }
+    ensures ok { IfOk result (λ found. optional_series periods place key (table_view table.now)
+        ≡ Ok (option_map (λ v. v.items) found)) }
+    ensures refused { IfErr result (IsWhyNot
+        (optional_series periods place key (table_view table.now))) }
 {
     match value_at(table, key) {
         Some(value) => Ok(Some(series(alloc, value, place, key, periods)?)),

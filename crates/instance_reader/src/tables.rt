@@ -48,8 +48,10 @@ fn are_tables(list: &[Value]) -> bool
 
 // The array of tables that a value is.
 fn tables<'a>(value: &'a Value, place: Place, key: Key) -> Result<&'a [Value], ReadModelFault>
-    ensures ok { IfOk result (λ list. table_list (no_tables place key) (view value.entry.now) ≡ Ok (items_view list.now)) }
-    ensures refused { IfErr result (IsWhyNot (table_list (no_tables place key) (view value.entry.now))) }
+    ensures ok { IfOk result (λ list. table_list (no_tables place key) (view value.entry.now)
+        ≡ Ok (items_view list.now)) }
+    ensures refused { IfErr result (IsWhyNot
+        (table_list (no_tables place key) (view value.entry.now))) }
 {
     match value.as_array() {
         Some(list) => {
@@ -65,7 +67,8 @@ fn tables<'a>(value: &'a Value, place: Place, key: Key) -> Result<&'a [Value], R
 
 // A line of components.
 fn need(alloc: Global, table: &Table, item: u32, line: u32) -> Result<DraftNeed, ReadModelFault>
-    ensures ok { IfOk result (λ found. need_read item line (table_view table.now) ≡ Ok (raw_need found)) }
+    ensures ok { IfOk result (λ found. need_read item line (table_view table.now)
+        ≡ Ok (raw_need found)) }
     ensures refused { IfErr result (IsWhyNot (need_read item line (table_view table.now))) }
 {
     let place = Place::Need(item, line);
@@ -78,8 +81,11 @@ fn need(alloc: Global, table: &Table, item: u32, line: u32) -> Result<DraftNeed,
 }
 
 fn need_in(alloc: Global, value: &Value, item: u32, line: u32) -> Result<DraftNeed, ReadModelFault>
-    ensures ok { IfOk result (λ found. table_read (need_read item) (no_tables (Item item) key.Needs) line (view value.now) ≡ Ok (raw_need found)) }
-    ensures refused { IfErr result (IsWhyNot (table_read (need_read item) (no_tables (Item item) key.Needs) line (view value.now))) }
+    ensures ok { IfOk result (λ found.
+        table_read (need_read item) (no_tables (Item item) key.Needs) line (view value.now)
+        ≡ Ok (raw_need found)) }
+    ensures refused { IfErr result (IsWhyNot
+        (table_read (need_read item) (no_tables (Item item) key.Needs) line (view value.now))) }
 {
     match value.as_table() {
         Some(table) => need(alloc, table, item, line),
@@ -89,8 +95,11 @@ fn need_in(alloc: Global, value: &Value, item: u32, line: u32) -> Result<DraftNe
 
 // The lines of components of an array of tables.
 fn needs_in(alloc: Global, list: &[Value], item: u32) -> Result<Vec<DraftNeed>, ReadModelFault>
-    ensures ok { IfOk result (λ found. tables_in (need_read item) (no_tables (Item item) key.Needs) (items_view list.now) ≡ Ok (map raw_need found.items)) }
-    ensures refused { IfErr result (IsWhyNot (tables_in (need_read item) (no_tables (Item item) key.Needs) (items_view list.now))) }
+    ensures ok { IfOk result (λ found.
+        tables_in (need_read item) (no_tables (Item item) key.Needs) (items_view list.now)
+        ≡ Ok (map raw_need found.items)) }
+    ensures refused { IfErr result (IsWhyNot
+        (tables_in (need_read item) (no_tables (Item item) key.Needs) (items_view list.now))) }
 {
     let mut needs = Vec::new(alloc);
     let mut line = 0u32;
@@ -103,7 +112,8 @@ fn needs_in(alloc: Global, list: &[Value], item: u32) -> Result<Vec<DraftNeed>, 
 
 // The components of an item.
 fn needs(alloc: Global, table: &Table, item: u32) -> Result<Vec<DraftNeed>, ReadModelFault>
-    ensures ok { IfOk result (λ found. needs_read item (table_view table.now) ≡ Ok (map raw_need found.items)) }
+    ensures ok { IfOk result (λ found. needs_read item (table_view table.now)
+        ≡ Ok (map raw_need found.items)) }
     ensures refused { IfErr result (IsWhyNot (needs_read item (table_view table.now))) }
 {
     match value_at(table, Key::Needs) {
@@ -114,7 +124,8 @@ fn needs(alloc: Global, table: &Table, item: u32) -> Result<Vec<DraftNeed>, Read
 
 // A line of resources.
 fn usage(alloc: Global, table: &Table, item: u32, line: u32) -> Result<DraftUse, ReadModelFault>
-    ensures ok { IfOk result (λ found. use_read item line (table_view table.now) ≡ Ok (raw_use found)) }
+    ensures ok { IfOk result (λ found. use_read item line (table_view table.now)
+        ≡ Ok (raw_use found)) }
     ensures refused { IfErr result (IsWhyNot (use_read item line (table_view table.now))) }
 {
     let place = Place::Usage(item, line);
@@ -132,8 +143,11 @@ fn usage(alloc: Global, table: &Table, item: u32, line: u32) -> Result<DraftUse,
 }
 
 fn usage_in(alloc: Global, value: &Value, item: u32, line: u32) -> Result<DraftUse, ReadModelFault>
-    ensures ok { IfOk result (λ found. table_read (use_read item) (no_tables (Item item) key.Uses) line (view value.now) ≡ Ok (raw_use found)) }
-    ensures refused { IfErr result (IsWhyNot (table_read (use_read item) (no_tables (Item item) key.Uses) line (view value.now))) }
+    ensures ok { IfOk result (λ found.
+        table_read (use_read item) (no_tables (Item item) key.Uses) line (view value.now)
+        ≡ Ok (raw_use found)) }
+    ensures refused { IfErr result (IsWhyNot
+        (table_read (use_read item) (no_tables (Item item) key.Uses) line (view value.now))) }
 {
     match value.as_table() {
         Some(table) => usage(alloc, table, item, line),
@@ -143,8 +157,11 @@ fn usage_in(alloc: Global, value: &Value, item: u32, line: u32) -> Result<DraftU
 
 // The lines of resources of an array of tables.
 fn usages_in(alloc: Global, list: &[Value], item: u32) -> Result<Vec<DraftUse>, ReadModelFault>
-    ensures ok { IfOk result (λ found. tables_in (use_read item) (no_tables (Item item) key.Uses) (items_view list.now) ≡ Ok (map raw_use found.items)) }
-    ensures refused { IfErr result (IsWhyNot (tables_in (use_read item) (no_tables (Item item) key.Uses) (items_view list.now))) }
+    ensures ok { IfOk result (λ found.
+        tables_in (use_read item) (no_tables (Item item) key.Uses) (items_view list.now)
+        ≡ Ok (map raw_use found.items)) }
+    ensures refused { IfErr result (IsWhyNot
+        (tables_in (use_read item) (no_tables (Item item) key.Uses) (items_view list.now))) }
 {
     let mut usages = Vec::new(alloc);
     let mut line = 0u32;
@@ -157,7 +174,8 @@ fn usages_in(alloc: Global, list: &[Value], item: u32) -> Result<Vec<DraftUse>, 
 
 // The resources that an item takes time on.
 fn usages(alloc: Global, table: &Table, item: u32) -> Result<Vec<DraftUse>, ReadModelFault>
-    ensures ok { IfOk result (λ found. uses_read item (table_view table.now) ≡ Ok (map raw_use found.items)) }
+    ensures ok { IfOk result (λ found. uses_read item (table_view table.now)
+        ≡ Ok (map raw_use found.items)) }
     ensures refused { IfErr result (IsWhyNot (uses_read item (table_view table.now))) }
 {
     match value_at(table, Key::Uses) {
@@ -173,8 +191,10 @@ fn resource(
     periods: u32,
     number: u32,
 ) -> Result<DraftResource, ReadModelFault>
-    ensures ok { IfOk result (λ found. resource_read periods number (table_view table.now) ≡ Ok (raw_resource found)) }
-    ensures refused { IfErr result (IsWhyNot (resource_read periods number (table_view table.now))) }
+    ensures ok { IfOk result (λ found. resource_read periods number (table_view table.now)
+        ≡ Ok (raw_resource found)) }
+    ensures refused { IfErr result (IsWhyNot
+        (resource_read periods number (table_view table.now))) }
 {
     let place = Place::Resource(number);
     if !has_only(table, &["name", "capacity"]) {
@@ -191,8 +211,12 @@ fn resource_in(
     periods: u32,
     number: u32,
 ) -> Result<DraftResource, ReadModelFault>
-    ensures ok { IfOk result (λ found. table_read (resource_read periods) (no_tables Root key.Resource) number (view value.now) ≡ Ok (raw_resource found)) }
-    ensures refused { IfErr result (IsWhyNot (table_read (resource_read periods) (no_tables Root key.Resource) number (view value.now))) }
+    ensures ok { IfOk result (λ found.
+        table_read (resource_read periods) (no_tables Root key.Resource) number (view value.now)
+        ≡ Ok (raw_resource found)) }
+    ensures refused { IfErr result (IsWhyNot
+        (table_read (resource_read periods) (no_tables Root key.Resource) number
+        (view value.now))) }
 {
     match value.as_table() {
         Some(table) => resource(alloc, table, periods, number),
@@ -206,8 +230,11 @@ fn resources_in(
     list: &[Value],
     periods: u32,
 ) -> Result<Vec<DraftResource>, ReadModelFault>
-    ensures ok { IfOk result (λ found. tables_in (resource_read periods) (no_tables Root key.Resource) (items_view list.now) ≡ Ok (map raw_resource found.items)) }
-    ensures refused { IfErr result (IsWhyNot (tables_in (resource_read periods) (no_tables Root key.Resource) (items_view list.now))) }
+    ensures ok { IfOk result (λ found.
+        tables_in (resource_read periods) (no_tables Root key.Resource) (items_view list.now)
+        ≡ Ok (map raw_resource found.items)) }
+    ensures refused { IfErr result (IsWhyNot
+        (tables_in (resource_read periods) (no_tables Root key.Resource) (items_view list.now))) }
 {
     let mut resources = Vec::new(alloc);
     let mut number = 0u32;
@@ -224,7 +251,8 @@ fn resources(
     table: &Table,
     periods: u32,
 ) -> Result<Vec<DraftResource>, ReadModelFault>
-    ensures ok { IfOk result (λ found. resources_read periods (table_view table.now) ≡ Ok (map raw_resource found.items)) }
+    ensures ok { IfOk result (λ found. resources_read periods (table_view table.now)
+        ≡ Ok (map raw_resource found.items)) }
     ensures refused { IfErr result (IsWhyNot (resources_read periods (table_view table.now))) }
 {
     match value_at(table, Key::Resource) {
@@ -299,8 +327,10 @@ fn item(
     periods: u32,
     number: u32,
 ) -> Result<DraftItem, ReadModelFault>
-    ensures ok { IfOk result (λ found. item_read version periods number (table_view table.now) ≡ Ok (raw_item found)) }
-    ensures refused { IfErr result (IsWhyNot (item_read version periods number (table_view table.now))) }
+    ensures ok { IfOk result (λ found. item_read version periods number (table_view table.now)
+        ≡ Ok (raw_item found)) }
+    ensures refused { IfErr result (IsWhyNot
+        (item_read version periods number (table_view table.now))) }
 {
     let place = Place::Item(number);
     if !has_item_keys(table, version) {
@@ -345,8 +375,12 @@ fn item_in(
     periods: u32,
     number: u32,
 ) -> Result<DraftItem, ReadModelFault>
-    ensures ok { IfOk result (λ found. table_read (item_read version periods) (no_tables Root key.Item) number (view value.now) ≡ Ok (raw_item found)) }
-    ensures refused { IfErr result (IsWhyNot (table_read (item_read version periods) (no_tables Root key.Item) number (view value.now))) }
+    ensures ok { IfOk result (λ found.
+        table_read (item_read version periods) (no_tables Root key.Item) number (view value.now)
+        ≡ Ok (raw_item found)) }
+    ensures refused { IfErr result (IsWhyNot
+        (table_read (item_read version periods) (no_tables Root key.Item) number
+        (view value.now))) }
 {
     match value.as_table() {
         Some(table) => item(alloc, table, version, periods, number),
@@ -361,8 +395,11 @@ fn items_in(
     version: u32,
     periods: u32,
 ) -> Result<Vec<DraftItem>, ReadModelFault>
-    ensures ok { IfOk result (λ found. tables_in (item_read version periods) (no_tables Root key.Item) (items_view list.now) ≡ Ok (map raw_item found.items)) }
-    ensures refused { IfErr result (IsWhyNot (tables_in (item_read version periods) (no_tables Root key.Item) (items_view list.now))) }
+    ensures ok { IfOk result (λ found.
+        tables_in (item_read version periods) (no_tables Root key.Item) (items_view list.now)
+        ≡ Ok (map raw_item found.items)) }
+    ensures refused { IfErr result (IsWhyNot
+        (tables_in (item_read version periods) (no_tables Root key.Item) (items_view list.now))) }
 {
     let mut items = Vec::new(alloc);
     let mut number = 0u32;
@@ -380,7 +417,8 @@ fn items(
     version: u32,
     periods: u32,
 ) -> Result<Vec<DraftItem>, ReadModelFault>
-    ensures ok { IfOk result (λ found. items_read version periods (table_view table.now) ≡ Ok (map raw_item found.items)) }
+    ensures ok { IfOk result (λ found. items_read version periods (table_view table.now)
+        ≡ Ok (map raw_item found.items)) }
     ensures refused { IfErr result (IsWhyNot (items_read version periods (table_view table.now))) }
 {
     match value_at(table, Key::Item) {
@@ -434,7 +472,8 @@ fn periods(table: &Table, version: u32) -> Result<u32, ReadModelFault>
 
 // The periods, resources and items of a model of a version.
 fn body(alloc: Global, table: &Table, version: u32) -> Result<Draft, ReadModelFault>
-    ensures ok { IfOk result (λ found. body_read version (table_view table.now) ≡ Ok (raw_model found)) }
+    ensures ok { IfOk result (λ found. body_read version (table_view table.now)
+        ≡ Ok (raw_model found)) }
     ensures refused { IfErr result (IsWhyNot (body_read version (table_view table.now))) }
 {
     let periods = periods(table, version)?;
@@ -449,7 +488,8 @@ fn body(alloc: Global, table: &Table, version: u32) -> Result<Draft, ReadModelFa
 
 /// The draft of a document's model, whose version is at most the newest.
 pub fn model(alloc: Global, table: &Table, newest: u32) -> Result<Draft, ReadModelFault>
-    ensures ok { IfOk result (λ found. model_read newest (table_view table.now) ≡ Ok (raw_model found)) }
+    ensures ok { IfOk result (λ found. model_read newest (table_view table.now)
+        ≡ Ok (raw_model found)) }
     ensures refused { IfErr result (IsWhyNot (model_read newest (table_view table.now))) }
 {
     let version = version(table, newest)?;

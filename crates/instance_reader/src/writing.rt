@@ -35,7 +35,8 @@ fn number_list(alloc: Global, amounts: &[u64]) -> Result<Value, AllocError>
 /// Puts a value for a key of models into a table. The error is that memory ran out; nothing is said
 /// of the table then.
 pub fn put(alloc: Global, table: &mut Table, key: Key, value: Value) -> Result<(), AllocError>
-    ensures table { OnOk result (table_view table.new ≡ with_key key (view value) (table_view table.old)) }
+    ensures table { OnOk result (table_view table.new
+        ≡ with_key key (view value) (table_view table.old)) }
 {
     let name = String::from_str(alloc, key.name())?;
     drop(table.insert(name, value)?);
@@ -49,7 +50,8 @@ pub fn put_some(
     key: Key,
     value: Option<Value>,
 ) -> Result<(), AllocError>
-    ensures table { OnOk result (table_view table.new ≡ with_some key (option_map view value) (table_view table.old)) }
+    ensures table { OnOk result (table_view table.new
+        ≡ with_some key (option_map view value) (table_view table.old)) }
 {
     match value {
         Some(value) => put(alloc, table, key, value),
@@ -80,9 +82,11 @@ fn need(alloc: Global, instance: &Instance, line: Need) -> Result<Value, AllocEr
 
 // The lines of components of an item.
 fn need_list(alloc: Global, instance: &Instance, lines: &[Need]) -> Result<Value, AllocError>
-    requires there { All (λ line. (1 ≤ line.item) × (line.item ≤ item_count instance.now)) lines.now }
+    requires there { All (λ line. (1 ≤ line.item) × (line.item ≤ item_count instance.now))
+        lines.now }
     requires small { All (λ line. (1 ≤ line.quantity) × (line.quantity ≤ MAX_QUANTITY)) lines.now }
-    ensures { IfOk result (λ value. view value ≡ array (tables_of (need_table instance.now) lines.now)) }
+    ensures { IfOk result (λ value. view value
+        ≡ array (tables_of (need_table instance.now) lines.now)) }
 {
     let mut list = Vec::with_capacity(alloc, lines.len())?;
     for line in lines {
@@ -95,7 +99,8 @@ fn need_list(alloc: Global, instance: &Instance, lines: &[Need]) -> Result<Value
 fn needs(alloc: Global, instance: &Instance, item: u32) -> Result<Option<Value>, AllocError>
     requires low { 1 ≤ item }
     requires high { item ≤ item_count instance.now }
-    ensures { IfOk result (λ value. option_map view value ≡ some_tables (need_table instance.now) (item_at instance.now item).needs) }
+    ensures { IfOk result (λ value. option_map view value
+        ≡ some_tables (need_table instance.now) (item_at instance.now item).needs) }
 {
     let lines = instance.needs(item);
     if lines.is_empty() {
@@ -122,9 +127,11 @@ fn usage(alloc: Global, instance: &Instance, line: Usage) -> Result<Value, Alloc
 
 // The lines of resources of an item.
 fn usage_list(alloc: Global, instance: &Instance, lines: &[Usage]) -> Result<Value, AllocError>
-    requires there { All (λ line. (1 ≤ line.resource) × (line.resource ≤ resource_count instance.now)) lines.now }
+    requires there { All (λ line. (1 ≤ line.resource)
+        × (line.resource ≤ resource_count instance.now)) lines.now }
     requires small { All (λ line. (line.unit ≤ MAX_AMOUNT) × (line.setup ≤ MAX_AMOUNT)) lines.now }
-    ensures { IfOk result (λ value. view value ≡ array (tables_of (use_table instance.now) lines.now)) }
+    ensures { IfOk result (λ value. view value
+        ≡ array (tables_of (use_table instance.now) lines.now)) }
 {
     let mut list = Vec::with_capacity(alloc, lines.len())?;
     for line in lines {
@@ -137,7 +144,8 @@ fn usage_list(alloc: Global, instance: &Instance, lines: &[Usage]) -> Result<Val
 fn uses(alloc: Global, instance: &Instance, item: u32) -> Result<Option<Value>, AllocError>
     requires low { 1 ≤ item }
     requires high { item ≤ item_count instance.now }
-    ensures { IfOk result (λ value. option_map view value ≡ some_tables (use_table instance.now) (item_at instance.now item).uses) }
+    ensures { IfOk result (λ value. option_map view value
+        ≡ some_tables (use_table instance.now) (item_at instance.now item).uses) }
 {
     let lines = instance.uses(item);
     if lines.is_empty() {
@@ -150,7 +158,8 @@ fn uses(alloc: Global, instance: &Instance, item: u32) -> Result<Option<Value>, 
 fn backlog_costs(alloc: Global, instance: &Instance, item: u32) -> Result<Option<Value>, AllocError>
     requires low { 1 ≤ item }
     requires high { item ≤ item_count instance.now }
-    ensures { IfOk result (λ value. option_map view value ≡ option_map number_list (item_at instance.now item).backlog_cost) }
+    ensures { IfOk result (λ value. option_map view value
+        ≡ option_map number_list (item_at instance.now item).backlog_cost) }
 {
     match instance.backlog_costs(item) {
         Some(prices) => Ok(Some(number_list(alloc, prices)?)),
@@ -179,7 +188,8 @@ fn put_numbers(
 ) -> Result<(), AllocError>
     requires low { 1 ≤ item }
     requires high { item ≤ item_count instance.now }
-    ensures table { OnOk result (table_view table.new ≡ with_numbers (item_at instance.now item) (table_view table.old)) }
+    ensures table { OnOk result (table_view table.new
+        ≡ with_numbers (item_at instance.now item) (table_view table.old)) }
 {
     let lead = u64::from(instance.lead(item));
     put(alloc, table, Key::Opening, number(instance.opening(item)))?;
@@ -215,7 +225,8 @@ fn plain(alloc: Global, instance: &Instance, item: u32) -> Result<Table, AllocEr
 fn item(alloc: Global, instance: &Instance, item: u32) -> Result<Value, AllocError>
     requires low { 1 ≤ item }
     requires high { item ≤ item_count instance.now }
-    ensures { IfOk result (λ value. view value ≡ table (item_table instance.now (item_at instance.now item))) }
+    ensures { IfOk result (λ value. view value
+        ≡ table (item_table instance.now (item_at instance.now item))) }
 {
     let mut table = plain(alloc, instance, item)?;
     let back = backlog_costs(alloc, instance, item)?;
@@ -230,7 +241,8 @@ fn item(alloc: Global, instance: &Instance, item: u32) -> Result<Value, AllocErr
 
 // The items.
 fn items(alloc: Global, instance: &Instance) -> Result<Value, AllocError>
-    ensures { IfOk result (λ value. view value ≡ array (tables_of (item_table instance.now) instance.now.items)) }
+    ensures { IfOk result (λ value. view value
+        ≡ array (tables_of (item_table instance.now) instance.now.items)) }
 {
     let mut list = Vec::with_capacity(alloc, instance.items() as usize)?;
     for number in 1..instance.items() + 1 {
@@ -243,7 +255,8 @@ fn items(alloc: Global, instance: &Instance) -> Result<Value, AllocError>
 fn resource(alloc: Global, instance: &Instance, resource: u32) -> Result<Value, AllocError>
     requires low { 1 ≤ resource }
     requires high { resource ≤ resource_count instance.now }
-    ensures { IfOk result (λ value. view value ≡ table (resource_table (resource_at instance.now resource))) }
+    ensures { IfOk result (λ value. view value
+        ≡ table (resource_table (resource_at instance.now resource))) }
 {
     let mut table = Table::new(alloc);
     let name = text(alloc, instance.resource_name(resource))?;
@@ -255,7 +268,8 @@ fn resource(alloc: Global, instance: &Instance, resource: u32) -> Result<Value, 
 
 // The resources.
 fn resource_list(alloc: Global, instance: &Instance) -> Result<Value, AllocError>
-    ensures { IfOk result (λ value. view value ≡ array (tables_of resource_table instance.now.resources)) }
+    ensures { IfOk result (λ value. view value
+        ≡ array (tables_of resource_table instance.now.resources)) }
 {
     let mut list = Vec::with_capacity(alloc, instance.resources() as usize)?;
     for number in 1..instance.resources() + 1 {
@@ -266,7 +280,8 @@ fn resource_list(alloc: Global, instance: &Instance) -> Result<Value, AllocError
 
 // The resources, if there are any.
 fn resources(alloc: Global, instance: &Instance) -> Result<Option<Value>, AllocError>
-    ensures { IfOk result (λ value. option_map view value ≡ some_tables resource_table instance.now.resources) }
+    ensures { IfOk result (λ value. option_map view value
+        ≡ some_tables resource_table instance.now.resources) }
 {
     if instance.resources() == 0 {
         return Ok(None);

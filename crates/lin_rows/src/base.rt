@@ -165,9 +165,11 @@ pub fn has_row(instance: &Instance, name: RowName) -> bool
 /// by the last one, or where the name is `Path` or `Cut`. It takes time in the number of items and lines.
 pub fn base_row(alloc: Global, instance: &Instance, name: RowName) -> Result<Row, RowFault>
     ensures row { IfOk result (IsBaseRow instance.now name) }
-    ensures one { IfOk result (λ row. (total : ℕ → ℕ) → AreLargestTotals instance.now total → row ≡ row_of instance.now total name) }
+    ensures one { IfOk result (λ row. (total : ℕ → ℕ) → AreLargestTotals instance.now total
+        → row ≡ row_of instance.now total name) }
     ensures holds { IfOk result (λ row. (p : Plan) → IsFeasible instance.now p → HoldsIn p row) }
-    ensures columns_exist { IfOk result (λ row. All (λ a. IsColumn instance.now a.column) row.terms) }
+    ensures columns_exist { IfOk result (λ row.
+        All (λ a. IsColumn instance.now a.column) row.terms) }
     ensures small { IfOk result IsSmallRow }
     ensures some { IfOk result (λ _. HasRow instance.now name) }
     ensures none { IfErr result (λ fault. fault ≡ NoSuchRow → HasRow instance.now name → ⊥) }

@@ -139,7 +139,8 @@ fn free_at(instance: &Instance, place: u32) -> Column
 
 // The backlog of which so many are columns that come before it.
 fn owing_at(instance: &Instance, place: u32) -> Option<Column>
-    ensures column { IfSome result (IsColumnAt instance.now (3 * cell_count instance.now + (place + 1))) }
+    ensures column { IfSome result (IsColumnAt instance.now
+        (3 * cell_count instance.now + (place + 1))) }
     ensures none { IsNone result → owing_count instance.now (item_count instance.now) ≤ place }
 {
     let each = instance.periods() - 1;

@@ -41,7 +41,8 @@ impl Model for Point {
 
 // How many of the first items have a backlog cost, for each number of them.
 fn owing_counts(instance: &Instance) -> [u32; COUNTS]
-    ensures counts { (n : ℕ) → n ≤ item_count instance.now → slice_index_or result n 0 ≡ sum_to n (owes instance.now) }
+    ensures counts { (n : ℕ) → n ≤ item_count instance.now
+        → slice_index_or result n 0 ≡ sum_to n (owes instance.now) }
     ensures small { (n : ℕ) → slice_index_or result n 0 ≤ MAX_ITEMS }
 {
     let mut counts = [0u32; COUNTS];

@@ -42,7 +42,8 @@ fn push_earlier(
 ) -> Result<(), AllocError>
     requires low { 1 ≤ item }
     requires high { item ≤ item_count instance.now }
-    ensures { IfOk result (λ _. PutTerms terms.old.items (earlier_terms instance.now item period) terms.new.items) }
+    ensures { IfOk result (λ _.
+        PutTerms terms.old.items (earlier_terms instance.now item period) terms.new.items) }
 {
     if is_earlier(instance, item, period) {
         let started = period - instance.lead(item);
@@ -64,7 +65,8 @@ fn made_times(instance: &Instance, item: u32, other: u32) -> i128
     requires item_high { item ≤ item_count instance.now }
     requires low { 1 ≤ other }
     requires high { other ≤ item_count instance.now }
-    ensures { result ≡ (pos (arrives_now instance.now item other) -ℤ pos (per_unit instance.now item other)) }
+    ensures { result
+        ≡ (pos (arrives_now instance.now item other) -ℤ pos (per_unit instance.now item other)) }
 {
     let own = if item == other && instance.lead(item) == 0 {
         1i128
@@ -86,7 +88,8 @@ fn push_made_of(
     requires item_high { item ≤ item_count instance.now }
     requires low { 1 ≤ other }
     requires high { other ≤ item_count instance.now }
-    ensures { IfOk result (λ _. PutTerms terms.old.items (made_terms instance.now item period other) terms.new.items) }
+    ensures { IfOk result (λ _.
+        PutTerms terms.old.items (made_terms instance.now item period other) terms.new.items) }
 {
     if item == other {
         push_earlier(terms, instance, item, period)?;
@@ -112,7 +115,10 @@ fn push_made(
 ) -> Result<(), AllocError>
     requires low { 1 ≤ item }
     requires high { item ≤ item_count instance.now }
-    ensures { IfOk result (λ _. PutTerms terms.old.items (terms_to (item_count instance.now) (made_terms instance.now item period)) terms.new.items) }
+    ensures { IfOk result (λ _.
+        PutTerms terms.old.items
+        (terms_to (item_count instance.now) (made_terms instance.now item period))
+        terms.new.items) }
 {
     for other in 1..instance.items() + 1 {
         push_made_of(terms, instance, item, period, other)?;
@@ -122,7 +128,8 @@ fn push_made(
 
 // The stock at the end of a period, where it is a column.
 fn push_stock(terms: &mut Vec<Term>, item: u32, period: u32, times: i128) -> Result<(), AllocError>
-    ensures { IfOk result (λ _. PutTerms terms.old.items (stock_terms item period times) terms.new.items) }
+    ensures { IfOk result (λ _.
+        PutTerms terms.old.items (stock_terms item period times) terms.new.items) }
 {
     if period > 0 {
         push_term(terms, Column::S { item, period }, times)?;
@@ -149,7 +156,8 @@ fn push_owing(
 ) -> Result<(), AllocError>
     requires low { 1 ≤ item }
     requires high { item ≤ item_count instance.now }
-    ensures { IfOk result (λ _. PutTerms terms.old.items (owing_terms instance.now item period times) terms.new.items) }
+    ensures { IfOk result (λ _.
+        PutTerms terms.old.items (owing_terms instance.now item period times) terms.new.items) }
 {
     if is_owing(instance, item, period) {
         push_term(terms, Column::R { item, period }, times)?;
@@ -191,7 +199,8 @@ fn within_bound(number: u64, bound: Option<u64>) -> u64
 fn most_made(instance: &Instance, item: u32) -> u64
     requires low { 1 ≤ item }
     requires high { item ≤ item_count instance.now }
-    ensures value { (total : ℕ → ℕ) × AreLargestTotals instance.now total × (result ≡ most_made instance.now total item) }
+    ensures value { (total : ℕ → ℕ) × AreLargestTotals instance.now total
+        × (result ≡ most_made instance.now total item) }
     ensures small { result ≤ MAX_TOTAL }
 {
     within_bound(instance.largest_total(item), instance.max_lot(item))
@@ -245,7 +254,10 @@ fn push_unit_times(
     resource: u32,
     period: u32,
 ) -> Result<(), AllocError>
-    ensures { IfOk result (λ _. PutTerms terms.old.items (terms_to (item_count instance.now) (unit_terms instance.now resource period)) terms.new.items) }
+    ensures { IfOk result (λ _.
+        PutTerms terms.old.items
+        (terms_to (item_count instance.now) (unit_terms instance.now resource period))
+        terms.new.items) }
 {
     for item in 1..instance.items() + 1 {
         let times = taken(instance.unit_time(item, resource));
@@ -261,7 +273,10 @@ fn push_setup_times(
     resource: u32,
     period: u32,
 ) -> Result<(), AllocError>
-    ensures { IfOk result (λ _. PutTerms terms.old.items (terms_to (item_count instance.now) (setup_terms instance.now resource period)) terms.new.items) }
+    ensures { IfOk result (λ _.
+        PutTerms terms.old.items
+        (terms_to (item_count instance.now) (setup_terms instance.now resource period))
+        terms.new.items) }
 {
     for item in 1..instance.items() + 1 {
         let times = taken(instance.setup_time(item, resource));
@@ -277,7 +292,8 @@ fn capacity_terms(
     resource: u32,
     period: u32,
 ) -> Result<Vec<Term>, AllocError>
-    ensures { IfOk result (λ terms. AreTermsOf instance.now (Capacity resource period) terms.items) }
+    ensures { IfOk result (λ terms.
+        AreTermsOf instance.now (Capacity resource period) terms.items) }
 {
     let mut terms = Vec::new(alloc);
     push_unit_times(&mut terms, instance, resource, period)?;

@@ -35,7 +35,8 @@ pub fn fault(
 
 // Whether there aren't too many lines of components in all.
 fn has_few_lines(items: &[DraftItem]) -> bool
-    ensures { result ≡ nat_le (sum_by (λ i. length i.needs) (map raw_item items.now)) MAX_BILL_LINES }
+    ensures { result ≡ nat_le (sum_by (λ i. length i.needs) (map raw_item items.now))
+        MAX_BILL_LINES }
 {
     let mut count = 0usize;
     for at in 0..items.len() {
@@ -121,7 +122,8 @@ fn optional_series_fault(
     list: &Option<Vec<i64>>,
     periods: u32,
 ) -> Option<ModelFault>
-    ensures { result ≡ optional_series_fault (pos periods) place key (option_map (λ v. v.items) list.now) }
+    ensures { result ≡ optional_series_fault (pos periods) place key
+        (option_map (λ v. v.items) list.now) }
 {
     match list {
         Some(list) => series_fault(place, key, list, periods),
@@ -311,7 +313,8 @@ fn is_item_name(items: &[DraftItem], count: usize, name: &str) -> bool
 // Whether one of the first resources has a name.
 fn is_resource_name(resources: &[DraftResource], count: usize, name: &str) -> bool
     requires { count ≤ length resources.now }
-    ensures { result ≡ is_among (take count (resource_names (map raw_resource resources.now))) name.now }
+    ensures { result ≡ is_among (take count (resource_names (map raw_resource resources.now)))
+        name.now }
 {
     for at in 0..count {
         let resource = &resources[at];
@@ -358,7 +361,8 @@ fn resource_repeat(
 ) -> Option<ModelFault>
     requires low { 1 ≤ number }
     requires high { number ≤ length resources.now }
-    ensures { result ≡ resource_repeat (map raw_resource resources.now) number (raw_resource resource.now) }
+    ensures { result ≡ resource_repeat (map raw_resource resources.now) number
+        (raw_resource resource.now) }
 {
     if is_resource_name(resources, (number - 1) as usize, &resource.name) {
         return fault(ModelCode::RepeatedName, Place::Resource(number), None, None);
@@ -369,7 +373,8 @@ fn resource_repeat(
 // Names of resources that stand before.
 fn resource_repeats_fault(resources: &[DraftResource]) -> Option<ModelFault>
     requires few { length resources.now ≤ MAX_RESOURCES }
-    ensures { result ≡ first_in (resource_repeat (map raw_resource resources.now)) 1 (map raw_resource resources.now) }
+    ensures { result ≡ first_in (resource_repeat (map raw_resource resources.now)) 1
+        (map raw_resource resources.now) }
 {
     for at in 0..resources.len() {
         let resource = &resources[at];
@@ -416,7 +421,8 @@ fn need_fault(
 ) -> Option<ModelFault>
     requires low { 1 ≤ line }
     requires high { line ≤ length needs.now }
-    ensures { result ≡ need_fault (item_names (map raw_item items.now)) item (map raw_need needs.now) line (raw_need need.now) }
+    ensures { result ≡ need_fault (item_names (map raw_item items.now)) item
+        (map raw_need needs.now) line (raw_need need.now) }
 {
     let at = Place::Need(item, line);
     if !is_item_name(items, items.len(), &need.item) {
@@ -438,7 +444,8 @@ fn use_fault(
 ) -> Option<ModelFault>
     requires low { 1 ≤ line }
     requires high { line ≤ length uses.now }
-    ensures { result ≡ use_fault (resource_names (map raw_resource resources.now)) item (map raw_use uses.now) line (raw_use usage.now) }
+    ensures { result ≡ use_fault (resource_names (map raw_resource resources.now)) item
+        (map raw_use uses.now) line (raw_use usage.now) }
 {
     let at = Place::Usage(item, line);
     if !is_resource_name(resources, resources.len(), &usage.resource) {
@@ -456,7 +463,9 @@ fn use_fault(
 // The lines of resources of an item.
 fn uses_fault(resources: &[DraftResource], item: u32, uses: &[DraftUse]) -> Option<ModelFault>
     requires few { length resources.now ≤ MAX_RESOURCES }
-    ensures { result ≡ first_in (use_fault (resource_names (map raw_resource resources.now)) item (map raw_use uses.now)) 1 (map raw_use uses.now) }
+    ensures { result ≡ first_in
+        (use_fault (resource_names (map raw_resource resources.now)) item (map raw_use uses.now)) 1
+        (map raw_use uses.now) }
 {
     for at in 0..uses.len() {
         let usage = &uses[at];
@@ -470,7 +479,9 @@ fn uses_fault(resources: &[DraftResource], item: u32, uses: &[DraftUse]) -> Opti
 // The lines of components of an item.
 fn needs_fault(items: &[DraftItem], item: u32, needs: &[DraftNeed]) -> Option<ModelFault>
     requires few { length needs.now ≤ MAX_BILL_LINES }
-    ensures { result ≡ first_in (need_fault (item_names (map raw_item items.now)) item (map raw_need needs.now)) 1 (map raw_need needs.now) }
+    ensures { result ≡ first_in
+        (need_fault (item_names (map raw_item items.now)) item (map raw_need needs.now)) 1
+        (map raw_need needs.now) }
 {
     for at in 0..needs.len() {
         let need = &needs[at];
@@ -497,7 +508,8 @@ fn item_lines_fault(draft: &Draft, number: u32, item: &DraftItem) -> Option<Mode
 fn lines_fault(draft: &Draft) -> Option<ModelFault>
     requires resources { length draft.now.resources.items ≤ MAX_RESOURCES }
     requires items { length draft.now.items.items ≤ MAX_ITEMS }
-    requires lines { sum_by (λ i. length i.needs) (map raw_item draft.now.items.items) ≤ MAX_BILL_LINES }
+    requires lines { sum_by (λ i. length i.needs) (map raw_item draft.now.items.items)
+        ≤ MAX_BILL_LINES }
     ensures { result ≡ lines_fault (raw_model draft.now) }
 {
     for at in 0..draft.items.len() {
@@ -513,7 +525,8 @@ fn lines_fault(draft: &Draft) -> Option<ModelFault>
 fn names_fault(draft: &Draft) -> Option<ModelFault>
     requires resources { length draft.now.resources.items ≤ MAX_RESOURCES }
     requires items { length draft.now.items.items ≤ MAX_ITEMS }
-    ensures { result ≡ or_then (name_fault (raw_model draft.now)) (repeat_fault (raw_model draft.now)) }
+    ensures { result ≡ or_then (name_fault (raw_model draft.now))
+        (repeat_fault (raw_model draft.now)) }
 {
     if let Some(found) = resource_names_fault(&draft.resources) {
         return Some(found);
@@ -531,9 +544,11 @@ fn names_fault(draft: &Draft) -> Option<ModelFault>
 fn numbers_and_lines_fault(draft: &Draft, periods: u32) -> Option<ModelFault>
     requires resources { length draft.now.resources.items ≤ MAX_RESOURCES }
     requires items { length draft.now.items.items ≤ MAX_ITEMS }
-    requires lines { sum_by (λ i. length i.needs) (map raw_item draft.now.items.items) ≤ MAX_BILL_LINES }
+    requires lines { sum_by (λ i. length i.needs) (map raw_item draft.now.items.items)
+        ≤ MAX_BILL_LINES }
     requires periods { draft.now.periods ≡ pos periods }
-    ensures { result ≡ or_then (numbers_fault (raw_model draft.now)) (lines_fault (raw_model draft.now)) }
+    ensures { result ≡ or_then (numbers_fault (raw_model draft.now))
+        (lines_fault (raw_model draft.now)) }
 {
     if let Some(found) = capacities_fault(&draft.resources, periods) {
         return Some(found);

@@ -71,7 +71,8 @@ fn lots_fault(item: &DraftItem, number: u32) -> Option<ModelFault>
 // The first component with a backlog cost.
 fn backlogs_fault(items: &[DraftItem]) -> Option<ModelFault>
     requires few { length items.now ≤ MAX_ITEMS }
-    ensures { result ≡ first_in (backlog_fault (map raw_item items.now)) 1 (map raw_item items.now) }
+    ensures { result ≡ first_in (backlog_fault (map raw_item items.now)) 1
+        (map raw_item items.now) }
 {
     for at in 0..items.len() {
         let item = &items[at];
@@ -118,7 +119,8 @@ pub fn later_fault(draft: &Draft) -> Option<ModelFault>
     requires { plain_fault (raw_model draft.now) ≡ None }
     ensures value { result ≡ later_fault (raw_model draft.now) }
     ensures limits { result ≡ None → IsWithinLimits (problem_of (raw_model draft.now)) }
-    ensures lines { result ≡ None → sum_by (λ i. length i.needs) (problem_of (raw_model draft.now)).items ≤ MAX_BILL_LINES }
+    ensures lines { result ≡ None → sum_by (λ i. length i.needs)
+        (problem_of (raw_model draft.now)).items ≤ MAX_BILL_LINES }
 {
     if let Some(found) = backlogs_fault(&draft.items) {
         return Some(found);

@@ -10,7 +10,8 @@ use crate::{DraftItem, DraftResource};
 /// The number of the item of a name, from 1 on.
 pub fn item_named(items: &[DraftItem], name: &str) -> Option<u32>
     requires few { length items.now ≤ MAX_ITEMS }
-    ensures number { unwrap_or result 0 ≡ number_named (item_names (map raw_item items.now)) name.now }
+    ensures number { unwrap_or result 0
+        ≡ number_named (item_names (map raw_item items.now)) name.now }
     ensures some { IfSome result (λ number. 1 ≤ number) }
 {
     for at in 0..items.len() {
@@ -25,7 +26,8 @@ pub fn item_named(items: &[DraftItem], name: &str) -> Option<u32>
 /// The number of the resource of a name, from 1 on.
 pub fn resource_named(resources: &[DraftResource], name: &str) -> Option<u32>
     requires few { length resources.now ≤ MAX_RESOURCES }
-    ensures number { unwrap_or result 0 ≡ number_named (resource_names (map raw_resource resources.now)) name.now }
+    ensures number { unwrap_or result 0
+        ≡ number_named (resource_names (map raw_resource resources.now)) name.now }
     ensures some { IfSome result (λ number. 1 ≤ number) }
 {
     for at in 0..resources.len() {

@@ -68,23 +68,34 @@ pub fn read_file<S: Shelf>(
     requires { most < 2 ^ 63 }
 
     // What is read, and why it may not be. Out of memory stands in for no other refusal.
-    ensures bytes { IfOk result (λ bytes. IsTrue (S.shown shelf.old).told → (S.shown shelf.old).file name.now ≡ Some bytes.items) }
+    ensures bytes { IfOk result (λ bytes. IsTrue (S.shown shelf.old).told
+        → (S.shown shelf.old).file name.now ≡ Some bytes.items) }
     ensures within { IfOk result (λ bytes. length bytes.items ≤ most) }
-    ensures given { IfOk result (λ bytes. GrewBy (length bytes.items) (S.shown shelf.old).given (S.shown shelf.new).given) }
+    ensures given { IfOk result (λ bytes.
+        GrewBy (length bytes.items) (S.shown shelf.old).given (S.shown shelf.new).given) }
     ensures found { OnOk result (Finds (S.shown shelf.old) (S.shown shelf.new)) }
-    ensures missing { IsErrOf result ReadFault.Missing → Misses (S.shown shelf.old) (S.shown shelf.new) }
-    ensures absent { IsErrOf result ReadFault.Missing → IsTrue (S.shown shelf.old).told → (S.shown shelf.old).file name.now ≡ None }
-    ensures failed { IsErrOf result ReadFault.Failed → Fails (S.shown shelf.old) (S.shown shelf.new) }
-    ensures too_much { IsErrOf result ReadFault.TooLong → RoseBy (most + 1) (S.shown shelf.old).given (S.shown shelf.new).given }
+    ensures missing { IsErrOf result ReadFault.Missing
+        → Misses (S.shown shelf.old) (S.shown shelf.new) }
+    ensures absent { IsErrOf result ReadFault.Missing → IsTrue (S.shown shelf.old).told
+        → (S.shown shelf.old).file name.now ≡ None }
+    ensures failed { IsErrOf result ReadFault.Failed
+        → Fails (S.shown shelf.old) (S.shown shelf.new) }
+    ensures too_much { IsErrOf result ReadFault.TooLong
+        → RoseBy (most + 1) (S.shown shelf.old).given (S.shown shelf.new).given }
     ensures too_long { IsErrOf result ReadFault.TooLong → IsTrue (S.shown shelf.old).told
-        → (bytes : List ℕ) × ((S.shown shelf.old).file name.now ≡ Some bytes) × (most < length bytes) }
-    ensures long_found { IsErrOf result ReadFault.TooLong → Finds (S.shown shelf.old) (S.shown shelf.new) }
-    ensures memory { IsErrOf result ReadFault.Memory → Finds (S.shown shelf.old) (S.shown shelf.new) }
-    ensures memory_given { IsErrOf result ReadFault.Memory → (S.shown shelf.new).given ≤ (S.shown shelf.old).given + most }
+        → (bytes : List ℕ) × ((S.shown shelf.old).file name.now ≡ Some bytes)
+        × (most < length bytes) }
+    ensures long_found { IsErrOf result ReadFault.TooLong
+        → Finds (S.shown shelf.old) (S.shown shelf.new) }
+    ensures memory { IsErrOf result ReadFault.Memory
+        → Finds (S.shown shelf.old) (S.shown shelf.new) }
+    ensures memory_given { IsErrOf result ReadFault.Memory
+        → (S.shown shelf.new).given ≤ (S.shown shelf.old).given + most }
 
     // Nothing is written, and what is fetched has a limit.
     ensures reads { OnlyReads (S.shown shelf.old) (S.shown shelf.new) }
-    ensures given_bound { (S.shown shelf.new).given ≤ (S.shown shelf.old).given + most + piece_size }
+    ensures given_bound { (S.shown shelf.new).given
+        ≤ (S.shown shelf.old).given + most + piece_size }
 {
     let mut bytes: Vec<u8> = Vec::new(alloc);
     let mut room = room_of(alloc, PIECE)?;
@@ -109,15 +120,20 @@ pub fn read_file<S: Shelf>(
 /// It starts the file, and then appends pieces of `PIECE` bytes and what is left, if anything is.
 /// After a refusal the file may be absent or hold anything; all others stay.
 pub fn write_file<S: Shelf>(shelf: &mut S, name: &str, bytes: &[u8]) -> Result<(), WriteFailed>
-    ensures written { OnOk result (IsTrue (S.shown shelf.old).told → (S.shown shelf.new).file name.now ≡ Some bytes.now) }
-    ensures fine { OnOk result ((S.shown shelf.new).write_faults ≡ (S.shown shelf.old).write_faults) }
-    ensures failed { OnErr result (GrewBy 1 (S.shown shelf.old).write_faults (S.shown shelf.new).write_faults) }
+    ensures written { OnOk result (IsTrue (S.shown shelf.old).told
+        → (S.shown shelf.new).file name.now ≡ Some bytes.now) }
+    ensures fine { OnOk result ((S.shown shelf.new).write_faults
+        ≡ (S.shown shelf.old).write_faults) }
+    ensures failed { OnErr result (GrewBy 1 (S.shown shelf.old).write_faults
+        (S.shown shelf.new).write_faults) }
     ensures writes { OnlyWrites name.now (S.shown shelf.old) (S.shown shelf.new) }
 
     // One start, and one append for each piece.
     ensures starts { GrewBy 1 (S.shown shelf.old).starts (S.shown shelf.new).starts }
-    ensures appends { OnOk result (GrewBy (pieces_of (length bytes.now)) (S.shown shelf.old).appends (S.shown shelf.new).appends) }
-    ensures appends_bound { (S.shown shelf.new).appends ≤ (S.shown shelf.old).appends + pieces_of (length bytes.now) }
+    ensures appends { OnOk result (GrewBy (pieces_of (length bytes.now)) (S.shown shelf.old).appends
+        (S.shown shelf.new).appends) }
+    ensures appends_bound { (S.shown shelf.new).appends
+        ≤ (S.shown shelf.old).appends + pieces_of (length bytes.now) }
 {
     shelf.start(name)?;
     let mut rest = bytes;

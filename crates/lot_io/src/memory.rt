@@ -97,17 +97,22 @@ impl Shelf for MemoryShelf {
     /// Gives as many bytes as there are and fit.
     fn fetch(&mut self, name: &str, at: u64, room: &mut [u8]) -> Result<usize, ShelfFault>
         ensures bound { IfOk result (λ n. n ≤ length room.new) }
-        ensures bytes { IfOk result (λ n. (bytes : List ℕ) × (file_in self.old.files name.now ≡ Some bytes) × Fetched bytes at n room.new) }
+        ensures bytes { IfOk result (λ n. (bytes : List ℕ)
+            × (file_in self.old.files name.now ≡ Some bytes) × Fetched bytes at n room.new) }
         ensures given { IfOk result (λ n. GrewBy n self.old.given self.new.given) }
         ensures not_given { OnErr result (self.new.given ≡ self.old.given) }
         ensures found { OnOk result (Finds (shelved self.old) (shelved self.new)) }
-        ensures missing { IsErrOf result ShelfFault.Missing → Misses (shelved self.old) (shelved self.new) }
-        ensures absent { IsErrOf result ShelfFault.Missing → file_in self.old.files name.now ≡ None }
-        ensures failed { IsErrOf result ShelfFault.Failed → Fails (shelved self.old) (shelved self.new) }
+        ensures missing { IsErrOf result ShelfFault.Missing
+            → Misses (shelved self.old) (shelved self.new) }
+        ensures absent { IsErrOf result ShelfFault.Missing
+            → file_in self.old.files name.now ≡ None }
+        ensures failed { IsErrOf result ShelfFault.Failed
+            → Fails (shelved self.old) (shelved self.new) }
         ensures reads { OnlyReads (shelved self.old) (shelved self.new) }
 
         // It fails exactly where its number is listed.
-        ensures fails { IsErrOf result ShelfFault.Failed ↔ Contains self.old.fail_fetch.items (next_count self.old.fetches) }
+        ensures fails { IsErrOf result ShelfFault.Failed ↔ Contains self.old.fail_fetch.items
+            (next_count self.old.fetches) }
         ensures counted { self.new.fetches ≡ next_count self.old.fetches }
         ensures lists { KeepsLists self.old self.new }
         ensures wants { self.new.wants ≡ self.old.wants }
@@ -140,10 +145,14 @@ impl Shelf for MemoryShelf {
         ensures writes { OnlyWrites name.now (shelved self.old) (shelved self.new) }
 
         // It fails where its number is listed, and else only where memory runs out. The file stays then.
-        ensures listed { Contains self.old.fail_start.items (next_count self.old.starts) → IsErr result × (self.new.wants ≡ self.old.wants) }
-        ensures unlisted { OnErr result ((Contains self.old.fail_start.items (next_count self.old.starts) → ⊥) → GrewBy 1 self.old.wants self.new.wants) }
+        ensures listed { Contains self.old.fail_start.items (next_count self.old.starts)
+            → IsErr result × (self.new.wants ≡ self.old.wants) }
+        ensures unlisted { OnErr result
+            ((Contains self.old.fail_start.items (next_count self.old.starts) → ⊥)
+            → GrewBy 1 self.old.wants self.new.wants) }
         ensures enough { OnOk result (self.new.wants ≡ self.old.wants) }
-        ensures kept { OnErr result (file_in self.new.files name.now ≡ file_in self.old.files name.now) }
+        ensures kept { OnErr result (file_in self.new.files name.now
+            ≡ file_in self.old.files name.now) }
         ensures counted { self.new.starts ≡ next_count self.old.starts }
         ensures fetches { self.new.fetches ≡ self.old.fetches }
         ensures lists { KeepsLists self.old self.new }
@@ -162,7 +171,8 @@ impl Shelf for MemoryShelf {
     }
 
     fn append(&mut self, name: &str, piece: &[u8]) -> Result<(), WriteFailed>
-        ensures appended { OnOk result (file_in self.new.files name.now ≡ Some (unwrap_or (file_in self.old.files name.now) [] ++ piece.now)) }
+        ensures appended { OnOk result (file_in self.new.files name.now
+            ≡ Some (unwrap_or (file_in self.old.files name.now) [] ++ piece.now)) }
         ensures fine { OnOk result (self.new.write_faults ≡ self.old.write_faults) }
         ensures failed { OnErr result (GrewBy 1 self.old.write_faults self.new.write_faults) }
         ensures starts { self.new.starts ≡ self.old.starts }
@@ -171,13 +181,19 @@ impl Shelf for MemoryShelf {
         ensures writes { OnlyWrites name.now (shelved self.old) (shelved self.new) }
 
         // It fails where its number is listed, and else only where memory runs out.
-        ensures listed { Contains self.old.fail_append.items (next_count self.old.appends) → IsErr result }
-        ensures unlisted { OnErr result ((Contains self.old.fail_append.items (next_count self.old.appends) → ⊥) → GrewBy 1 self.old.wants self.new.wants) }
+        ensures listed { Contains self.old.fail_append.items (next_count self.old.appends)
+            → IsErr result }
+        ensures unlisted { OnErr result
+            ((Contains self.old.fail_append.items (next_count self.old.appends) → ⊥)
+            → GrewBy 1 self.old.wants self.new.wants) }
         ensures enough { OnOk result (self.new.wants ≡ self.old.wants) }
 
         // A listed one has added half of the piece, and out of memory adds nothing.
-        ensures half { OnErr result (AddsHalf piece.now name.now self.old self.new ⊎ AddsNothing name.now self.old self.new) }
-        ensures whole { OnErr result ((Contains self.old.fail_append.items (next_count self.old.appends) → ⊥) → AddsNothing name.now self.old self.new) }
+        ensures half { OnErr result (AddsHalf piece.now name.now self.old self.new
+            ⊎ AddsNothing name.now self.old self.new) }
+        ensures whole { OnErr result
+            ((Contains self.old.fail_append.items (next_count self.old.appends) → ⊥)
+            → AddsNothing name.now self.old self.new) }
         ensures counted { self.new.appends ≡ next_count self.old.appends }
         ensures fetches { self.new.fetches ≡ self.old.fetches }
         ensures lists { KeepsLists self.old self.new }
@@ -223,7 +239,8 @@ fn add_to_file(
     name: &str,
     piece: &[u8],
 ) -> Result<(), AllocError>
-    ensures added { OnOk result (file_in files.new name.now ≡ Some (unwrap_or (file_in files.old name.now) [] ++ piece.now)) }
+    ensures added { OnOk result (file_in files.new name.now
+        ≡ Some (unwrap_or (file_in files.old name.now) [] ++ piece.now)) }
     ensures others { SameElsewhere name.now (file_in files.old) (file_in files.new) }
     ensures err { OnErr result (file_in files.new name.now ≡ file_in files.old name.now) }
 {
@@ -279,19 +296,25 @@ impl Sink for MemorySink {
 
     fn put(&mut self, piece: &[u8]) -> Result<(), SinkFailed>
         ensures put { OnOk result (self.new.bytes.items ≡ self.old.bytes.items ++ piece.now) }
-        ensures part { OnErr result (AppendsSome piece.now self.old.bytes.items self.new.bytes.items) }
+        ensures part { OnErr result (AppendsSome piece.now self.old.bytes.items
+            self.new.bytes.items) }
         ensures fine { OnOk result (self.new.faults ≡ self.old.faults) }
         ensures failed { OnErr result (GrewBy 1 self.old.faults self.new.faults) }
         ensures puts { GrewBy 1 self.old.puts self.new.puts }
 
         // It fails where its number is listed, and else only where memory runs out.
-        ensures listed { Contains self.old.fail_put.items (next_count self.old.puts) → IsErr result }
-        ensures unlisted { OnErr result ((Contains self.old.fail_put.items (next_count self.old.puts) → ⊥) → GrewBy 1 self.old.wants self.new.wants) }
+        ensures listed { Contains self.old.fail_put.items (next_count self.old.puts)
+            → IsErr result }
+        ensures unlisted { OnErr result
+            ((Contains self.old.fail_put.items (next_count self.old.puts) → ⊥)
+            → GrewBy 1 self.old.wants self.new.wants) }
         ensures enough { OnOk result (self.new.wants ≡ self.old.wants) }
 
         // A listed one has added half of the piece, and out of memory adds nothing.
-        ensures half { OnErr result (PutsHalf piece.now self.old self.new ⊎ PutsNothing self.old self.new) }
-        ensures whole { OnErr result ((Contains self.old.fail_put.items (next_count self.old.puts) → ⊥) → PutsNothing self.old self.new) }
+        ensures half { OnErr result (PutsHalf piece.now self.old self.new
+            ⊎ PutsNothing self.old self.new) }
+        ensures whole { OnErr result ((Contains self.old.fail_put.items (next_count self.old.puts)
+            → ⊥) → PutsNothing self.old self.new) }
         ensures counted { self.new.puts ≡ next_count self.old.puts }
         ensures list { self.new.fail_put ≡ self.old.fail_put }
     {

@@ -184,7 +184,8 @@ impl<W: Write> Sink for StdSink<W> {
         ensures puts { GrewBy 1 self.old.puts self.new.puts }
 
         // A writer that says what it holds, as a `Vec` does, holds the whole piece.
-        ensures written { OnOk result (Appends (written_in W.contents self.old) (written_in W.contents self.new) piece.now) }
+        ensures written { OnOk result (Appends (written_in W.contents self.old)
+            (written_in W.contents self.new) piece.now) }
     {
         self.puts = grown(self.puts, 1);
         match self.out.write_all(piece) {

@@ -57,21 +57,26 @@ pub trait Shelf {
     fn fetch(&mut self, name: &str, at: u64, room: &mut [u8]) -> Result<usize, ShelfFault>
         ensures bound { IfOk result (λ n. n ≤ length room.new) }
         ensures bytes { IfOk result (λ n. IsTrue (shown self.old).told
-            → (bytes : List ℕ) × ((shown self.old).file name.now ≡ Some bytes) × Fetched bytes at n room.new) }
+            → (bytes : List ℕ) × ((shown self.old).file name.now ≡ Some bytes)
+            × Fetched bytes at n room.new) }
         ensures given { IfOk result (λ n. GrewBy n (shown self.old).given (shown self.new).given) }
         ensures not_given { OnErr result ((shown self.new).given ≡ (shown self.old).given) }
         ensures found { OnOk result (Finds (shown self.old) (shown self.new)) }
-        ensures missing { IsErrOf result ShelfFault.Missing → Misses (shown self.old) (shown self.new) }
+        ensures missing { IsErrOf result ShelfFault.Missing
+            → Misses (shown self.old) (shown self.new) }
         ensures absent { IsErrOf result ShelfFault.Missing → IsTrue (shown self.old).told
             → (shown self.old).file name.now ≡ None }
-        ensures failed { IsErrOf result ShelfFault.Failed → Fails (shown self.old) (shown self.new) }
+        ensures failed { IsErrOf result ShelfFault.Failed
+            → Fails (shown self.old) (shown self.new) }
         ensures reads { OnlyReads (shown self.old) (shown self.new) };
 
     /// Makes the file present and empty. After a refusal it may be absent or hold anything.
     fn start(&mut self, name: &str) -> Result<(), WriteFailed>
-        ensures started { OnOk result (IsTrue (shown self.old).told → (shown self.new).file name.now ≡ Some []) }
+        ensures started { OnOk result (IsTrue (shown self.old).told
+            → (shown self.new).file name.now ≡ Some []) }
         ensures fine { OnOk result ((shown self.new).write_faults ≡ (shown self.old).write_faults) }
-        ensures failed { OnErr result (GrewBy 1 (shown self.old).write_faults (shown self.new).write_faults) }
+        ensures failed { OnErr result (GrewBy 1 (shown self.old).write_faults
+            (shown self.new).write_faults) }
         ensures starts { GrewBy 1 (shown self.old).starts (shown self.new).starts }
         ensures appends { (shown self.new).appends ≡ (shown self.old).appends }
         ensures writes { OnlyWrites name.now (shown self.old) (shown self.new) };
@@ -80,9 +85,11 @@ pub trait Shelf {
     /// or hold anything.
     fn append(&mut self, name: &str, piece: &[u8]) -> Result<(), WriteFailed>
         ensures appended { OnOk result (IsTrue (shown self.old).told
-            → (shown self.new).file name.now ≡ Some (unwrap_or ((shown self.old).file name.now) [] ++ piece.now)) }
+            → (shown self.new).file name.now
+            ≡ Some (unwrap_or ((shown self.old).file name.now) [] ++ piece.now)) }
         ensures fine { OnOk result ((shown self.new).write_faults ≡ (shown self.old).write_faults) }
-        ensures failed { OnErr result (GrewBy 1 (shown self.old).write_faults (shown self.new).write_faults) }
+        ensures failed { OnErr result (GrewBy 1 (shown self.old).write_faults
+            (shown self.new).write_faults) }
         ensures starts { (shown self.new).starts ≡ (shown self.old).starts }
         ensures appends { GrewBy 1 (shown self.old).appends (shown self.new).appends }
         ensures writes { OnlyWrites name.now (shown self.old) (shown self.new) };

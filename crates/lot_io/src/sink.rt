@@ -30,8 +30,10 @@ pub trait Sink {
 
     /// Adds the whole piece at the end. After a refusal some of its first bytes may be added.
     fn put(&mut self, piece: &[u8]) -> Result<(), SinkFailed>
-        ensures put { OnOk result (IsTrue (shown self.old).told → (shown self.new).bytes ≡ (shown self.old).bytes ++ piece.now) }
-        ensures part { OnErr result (IsTrue (shown self.old).told → AppendsSome piece.now (shown self.old).bytes (shown self.new).bytes) }
+        ensures put { OnOk result (IsTrue (shown self.old).told
+            → (shown self.new).bytes ≡ (shown self.old).bytes ++ piece.now) }
+        ensures part { OnErr result (IsTrue (shown self.old).told
+            → AppendsSome piece.now (shown self.old).bytes (shown self.new).bytes) }
         ensures fine { OnOk result ((shown self.new).faults ≡ (shown self.old).faults) }
         ensures failed { OnErr result (GrewBy 1 (shown self.old).faults (shown self.new).faults) }
         ensures puts { GrewBy 1 (shown self.old).puts (shown self.new).puts }

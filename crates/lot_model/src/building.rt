@@ -42,7 +42,8 @@ fn optional_naturals(
     alloc: Global,
     numbers: &Option<Vec<i64>>,
 ) -> Result<Option<Vec<u64>>, AllocError>
-    ensures { IfOk result (λ list. option_map (λ v. v.items) list ≡ option_map naturals (option_map (λ v. v.items) numbers.now)) }
+    ensures { IfOk result (λ list. option_map (λ v. v.items) list
+        ≡ option_map naturals (option_map (λ v. v.items) numbers.now)) }
 {
     match numbers {
         Some(numbers) => Ok(Some(naturals(alloc, numbers)?)),
@@ -64,7 +65,8 @@ fn need_of(items: &[DraftItem], need: &DraftNeed) -> Need
 // A line of resources. A model is refused where no resource has the name.
 fn use_of(resources: &[DraftResource], usage: &DraftUse) -> Usage
     requires few { length resources.now ≤ MAX_RESOURCES }
-    ensures { result ≡ use_of (resource_names (map raw_resource resources.now)) (raw_use usage.now) }
+    ensures { result ≡ use_of (resource_names (map raw_resource resources.now))
+        (raw_use usage.now) }
 {
     Usage {
         resource: resource_named(resources, &usage.resource).unwrap_or(0),
@@ -80,7 +82,8 @@ pub fn needs_of(
     needs: &[DraftNeed],
 ) -> Result<Vec<Need>, AllocError>
     requires few { length items.now ≤ MAX_ITEMS }
-    ensures { IfOk result (λ list. list.items ≡ map (need_of (item_names (map raw_item items.now))) (map raw_need needs.now)) }
+    ensures { IfOk result (λ list. list.items
+        ≡ map (need_of (item_names (map raw_item items.now))) (map raw_need needs.now)) }
 {
     let mut list = Vec::with_capacity(alloc, needs.len())?;
     for need in needs {
@@ -96,7 +99,8 @@ fn uses_of(
     uses: &[DraftUse],
 ) -> Result<Vec<Usage>, AllocError>
     requires few { length resources.now ≤ MAX_RESOURCES }
-    ensures { IfOk result (λ list. list.items ≡ map (use_of (resource_names (map raw_resource resources.now))) (map raw_use uses.now)) }
+    ensures { IfOk result (λ list. list.items
+        ≡ map (use_of (resource_names (map raw_resource resources.now))) (map raw_use uses.now)) }
 {
     let mut list = Vec::with_capacity(alloc, uses.len())?;
     for usage in uses {
@@ -107,7 +111,8 @@ fn uses_of(
 
 // The largest end stock, and where it is left out, the least one and the opening stock together.
 fn end_max(item: &DraftItem) -> u64
-    ensures { result ≡ unwrap_or (option_map natural item.now.end_max) (natural item.now.end_min + natural item.now.opening) }
+    ensures { result ≡ unwrap_or (option_map natural item.now.end_max)
+        (natural item.now.end_min + natural item.now.opening) }
 {
     match item.end_max {
         Some(most) => natural(most),
@@ -129,7 +134,9 @@ fn optional_natural(number: Option<i64>) -> Option<u64>
 fn item_data(alloc: Global, draft: &Draft, item: &DraftItem) -> Result<ItemData, AllocError>
     requires items { length draft.now.items.items ≤ MAX_ITEMS }
     requires resources { length draft.now.resources.items ≤ MAX_RESOURCES }
-    ensures { IfOk result (λ made. made ≡ item_of (resource_names (map raw_resource draft.now.resources.items)) (item_names (map raw_item draft.now.items.items)) (raw_item item.now)) }
+    ensures { IfOk result (λ made. made
+        ≡ item_of (resource_names (map raw_resource draft.now.resources.items))
+        (item_names (map raw_item draft.now.items.items)) (raw_item item.now)) }
 {
     Ok(ItemData {
         name: item.name.clone()?,
@@ -163,7 +170,9 @@ fn resource_data(alloc: Global, resource: &DraftResource) -> Result<ResourceData
 fn items_data(alloc: Global, draft: &Draft) -> Result<Vec<ItemData>, AllocError>
     requires items { length draft.now.items.items ≤ MAX_ITEMS }
     requires resources { length draft.now.resources.items ≤ MAX_RESOURCES }
-    ensures { IfOk result (λ list. list.items ≡ map (item_of (resource_names (map raw_resource draft.now.resources.items)) (item_names (map raw_item draft.now.items.items))) (map raw_item draft.now.items.items)) }
+    ensures { IfOk result (λ list. list.items
+        ≡ map (item_of (resource_names (map raw_resource draft.now.resources.items))
+        (item_names (map raw_item draft.now.items.items))) (map raw_item draft.now.items.items)) }
 {
     let mut list = Vec::with_capacity(alloc, draft.items.len())?;
     for item in &draft.items {

@@ -161,7 +161,8 @@ impl Instance {
         requires item_high { item ≤ item_count self.now }
         requires low { 1 ≤ period }
         requires high { period ≤ self.now.periods }
-        ensures value { MatchOption (item_at self.now item).backlog_cost (result ≡ None) (λ prices. result ≡ Some (entry prices period)) }
+        ensures value { MatchOption (item_at self.now item).backlog_cost (result ≡ None)
+            (λ prices. result ≡ Some (entry prices period)) }
         ensures price { unwrap_or result 0 ≡ backlog_cost self.now item period }
         ensures small { unwrap_or result 0 ≤ MAX_AMOUNT }
         ensures allowed { IsNone result ↔ IsNone (item_at self.now item).backlog_cost }
@@ -255,7 +256,8 @@ impl Instance {
     pub fn backlog_costs(&self, item: u32) -> Option<&[u64]>
         requires low { 1 ≤ item }
         requires high { item ≤ item_count self.now }
-        ensures value { option_map (λ list. list.now) result ≡ (item_at self.now item).backlog_cost }
+        ensures value { option_map (λ list. list.now) result
+            ≡ (item_at self.now item).backlog_cost }
         ensures series { IfSome result (λ list. IsSeries self.now.periods MAX_AMOUNT list.now) }
     {
         let data = &self.items[(item - 1) as usize];
@@ -373,8 +375,10 @@ impl Instance {
         requires high { item ≤ item_count self.now }
         ensures value { result.now ≡ (item_at self.now item).needs }
         ensures count { length result.now ≤ MAX_BILL_LINES }
-        ensures small { All (λ need. (1 ≤ need.quantity) × (need.quantity ≤ MAX_QUANTITY)) result.now }
-        ensures items_exist { All (λ need. (1 ≤ need.item) × (need.item ≤ item_count self.now)) result.now }
+        ensures small { All (λ need. (1 ≤ need.quantity) × (need.quantity ≤ MAX_QUANTITY))
+            result.now }
+        ensures items_exist { All (λ need. (1 ≤ need.item) × (need.item ≤ item_count self.now))
+            result.now }
     {
         let data = &self.items[(item - 1) as usize];
         &data.needs
@@ -386,8 +390,10 @@ impl Instance {
         requires high { item ≤ item_count self.now }
         ensures value { result.now ≡ (item_at self.now item).uses }
         ensures count { length result.now ≤ MAX_RESOURCES }
-        ensures small { All (λ usage. (usage.unit ≤ MAX_AMOUNT) × (usage.setup ≤ MAX_AMOUNT)) result.now }
-        ensures resources_exist { All (λ usage. (1 ≤ usage.resource) × (usage.resource ≤ resource_count self.now)) result.now }
+        ensures small { All (λ usage. (usage.unit ≤ MAX_AMOUNT) × (usage.setup ≤ MAX_AMOUNT))
+            result.now }
+        ensures resources_exist { All (λ usage. (1 ≤ usage.resource)
+            × (usage.resource ≤ resource_count self.now)) result.now }
     {
         let data = &self.items[(item - 1) as usize];
         &data.uses
@@ -424,7 +430,8 @@ impl Instance {
         requires high { item ≤ item_count self.now }
         requires other_low { 1 ≤ other }
         requires other_high { other ≤ item_count self.now }
-        ensures value { (weight : ℕ → ℕ → ℕ) → AreWeights (bill_of self.now) weight → result ≡ weight item other }
+        ensures value { (weight : ℕ → ℕ → ℕ) → AreWeights (bill_of self.now) weight
+            → result ≡ weight item other }
         ensures small { result ≤ MAX_TOTAL }
     {
         self.totals.weight(item, other)

@@ -62,7 +62,8 @@ fn prepare<'a>(alloc: Global, parts: &'a Parts) -> Result<Prepared<'a>, AllocErr
 
 // The ranks of a bill's items, or the first that is its own component.
 fn ranks(ranking: Ranking) -> Result<Vec<u32>, ModelFault>
-    ensures ranks { (p : Problem) → IsReachOf (bill_of p) ranking → IfOk result (λ ranks. AreRanks p ranks.items) }
+    ensures ranks { (p : Problem) → IsReachOf (bill_of p) ranking
+        → IfOk result (λ ranks. AreRanks p ranks.items) }
     ensures refused { (p : Problem) → IsReachOf (bill_of p) ranking → IfErr result (IsCycle p) }
 {
     match ranking.into_ranks() {
@@ -86,7 +87,8 @@ fn totals(
     requires asked { length asked.now ≡ item_count (problem_of_parts parts.now) }
     requires there { length there.now ≡ item_count (problem_of_parts parts.now) }
     requires ranks { AreRanks (problem_of_parts parts.now) ranks.now }
-    ensures found { IfOk result (λ found. AreTotalsOf (problem_of_parts parts.now) found.totals found.weights) }
+    ensures found { IfOk result (λ found.
+        AreTotalsOf (problem_of_parts parts.now) found.totals found.weights) }
     ensures refused { IfErr result (IsPastBound (problem_of_parts parts.now)) }
 {
     totals_exist();
@@ -139,7 +141,9 @@ fn judged(draft: &Draft, parts: &Parts, prepared: Prepared) -> Result<Found, Mod
 
 /// The instance of a draft, or the first rule that it breaks. The error is that there is no memory.
 pub fn instance(alloc: Global, draft: &Draft) -> Result<Result<Instance, ModelFault>, AllocError>
-    ensures { IfOk result (λ made. MatchResult made (λ p. Means (raw_model draft.now) (Ok p)) (BreaksFirst (raw_model draft.now))) }
+    ensures { IfOk result (λ made.
+        MatchResult made (λ p. Means (raw_model draft.now) (Ok p))
+        (BreaksFirst (raw_model draft.now))) }
 {
     if let Some(fault) = plain_fault(draft) {
         return Ok(Err(fault));

@@ -44,7 +44,8 @@ pub fn write_asked(parts: &Parts, list: &mut [u64])
     requires limits { IsWithinLimits (problem_of_parts parts.now) }
     requires size { length list.now ≡ item_count (problem_of_parts parts.now) }
     ensures size { length list.new ≡ length list.old }
-    ensures each { AreOf (problem_of_parts parts.now) (most_asked (problem_of_parts parts.now)) list.new }
+    ensures each { AreOf (problem_of_parts parts.now) (most_asked (problem_of_parts parts.now))
+        list.new }
 {
     for item in 1..parts.items.len() as u32 + 1 {
         let data = &parts.items[(item - 1) as usize];
@@ -57,7 +58,8 @@ pub fn write_there(parts: &Parts, list: &mut [u64])
     requires few { item_count (problem_of_parts parts.now) ≤ MAX_ITEMS }
     requires size { length list.now ≡ item_count (problem_of_parts parts.now) }
     ensures size { length list.new ≡ length list.old }
-    ensures each { AreOf (problem_of_parts parts.now) (there_of (problem_of_parts parts.now)) list.new }
+    ensures each { AreOf (problem_of_parts parts.now) (there_of (problem_of_parts parts.now))
+        list.new }
 {
     for item in 1..parts.items.len() as u32 + 1 {
         let data = &parts.items[(item - 1) as usize];

@@ -34,9 +34,11 @@ pub enum Found {
 
 // The first column after this one that has a name.
 fn next_column(row: &ByteRecord, name: &[u8], after: usize) -> Option<usize>
-    ensures found { IfSome result (λ c. (after < c) × (c ≤ length (fields_of row.now)) × HasText (fields_of row.now) c name.now) }
+    ensures found { IfSome result (λ c. (after < c) × (c ≤ length (fields_of row.now))
+        × HasText (fields_of row.now) c name.now) }
     ensures first { IfSome result (NoneBetween (fields_of row.now) name.now after) }
-    ensures none { IfNone result (NoneBetween (fields_of row.now) name.now after (length (fields_of row.now) + 1)) }
+    ensures none { IfNone result (NoneBetween (fields_of row.now) name.now after
+        (length (fields_of row.now) + 1)) }
 {
     for place in after..row.len() {
         if field(row, place + 1) == name {

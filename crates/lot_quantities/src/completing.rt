@@ -31,7 +31,9 @@ fn fill_item(instance: &Instance, make: &Grid, item: u32, stock: &mut Grid, back
     requires high { item ≤ item_count instance.now }
     ensures stock { Fits instance.now stock.new }
     ensures backlog { Fits instance.now backlog.new }
-    ensures row { (t : ℕ) → 1 ≤ t → t ≤ instance.now.periods → HasCapped instance.now (table_of make.now) (table_of stock.new) (table_of backlog.new) item t }
+    ensures row { (t : ℕ) → 1 ≤ t → t ≤ instance.now.periods
+        → HasCapped instance.now (table_of make.now) (table_of stock.new) (table_of backlog.new)
+        item t }
     ensures other_stocks { OtherRowsSame stock.old stock.new item }
     ensures other_backlogs { OtherRowsSame backlog.old backlog.new item }
 {
@@ -56,7 +58,8 @@ fn fill(instance: &Instance, make: &Grid, stock: &mut Grid, backlog: &mut Grid)
     requires backlog { Fits instance.now backlog.old }
     ensures stock { Fits instance.now stock.new }
     ensures backlog { Fits instance.now backlog.new }
-    ensures rows { EachCell instance.now (HasCapped instance.now (table_of make.now) (table_of stock.new) (table_of backlog.new)) }
+    ensures rows { EachCell instance.now
+        (HasCapped instance.now (table_of make.now) (table_of stock.new) (table_of backlog.new)) }
     ensures instance { IsInstance instance.now }
 {
     for item in 1..instance.items() + 1 {
@@ -80,7 +83,8 @@ fn finish(
     ensures choice { IfOk result (λ p. HasChosen make setup p.plan) }
     ensures fits { IfOk result (λ p. AllFit instance.now p.plan) }
     ensures feasible { IfOk result (λ p. IsFeasible instance.now (plan_of p.plan)) }
-    ensures least { IfOk result (λ p. IsLeastWith instance.now (table_of make) (table_of setup) (plan_of p.plan)) }
+    ensures least { IfOk result (λ p.
+        IsLeastWith instance.now (table_of make) (table_of setup) (plan_of p.plan)) }
     ensures cost { IfOk result (λ p. p.cost ≡ cost instance.now (plan_of p.plan)) }
     ensures small { IfOk result (λ p. p.cost < 2 ^ 127) }
     ensures none { IfErr result (λ _. HasNoPlan instance.now (table_of make) (table_of setup)) }
@@ -116,7 +120,8 @@ pub fn complete_or_judge(
     ensures choice { IfCompleted result (λ p. HasChosen make setup p.plan) }
     ensures fits { IfCompleted result (λ p. AllFit instance.now p.plan) }
     ensures feasible { IfCompleted result (λ p. IsFeasible instance.now (plan_of p.plan)) }
-    ensures least { IfCompleted result (λ p. IsLeastWith instance.now (table_of make) (table_of setup) (plan_of p.plan)) }
+    ensures least { IfCompleted result
+        (λ p. IsLeastWith instance.now (table_of make) (table_of setup) (plan_of p.plan)) }
     ensures cost { IfCompleted result (λ p. p.cost ≡ cost instance.now (plan_of p.plan)) }
     ensures small { IfCompleted result (λ p. p.cost < 2 ^ 127) }
     ensures none { IfRefused result (λ _. HasNoPlan instance.now (table_of make) (table_of setup)) }

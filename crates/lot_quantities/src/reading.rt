@@ -47,8 +47,10 @@ fn read_record(
     requires low { 1 ≤ period }
     requires high { period ≤ instance.now.periods }
     ensures fits { BothFit instance.now into.new }
-    ensures read { OnOk result (IsPutFrom instance.now (map fields_of rows.now) columns into.old into.new item period) }
-    ensures refused { IfErr result (IsRecordFault instance.now (map fields_of rows.now) columns item period) }
+    ensures read { OnOk result (IsPutFrom instance.now (map fields_of rows.now) columns into.old
+        into.new item period) }
+    ensures refused { IfErr result (IsRecordFault instance.now (map fields_of rows.now) columns item
+        period) }
 {
     let number = (item - 1) * instance.periods() + period;
     if number as usize >= rows.len() {
@@ -81,7 +83,8 @@ fn read_item(
     requires high { item ≤ item_count instance.now }
     requires earlier { AreReadBefore instance.now (map fields_of rows.now) columns into.old item 1 }
     ensures fits { OnOk result (BothFit instance.now into.new) }
-    ensures read { OnOk result (AreReadBefore instance.now (map fields_of rows.now) columns into.new (item + 1) 1) }
+    ensures read { OnOk result (AreReadBefore instance.now (map fields_of rows.now) columns into.new
+        (item + 1) 1) }
     ensures refused { IfErr result (IsCellFault instance.now (map fields_of rows.now) columns) }
 {
     for period in 1..instance.periods() + 1 {
@@ -132,7 +135,8 @@ pub fn read_quantities(
     bytes: &[u8],
 ) -> Result<Quantities, QuantityFault>
     ensures fits { IfOk result (BothFit instance.now) }
-    ensures quantities { IfOk result (λ q. IsTableOf instance.now (records_of bytes.now) (table_of q.make) (table_of q.setup)) }
+    ensures quantities { IfOk result (λ q.
+        IsTableOf instance.now (records_of bytes.now) (table_of q.make) (table_of q.setup)) }
     ensures refused { IfErr result (IsQuantityFault instance.now (records_of bytes.now)) }
 {
     let (items, periods) = (instance.items(), instance.periods());

@@ -30,8 +30,10 @@ fn place_within(
     item: u32,
 ) -> Option<usize>
     requires { high ≤ length slots.now }
-    ensures found { IfSome result (λ n. (n < length slots.now) × IsOf resource period item (slot_at slots.now n)) }
-    ensures none { IfNone result ((n : ℕ) → low ≤ n → n < high → IsOf resource period item (slot_at slots.now n) → ⊥) }
+    ensures found { IfSome result (λ n. (n < length slots.now)
+        × IsOf resource period item (slot_at slots.now n)) }
+    ensures none { IfNone result ((n : ℕ) → low ≤ n → n < high
+        → IsOf resource period item (slot_at slots.now n) → ⊥) }
 {
     for place in low..high {
         if is_of(slots[place], resource, period, item) {
@@ -44,7 +46,8 @@ fn place_within(
 // The place of a slot of a lot, sought from this place on, and then before it.
 fn place_of(slots: &[Slot], hint: usize, resource: u32, period: u32, item: u32) -> Option<usize>
     requires { hint ≤ length slots.now }
-    ensures found { IfSome result (λ n. (n < length slots.now) × IsOf resource period item (slot_at slots.now n)) }
+    ensures found { IfSome result (λ n. (n < length slots.now)
+        × IsOf resource period item (slot_at slots.now n)) }
     ensures none { IfNone result (HasSlot slots.now resource period item → ⊥) }
 {
     match place_within(slots, hint, slots.len(), resource, period, item) {
@@ -81,8 +84,11 @@ fn check_item(
     requires item_low { 1 ≤ item }
     requires item_high { item ≤ item_count instance.now }
     ensures next { IfSome result (λ next. next ≤ length slots.now) }
-    ensures found { IfSome result (λ _. 0 < length_of instance.now (plan_of plan.now) resource period item → HasSlot slots.now resource period item) }
-    ensures takes { IfNone result (0 < length_of instance.now (plan_of plan.now) resource period item) }
+    ensures found { IfSome result (λ _. 0
+        < length_of instance.now (plan_of plan.now) resource period item
+        → HasSlot slots.now resource period item) }
+    ensures takes { IfNone result (0
+        < length_of instance.now (plan_of plan.now) resource period item) }
     ensures absent { IfNone result (HasSlot slots.now resource period item → ⊥) }
 {
     if length_of(instance, plan, resource, period, item) == 0 {
@@ -109,7 +115,8 @@ fn check_items(
     requires high { period ≤ instance.now.periods }
     ensures next { IfOk result (λ next. next ≤ length slots.now) }
     ensures all { OnOk result (HasAll instance.now (plan_of plan.now) slots.now resource period) }
-    ensures lack { IfErr result (IsFirstLack instance.now (plan_of plan.now) slots.now resource period) }
+    ensures lack { IfErr result (IsFirstLack instance.now (plan_of plan.now) slots.now resource
+        period) }
 {
     let mut last = hint;
     for item in 1..instance.items() + 1 {
@@ -135,9 +142,13 @@ fn check_periods(
     requires low { 1 ≤ resource }
     requires high { resource ≤ resource_count instance.now }
     ensures next { IfOk result (λ next. next ≤ length slots.now) }
-    ensures all { OnOk result (HoldsInRow instance.now.periods (HasAll instance.now (plan_of plan.now) slots.now) resource) }
-    ensures first { IfErr result (λ at. IsFirstInRow instance.now.periods (HasAll instance.now (plan_of plan.now) slots.now) resource at.period) }
-    ensures lack { IfErr result (λ at. IsFirstLack instance.now (plan_of plan.now) slots.now resource at.period at.item) }
+    ensures all { OnOk result (HoldsInRow instance.now.periods
+        (HasAll instance.now (plan_of plan.now) slots.now) resource) }
+    ensures first { IfErr result (λ at.
+        IsFirstInRow instance.now.periods (HasAll instance.now (plan_of plan.now) slots.now)
+        resource at.period) }
+    ensures lack { IfErr result (λ at.
+        IsFirstLack instance.now (plan_of plan.now) slots.now resource at.period at.item) }
 {
     let mut last = hint;
     for period in 1..instance.periods() + 1 {
@@ -153,7 +164,8 @@ fn check_periods(
 pub(crate) fn check_all(instance: &Instance, plan: &Plan, slots: &[Slot]) -> Result<(), SlotBroken>
     requires fits { AllFit instance.now plan.now }
     requires feasible { IsFeasible instance.now (plan_of plan.now) }
-    ensures all { OnOk result (Each (resource_count instance.now) instance.now.periods (HasAll instance.now (plan_of plan.now) slots.now)) }
+    ensures all { OnOk result (Each (resource_count instance.now) instance.now.periods
+        (HasAll instance.now (plan_of plan.now) slots.now)) }
     ensures absent { IfErr result (IsFirstAbsent instance.now (plan_of plan.now) slots.now) }
 {
     let mut last = 0;

@@ -101,7 +101,8 @@ fn is_listed_before(slots: &[Slot], first: usize, place: usize) -> bool
 
 // Whether two slots are of one resource and period and overlap.
 fn overlap(one: Slot, other: Slot) -> bool
-    ensures { IsTrue result ↔ (AreTogether one other × (other.start < one.end) × (one.start < other.end)) }
+    ensures { IsTrue result ↔ (AreTogether one other × (other.start < one.end)
+        × (one.start < other.end)) }
 {
     are_together(one, other) && other.start < one.end && one.start < other.end
 }
@@ -159,7 +160,8 @@ fn check_slots(instance: &Instance, plan: &Plan, slots: &[Slot]) -> Result<(), S
     requires fits { AllFit instance.now plan.now }
     requires feasible { IsFeasible instance.now (plan_of plan.now) }
     requires exist { AllExist instance.now slots.now }
-    ensures good { OnOk result (AreGoodBefore instance.now (plan_of plan.now) slots.now (length slots.now)) }
+    ensures good { OnOk result (AreGoodBefore instance.now (plan_of plan.now) slots.now
+        (length slots.now)) }
     ensures bad { IfErr result (IsFirstBad instance.now (plan_of plan.now) slots.now) }
 {
     let mut run = Run {

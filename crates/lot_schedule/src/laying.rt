@@ -49,8 +49,10 @@ fn add_period(
     requires resource_high { resource ≤ resource_count instance.now }
     requires low { 1 ≤ period }
     requires high { period ≤ instance.now.periods }
-    requires earlier { IsLaidBefore instance.now (plan_of plan.now) slots.old.items resource period }
-    ensures { OnOk result (IsLaidBefore instance.now (plan_of plan.now) slots.new.items resource (period + 1)) }
+    requires earlier { IsLaidBefore instance.now (plan_of plan.now) slots.old.items resource
+        period }
+    ensures { OnOk result (IsLaidBefore instance.now (plan_of plan.now) slots.new.items resource
+        (period + 1)) }
 {
     let lots = lots(alloc, instance, plan, resource, period)?;
     lay(slots, resource, period, &lots)?;
@@ -70,7 +72,8 @@ fn add_resource(
     requires low { 1 ≤ resource }
     requires high { resource ≤ resource_count instance.now }
     requires earlier { IsLaidBefore instance.now (plan_of plan.now) slots.old.items resource 1 }
-    ensures { OnOk result (IsLaidBefore instance.now (plan_of plan.now) slots.new.items (resource + 1) 1) }
+    ensures { OnOk result (IsLaidBefore instance.now (plan_of plan.now) slots.new.items
+        (resource + 1) 1) }
 {
     for period in 1..instance.periods() + 1 {
         add_period(alloc, slots, instance, plan, resource, period)?;
@@ -88,10 +91,13 @@ pub fn schedule(alloc: Global, instance: &Instance, plan: &Plan) -> Result<Vec<S
     requires fits { AllFit instance.now plan.now }
     requires feasible { IsFeasible instance.now (plan_of plan.now) }
     ensures exist { IfOk result (λ slots. AllExist instance.now slots.items) }
-    ensures schedule { IfOk result (λ slots. IsSchedule instance.now (plan_of plan.now) slots.items) }
+    ensures schedule { IfOk result (λ slots.
+        IsSchedule instance.now (plan_of plan.now) slots.items) }
     ensures order { IfOk result (λ slots. IsInOrder slots.items) }
-    ensures least { IfOk result (λ slots. HasLeastEnds instance.now (plan_of plan.now) slots.items) }
-    ensures ties { IfOk result (λ slots. TiesAreByItem instance.now (plan_of plan.now) slots.items) }
+    ensures least { IfOk result (λ slots.
+        HasLeastEnds instance.now (plan_of plan.now) slots.items) }
+    ensures ties { IfOk result (λ slots.
+        TiesAreByItem instance.now (plan_of plan.now) slots.items) }
     ensures few { IfOk result (λ slots. length slots.items ≤ most_slots) }
 {
     let mut slots = Vec::new(alloc);

@@ -32,7 +32,9 @@ fn lots_by_item(
     requires resource_high { resource ≤ resource_count instance.now }
     requires low { 1 ≤ period }
     requires high { period ≤ instance.now.periods }
-    ensures lots { IfOk result (λ lots. AreLotsTo instance.now (plan_of plan.now) resource period (item_count instance.now) lots.items) }
+    ensures lots { IfOk result (λ lots.
+        AreLotsTo instance.now (plan_of plan.now) resource period (item_count instance.now)
+        lots.items) }
     ensures instance { IfOk result (λ _. IsInstance instance.now) }
 {
     let mut lots = Vec::new(alloc);
@@ -59,7 +61,8 @@ pub(crate) fn lots(
     requires resource_high { resource ≤ resource_count instance.now }
     requires low { 1 ≤ period }
     requires high { period ≤ instance.now.periods }
-    ensures lots { IfOk result (λ lots. AreLotsOf instance.now (plan_of plan.now) resource period lots.items) }
+    ensures lots { IfOk result (λ lots.
+        AreLotsOf instance.now (plan_of plan.now) resource period lots.items) }
     ensures instance { IfOk result (λ _. IsInstance instance.now) }
 {
     let mut lots = lots_by_item(alloc, instance, plan, resource, period)?;

@@ -42,7 +42,8 @@ fn read_rows(
     rows: &[ByteRecord],
 ) -> Result<Vec<Slot>, SlotFault>
     requires { HasHeader (map fields_of rows.now) }
-    ensures slots { IfOk result (λ slots. AreRowsOf instance.now (map fields_of rows.now) slots.items) }
+    ensures slots { IfOk result (λ slots.
+        AreRowsOf instance.now (map fields_of rows.now) slots.items) }
     ensures refused { IfErr result (IsSlotFault instance.now (map fields_of rows.now)) }
 {
     let mut slots = Vec::new(alloc);
@@ -64,7 +65,8 @@ pub fn read_schedule(
     instance: &Instance,
     bytes: &[u8],
 ) -> Result<Vec<Slot>, SlotFault>
-    ensures slots { IfOk result (λ slots. AreRowsOf instance.now (records_of bytes.now) slots.items) }
+    ensures slots { IfOk result (λ slots.
+        AreRowsOf instance.now (records_of bytes.now) slots.items) }
     ensures exist { IfOk result (λ slots. AllExist instance.now slots.items) }
     ensures refused { IfErr result (IsSlotFault instance.now (records_of bytes.now)) }
 {

@@ -23,8 +23,10 @@ pub(crate) fn field(row: &ByteRecord, number: usize) -> &[u8]
 
 // The resource of this name.
 fn resource_named(instance: &Instance, name: &[u8]) -> Option<u32>
-    ensures found { IfSome result (λ k. (1 ≤ k) × (k ≤ resource_count instance.now) × (name.now ≡ (resource_at instance.now k).name)) }
-    ensures none { IfNone result ((k : ℕ) → 1 ≤ k → k ≤ resource_count instance.now → name.now ≢ (resource_at instance.now k).name) }
+    ensures found { IfSome result (λ k. (1 ≤ k) × (k ≤ resource_count instance.now)
+        × (name.now ≡ (resource_at instance.now k).name)) }
+    ensures none { IfNone result ((k : ℕ) → 1 ≤ k → k ≤ resource_count instance.now
+        → name.now ≢ (resource_at instance.now k).name) }
 {
     for resource in 1..instance.resources() + 1 {
         if name == instance.resource_name(resource).as_bytes() {
@@ -36,8 +38,10 @@ fn resource_named(instance: &Instance, name: &[u8]) -> Option<u32>
 
 // The item of this name.
 fn item_named(instance: &Instance, name: &[u8]) -> Option<u32>
-    ensures found { IfSome result (λ i. (1 ≤ i) × (i ≤ item_count instance.now) × (name.now ≡ (item_at instance.now i).name)) }
-    ensures none { IfNone result ((i : ℕ) → 1 ≤ i → i ≤ item_count instance.now → name.now ≢ (item_at instance.now i).name) }
+    ensures found { IfSome result (λ i. (1 ≤ i) × (i ≤ item_count instance.now)
+        × (name.now ≡ (item_at instance.now i).name)) }
+    ensures none { IfNone result ((i : ℕ) → 1 ≤ i → i ≤ item_count instance.now
+        → name.now ≢ (item_at instance.now i).name) }
 {
     for item in 1..instance.items() + 1 {
         if name == instance.item_name(item).as_bytes() {
@@ -49,8 +53,10 @@ fn item_named(instance: &Instance, name: &[u8]) -> Option<u32>
 
 // The period whose number a text is.
 fn period_of(instance: &Instance, text: &[u8]) -> Option<u32>
-    ensures found { IfSome result (λ t. (1 ≤ t) × (t ≤ instance.now.periods) × (text.now ≡ decimal t)) }
-    ensures none { IfNone result ((t : ℕ) → 1 ≤ t → t ≤ instance.now.periods → text.now ≢ decimal t) }
+    ensures found { IfSome result (λ t. (1 ≤ t) × (t ≤ instance.now.periods)
+        × (text.now ≡ decimal t)) }
+    ensures none { IfNone result ((t : ℕ) → 1 ≤ t → t ≤ instance.now.periods
+        → text.now ≢ decimal t) }
 {
     match read_whole(text, instance.periods() as u128) {
         Ok(number) => {

@@ -16,7 +16,8 @@ use std::alloc::{AllocError, Global};
 
 // Writes a record. Over bytes in memory the writer fails for want of it alone.
 fn add_record(text: &mut Writer<Vec<u8>>, fields: &[&[u8]]) -> Result<(), AllocError>
-    ensures { OnOk result ((done : List ℕ) → HasWritten text.old done → HasWritten text.new (done ++ row_text default_writer (map (λ f. f.now) fields.now))) }
+    ensures { OnOk result ((done : List ℕ) → HasWritten text.old done
+        → HasWritten text.new (done ++ row_text default_writer (map (λ f. f.now) fields.now))) }
 {
     match text.write_fields(fields) {
         Ok(()) => Ok(()),
@@ -27,7 +28,8 @@ fn add_record(text: &mut Writer<Vec<u8>>, fields: &[&[u8]]) -> Result<(), AllocE
 // Writes the row of a slot.
 fn add_row(text: &mut Writer<Vec<u8>>, instance: &Instance, slot: Slot) -> Result<(), AllocError>
     requires { Exists instance.now slot }
-    ensures row { OnOk result ((done : List ℕ) → HasWritten text.old done → HasWritten text.new (done ++ row_text default_writer (row_of instance.now slot))) }
+    ensures row { OnOk result ((done : List ℕ) → HasWritten text.old done
+        → HasWritten text.new (done ++ row_text default_writer (row_of instance.now slot))) }
     ensures line { OnOk result (IsLine instance.now slot) }
 {
     let (mut period, mut start, mut end) = (Buffer::new(), Buffer::new(), Buffer::new());
@@ -44,7 +46,8 @@ fn add_row(text: &mut Writer<Vec<u8>>, instance: &Instance, slot: Slot) -> Resul
 
 // Writes the header.
 fn add_header(text: &mut Writer<Vec<u8>>) -> Result<(), AllocError>
-    ensures { OnOk result ((done : List ℕ) → HasWritten text.old done → HasWritten text.new (done ++ row_text default_writer header)) }
+    ensures { OnOk result ((done : List ℕ) → HasWritten text.old done
+        → HasWritten text.new (done ++ row_text default_writer header)) }
 {
     let fields = [
         b"resource".as_slice(),
@@ -67,8 +70,10 @@ pub fn write_schedule(
 ) -> Result<Vec<u8>, AllocError>
     requires { AllExist instance.now slots.now }
     ensures text { IfOk result (λ bytes. bytes.items ≡ schedule_text instance.now slots.now) }
-    ensures read { IfOk result (λ bytes. AreRowsOf instance.now (records_of bytes.items) slots.now) }
-    ensures short { IfOk result (λ bytes. length slots.now ≤ most_slots → length bytes.items ≤ MAX_FILE) }
+    ensures read { IfOk result (λ bytes.
+        AreRowsOf instance.now (records_of bytes.items) slots.now) }
+    ensures short { IfOk result (λ bytes. length slots.now ≤ most_slots
+        → length bytes.items ≤ MAX_FILE) }
 {
     an_instance_breaks_no_rule(instance);
     let mut text = Writer::from_writer(Vec::new(alloc));

@@ -42,7 +42,8 @@ fn add_owed(echelon: &EchelonItem, point: &Point, item: u32, period: u32, sum: F
     requires within { IsEchelonWithinBounds echelon.now }
     requires low { 1 ≤ item }
     requires high { item ≤ length echelon.now.weights.items }
-    ensures { SomeIff result (ItemFits (echelon_in echelon.now) (read_at point.now) item period sum) (sum +ℚ owed_term (echelon_in echelon.now) (read_at point.now) item period) }
+    ensures { SomeIff result (ItemFits (echelon_in echelon.now) (read_at point.now) item period sum)
+        (sum +ℚ owed_term (echelon_in echelon.now) (read_at point.now) item period) }
 {
     let times = owed_times(echelon, item, period);
     if times == 0 {
@@ -56,7 +57,8 @@ fn add_owed(echelon: &EchelonItem, point: &Point, item: u32, period: u32, sum: F
 // has no steps.
 pub(crate) fn owed(echelon: &EchelonItem, point: &Point, period: u32) -> Option<Frac>
     requires within { IsEchelonWithinBounds echelon.now }
-    ensures { SomeIff result (OwedFits (echelon_in echelon.now) (read_at point.now) period) (owed_part (echelon_in echelon.now) (read_at point.now) period) }
+    ensures { SomeIff result (OwedFits (echelon_in echelon.now) (read_at point.now) period)
+        (owed_part (echelon_in echelon.now) (read_at point.now) period) }
 {
     if !echelon.backlogged {
         return Some(Frac::from(0u64));

@@ -25,7 +25,8 @@ pub(crate) fn whole(number: u128) -> Frac
 // What a setup adds: its demand, with what is owed before, where both steps fit.
 fn share(demand: u128, setup: Frac, owed: Frac) -> Option<Frac>
     requires { demand ≤ MAX_ASKED }
-    ensures { SomeIff result (ShareFits (whole (pos demand)) setup owed) (whole (pos demand) *ℚ setup +ℚ owed) }
+    ensures { SomeIff result (ShareFits (whole (pos demand)) setup owed)
+        (whole (pos demand) *ℚ setup +ℚ owed) }
 {
     match whole(demand).mul(setup) {
         Some(product) => product.add(owed),
@@ -77,7 +78,9 @@ pub(crate) fn choose(
     requires within { IsEchelonWithinBounds echelon.now }
     requires low { 1 ≤ period }
     requires small { demand ≤ MAX_ASKED }
-    ensures { MatchOption result (PeriodFits (echelon_in echelon.now) (read_at point.now) demand period → ⊥) (λ r. IsChoice (echelon_in echelon.now) (read_at point.now) demand period r.chosen r.part) }
+    ensures { MatchOption result
+        (PeriodFits (echelon_in echelon.now) (read_at point.now) demand period → ⊥)
+        (λ r. IsChoice (echelon_in echelon.now) (read_at point.now) demand period r.chosen r.part) }
 {
     let item = echelon.item;
     let make = point.value(Column::X { item, period });

@@ -20,7 +20,8 @@ use std::alloc::{AllocError, Global};
 
 // How often the row takes what each period makes: where it isn't chosen.
 fn unit_times(alloc: Global, chosen: &[bool]) -> Result<Vec<u64>, AllocError>
-    ensures each { IfOk result (λ found. HasEach (length chosen.now) (unit_times (marked chosen.now)) found.items) }
+    ensures each { IfOk result (λ found.
+        HasEach (length chosen.now) (unit_times (marked chosen.now)) found.items) }
 {
     let mut list = Vec::with_capacity(alloc, chosen.len())?;
     for period in 1..chosen.len() + 1 {
@@ -44,7 +45,10 @@ fn setup_times(
 ) -> Result<Vec<u128>, AllocError>
     requires within { IsEchelonWithinBounds echelon.now }
     requires high { length chosen.now ≤ length echelon.now.demand.items }
-    ensures each { IfOk result (λ found. HasEach (length chosen.now) (setup_times (asked_of_echelon echelon.now) (length chosen.now) (marked chosen.now)) found.items) }
+    ensures each { IfOk result (λ found.
+        HasEach (length chosen.now)
+        (setup_times (asked_of_echelon echelon.now) (length chosen.now) (marked chosen.now))
+        found.items) }
 {
     let mut list = Vec::with_capacity(alloc, chosen.len())?;
     let mut rest = demand_to(echelon, chosen.len() as u32);
@@ -57,7 +61,9 @@ fn setup_times(
 
 // How often it takes each backlog: in the last period, and before a chosen one.
 fn backlog_times(alloc: Global, chosen: &[bool]) -> Result<Vec<u64>, AllocError>
-    ensures each { IfOk result (λ found. HasEach (length chosen.now) (backlog_times (length chosen.now) (marked chosen.now)) found.items) }
+    ensures each { IfOk result (λ found.
+        HasEach (length chosen.now) (backlog_times (length chosen.now) (marked chosen.now))
+        found.items) }
 {
     let l = chosen.len();
     let mut list = Vec::with_capacity(alloc, l)?;
@@ -81,7 +87,11 @@ fn terms_of(
     requires setups_small { AllAtMost MAX_ASKED setups.now }
     requires backlogs { length backlogs.now ≤ MAX_PERIODS }
     requires backlogs_small { AllAtMost 1 backlogs.now }
-    ensures { IfOk result (λ terms. terms.items ≡ some_terms (units_by echelon.now.item units.now ++ (setups_by echelon.now.item setups.now ++ backlogs_by echelon.now.weights.items echelon.now.backs.items (length echelon.now.demand.items) backlogs.now))) }
+    ensures { IfOk result (λ terms. terms.items
+        ≡ some_terms (units_by echelon.now.item units.now
+        ++ (setups_by echelon.now.item setups.now
+        ++ backlogs_by echelon.now.weights.items echelon.now.backs.items
+        (length echelon.now.demand.items) backlogs.now))) }
 {
     let mut terms = Vec::new(alloc);
     let periods = echelon.demand.len();
@@ -105,7 +115,8 @@ fn ls_terms_of(
 ) -> Result<Vec<Term>, AllocError>
     requires within { IsEchelonWithinBounds echelon.now }
     requires high { length chosen.now ≤ length echelon.now.demand.items }
-    ensures { IfOk result (λ terms. terms.items ≡ (ls_row (echelon_in echelon.now) (length chosen.now) (marked chosen.now)).terms) }
+    ensures { IfOk result (λ terms. terms.items
+        ≡ (ls_row (echelon_in echelon.now) (length chosen.now) (marked chosen.now)).terms) }
 {
     let units = unit_times(alloc, chosen)?;
     let setups = setup_times(alloc, echelon, chosen)?;
@@ -143,7 +154,8 @@ pub fn ls_row(
     ensures rising { IfOk result (λ row. AreTerms 0 row.terms) }
     ensures columns { IfOk result (λ row. AreColumnsOf echelon.now row.terms) }
     ensures some { IfOk result (λ _. HasLsRow echelon.now l chosen.now) }
-    ensures none { IfErr result (λ fault. fault ≡ NoSuchRow → HasLsRow echelon.now l chosen.now → ⊥) }
+    ensures none { IfErr result (λ fault. fault ≡ NoSuchRow → HasLsRow echelon.now l chosen.now
+        → ⊥) }
 {
     if l == 0 || l as usize > echelon.demand.len() || chosen.len() != l as usize {
         return Err(RowFault::NoSuchRow);

@@ -24,7 +24,9 @@ use std::alloc::{AllocError, Global};
 // The opening stock and what is owed in the end, where their steps fit.
 fn start(echelon: &EchelonItem, point: &Point, l: u32) -> Option<Frac>
     requires within { IsEchelonWithinBounds echelon.now }
-    ensures { SomeIff result (StartFits (echelon_in echelon.now) (read_at point.now) l) (whole (pos echelon.now.opening) +ℚ owed_part (echelon_in echelon.now) (read_at point.now) l) }
+    ensures { SomeIff result (StartFits (echelon_in echelon.now) (read_at point.now) l)
+        (whole (pos echelon.now.opening) +ℚ owed_part (echelon_in echelon.now) (read_at point.now)
+        l) }
 {
     match owed(echelon, point, l) {
         Some(last) => whole(echelon.opening).add(last),
@@ -61,9 +63,12 @@ fn evaluate(
     requires high { l ≤ length echelon.now.demand.items }
     requires asked { asked ≡ demand_between (asked_of_echelon echelon.now) 1 l }
     requires small { asked ≤ MAX_ASKED }
-    ensures lesser { IfOk result (λ found. AreLesser (echelon_in echelon.now) (read_at point.now) l found.chosen.items) }
-    ensures left { IfOk result (λ found. found.left ≡ left_side (echelon_in echelon.now) (read_at point.now) l (marked found.chosen.items)) }
-    ensures passed { IfErr result (λ fault. fault ≡ Passed128 → SomePasses (echelon_in echelon.now) (read_at point.now) l) }
+    ensures lesser { IfOk result (λ found.
+        AreLesser (echelon_in echelon.now) (read_at point.now) l found.chosen.items) }
+    ensures left { IfOk result (λ found. found.left
+        ≡ left_side (echelon_in echelon.now) (read_at point.now) l (marked found.chosen.items)) }
+    ensures passed { IfErr result (λ fault. fault ≡ Passed128
+        → SomePasses (echelon_in echelon.now) (read_at point.now) l) }
 {
     let mut chosen = Vec::with_capacity(alloc, l as usize)?;
     let mut left = match start(echelon, point, l) {
@@ -95,8 +100,11 @@ fn find(
 ) -> Result<Option<Vec<bool>>, SepFault>
     requires within { IsEchelonWithinBounds echelon.now }
     requires high { l ≤ length echelon.now.demand.items }
-    ensures answer { IfOk result (λ found. MatchOption found (IsNoneFound (echelon_in echelon.now) (read_at point.now) l) (λ marks. IsFound (echelon_in echelon.now) (read_at point.now) l marks.items)) }
-    ensures passed { IfErr result (λ fault. fault ≡ Passed128 → SomePasses (echelon_in echelon.now) (read_at point.now) l) }
+    ensures answer { IfOk result (λ found.
+        MatchOption found (IsNoneFound (echelon_in echelon.now) (read_at point.now) l)
+        (λ marks. IsFound (echelon_in echelon.now) (read_at point.now) l marks.items)) }
+    ensures passed { IfErr result (λ fault. fault ≡ Passed128
+        → SomePasses (echelon_in echelon.now) (read_at point.now) l) }
 {
     let asked = demand_to(echelon, l);
     let found = evaluate(alloc, echelon, point, l, asked)?;
@@ -127,9 +135,16 @@ pub fn separate(
     requires within { IsEchelonWithinBounds echelon.now }
     requires low { 1 ≤ l }
     requires high { l ≤ length echelon.now.demand.items }
-    ensures answer { IfOk result (λ found. MatchOption found (IsNoneFound (echelon_in echelon.now) (read_at point.now) l) (λ marks. IsFound (echelon_in echelon.now) (read_at point.now) l marks.items)) }
-    ensures exact { IfOk result (λ found. MatchOption found (AreMet (echelon_in echelon.now) (read_at point.now) l) (λ marks. IsMostViolated (echelon_in echelon.now) (read_at point.now) l (marked marks.items))) }
-    ensures passed { MatchResult result (λ _. SomePasses (echelon_in echelon.now) (read_at point.now) l → ⊥) (λ fault. fault ≡ Passed128 → SomePasses (echelon_in echelon.now) (read_at point.now) l) }
+    ensures answer { IfOk result (λ found.
+        MatchOption found (IsNoneFound (echelon_in echelon.now) (read_at point.now) l)
+        (λ marks. IsFound (echelon_in echelon.now) (read_at point.now) l marks.items)) }
+    ensures exact { IfOk result (λ found.
+        MatchOption found (AreMet (echelon_in echelon.now) (read_at point.now) l)
+        (λ marks. IsMostViolated (echelon_in echelon.now) (read_at point.now) l
+        (marked marks.items))) }
+    ensures passed { MatchResult result
+        (λ _. SomePasses (echelon_in echelon.now) (read_at point.now) l → ⊥)
+        (λ fault. fault ≡ Passed128 → SomePasses (echelon_in echelon.now) (read_at point.now) l) }
 {
     lesser_separates();
     find(alloc, echelon, point, l)

@@ -38,7 +38,8 @@ fn may_be_late(instance: &Instance, item: u32, period: u32) -> bool
 fn end_min_by(instance: &Instance, item: u32, period: u32) -> u64
     requires low { 1 ≤ item }
     requires high { item ≤ item_count instance.now }
-    ensures { result ≡ (if period == instance.now.periods then (item_at instance.now item).end_min else 0) }
+    ensures { result
+        ≡ (if period == instance.now.periods then (item_at instance.now item).end_min else 0) }
 {
     if period == instance.periods() {
         instance.end_min(item)

@@ -59,8 +59,10 @@ impl MustStart {
         requires ranks { IsRanking instance.now (entry ranks.now) }
         requires low { 1 ≤ item }
         requires high { item ≤ item_count instance.now }
-        requires before { IsFilledTo instance.now (entry ranks.now) (entry ranks.now item) item self.old }
-        ensures { IfOk result (λ _. IsFilledTo instance.now (entry ranks.now) (entry ranks.now item) (item + 1) self.new) }
+        requires before { IsFilledTo instance.now (entry ranks.now) (entry ranks.now item) item
+            self.old }
+        ensures { IfOk result (λ _.
+            IsFilledTo instance.now (entry ranks.now) (entry ranks.now item) (item + 1) self.new) }
     {
         an_instance_breaks_no_rule(instance);
         let row = row_of(alloc, instance, self, item)?;
@@ -79,7 +81,8 @@ impl MustStart {
         requires size { length ranks.now ≡ item_count instance.now }
         requires ranks { IsRanking instance.now (entry ranks.now) }
         requires before { IsFilledTo instance.now (entry ranks.now) rank 1 self.old }
-        ensures { IfOk result (λ _. IsFilledTo instance.now (entry ranks.now) rank (item_count instance.now + 1) self.new) }
+        ensures { IfOk result (λ _.
+            IsFilledTo instance.now (entry ranks.now) rank (item_count instance.now + 1) self.new) }
     {
         for item in 1..instance.items() + 1 {
             if ranks[(item - 1) as usize] == rank {

@@ -24,7 +24,10 @@ pub fn needed_by(instance: &Instance, item: u32, period: u32, asked: u128) -> u1
     requires low { 1 ≤ item }
     requires high { item ≤ item_count instance.now }
     requires small { asked ≤ (MAX_PERIODS + 1) * (MAX_AMOUNT + most_used_up) }
-    ensures { result ≡ (asked + (if period == instance.now.periods then (item_at instance.now item).end_min else 0)) - (item_at instance.now item).opening }
+    ensures { result
+        ≡ (asked + (if period
+        == instance.now.periods then (item_at instance.now item).end_min else 0))
+        - (item_at instance.now item).opening }
 {
     let end_min = if period == instance.periods() {
         instance.end_min(item)
@@ -48,7 +51,8 @@ fn fill_row(instance: &Instance, item: u32, make: &mut Grid, setup: &mut Grid)
     requires high { item ≤ item_count instance.now }
     requires make { Fits instance.now make.old }
     requires setup { Fits instance.now setup.old }
-    requires small { needed_to (asked_with instance.now (table_of make.old) item) instance.now.periods ≤ MAX_TOTAL }
+    requires small { needed_to (asked_with instance.now (table_of make.old) item)
+        instance.now.periods ≤ MAX_TOTAL }
     requires apart { per_unit instance.now item item ≡ 0 }
     ensures { IsRowMade instance.now item make.old setup.old make.new setup.new }
 {
@@ -107,7 +111,8 @@ pub fn fill_own_lots(instance: &Instance, make: &mut Grid, setup: &mut Grid)
     requires setup { Fits instance.now setup.old }
     ensures make { Fits instance.now make.new }
     ensures setup { Fits instance.now setup.new }
-    ensures rows { EachItem instance.now (IsOwnRow instance.now (table_of make.new) (table_of setup.new)) }
+    ensures rows { EachItem instance.now
+        (IsOwnRow instance.now (table_of make.new) (table_of setup.new)) }
 {
     let ranks = instance.ranks();
     for rank in 0..instance.items() + 1 {

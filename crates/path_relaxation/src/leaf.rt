@@ -26,7 +26,9 @@ fn said(
     requires choices { AreChoices instance.now path.now }
     requires den { HasDenominator (leaf_shape leaf.now) }
     requires lines { 1 + length (leaf_values (leaf_shape leaf.now)) < 2 ^ 64 }
-    ensures { IfOk result (λ found. MatchOption found (IsRefused instance.now path.now (leaf_shape leaf.now)) (SaysSmall instance.now path.now (leaf_shape leaf.now))) }
+    ensures { IfOk result (λ found.
+        MatchOption found (IsRefused instance.now path.now (leaf_shape leaf.now))
+        (SaysSmall instance.now path.now (leaf_shape leaf.now))) }
 {
     match leaf_bound(alloc, instance, &[], path, leaf, LEAF_LINE) {
         Ok(says) => Ok(Some(says)),

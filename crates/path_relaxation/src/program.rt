@@ -33,8 +33,10 @@ fn push_bound(
     requires program { IsProgram program.old.lp }
     requires width { width_of program.old.lp ≡ column_count instance.now }
     requires few { width_of program.old.lp + row_count program.old.lp ≤ MAX_ROUND_SIZE }
-    ensures lp { IfOk result (λ _. program.new.lp ≡ with_row program.old.lp (turned_row instance.now false (bound_row bound))) }
-    ensures sides { IfOk result (λ _. program.new.sides.items ≡ program.old.sides.items ++ (side (Path number) false ∷ [])) }
+    ensures lp { IfOk result (λ _. program.new.lp
+        ≡ with_row program.old.lp (turned_row instance.now false (bound_row bound))) }
+    ensures sides { IfOk result (λ _. program.new.sides.items
+        ≡ program.old.sides.items ++ (side (Path number) false ∷ [])) }
     ensures fits { IfOk result (λ _. IsProgram program.new.lp) }
 {
     is_short(bound.number);

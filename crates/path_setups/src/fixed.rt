@@ -122,7 +122,8 @@ impl Fixed {
 
     // A bound says something where it is one of a setup that leaves one value.
     fn take(&mut self, bound: &Bound, number: u32)
-        ensures { IsPutOver bound.now.column (held_by bound.now.most bound.now.number number) self.old self.new }
+        ensures { IsPutOver bound.now.column (held_by bound.now.most bound.now.number number)
+            self.old self.new }
     {
         let held = held_by(bound.most, bound.number, number);
         if let Column::Y { item, period } = bound.column {
@@ -148,7 +149,9 @@ fn free_setups(alloc: Global, items: u32, periods: u32) -> Result<Fixed, AllocEr
 /// What the bounds of a path say of each setup. The error is that memory ran out. It takes time in the number of cells and
 /// in the length of the path.
 pub fn fixed_setups(alloc: Global, instance: &Instance, path: &[Bound]) -> Result<Fixed, AllocError>
-    ensures last { length path.now < 2 ^ 32 → IfOk result (λ fixed. (i t : ℕ) → IsCell instance.now i t → IsLastHeld path.now fixed i t) }
+    ensures last { length path.now < 2 ^ 32
+        → IfOk result (λ fixed. (i t : ℕ) → IsCell instance.now i t
+        → IsLastHeld path.now fixed i t) }
 {
     let mut fixed = free_setups(alloc, instance.items(), instance.periods())?;
     let mut number = 0u32;

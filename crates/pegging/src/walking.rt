@@ -49,7 +49,8 @@ fn add_pegs(
     requires high { item ≤ item_count instance.now }
     requires supplies { supplies.now ≡ supplies_in instance.now }
     requires targets { targets.now ≡ targets_in instance.now }
-    ensures { OnOk result (pegs.new.items ≡ pegs.old.items ++ pegs_of_item instance.now (plan_of plan.now) item) }
+    ensures { OnOk result (pegs.new.items
+        ≡ pegs.old.items ++ pegs_of_item instance.now (plan_of plan.now) item) }
 {
     let mut supply = 0;
     let mut target = 0;
@@ -87,7 +88,8 @@ pub fn peg(alloc: Global, instance: &Instance, plan: &Plan) -> Result<Vec<Peg>, 
     requires fits { AllFit instance.now plan.now }
     requires feasible { IsFeasible instance.now (plan_of plan.now) }
     ensures pegs { IfOk result (λ pegs. pegs.items ≡ pegs_of instance.now (plan_of plan.now)) }
-    ensures supplies { IfOk result (λ pegs. UseSupplies instance.now (plan_of plan.now) pegs.items) }
+    ensures supplies { IfOk result (λ pegs.
+        UseSupplies instance.now (plan_of plan.now) pegs.items) }
     ensures needs { IfOk result (λ pegs. MeetNeeds instance.now (plan_of plan.now) pegs.items) }
     ensures in_time { IfOk result (λ pegs. All (IsInTime instance.now) pegs.items) }
     ensures exist { IfOk result (λ pegs. All (IndicesExist instance.now) pegs.items) }

@@ -23,7 +23,8 @@ impl fmt::Display for Supply {
 // Adds the text of a need.
 fn add_target(text: &mut String, instance: &Instance, target: Target) -> Result<(), AllocError>
     requires { IsTargetOf instance.now target }
-    ensures { OnOk result (string_bytes text.new ≡ string_bytes text.old ++ target_text instance.now target) }
+    ensures { OnOk result (string_bytes text.new
+        ≡ string_bytes text.old ++ target_text instance.now target) }
 {
     match target {
         Target::Demand(period) => write!(text, "demand {period}")?,
@@ -39,7 +40,8 @@ fn add_target(text: &mut String, instance: &Instance, target: Target) -> Result<
 // Adds the record of a peg.
 fn add_record(text: &mut String, instance: &Instance, peg: &Peg) -> Result<(), AllocError>
     requires { IndicesExist instance.now peg.now }
-    ensures { OnOk result (string_bytes text.new ≡ string_bytes text.old ++ peg_record instance.now peg.now) }
+    ensures { OnOk result (string_bytes text.new
+        ≡ string_bytes text.old ++ peg_record instance.now peg.now) }
 {
     let name = instance.item_name(peg.item);
     let (from, quantity) = (peg.from, peg.quantity);

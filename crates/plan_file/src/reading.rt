@@ -143,8 +143,10 @@ fn read_record(
     requires low { 1 ≤ period }
     requires high { period ≤ instance.now.periods }
     ensures fits { AllFit instance.now plan.new }
-    ensures read { OnOk result (IsPutFrom instance.now (map fields_of rows.now) (plan_of plan.old) (plan_of plan.new) item period) }
-    ensures refused { IfErr result (IsRecordFault instance.now (map fields_of rows.now) item period) }
+    ensures read { OnOk result (IsPutFrom instance.now (map fields_of rows.now) (plan_of plan.old)
+        (plan_of plan.new) item period) }
+    ensures refused { IfErr result (IsRecordFault instance.now (map fields_of rows.now) item
+        period) }
 {
     let number = (item - 1) * instance.periods() + period;
     if number as usize >= rows.len() {
@@ -175,7 +177,8 @@ fn read_item(
     requires high { item ≤ item_count instance.now }
     requires earlier { AreReadBefore instance.now (map fields_of rows.now) (plan_of plan.old) item }
     ensures fits { OnOk result (AllFit instance.now plan.new) }
-    ensures read { OnOk result (AreReadBefore instance.now (map fields_of rows.now) (plan_of plan.new) (item + 1)) }
+    ensures read { OnOk result (AreReadBefore instance.now (map fields_of rows.now)
+        (plan_of plan.new) (item + 1)) }
     ensures refused { IfErr result (IsCellFault instance.now (map fields_of rows.now)) }
 {
     for period in 1..instance.periods() + 1 {
@@ -188,7 +191,8 @@ fn read_item(
 fn read_records(instance: &Instance, rows: &[ByteRecord], plan: &mut Plan) -> Result<(), PlanFault>
     requires fits { AllFit instance.now plan.old }
     ensures fits { OnOk result (AllFit instance.now plan.new) }
-    ensures read { OnOk result (EachCell instance.now (IsRead instance.now (map fields_of rows.now) (plan_of plan.new))) }
+    ensures read { OnOk result (EachCell instance.now
+        (IsRead instance.now (map fields_of rows.now) (plan_of plan.new))) }
     ensures refused { IfErr result (IsCellFault instance.now (map fields_of rows.now)) }
 {
     for item in 1..instance.items() + 1 {
@@ -212,7 +216,8 @@ fn has_header(rows: &[ByteRecord]) -> bool
 /// It takes time in the length of the bytes, and memory for no more records than the plan has and two.
 pub fn read_plan(alloc: Global, instance: &Instance, bytes: &[u8]) -> Result<Plan, PlanFault>
     ensures fits { IfOk result (AllFit instance.now) }
-    ensures plan { IfOk result (λ plan. IsPlanOf instance.now (records_of bytes.now) (plan_of plan)) }
+    ensures plan { IfOk result (λ plan.
+        IsPlanOf instance.now (records_of bytes.now) (plan_of plan)) }
     ensures refused { IfErr result (IsPlanFault instance.now (records_of bytes.now)) }
 {
     let (items, periods) = (instance.items(), instance.periods());

@@ -24,8 +24,10 @@ fn add_records(
     requires fits { AllFit instance.now plan.now }
     requires low { 1 ≤ item }
     requires high { item ≤ item_count instance.now }
-    ensures text { OnOk result (string_bytes text.new ≡ string_bytes text.old ++ item_records instance.now (plan_of plan.now) item) }
-    ensures fit { OnOk result ((t : ℕ) → 1 ≤ t → t ≤ instance.now.periods → FitIn64 (plan_of plan.now) item t) }
+    ensures text { OnOk result (string_bytes text.new
+        ≡ string_bytes text.old ++ item_records instance.now (plan_of plan.now) item) }
+    ensures fit { OnOk result ((t : ℕ) → 1 ≤ t → t ≤ instance.now.periods
+        → FitIn64 (plan_of plan.now) item t) }
 {
     let name = instance.item_name(item);
     for period in 1..instance.periods() + 1 {
@@ -42,7 +44,8 @@ fn add_records(
 #[tactic(auto, using(lot_sizing::proofs::Texts::join_to_more))]
 fn plan_text(alloc: Global, instance: &Instance, plan: &Plan) -> Result<String, AllocError>
     requires { AllFit instance.now plan.now }
-    ensures text { IfOk result (λ text. string_bytes text ≡ plan_text instance.now (plan_of plan.now)) }
+    ensures text { IfOk result (λ text. string_bytes text
+        ≡ plan_text instance.now (plan_of plan.now)) }
     ensures fit { IfOk result (λ _. EachCell instance.now (FitIn64 (plan_of plan.now))) }
     ensures instance { IfOk result (λ _. IsInstance instance.now) }
 {
@@ -59,7 +62,8 @@ pub fn write_plan(alloc: Global, instance: &Instance, plan: &Plan) -> Result<Vec
     requires { AllFit instance.now plan.now }
     ensures text { IfOk result (λ bytes. bytes.items ≡ plan_text instance.now (plan_of plan.now)) }
     ensures short { IfOk result (λ bytes. length bytes.items ≤ MAX_FILE) }
-    ensures read { IfOk result (λ bytes. IsPlanOf instance.now (records_of bytes.items) (plan_of plan.now)) }
+    ensures read { IfOk result (λ bytes.
+        IsPlanOf instance.now (records_of bytes.items) (plan_of plan.now)) }
 {
     let text = plan_text(alloc, instance, plan)?;
     Ok(text.into_bytes())

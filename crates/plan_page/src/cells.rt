@@ -53,7 +53,8 @@ pub fn cell_of(instance: &Instance, plan: &Plan, item: u32, period: u32) -> Cell
 // Adds what stands behind the marks of a period: its numbers are shown where no mark is.
 #[tactic(auto, unfolding(crate::specs::Cells::room_mark))]
 fn add_room(text: &mut String, chart: Chart, period: u32, cell: Cell) -> Result<(), AllocError>
-    ensures { OnOk result (string_bytes text.new ≡ string_bytes text.old ++ room_mark chart period cell) }
+    ensures { OnOk result (string_bytes text.new
+        ≡ string_bytes text.old ++ room_mark chart period cell) }
 {
     let bar = Bar {
         x: left_of(chart, period),
@@ -81,7 +82,8 @@ fn add_lot(
     period: u32,
     made: u64,
 ) -> Result<(), AllocError>
-    ensures { OnOk result (string_bytes text.new ≡ string_bytes text.old ++ lot_mark chart item period made) }
+    ensures { OnOk result (string_bytes text.new
+        ≡ string_bytes text.old ++ lot_mark chart item period made) }
 {
     if made > 0 {
         let shown = Grouped(made as u128);
@@ -99,7 +101,8 @@ fn add_lot(
 // Adds the outline of a demand.
 #[tactic(auto, unfolding(crate::specs::Cells::demand_mark))]
 fn add_demand(text: &mut String, chart: Chart, period: u32, demand: u64) -> Result<(), AllocError>
-    ensures { OnOk result (string_bytes text.new ≡ string_bytes text.old ++ demand_mark chart period demand) }
+    ensures { OnOk result (string_bytes text.new
+        ≡ string_bytes text.old ++ demand_mark chart period demand) }
 {
     if demand > 0 {
         let shown = Grouped(demand as u128);
@@ -119,7 +122,8 @@ fn add_use(
     used: u128,
 ) -> Result<(), AllocError>
     requires { used < 2 ^ 120 }
-    ensures { OnOk result (string_bytes text.new ≡ string_bytes text.old ++ use_mark chart period demand used) }
+    ensures { OnOk result (string_bytes text.new
+        ≡ string_bytes text.old ++ use_mark chart period demand used) }
 {
     if used > 0 {
         let shown = Grouped(used);
@@ -142,7 +146,8 @@ fn add_idle(
     setup: u64,
     made: u64,
 ) -> Result<(), AllocError>
-    ensures { OnOk result (string_bytes text.new ≡ string_bytes text.old ++ idle_mark chart period setup made) }
+    ensures { OnOk result (string_bytes text.new
+        ≡ string_bytes text.old ++ idle_mark chart period setup made) }
 {
     if setup > 0 && made == 0 {
         let middle = middle_of(chart, period);
@@ -157,7 +162,8 @@ fn add_idle(
 // Adds the bar of a backlog, below the axis.
 #[tactic(auto, unfolding(crate::specs::Cells::late_mark))]
 fn add_late(text: &mut String, chart: Chart, period: u32, backlog: u64) -> Result<(), AllocError>
-    ensures { OnOk result (string_bytes text.new ≡ string_bytes text.old ++ late_mark chart period backlog) }
+    ensures { OnOk result (string_bytes text.new
+        ≡ string_bytes text.old ++ late_mark chart period backlog) }
 {
     if backlog > 0 {
         let shown = Grouped(backlog as u128);
@@ -170,7 +176,8 @@ fn add_late(text: &mut String, chart: Chart, period: u32, backlog: u64) -> Resul
 // Adds the point of a stock, at the end of its period.
 #[tactic(auto, unfolding(crate::specs::Cells::stock_mark))]
 fn add_stock(text: &mut String, chart: Chart, period: u32, stock: u64) -> Result<(), AllocError>
-    ensures { OnOk result (string_bytes text.new ≡ string_bytes text.old ++ stock_mark chart period stock) }
+    ensures { OnOk result (string_bytes text.new
+        ≡ string_bytes text.old ++ stock_mark chart period stock) }
 {
     let x = right_of(chart, period);
     let y = level(chart, stock as u128);
@@ -192,7 +199,8 @@ fn add_marks(
     cell: Cell,
 ) -> Result<(), AllocError>
     requires { cell.used < 2 ^ 120 }
-    ensures { OnOk result (string_bytes text.new ≡ string_bytes text.old ++ cell_marks chart item period cell) }
+    ensures { OnOk result (string_bytes text.new
+        ≡ string_bytes text.old ++ cell_marks chart item period cell) }
 {
     add_room(text, chart, period, cell)?;
     add_lot(text, chart, item, period, cell.made)?;
@@ -219,7 +227,8 @@ pub fn add_period(
     requires item_high { item ≤ item_count instance.now }
     requires low { 1 ≤ period }
     requires high { period ≤ instance.now.periods }
-    ensures { OnOk result (string_bytes text.new ≡ string_bytes text.old ++ period_marks chart instance.now (plan_of plan.now) item period) }
+    ensures { OnOk result (string_bytes text.new
+        ≡ string_bytes text.old ++ period_marks chart instance.now (plan_of plan.now) item period) }
 {
     add_marks(
         text,

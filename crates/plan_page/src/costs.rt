@@ -30,7 +30,8 @@ fn add_mark(
     part: u128,
 ) -> Result<(), AllocError>
     requires { before + part < 2 ^ 110 }
-    ensures { OnOk result (string_bytes text.new ≡ string_bytes text.old ++ cost_mark label.now whole before part) }
+    ensures { OnOk result (string_bytes text.new
+        ≡ string_bytes text.old ++ cost_mark label.now whole before part) }
 {
     let x = shown_width(before, whole);
     let width = shown_width(before + part, whole).saturating_sub(x);
@@ -46,7 +47,8 @@ fn add_mark(
 #[tactic(auto, unfolding(crate::specs::Costs::cost_bar))]
 fn add_bar(text: &mut String, parts: CostParts, whole: u128) -> Result<(), AllocError>
     requires { parts.setup + parts.unit + parts.hold + parts.backlog < 2 ^ 110 }
-    ensures { OnOk result (string_bytes text.new ≡ string_bytes text.old ++ cost_bar parts.setup parts.unit parts.hold parts.backlog whole) }
+    ensures { OnOk result (string_bytes text.new
+        ≡ string_bytes text.old ++ cost_bar parts.setup parts.unit parts.hold parts.backlog whole) }
 {
     let (setup, unit, hold, backlog) = (parts.setup, parts.unit, parts.hold, parts.backlog);
     text.push_str(
@@ -65,7 +67,8 @@ fn add_bar(text: &mut String, parts: CostParts, whole: u128) -> Result<(), Alloc
 fn add_part_row(text: &mut String, label: &str, part: u128, whole: u128) -> Result<(), AllocError>
     requires part { part < 2 ^ 110 }
     requires whole { whole < 2 ^ 110 }
-    ensures { OnOk result (string_bytes text.new ≡ string_bytes text.old ++ part_row label.now part whole) }
+    ensures { OnOk result (string_bytes text.new
+        ≡ string_bytes text.old ++ part_row label.now part whole) }
 {
     let shown = Grouped(part);
     let percent = share(part, whole);
@@ -81,7 +84,9 @@ fn add_part_row(text: &mut String, label: &str, part: u128, whole: u128) -> Resu
 fn add_part_rows(text: &mut String, parts: CostParts, whole: u128) -> Result<(), AllocError>
     requires parts { parts.setup + parts.unit + parts.hold + parts.backlog < 2 ^ 110 }
     requires whole { whole < 2 ^ 110 }
-    ensures { OnOk result (string_bytes text.new ≡ string_bytes text.old ++ part_rows parts.setup parts.unit parts.hold parts.backlog whole) }
+    ensures { OnOk result (string_bytes text.new
+        ≡ string_bytes text.old
+        ++ part_rows parts.setup parts.unit parts.hold parts.backlog whole) }
 {
     text.push_str(
         "<div class=\"scroll\"><table><thead><tr><th>Part</th><th>Cost</th><th>Share</th></tr></thead><tbody>\n",
@@ -98,7 +103,8 @@ fn add_part_rows(text: &mut String, parts: CostParts, whole: u128) -> Result<(),
 // Adds the name of an item, and what its setups and its units cost.
 #[tactic(auto, unfolding(crate::specs::Costs::cost_front))]
 fn add_front(text: &mut String, name: &str, setup: u128, unit: u128) -> Result<(), AllocError>
-    ensures { OnOk result (string_bytes text.new ≡ string_bytes text.old ++ cost_front name.now setup unit) }
+    ensures { OnOk result (string_bytes text.new
+        ≡ string_bytes text.old ++ cost_front name.now setup unit) }
 {
     let (setups, units) = (Grouped(setup), Grouped(unit));
     write!(
@@ -111,7 +117,8 @@ fn add_front(text: &mut String, name: &str, setup: u128, unit: u128) -> Result<(
 // Adds what its stocks and backlogs cost, and all of it.
 #[tactic(auto, unfolding(crate::specs::Costs::cost_back))]
 fn add_back(text: &mut String, hold: u128, backlog: u128, total: u128) -> Result<(), AllocError>
-    ensures { OnOk result (string_bytes text.new ≡ string_bytes text.old ++ cost_back hold backlog total) }
+    ensures { OnOk result (string_bytes text.new
+        ≡ string_bytes text.old ++ cost_back hold backlog total) }
 {
     let (stocks, owed, all) = (Grouped(hold), Grouped(backlog), Grouped(total));
     write!(
@@ -125,7 +132,9 @@ fn add_back(text: &mut String, hold: u128, backlog: u128, total: u128) -> Result
 #[tactic(auto, unfolding(crate::specs::Costs::cost_row))]
 fn add_cost_row(text: &mut String, name: &str, parts: CostParts) -> Result<(), AllocError>
     requires { parts.setup + parts.unit + parts.hold + parts.backlog < 2 ^ 110 }
-    ensures { OnOk result (string_bytes text.new ≡ string_bytes text.old ++ cost_row name.now parts.setup parts.unit parts.hold parts.backlog) }
+    ensures { OnOk result (string_bytes text.new
+        ≡ string_bytes text.old
+        ++ cost_row name.now parts.setup parts.unit parts.hold parts.backlog) }
 {
     let total = parts.setup + parts.unit + parts.hold + parts.backlog;
     add_front(text, name, parts.setup, parts.unit)?;
@@ -144,7 +153,8 @@ fn add_item(
     requires fits { AllFit instance.now plan.now }
     requires low { 1 ≤ item }
     requires high { item ≤ item_count instance.now }
-    ensures { OnOk result (string_bytes text.new ≡ string_bytes text.old ++ item_costs instance.now (plan_of plan.now) item) }
+    ensures { OnOk result (string_bytes text.new
+        ≡ string_bytes text.old ++ item_costs instance.now (plan_of plan.now) item) }
 {
     let name = instance.item_name(item);
     let parts = item_parts(instance, plan, item);
@@ -166,7 +176,8 @@ fn add_heads(text: &mut String) -> Result<(), AllocError>
 #[tactic(auto, using(crate::proofs::Joins::join_more), unfolding(crate::specs::Costs::cost_rows))]
 fn add_rows(text: &mut String, instance: &Instance, plan: &Plan) -> Result<(), AllocError>
     requires { AllFit instance.now plan.now }
-    ensures { OnOk result (string_bytes text.new ≡ string_bytes text.old ++ cost_rows instance.now (plan_of plan.now)) }
+    ensures { OnOk result (string_bytes text.new
+        ≡ string_bytes text.old ++ cost_rows instance.now (plan_of plan.now)) }
 {
     for item in 1..instance.items() + 1 {
         add_item(text, instance, plan, item)?;
@@ -178,7 +189,8 @@ fn add_rows(text: &mut String, instance: &Instance, plan: &Plan) -> Result<(), A
 #[tactic(auto, unfolding(crate::specs::Costs::cost_table))]
 fn add_items(text: &mut String, instance: &Instance, plan: &Plan) -> Result<(), AllocError>
     requires { AllFit instance.now plan.now }
-    ensures { OnOk result (string_bytes text.new ≡ string_bytes text.old ++ cost_table instance.now (plan_of plan.now)) }
+    ensures { OnOk result (string_bytes text.new
+        ≡ string_bytes text.old ++ cost_table instance.now (plan_of plan.now)) }
 {
     add_heads(text)?;
     add_rows(text, instance, plan)?;
@@ -190,7 +202,8 @@ fn add_items(text: &mut String, instance: &Instance, plan: &Plan) -> Result<(), 
 #[tactic(auto, unfolding(crate::specs::Costs::costs_text))]
 pub fn add_costs(text: &mut String, instance: &Instance, plan: &Plan) -> Result<(), AllocError>
     requires { AllFit instance.now plan.now }
-    ensures { OnOk result (string_bytes text.new ≡ string_bytes text.old ++ costs_text instance.now (plan_of plan.now)) }
+    ensures { OnOk result (string_bytes text.new
+        ≡ string_bytes text.old ++ costs_text instance.now (plan_of plan.now)) }
 {
     let parts = plan_parts(instance, plan);
     let whole = plan_cost(instance, plan);

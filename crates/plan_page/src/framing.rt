@@ -12,7 +12,8 @@ use std::alloc::AllocError;
 fn add_resource(text: &mut String, instance: &Instance, resource: u32) -> Result<(), AllocError>
     requires low { 1 ≤ resource }
     requires high { resource ≤ resource_count instance.now }
-    ensures { OnOk result (string_bytes text.new ≡ string_bytes text.old ++ resource_link instance.now resource) }
+    ensures { OnOk result (string_bytes text.new
+        ≡ string_bytes text.old ++ resource_link instance.now resource) }
 {
     let name = instance.resource_name(resource);
     write!(text, "<li><a href=\"#r{resource}\">{name}</a></li>\n")?;
@@ -22,7 +23,8 @@ fn add_resource(text: &mut String, instance: &Instance, resource: u32) -> Result
 // Adds the links to all resources.
 #[tactic(auto, using(crate::proofs::Joins::join_more), unfolding(crate::specs::Framing::resource_links))]
 fn add_resources(text: &mut String, instance: &Instance) -> Result<(), AllocError>
-    ensures { OnOk result (string_bytes text.new ≡ string_bytes text.old ++ resource_links instance.now) }
+    ensures { OnOk result (string_bytes text.new
+        ≡ string_bytes text.old ++ resource_links instance.now) }
 {
     for resource in 1..instance.resources() + 1 {
         add_resource(text, instance, resource)?;
@@ -35,7 +37,8 @@ fn add_resources(text: &mut String, instance: &Instance) -> Result<(), AllocErro
 fn add_item(text: &mut String, instance: &Instance, item: u32) -> Result<(), AllocError>
     requires low { 1 ≤ item }
     requires high { item ≤ item_count instance.now }
-    ensures { OnOk result (string_bytes text.new ≡ string_bytes text.old ++ item_link instance.now item) }
+    ensures { OnOk result (string_bytes text.new
+        ≡ string_bytes text.old ++ item_link instance.now item) }
 {
     let name = instance.item_name(item);
     write!(text, "<li><a href=\"#i{item}\">{name}</a></li>\n")?;
@@ -45,7 +48,8 @@ fn add_item(text: &mut String, instance: &Instance, item: u32) -> Result<(), All
 // Adds the links to all items.
 #[tactic(auto, using(crate::proofs::Joins::join_more), unfolding(crate::specs::Framing::item_links))]
 fn add_items(text: &mut String, instance: &Instance) -> Result<(), AllocError>
-    ensures { OnOk result (string_bytes text.new ≡ string_bytes text.old ++ item_links instance.now) }
+    ensures { OnOk result (string_bytes text.new
+        ≡ string_bytes text.old ++ item_links instance.now) }
 {
     for item in 1..instance.items() + 1 {
         add_item(text, instance, item)?;
@@ -71,7 +75,8 @@ pub fn add_contents(text: &mut String, instance: &Instance) -> Result<(), AllocE
 /// Adds the plan's cost, and how many items, resources and periods there are.
 #[tactic(auto, unfolding(crate::specs::Framing::key_line))]
 pub fn add_key(text: &mut String, instance: &Instance, cost: u128) -> Result<(), AllocError>
-    ensures { OnOk result (string_bytes text.new ≡ string_bytes text.old ++ key_line instance.now cost) }
+    ensures { OnOk result (string_bytes text.new
+        ≡ string_bytes text.old ++ key_line instance.now cost) }
 {
     let shown = Grouped(cost);
     let (items, resources) = (instance.items(), instance.resources());

@@ -19,7 +19,8 @@ use std::alloc::AllocError;
 fn add_head(text: &mut String, instance: &Instance, item: u32) -> Result<(), AllocError>
     requires low { 1 ≤ item }
     requires high { item ≤ item_count instance.now }
-    ensures { OnOk result (string_bytes text.new ≡ string_bytes text.old ++ item_head instance.now item) }
+    ensures { OnOk result (string_bytes text.new
+        ≡ string_bytes text.old ++ item_head instance.now item) }
 {
     let name = instance.item_name(item);
     write!(text, "<section id=\"i{item}\"><h2>{name}</h2>\n")?;
@@ -29,7 +30,9 @@ fn add_head(text: &mut String, instance: &Instance, item: u32) -> Result<(), All
 // Adds an item's units in all.
 #[tactic(auto, unfolding(crate::specs::Items::amounts_line))]
 fn add_amounts(text: &mut String, amounts: Amounts) -> Result<(), AllocError>
-    ensures { OnOk result (string_bytes text.new ≡ string_bytes text.old ++ amounts_line amounts.demand amounts.used amounts.made amounts.setups) }
+    ensures { OnOk result (string_bytes text.new
+        ≡ string_bytes text.old
+        ++ amounts_line amounts.demand amounts.used amounts.made amounts.setups) }
 {
     let (demand, used) = (Grouped(amounts.demand), Grouped(amounts.used));
     let (made, setups) = (Grouped(amounts.made), Grouped(amounts.setups));
@@ -43,7 +46,8 @@ fn add_amounts(text: &mut String, amounts: Amounts) -> Result<(), AllocError>
 // Adds an item's stock before the first period and its lead time.
 #[tactic(auto, unfolding(crate::specs::Items::lead_line))]
 fn add_lead(text: &mut String, opening: u64, lead: u32) -> Result<(), AllocError>
-    ensures { OnOk result (string_bytes text.new ≡ string_bytes text.old ++ lead_line opening lead) }
+    ensures { OnOk result (string_bytes text.new
+        ≡ string_bytes text.old ++ lead_line opening lead) }
 {
     let opening = Grouped(opening as u128);
     write!(
@@ -57,7 +61,8 @@ fn add_lead(text: &mut String, opening: u64, lead: u32) -> Result<(), AllocError
 #[tactic(auto, unfolding(crate::specs::Items::costs_line))]
 fn add_costs(text: &mut String, parts: CostParts) -> Result<(), AllocError>
     requires { parts.setup + parts.unit + parts.hold + parts.backlog < 2 ^ 110 }
-    ensures { OnOk result (string_bytes text.new ≡ string_bytes text.old ++ costs_line parts.setup parts.unit parts.hold parts.backlog) }
+    ensures { OnOk result (string_bytes text.new
+        ≡ string_bytes text.old ++ costs_line parts.setup parts.unit parts.hold parts.backlog) }
 {
     let (setup, unit) = (Grouped(parts.setup), Grouped(parts.unit));
     let (hold, backlog) = (Grouped(parts.hold), Grouped(parts.backlog));
@@ -82,7 +87,8 @@ fn add_point(
     requires item_high { item ≤ plan.now.stock.items }
     requires low { 1 ≤ period }
     requires high { period ≤ plan.now.stock.periods }
-    ensures { OnOk result (string_bytes text.new ≡ string_bytes text.old ++ stock_point chart (plan_of plan.now) item period) }
+    ensures { OnOk result (string_bytes text.new
+        ≡ string_bytes text.old ++ stock_point chart (plan_of plan.now) item period) }
 {
     let x = right_of(chart, period);
     let y = level(chart, plan.stock.get(item, period) as u128);
@@ -93,7 +99,8 @@ fn add_point(
 // Begins the line of the stock, at the opening stock.
 #[tactic(auto, unfolding(crate::specs::Items::stock_start))]
 fn add_opening(text: &mut String, chart: Chart, opening: u64) -> Result<(), AllocError>
-    ensures { OnOk result (string_bytes text.new ≡ string_bytes text.old ++ stock_start chart opening) }
+    ensures { OnOk result (string_bytes text.new
+        ≡ string_bytes text.old ++ stock_start chart opening) }
 {
     let x = chart.gutter;
     let y = level(chart, opening as u128);
@@ -113,7 +120,8 @@ fn add_points(
     requires fits { AllFit instance.now plan.now }
     requires low { 1 ≤ item }
     requires high { item ≤ item_count instance.now }
-    ensures { OnOk result (string_bytes text.new ≡ string_bytes text.old ++ stock_points chart instance.now (plan_of plan.now) item) }
+    ensures { OnOk result (string_bytes text.new
+        ≡ string_bytes text.old ++ stock_points chart instance.now (plan_of plan.now) item) }
 {
     for period in 1..instance.periods() + 1 {
         add_point(text, chart, plan, item, period)?;
@@ -133,7 +141,8 @@ fn add_stock_line(
     requires fits { AllFit instance.now plan.now }
     requires low { 1 ≤ item }
     requires high { item ≤ item_count instance.now }
-    ensures { OnOk result (string_bytes text.new ≡ string_bytes text.old ++ stock_line chart instance.now (plan_of plan.now) item) }
+    ensures { OnOk result (string_bytes text.new
+        ≡ string_bytes text.old ++ stock_line chart instance.now (plan_of plan.now) item) }
 {
     add_opening(text, chart, instance.opening(item))?;
     add_points(text, chart, instance, plan, item)?;
@@ -153,7 +162,8 @@ fn add_periods(
     requires fits { AllFit instance.now plan.now }
     requires low { 1 ≤ item }
     requires high { item ≤ item_count instance.now }
-    ensures { OnOk result (string_bytes text.new ≡ string_bytes text.old ++ all_marks chart instance.now (plan_of plan.now) item) }
+    ensures { OnOk result (string_bytes text.new
+        ≡ string_bytes text.old ++ all_marks chart instance.now (plan_of plan.now) item) }
 {
     for period in 1..instance.periods() + 1 {
         add_period(text, chart, instance, plan, item, period)?;
@@ -173,7 +183,8 @@ fn add_chart(
     requires fits { AllFit instance.now plan.now }
     requires low { 1 ≤ item }
     requires high { item ≤ item_count instance.now }
-    ensures { OnOk result (string_bytes text.new ≡ string_bytes text.old ++ item_chart_text chart instance.now (plan_of plan.now) item) }
+    ensures { OnOk result (string_bytes text.new
+        ≡ string_bytes text.old ++ item_chart_text chart instance.now (plan_of plan.now) item) }
 {
     open_chart(text, chart, "Demand, lots and stock by period")?;
     add_periods(text, chart, instance, plan, item)?;
@@ -191,7 +202,8 @@ fn add_front(
     used: u128,
     made: u64,
 ) -> Result<(), AllocError>
-    ensures { OnOk result (string_bytes text.new ≡ string_bytes text.old ++ row_front period demand used made) }
+    ensures { OnOk result (string_bytes text.new
+        ≡ string_bytes text.old ++ row_front period demand used made) }
 {
     let (asked, parts) = (Grouped(demand as u128), Grouped(used));
     let lot = Grouped(made as u128);
@@ -205,7 +217,8 @@ fn add_front(
 // Adds a setup, and what is left and owed at the end.
 #[tactic(auto, unfolding(crate::specs::Items::row_back))]
 fn add_back(text: &mut String, setup: u64, stock: u64, backlog: u64) -> Result<(), AllocError>
-    ensures { OnOk result (string_bytes text.new ≡ string_bytes text.old ++ row_back setup stock backlog) }
+    ensures { OnOk result (string_bytes text.new
+        ≡ string_bytes text.old ++ row_back setup stock backlog) }
 {
     let (left, owed) = (Grouped(stock as u128), Grouped(backlog as u128));
     write!(
@@ -239,7 +252,8 @@ fn add_row_at(
     requires item_high { item ≤ item_count instance.now }
     requires low { 1 ≤ period }
     requires high { period ≤ instance.now.periods }
-    ensures { OnOk result (string_bytes text.new ≡ string_bytes text.old ++ item_row_at instance.now (plan_of plan.now) item period) }
+    ensures { OnOk result (string_bytes text.new
+        ≡ string_bytes text.old ++ item_row_at instance.now (plan_of plan.now) item period) }
 {
     let cell = cell_of(instance, plan, item, period);
     add_row(text, period, cell)?;
@@ -267,7 +281,8 @@ fn add_rows(
     requires fits { AllFit instance.now plan.now }
     requires low { 1 ≤ item }
     requires high { item ≤ item_count instance.now }
-    ensures { OnOk result (string_bytes text.new ≡ string_bytes text.old ++ item_rows instance.now (plan_of plan.now) item) }
+    ensures { OnOk result (string_bytes text.new
+        ≡ string_bytes text.old ++ item_rows instance.now (plan_of plan.now) item) }
 {
     for period in 1..instance.periods() + 1 {
         add_row_at(text, instance, plan, item, period)?;
@@ -286,7 +301,8 @@ fn add_table(
     requires fits { AllFit instance.now plan.now }
     requires low { 1 ≤ item }
     requires high { item ≤ item_count instance.now }
-    ensures { OnOk result (string_bytes text.new ≡ string_bytes text.old ++ item_table instance.now (plan_of plan.now) item) }
+    ensures { OnOk result (string_bytes text.new
+        ≡ string_bytes text.old ++ item_table instance.now (plan_of plan.now) item) }
 {
     add_heads(text)?;
     add_rows(text, instance, plan, item)?;
@@ -305,7 +321,8 @@ fn add_item(
     requires fits { AllFit instance.now plan.now }
     requires low { 1 ≤ item }
     requires high { item ≤ item_count instance.now }
-    ensures { OnOk result (string_bytes text.new ≡ string_bytes text.old ++ item_text instance.now (plan_of plan.now) item) }
+    ensures { OnOk result (string_bytes text.new
+        ≡ string_bytes text.old ++ item_text instance.now (plan_of plan.now) item) }
 {
     let amounts = item_amounts(instance, plan, item);
     let (opening, lead) = (instance.opening(item), instance.lead(item));
@@ -325,7 +342,8 @@ fn add_item(
 #[tactic(auto, using(crate::proofs::Joins::join_more), unfolding(crate::specs::Items::item_texts))]
 pub fn add_items(text: &mut String, instance: &Instance, plan: &Plan) -> Result<(), AllocError>
     requires { AllFit instance.now plan.now }
-    ensures { OnOk result (string_bytes text.new ≡ string_bytes text.old ++ item_texts instance.now (plan_of plan.now)) }
+    ensures { OnOk result (string_bytes text.new
+        ≡ string_bytes text.old ++ item_texts instance.now (plan_of plan.now)) }
 {
     for item in 1..instance.items() + 1 {
         add_item(text, instance, plan, item)?;

@@ -23,7 +23,8 @@ fn add_run(
     run: u128,
 ) -> Result<(), AllocError>
     requires { before + run < 2 ^ 120 }
-    ensures { OnOk result (string_bytes text.new ≡ string_bytes text.old ++ run_mark chart name.now item period before run) }
+    ensures { OnOk result (string_bytes text.new
+        ≡ string_bytes text.old ++ run_mark chart name.now item period before run) }
 {
     if run > 0 {
         let shown = Grouped(run);
@@ -53,7 +54,8 @@ fn add_setup(
     setup: u128,
 ) -> Result<(), AllocError>
     requires { before + setup < 2 ^ 120 }
-    ensures { OnOk result (string_bytes text.new ≡ string_bytes text.old ++ setup_mark chart name.now item period before setup) }
+    ensures { OnOk result (string_bytes text.new
+        ≡ string_bytes text.old ++ setup_mark chart name.now item period before setup) }
 {
     if setup > 0 {
         let shown = Grouped(setup);
@@ -123,8 +125,12 @@ fn add_stack(
     requires item_low { 1 ≤ item }
     requires item_high { item ≤ item_count instance.now }
     requires small { before < 2 ^ 119 }
-    ensures text { OnOk result (string_bytes text.new ≡ string_bytes text.old ++ stack chart instance.now (plan_of plan.now) resource period item before) }
-    ensures used { IfOk result (λ used. used ≡ before + (run_time instance.now (plan_of plan.now) resource period item + setup_time_used instance.now (plan_of plan.now) resource period item)) }
+    ensures text { OnOk result (string_bytes text.new
+        ≡ string_bytes text.old
+        ++ stack chart instance.now (plan_of plan.now) resource period item before) }
+    ensures used { IfOk result (λ used. used
+        ≡ before + (run_time instance.now (plan_of plan.now) resource period item
+        + setup_time_used instance.now (plan_of plan.now) resource period item)) }
     ensures more { IfOk result (λ used. used ≤ before + 2 ^ 101) }
 {
     let name = instance.item_name(item);
@@ -148,7 +154,9 @@ fn add_stacks(
     requires fits { AllFit instance.now plan.now }
     requires low { 1 ≤ period }
     requires high { period ≤ instance.now.periods }
-    ensures { OnOk result (string_bytes text.new ≡ string_bytes text.old ++ load_marks chart instance.now (plan_of plan.now) resource period) }
+    ensures { OnOk result (string_bytes text.new
+        ≡ string_bytes text.old
+        ++ load_marks chart instance.now (plan_of plan.now) resource period) }
 {
     let mut used = 0u128;
     for item in 1..instance.items() + 1 {
@@ -167,7 +175,8 @@ fn add_slot(
     capacity: u128,
 ) -> Result<(), AllocError>
     requires { used < 2 ^ 120 }
-    ensures { OnOk result (string_bytes text.new ≡ string_bytes text.old ++ slot_mark chart period used capacity) }
+    ensures { OnOk result (string_bytes text.new
+        ≡ string_bytes text.old ++ slot_mark chart period used capacity) }
 {
     let bar = Bar {
         x: left_of(chart, period),
@@ -195,7 +204,8 @@ fn add_share(
     capacity: u128,
 ) -> Result<(), AllocError>
     requires { used < 2 ^ 120 }
-    ensures { OnOk result (string_bytes text.new ≡ string_bytes text.old ++ share_label chart period used capacity) }
+    ensures { OnOk result (string_bytes text.new
+        ≡ string_bytes text.old ++ share_label chart period used capacity) }
 {
     let middle = middle_of(chart, period);
     let share = percent(used, capacity);
@@ -221,7 +231,9 @@ pub fn add_period(
     requires resource_high { resource ≤ resource_count instance.now }
     requires low { 1 ≤ period }
     requires high { period ≤ instance.now.periods }
-    ensures { OnOk result (string_bytes text.new ≡ string_bytes text.old ++ period_loads chart instance.now (plan_of plan.now) resource period) }
+    ensures { OnOk result (string_bytes text.new
+        ≡ string_bytes text.old
+        ++ period_loads chart instance.now (plan_of plan.now) resource period) }
 {
     let used = time_used(instance, plan, resource, period);
     let capacity = instance.capacity(resource, period) as u128;
@@ -245,7 +257,8 @@ fn add_capacity(
     requires resource_high { resource ≤ resource_count instance.now }
     requires low { 1 ≤ period }
     requires high { period ≤ instance.now.periods }
-    ensures { OnOk result (string_bytes text.new ≡ string_bytes text.old ++ capacity_step chart instance.now resource period) }
+    ensures { OnOk result (string_bytes text.new
+        ≡ string_bytes text.old ++ capacity_step chart instance.now resource period) }
 {
     let y = level(chart, instance.capacity(resource, period) as u128);
     let x = right_of(chart, period);
@@ -256,7 +269,8 @@ fn add_capacity(
 // Begins the line of the capacity, at that of the first period.
 #[tactic(auto, unfolding(crate::specs::Loads::capacity_start))]
 fn add_first(text: &mut String, chart: Chart, capacity: u64) -> Result<(), AllocError>
-    ensures { OnOk result (string_bytes text.new ≡ string_bytes text.old ++ capacity_start chart capacity) }
+    ensures { OnOk result (string_bytes text.new
+        ≡ string_bytes text.old ++ capacity_start chart capacity) }
 {
     let left = chart.gutter;
     let first = level(chart, capacity as u128);
@@ -274,7 +288,8 @@ fn add_steps(
 ) -> Result<(), AllocError>
     requires low { 1 ≤ resource }
     requires high { resource ≤ resource_count instance.now }
-    ensures { OnOk result (string_bytes text.new ≡ string_bytes text.old ++ capacity_steps chart instance.now resource) }
+    ensures { OnOk result (string_bytes text.new
+        ≡ string_bytes text.old ++ capacity_steps chart instance.now resource) }
 {
     for period in 1..instance.periods() + 1 {
         add_capacity(text, chart, instance, resource, period)?;
@@ -292,7 +307,8 @@ pub fn add_capacity_line(
 ) -> Result<(), AllocError>
     requires low { 1 ≤ resource }
     requires high { resource ≤ resource_count instance.now }
-    ensures { OnOk result (string_bytes text.new ≡ string_bytes text.old ++ capacity_line chart instance.now resource) }
+    ensures { OnOk result (string_bytes text.new
+        ≡ string_bytes text.old ++ capacity_line chart instance.now resource) }
 {
     // There is at least one period.
     let periods = instance.periods();

@@ -9,7 +9,8 @@ use std::alloc::AllocError;
 /// Begins a rectangle, up to its title.
 #[tactic(auto, unfolding(crate::specs::Marks::bar_start))]
 pub fn add_bar(text: &mut String, class: &str, bar: Bar) -> Result<(), AllocError>
-    ensures { OnOk result (string_bytes text.new ≡ string_bytes text.old ++ bar_start class.now bar) }
+    ensures { OnOk result (string_bytes text.new
+        ≡ string_bytes text.old ++ bar_start class.now bar) }
 {
     let (x, y, width, height) = (bar.x, bar.y, bar.width, bar.height);
     write!(
@@ -27,7 +28,8 @@ pub fn add_painted_bar(
     item: u32,
     bar: Bar,
 ) -> Result<(), AllocError>
-    ensures { OnOk result (string_bytes text.new ≡ string_bytes text.old ++ painted_bar_start class.now item bar) }
+    ensures { OnOk result (string_bytes text.new
+        ≡ string_bytes text.old ++ painted_bar_start class.now item bar) }
 {
     let (x, y, width, height) = (bar.x, bar.y, bar.width, bar.height);
     let paint = Paint(item);
@@ -41,7 +43,8 @@ pub fn add_painted_bar(
 /// Begins a chart.
 #[tactic(auto, unfolding(crate::specs::Marks::chart_start))]
 pub fn open_chart(text: &mut String, chart: Chart, label: &str) -> Result<(), AllocError>
-    ensures { OnOk result (string_bytes text.new ≡ string_bytes text.old ++ chart_start chart label.now) }
+    ensures { OnOk result (string_bytes text.new
+        ≡ string_bytes text.old ++ chart_start chart label.now) }
 {
     let width = width_of(chart);
     let height = foot(chart) + 24;
@@ -55,7 +58,8 @@ pub fn open_chart(text: &mut String, chart: Chart, label: &str) -> Result<(), Al
 // Adds a line along all periods.
 #[tactic(auto, unfolding(crate::specs::Marks::line_text))]
 fn add_line(text: &mut String, class: &str, chart: Chart, y: u32) -> Result<(), AllocError>
-    ensures { OnOk result (string_bytes text.new ≡ string_bytes text.old ++ line_text class.now chart y) }
+    ensures { OnOk result (string_bytes text.new
+        ≡ string_bytes text.old ++ line_text class.now chart y) }
 {
     let left = chart.gutter;
     let right = right_of(chart, chart.periods);
@@ -69,7 +73,8 @@ fn add_line(text: &mut String, class: &str, chart: Chart, y: u32) -> Result<(), 
 // Adds a number left of the first period.
 #[tactic(auto, unfolding(crate::specs::Marks::tick_text))]
 fn add_tick(text: &mut String, chart: Chart, y: u32, value: u64) -> Result<(), AllocError>
-    ensures { OnOk result (string_bytes text.new ≡ string_bytes text.old ++ tick_text chart y value) }
+    ensures { OnOk result (string_bytes text.new
+        ≡ string_bytes text.old ++ tick_text chart y value) }
 {
     let at = chart.gutter.saturating_sub(6);
     let shown = Grouped(value as u128);
@@ -110,7 +115,8 @@ fn label_every(periods: u32) -> u32
 /// Adds the number of a period below the axis, where it has one.
 #[tactic(auto, unfolding(crate::specs::Marks::period_label))]
 pub fn add_period_label(text: &mut String, chart: Chart, period: u32) -> Result<(), AllocError>
-    ensures { OnOk result (string_bytes text.new ≡ string_bytes text.old ++ period_label chart period) }
+    ensures { OnOk result (string_bytes text.new
+        ≡ string_bytes text.old ++ period_label chart period) }
 {
     if period % label_every(chart.periods) == 0 {
         let middle = middle_of(chart, period);

@@ -66,7 +66,8 @@ fn add_main(
     proved: Proved,
 ) -> Result<(), AllocError>
     requires { AllFit instance.now plan.now }
-    ensures { OnOk result (string_bytes text.new ≡ string_bytes text.old ++ main_text instance.now (plan_of plan.now) proved) }
+    ensures { OnOk result (string_bytes text.new
+        ≡ string_bytes text.old ++ main_text instance.now (plan_of plan.now) proved) }
 {
     let cost = plan_cost(instance, plan);
     add_title(text)?;
@@ -89,7 +90,8 @@ fn page_of(
     proved: Proved,
 ) -> Result<String, AllocError>
     requires { AllFit instance.now plan.now }
-    ensures { IfOk result (λ text. string_bytes text ≡ page_text instance.now (plan_of plan.now) proved) }
+    ensures { IfOk result (λ text. string_bytes text
+        ≡ page_text instance.now (plan_of plan.now) proved) }
 {
     let mut text = String::new(alloc);
     add_head(&mut text)?;
@@ -110,9 +112,12 @@ pub fn page(
     proved: Proved,
 ) -> Result<String, PageFault>
     requires { AllFit instance.now plan.now }
-    ensures text { IfOk result (λ text. string_bytes text ≡ page_text instance.now (plan_of plan.now) proved) }
-    ensures short { OnOk result (length (page_text instance.now (plan_of plan.now) proved) ≤ MAX_PAGE) }
-    ensures long { result ≡ Err PageFault.Long → MAX_PAGE < length (page_text instance.now (plan_of plan.now) proved) }
+    ensures text { IfOk result (λ text. string_bytes text
+        ≡ page_text instance.now (plan_of plan.now) proved) }
+    ensures short { OnOk result (length (page_text instance.now (plan_of plan.now) proved)
+        ≤ MAX_PAGE) }
+    ensures long { result ≡ Err PageFault.Long
+        → MAX_PAGE < length (page_text instance.now (plan_of plan.now) proved) }
 {
     let text = page_of(alloc, instance, plan, proved)?;
     if text.len() > MAX_PAGE {

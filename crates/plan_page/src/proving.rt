@@ -92,7 +92,8 @@ fn add_bound(text: &mut String, cost: u128, bound: u128) -> Result<(), AllocErro
 #[tactic(auto, unfolding(crate::specs::Proving::proof_text))]
 pub fn add_proof(text: &mut String, cost: u128, proved: Proved) -> Result<(), AllocError>
     requires { cost < 2 ^ 110 }
-    ensures { OnOk result (string_bytes text.new ≡ string_bytes text.old ++ proof_text cost proved) }
+    ensures { OnOk result (string_bytes text.new
+        ≡ string_bytes text.old ++ proof_text cost proved) }
 {
     match proved {
         Proved::Nothing => Ok(()),

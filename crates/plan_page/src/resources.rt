@@ -20,7 +20,8 @@ use std::alloc::AllocError;
 fn add_head(text: &mut String, instance: &Instance, resource: u32) -> Result<(), AllocError>
     requires low { 1 ≤ resource }
     requires high { resource ≤ resource_count instance.now }
-    ensures { OnOk result (string_bytes text.new ≡ string_bytes text.old ++ resource_head instance.now resource) }
+    ensures { OnOk result (string_bytes text.new
+        ≡ string_bytes text.old ++ resource_head instance.now resource) }
 {
     let name = instance.resource_name(resource);
     write!(text, "<section id=\"r{resource}\"><h2>{name}</h2>\n")?;
@@ -31,7 +32,8 @@ fn add_head(text: &mut String, instance: &Instance, resource: u32) -> Result<(),
 #[tactic(auto, unfolding(crate::specs::Resources::load_line))]
 fn add_load(text: &mut String, load: Load) -> Result<(), AllocError>
     requires { load.used < 2 ^ 120 }
-    ensures { OnOk result (string_bytes text.new ≡ string_bytes text.old ++ load_line load.used load.capacity) }
+    ensures { OnOk result (string_bytes text.new
+        ≡ string_bytes text.old ++ load_line load.used load.capacity) }
 {
     let (used, capacity) = (Grouped(load.used), Grouped(load.capacity));
     let share = percent(load.used, load.capacity);
@@ -54,7 +56,8 @@ fn add_periods(
     requires fits { AllFit instance.now plan.now }
     requires low { 1 ≤ resource }
     requires high { resource ≤ resource_count instance.now }
-    ensures { OnOk result (string_bytes text.new ≡ string_bytes text.old ++ all_loads chart instance.now (plan_of plan.now) resource) }
+    ensures { OnOk result (string_bytes text.new
+        ≡ string_bytes text.old ++ all_loads chart instance.now (plan_of plan.now) resource) }
 {
     for period in 1..instance.periods() + 1 {
         add_period(text, chart, instance, plan, resource, period)?;
@@ -74,7 +77,8 @@ fn add_chart(
     requires fits { AllFit instance.now plan.now }
     requires low { 1 ≤ resource }
     requires high { resource ≤ resource_count instance.now }
-    ensures { OnOk result (string_bytes text.new ≡ string_bytes text.old ++ load_chart chart instance.now (plan_of plan.now) resource) }
+    ensures { OnOk result (string_bytes text.new
+        ≡ string_bytes text.old ++ load_chart chart instance.now (plan_of plan.now) resource) }
 {
     open_chart(text, chart, "Time used by period")?;
     add_periods(text, chart, instance, plan, resource)?;
@@ -103,7 +107,8 @@ fn add_entry(
 ) -> Result<(), AllocError>
     requires low { 1 ≤ item }
     requires high { item ≤ item_count instance.now }
-    ensures { OnOk result (string_bytes text.new ≡ string_bytes text.old ++ legend_entry instance.now resource item) }
+    ensures { OnOk result (string_bytes text.new
+        ≡ string_bytes text.old ++ legend_entry instance.now resource item) }
 {
     if takes_time(instance, resource, item) {
         let name = instance.item_name(item);
@@ -115,7 +120,8 @@ fn add_entry(
 // Adds what the marks of all items look like.
 #[tactic(auto, using(crate::proofs::Joins::join_more), unfolding(crate::specs::Resources::legend_entries))]
 fn add_entries(text: &mut String, instance: &Instance, resource: u32) -> Result<(), AllocError>
-    ensures { OnOk result (string_bytes text.new ≡ string_bytes text.old ++ legend_entries instance.now resource) }
+    ensures { OnOk result (string_bytes text.new
+        ≡ string_bytes text.old ++ legend_entries instance.now resource) }
 {
     for item in 1..instance.items() + 1 {
         add_entry(text, instance, resource, item)?;
@@ -126,7 +132,8 @@ fn add_entries(text: &mut String, instance: &Instance, resource: u32) -> Result<
 // Adds what the marks of the items look like.
 #[tactic(auto, unfolding(crate::specs::Resources::legend))]
 fn add_legend(text: &mut String, instance: &Instance, resource: u32) -> Result<(), AllocError>
-    ensures { OnOk result (string_bytes text.new ≡ string_bytes text.old ++ legend instance.now resource) }
+    ensures { OnOk result (string_bytes text.new
+        ≡ string_bytes text.old ++ legend instance.now resource) }
 {
     text.push_str("<p class=\"legend\">")?;
     add_entries(text, instance, resource)?;
@@ -145,7 +152,8 @@ fn add_resource(
     requires fits { AllFit instance.now plan.now }
     requires low { 1 ≤ resource }
     requires high { resource ≤ resource_count instance.now }
-    ensures { OnOk result (string_bytes text.new ≡ string_bytes text.old ++ resource_text instance.now (plan_of plan.now) resource) }
+    ensures { OnOk result (string_bytes text.new
+        ≡ string_bytes text.old ++ resource_text instance.now (plan_of plan.now) resource) }
 {
     let load = resource_load(instance, plan, resource);
     let chart = resource_chart(instance, plan, resource);
@@ -162,7 +170,8 @@ fn add_resource(
 #[tactic(auto, using(crate::proofs::Joins::join_more), unfolding(crate::specs::Resources::resource_texts))]
 pub fn add_resources(text: &mut String, instance: &Instance, plan: &Plan) -> Result<(), AllocError>
     requires { AllFit instance.now plan.now }
-    ensures { OnOk result (string_bytes text.new ≡ string_bytes text.old ++ resource_texts instance.now (plan_of plan.now)) }
+    ensures { OnOk result (string_bytes text.new
+        ≡ string_bytes text.old ++ resource_texts instance.now (plan_of plan.now)) }
 {
     for resource in 1..instance.resources() + 1 {
         add_resource(text, instance, plan, resource)?;

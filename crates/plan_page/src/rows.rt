@@ -30,7 +30,8 @@ fn add_name(
 ) -> Result<(), AllocError>
     requires low { 1 ≤ item }
     requires high { item ≤ item_count instance.now }
-    ensures { OnOk result (string_bytes text.new ≡ string_bytes text.old ++ name_cell instance.now resource item) }
+    ensures { OnOk result (string_bytes text.new
+        ≡ string_bytes text.old ++ name_cell instance.now resource item) }
 {
     if takes_time(instance, resource, item) {
         let name = instance.item_name(item);
@@ -52,7 +53,8 @@ fn open_table(text: &mut String) -> Result<(), AllocError>
 // Adds the names of all items that take time of the resource.
 #[tactic(auto, using(crate::proofs::Joins::join_more), unfolding(crate::specs::Rows::name_cells))]
 fn add_names(text: &mut String, instance: &Instance, resource: u32) -> Result<(), AllocError>
-    ensures { OnOk result (string_bytes text.new ≡ string_bytes text.old ++ name_cells instance.now resource) }
+    ensures { OnOk result (string_bytes text.new
+        ≡ string_bytes text.old ++ name_cells instance.now resource) }
 {
     for item in 1..instance.items() + 1 {
         add_name(text, instance, resource, item)?;
@@ -63,7 +65,8 @@ fn add_names(text: &mut String, instance: &Instance, resource: u32) -> Result<()
 // Adds the row of names.
 #[tactic(auto, unfolding(crate::specs::Rows::load_heads))]
 fn add_heads(text: &mut String, instance: &Instance, resource: u32) -> Result<(), AllocError>
-    ensures { OnOk result (string_bytes text.new ≡ string_bytes text.old ++ load_heads instance.now resource) }
+    ensures { OnOk result (string_bytes text.new
+        ≡ string_bytes text.old ++ load_heads instance.now resource) }
 {
     open_table(text)?;
     add_names(text, instance, resource)?;
@@ -96,7 +99,8 @@ fn add_cell(
     requires high { period ≤ instance.now.periods }
     requires item_low { 1 ≤ item }
     requires item_high { item ≤ item_count instance.now }
-    ensures { OnOk result (string_bytes text.new ≡ string_bytes text.old ++ load_cell instance.now (plan_of plan.now) resource period item) }
+    ensures { OnOk result (string_bytes text.new
+        ≡ string_bytes text.old ++ load_cell instance.now (plan_of plan.now) resource period item) }
 {
     if takes_time(instance, resource, item) {
         let run = run_time(instance, plan, resource, period, item);
@@ -118,7 +122,8 @@ fn add_cells(
     requires fits { AllFit instance.now plan.now }
     requires low { 1 ≤ period }
     requires high { period ≤ instance.now.periods }
-    ensures { OnOk result (string_bytes text.new ≡ string_bytes text.old ++ load_cells instance.now (plan_of plan.now) resource period) }
+    ensures { OnOk result (string_bytes text.new
+        ≡ string_bytes text.old ++ load_cells instance.now (plan_of plan.now) resource period) }
 {
     for item in 1..instance.items() + 1 {
         add_cell(text, instance, plan, resource, period, item)?;
@@ -130,7 +135,8 @@ fn add_cells(
 #[tactic(auto, unfolding(crate::specs::Rows::load_start))]
 fn add_start(text: &mut String, period: u32, used: u128, capacity: u128) -> Result<(), AllocError>
     requires { used < 2 ^ 120 }
-    ensures { OnOk result (string_bytes text.new ≡ string_bytes text.old ++ load_start period used capacity) }
+    ensures { OnOk result (string_bytes text.new
+        ≡ string_bytes text.old ++ load_start period used capacity) }
 {
     let share = percent(used, capacity);
     let (shown, all) = (Grouped(used), Grouped(capacity));
@@ -155,7 +161,8 @@ fn add_row(
     requires resource_high { resource ≤ resource_count instance.now }
     requires low { 1 ≤ period }
     requires high { period ≤ instance.now.periods }
-    ensures { OnOk result (string_bytes text.new ≡ string_bytes text.old ++ load_row instance.now (plan_of plan.now) resource period) }
+    ensures { OnOk result (string_bytes text.new
+        ≡ string_bytes text.old ++ load_row instance.now (plan_of plan.now) resource period) }
 {
     let used = time_used(instance, plan, resource, period);
     let capacity = instance.capacity(resource, period) as u128;
@@ -176,7 +183,8 @@ fn add_rows(
     requires fits { AllFit instance.now plan.now }
     requires low { 1 ≤ resource }
     requires high { resource ≤ resource_count instance.now }
-    ensures { OnOk result (string_bytes text.new ≡ string_bytes text.old ++ load_rows instance.now (plan_of plan.now) resource) }
+    ensures { OnOk result (string_bytes text.new
+        ≡ string_bytes text.old ++ load_rows instance.now (plan_of plan.now) resource) }
 {
     for period in 1..instance.periods() + 1 {
         add_row(text, instance, plan, resource, period)?;
@@ -195,7 +203,8 @@ pub fn add_load_table(
     requires fits { AllFit instance.now plan.now }
     requires low { 1 ≤ resource }
     requires high { resource ≤ resource_count instance.now }
-    ensures { OnOk result (string_bytes text.new ≡ string_bytes text.old ++ load_table instance.now (plan_of plan.now) resource) }
+    ensures { OnOk result (string_bytes text.new
+        ≡ string_bytes text.old ++ load_table instance.now (plan_of plan.now) resource) }
 {
     add_heads(text, instance, resource)?;
     add_rows(text, instance, plan, resource)?;

@@ -27,10 +27,13 @@ fn fill_item(
     requires high { item ≤ item_count instance.now }
     ensures stock { Fits instance.now stock.new }
     ensures backlog { Fits instance.now backlog.new }
-    ensures row { IsTrue result → (t : ℕ) → 1 ≤ t → t ≤ instance.now.periods → HasLeast instance.now (table_of make.now) (table_of stock.new) (table_of backlog.new) item t }
+    ensures row { IsTrue result → (t : ℕ) → 1 ≤ t → t ≤ instance.now.periods
+        → HasLeast instance.now (table_of make.now) (table_of stock.new) (table_of backlog.new) item
+        t }
     ensures other_stocks { OtherRowsSame stock.old stock.new item }
     ensures other_backlogs { OtherRowsSame backlog.old backlog.new item }
-    ensures too_large { result ≡ false → (t : ℕ) × (1 ≤ t) × (t ≤ instance.now.periods) × IsTooLarge instance.now (table_of make.now) item t }
+    ensures too_large { result ≡ false → (t : ℕ) × (1 ≤ t) × (t ≤ instance.now.periods)
+        × IsTooLarge instance.now (table_of make.now) item t }
 {
     let mut supply = instance.opening(item) as u128;
     let mut outflow = 0u128;
@@ -56,7 +59,8 @@ fn fill(instance: &Instance, make: &Grid, stock: &mut Grid, backlog: &mut Grid) 
     requires backlog { Fits instance.now backlog.old }
     ensures stock { Fits instance.now stock.new }
     ensures backlog { Fits instance.now backlog.new }
-    ensures rows { IsTrue result → EachCell instance.now (HasLeast instance.now (table_of make.now) (table_of stock.new) (table_of backlog.new)) }
+    ensures rows { IsTrue result → EachCell instance.now
+        (HasLeast instance.now (table_of make.now) (table_of stock.new) (table_of backlog.new)) }
     ensures too_large { result ≡ false → HasTooLarge instance.now (table_of make.now) }
     ensures instance { IsInstance instance.now }
 {
@@ -84,7 +88,8 @@ fn finish(
     ensures choice { IfSome result (λ p. HasChosen make setup p.plan) }
     ensures fits { IfSome result (λ p. AllFit instance.now p.plan) }
     ensures feasible { IfSome result (λ p. IsFeasible instance.now (plan_of p.plan)) }
-    ensures least { IfSome result (λ p. IsLeastWith instance.now (table_of make) (table_of setup) (plan_of p.plan)) }
+    ensures least { IfSome result (λ p.
+        IsLeastWith instance.now (table_of make) (table_of setup) (plan_of p.plan)) }
     ensures cost { IfSome result (λ p. p.cost ≡ cost instance.now (plan_of p.plan)) }
     ensures small { IfSome result (λ p. p.cost < 2 ^ 127) }
     ensures none { IfNone result (HasNoPlan instance.now (table_of make) (table_of setup)) }
@@ -121,7 +126,8 @@ pub fn complete_at_cost(
     ensures choice { IfFound result (λ p. HasChosen make setup p.plan) }
     ensures fits { IfFound result (λ p. AllFit instance.now p.plan) }
     ensures feasible { IfFound result (λ p. IsFeasible instance.now (plan_of p.plan)) }
-    ensures least { IfFound result (λ p. IsLeastWith instance.now (table_of make) (table_of setup) (plan_of p.plan)) }
+    ensures least { IfFound result (λ p.
+        IsLeastWith instance.now (table_of make) (table_of setup) (plan_of p.plan)) }
     ensures cost { IfFound result (λ p. p.cost ≡ cost instance.now (plan_of p.plan)) }
     ensures small { IfFound result (λ p. p.cost < 2 ^ 127) }
     ensures none { IfNoneFound result (HasNoPlan instance.now (table_of make) (table_of setup)) }
@@ -141,8 +147,10 @@ pub fn complete(
     requires make { Fits instance.now make }
     requires setup { Fits instance.now setup }
     ensures choice { IfFound result (λ plan. HasChosen make setup plan) }
-    ensures feasible { IfFound result (λ plan. AllFit instance.now plan × IsFeasible instance.now (plan_of plan)) }
-    ensures least { IfFound result (λ plan. IsLeastWith instance.now (table_of make) (table_of setup) (plan_of plan)) }
+    ensures feasible { IfFound result (λ plan. AllFit instance.now plan
+        × IsFeasible instance.now (plan_of plan)) }
+    ensures least { IfFound result (λ plan.
+        IsLeastWith instance.now (table_of make) (table_of setup) (plan_of plan)) }
     ensures none { IfNoneFound result (HasNoPlan instance.now (table_of make) (table_of setup)) }
 {
     match complete_at_cost(alloc, instance, make, setup)? {

@@ -40,8 +40,10 @@ fn first_period(instance: &Instance, plan: &Plan, rule: CellRule, item: u32) -> 
     requires plan { AllFit instance.now plan.now }
     requires item_low { 1 ≤ item }
     requires item_high { item ≤ item_count instance.now }
-    ensures kept { IfNone result (HoldsInRow instance.now.periods (KeepsRule instance.now (plan_of plan.now) rule) item) }
-    ensures broken { IfSome result (IsFirstInRow instance.now.periods (KeepsRule instance.now (plan_of plan.now) rule) item) }
+    ensures kept { IfNone result (HoldsInRow instance.now.periods
+        (KeepsRule instance.now (plan_of plan.now) rule) item) }
+    ensures broken { IfSome result (IsFirstInRow instance.now.periods
+        (KeepsRule instance.now (plan_of plan.now) rule) item) }
 {
     for period in 1..instance.periods() + 1 {
         if !rules::keeps(instance, plan, rule, item, period) {
@@ -54,8 +56,11 @@ fn first_period(instance: &Instance, plan: &Plan, rule: CellRule, item: u32) -> 
 // The first item and period at which a rule is broken.
 fn first_cell(instance: &Instance, plan: &Plan, rule: CellRule) -> Option<Cell>
     requires { AllFit instance.now plan.now }
-    ensures kept { IfNone result (EachCell instance.now (KeepsRule instance.now (plan_of plan.now) rule)) }
-    ensures broken { IfSome result (λ at. IsFirstCell instance.now (KeepsRule instance.now (plan_of plan.now) rule) at.item at.period) }
+    ensures kept { IfNone result (EachCell instance.now
+        (KeepsRule instance.now (plan_of plan.now) rule)) }
+    ensures broken { IfSome result (λ at.
+        IsFirstCell instance.now (KeepsRule instance.now (plan_of plan.now) rule) at.item
+        at.period) }
 {
     for item in 1..instance.items() + 1 {
         if let Some(period) = first_period(instance, plan, rule, item) {
@@ -70,8 +75,10 @@ fn first_overused_period(instance: &Instance, plan: &Plan, resource: u32) -> Opt
     requires plan { AllFit instance.now plan.now }
     requires low { 1 ≤ resource }
     requires high { resource ≤ resource_count instance.now }
-    ensures kept { IfNone result (HoldsInRow instance.now.periods (IsWithinCapacity instance.now (plan_of plan.now)) resource) }
-    ensures broken { IfSome result (IsFirstInRow instance.now.periods (IsWithinCapacity instance.now (plan_of plan.now)) resource) }
+    ensures kept { IfNone result (HoldsInRow instance.now.periods
+        (IsWithinCapacity instance.now (plan_of plan.now)) resource) }
+    ensures broken { IfSome result (IsFirstInRow instance.now.periods
+        (IsWithinCapacity instance.now (plan_of plan.now)) resource) }
 {
     for period in 1..instance.periods() + 1 {
         let used = sums::time_used(instance, plan, resource, period);
@@ -85,8 +92,11 @@ fn first_overused_period(instance: &Instance, plan: &Plan, resource: u32) -> Opt
 // The first resource and period in which it is used for longer than it has time.
 fn first_overuse(instance: &Instance, plan: &Plan) -> Option<Overuse>
     requires { AllFit instance.now plan.now }
-    ensures kept { IfNone result (Each (resource_count instance.now) instance.now.periods (IsWithinCapacity instance.now (plan_of plan.now))) }
-    ensures broken { IfSome result (λ at. IsFirst (resource_count instance.now) instance.now.periods (IsWithinCapacity instance.now (plan_of plan.now)) at.resource at.period) }
+    ensures kept { IfNone result (Each (resource_count instance.now) instance.now.periods
+        (IsWithinCapacity instance.now (plan_of plan.now))) }
+    ensures broken { IfSome result (λ at.
+        IsFirst (resource_count instance.now) instance.now.periods
+        (IsWithinCapacity instance.now (plan_of plan.now)) at.resource at.period) }
 {
     for resource in 1..instance.resources() + 1 {
         if let Some(period) = first_overused_period(instance, plan, resource) {
@@ -99,7 +109,8 @@ fn first_overuse(instance: &Instance, plan: &Plan) -> Option<Overuse>
 // The first item whose last stock isn't within its bounds.
 fn first_end(instance: &Instance, plan: &Plan) -> Option<u32>
     requires { AllFit instance.now plan.now }
-    ensures kept { IfNone result (EachItem instance.now (IsEndStock instance.now (plan_of plan.now))) }
+    ensures kept { IfNone result (EachItem instance.now
+        (IsEndStock instance.now (plan_of plan.now))) }
     ensures broken { IfSome result (IsFirstEnd instance.now (plan_of plan.now)) }
 {
     let periods = instance.periods();
@@ -119,12 +130,15 @@ fn first_end(instance: &Instance, plan: &Plan) -> Option<u32>
 /// times that of items times that of the bill's lines. The cost is in money, and below 2^127.
 pub fn judge(instance: &Instance, plan: &Plan) -> Result<u128, Broken>
     ensures judged { IsJudged instance.now plan.now result }
-    ensures feasible { OnOk result (AllFit instance.now plan.now × IsFeasible instance.now (plan_of plan.now)) }
+    ensures feasible { OnOk result (AllFit instance.now plan.now
+        × IsFeasible instance.now (plan_of plan.now)) }
     ensures cost { IfOk result (λ amount. amount ≡ cost instance.now (plan_of plan.now)) }
     ensures small { IfOk result (λ amount. amount < 2 ^ 127) }
-    ensures refused { OnErr result (AllFit instance.now plan.now → IsFeasible instance.now (plan_of plan.now) → ⊥) }
+    ensures refused { OnErr result (AllFit instance.now plan.now
+        → IsFeasible instance.now (plan_of plan.now) → ⊥) }
     ensures shape { IsErrOf result Broken.Shape ↔ (AllFit instance.now plan.now → ⊥) }
-    ensures broken { AllFit instance.now plan.now → IfErr result (IsBroken instance.now (plan_of plan.now)) }
+    ensures broken { AllFit instance.now plan.now
+        → IfErr result (IsBroken instance.now (plan_of plan.now)) }
 {
     if !all_fit(instance, plan) {
         return Err(Broken::Shape);

@@ -166,10 +166,14 @@ pub fn cost_parts(instance: &Instance, plan: &Plan, item: u32, period: u32) -> C
     requires item_high { item ≤ item_count instance.now }
     requires low { 1 ≤ period }
     requires high { period ≤ instance.now.periods }
-    ensures unit { result.unit ≡ unit_cost instance.now item period * table_of plan.now.make item period }
-    ensures setup { result.setup ≡ setup_cost instance.now item period * table_of plan.now.setup item period }
-    ensures hold { result.hold ≡ hold_cost instance.now item period * table_of plan.now.stock item period }
-    ensures backlog { result.backlog ≡ backlog_cost instance.now item period * table_of plan.now.backlog item period }
+    ensures unit { result.unit ≡ unit_cost instance.now item period
+        * table_of plan.now.make item period }
+    ensures setup { result.setup ≡ setup_cost instance.now item period
+        * table_of plan.now.setup item period }
+    ensures hold { result.hold ≡ hold_cost instance.now item period
+        * table_of plan.now.stock item period }
+    ensures backlog { result.backlog ≡ backlog_cost instance.now item period
+        * table_of plan.now.backlog item period }
     ensures small { result.unit + result.setup + result.hold + result.backlog ≤ most_cost_at }
 {
     let owed = instance.backlog_cost(item, period).unwrap_or(0);
@@ -201,7 +205,8 @@ fn item_cost(instance: &Instance, plan: &Plan, item: u32) -> u128
     requires fits { AllFit instance.now plan.now }
     requires item_low { 1 ≤ item }
     requires item_high { item ≤ item_count instance.now }
-    ensures value { result ≡ sum_to instance.now.periods (λ t. cost_at instance.now (plan_of plan.now) item t) }
+    ensures value { result ≡ sum_to instance.now.periods
+        (λ t. cost_at instance.now (plan_of plan.now) item t) }
     ensures small { result ≤ MAX_PERIODS * most_cost_at }
 {
     let mut total = 0u128;

@@ -12,7 +12,8 @@ use lot_model::Instance;
 
 // The item of a block cut, where it comes after an item and isn't past the last one.
 fn item_after(cut: &Cut, last: u32, most: u32) -> Option<u32>
-    ensures { IfSome result (λ item. (rest : List CutShape) → AreRising most item rest → AreRising most last (cut_shape cut.now ∷ rest)) }
+    ensures { IfSome result (λ item. (rest : List CutShape) → AreRising most item rest
+        → AreRising most last (cut_shape cut.now ∷ rest)) }
 {
     match cut {
         Cut::Block { item, .. } if *item > last && *item <= most => Some(*item),

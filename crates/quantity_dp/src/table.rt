@@ -71,7 +71,8 @@ fn made(
     requires size { length before.now ≤ MAX_ENTRIES }
     requires priced { IsPriced lot.now }
     requires small { AreSmall (MAX_ENTRIES * MAX_PRICE) before.now }
-    requires least { IsLeastIn (brought_in before.now lot.now.unit) (quantity - lot.now.largest) (quantity + 1) least }
+    requires least { IsLeastIn (brought_in before.now lot.now.unit) (quantity - lot.now.largest)
+        (quantity + 1) least }
     ensures { result ≡ made_by lot.now before.now quantity least }
 {
     let lacks = (before.len() - 1) as u64 - quantity;
@@ -93,7 +94,8 @@ fn entry(
     requires need { lot.now.need ≤ most_in before.now }
     requires priced { IsPriced lot.now }
     requires small { AreSmall (MAX_ENTRIES * MAX_PRICE) before.now }
-    requires least { IsLeastIn (brought_in before.now lot.now.unit) (quantity - lot.now.largest) (quantity + 1) least }
+    requires least { IsLeastIn (brought_in before.now lot.now.unit) (quantity - lot.now.largest)
+        (quantity + 1) least }
     ensures { IsNextEntry lot.now before.now quantity result }
 {
     if quantity < lot.need {

@@ -68,7 +68,8 @@ impl Window {
 
     /// The least price in the window, and none where it has none.
     pub fn least(&self) -> Option<u128>
-        ensures { (w : ℕ → Option ℕ) (low high : ℕ) → IsWindow w low high self.now → IsLeastIn w low high result }
+        ensures { (w : ℕ → Option ℕ) (low high : ℕ) → IsWindow w low high self.now
+            → IsLeastIn w low high result }
     {
         if self.first < self.rising.len() {
             return Some(self.rising[self.first].price);

@@ -71,7 +71,8 @@ pub(crate) fn item_floor(
 fn worth(instance: &Instance, link: &ChainLink) -> u128
     requires low { 1 ≤ link.now.item }
     requires high { link.now.item ≤ item_count instance.now }
-    ensures { IsCapped (link.now.opening_price * (item_at instance.now link.now.item).opening) result }
+    ensures { IsCapped (link.now.opening_price * (item_at instance.now link.now.item).opening)
+        result }
 {
     link.opening_price
         .saturating_mul(u128::from(instance.opening(link.item)))
@@ -103,7 +104,8 @@ pub(crate) fn pair_floor(
     requires top_low { 1 ≤ top.now.item }
     requires top_high { top.now.item ≤ item_count instance.now }
     ensures floor { IfOk result
-        (IsChainFloor instance.now (start_in started.now) (price_in prices.now) low.now (top.now ∷ [])) }
+        (IsChainFloor instance.now (start_in started.now) (price_in prices.now) low.now
+        (top.now ∷ [])) }
     ensures too_dear { (result ≡ Err TooDear) → most ≤ opening_cost instance.now.periods
         (chain_levels instance.now (start_in started.now) (price_in prices.now)
         low.now (top.now ∷ [])) }

@@ -37,7 +37,11 @@ fn item(
     requires low { 1 ≤ item }
     requires high { item ≤ item_count instance.now }
     requires inside { first < instance.now.periods }
-    ensures { let m = instance.now in IfOk result (λ made. raw_item made ≡ item_drafted m (rest_item first (least_stock m (table_of make.now) item first) (least_backlog m (table_of make.now) item first) (item_at m item))) }
+    ensures { let m = instance.now in IfOk result
+        (λ made. raw_item made
+        ≡ item_drafted m
+        (rest_item first (least_stock m (table_of make.now) item first)
+        (least_backlog m (table_of make.now) item first) (item_at m item))) }
 {
     an_instance_breaks_no_rule(instance);
     let flows = flows_after(instance, make, item, first);
@@ -68,7 +72,9 @@ fn items(
 ) -> Result<Vec<DraftItem>, AllocError>
     requires fits { Fits instance.now make.now }
     requires inside { first < instance.now.periods }
-    ensures { let m = instance.now in IfOk result (λ list. map raw_item list.items ≡ map (item_drafted m) (rest_items m (table_of make.now) first 1 m.items)) }
+    ensures { let m = instance.now in IfOk result
+        (λ list. map raw_item list.items
+        ≡ map (item_drafted m) (rest_items m (table_of make.now) first 1 m.items)) }
 {
     let mut list = Vec::new(alloc);
     for number in 1..instance.items() + 1 {
@@ -86,7 +92,8 @@ fn resource(
 ) -> Result<DraftResource, AllocError>
     requires low { 1 ≤ resource }
     requires high { resource ≤ resource_count instance.now }
-    ensures { IfOk result (λ made. raw_resource made ≡ resource_drafted first (resource_at instance.now resource)) }
+    ensures { IfOk result (λ made. raw_resource made
+        ≡ resource_drafted first (resource_at instance.now resource)) }
 {
     Ok(DraftResource {
         name: String::from_str(alloc, instance.resource_name(resource))?,
@@ -100,7 +107,8 @@ fn resources(
     instance: &Instance,
     first: u32,
 ) -> Result<Vec<DraftResource>, AllocError>
-    ensures { IfOk result (λ list. map raw_resource list.items ≡ map (resource_drafted first) instance.now.resources) }
+    ensures { IfOk result (λ list. map raw_resource list.items
+        ≡ map (resource_drafted first) instance.now.resources) }
 {
     let mut list = Vec::new(alloc);
     for number in 1..instance.resources() + 1 {
@@ -119,7 +127,8 @@ pub fn draft(
 ) -> Result<Draft, AllocError>
     requires fits { Fits instance.now make.now }
     requires inside { first < instance.now.periods }
-    ensures { IfOk result (λ made. raw_model made ≡ rest_draft instance.now (table_of make.now) first) }
+    ensures { IfOk result (λ made. raw_model made
+        ≡ rest_draft instance.now (table_of make.now) first) }
 {
     an_instance_breaks_no_rule(instance);
     Ok(Draft {

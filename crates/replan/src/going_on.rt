@@ -39,7 +39,9 @@ fn rest_behind(
     requires setup { Fits instance.now setup.now }
     requires may { LeavesRest instance.now (start_of make.now setup.now) first }
     ensures rest { IfOk result (IsRest instance.now (start_of make.now setup.now) first) }
-    ensures draft { IfErr result (λ fault. (fault ≡ Memory) ⊎ ((why : ModelFault) × (fault ≡ Draft why) × RestMeans instance.now (start_of make.now setup.now) first (Err why))) }
+    ensures draft { IfErr result (λ fault. (fault ≡ Memory)
+        ⊎ ((why : ModelFault) × (fault ≡ Draft why)
+        × RestMeans instance.now (start_of make.now setup.now) first (Err why))) }
 {
     an_instance_breaks_no_rule(instance);
     caps_change_nothing();
@@ -68,13 +70,21 @@ pub fn rest(
 ) -> Result<Option<Rest>, RestFault>
     requires make { Fits instance.now make.now }
     requires setup { Fits instance.now setup.now }
-    ensures rest { IfOk result (λ found. IfSome found (IsRest instance.now (start_of make.now setup.now) first)) }
+    ensures rest { IfOk result (λ found.
+        IfSome found (IsRest instance.now (start_of make.now setup.now) first)) }
     ensures first { (result ≡ Err First) ↔ (instance.now.periods ≤ first) }
-    ensures lead { (item : ℕ) → (result ≡ Err (Lead item)) ↔ ((first < instance.now.periods) × IsFirstLead instance.now item) }
-    ensures none { (result ≡ Ok None) ↔ (MayGoOn instance.now first × ¬ StartStands instance.now (start_of make.now setup.now) first) }
-    ensures dead { IfOk result (λ found. IfNone found (NoneAgreesWith instance.now (start_of make.now setup.now) first)) }
-    ensures draft { (fault : ModelFault) → result ≡ Err (Draft fault) → IsRestRefused instance.now (start_of make.now setup.now) first fault }
-    ensures refused { (fault : ModelFault) → IsRestRefused instance.now (start_of make.now setup.now) first fault → (result ≡ Err (Draft fault)) ⊎ (result ≡ Err Memory) }
+    ensures lead { (item : ℕ) → (result ≡ Err (Lead item)) ↔
+        ((first < instance.now.periods) × IsFirstLead instance.now item) }
+    ensures none { (result ≡ Ok None) ↔
+        (MayGoOn instance.now first
+        × ¬ StartStands instance.now (start_of make.now setup.now) first) }
+    ensures dead { IfOk result (λ found.
+        IfNone found (NoneAgreesWith instance.now (start_of make.now setup.now) first)) }
+    ensures draft { (fault : ModelFault) → result ≡ Err (Draft fault)
+        → IsRestRefused instance.now (start_of make.now setup.now) first fault }
+    ensures refused { (fault : ModelFault)
+        → IsRestRefused instance.now (start_of make.now setup.now) first fault
+        → (result ≡ Err (Draft fault)) ⊎ (result ≡ Err Memory) }
 {
     if first >= instance.periods() {
         return Err(RestFault::First);

@@ -49,7 +49,8 @@ pub fn demand(
     requires small { AllAtMost MAX_AMOUNT amounts.now }
     requires inside { first < length amounts.now }
     requires owed { owed < 2 ^ 127 }
-    ensures { IfOk result (λ list. list.items ≡ map (cap most_written) (wholes (more_in_front owed (drop first amounts.now)))) }
+    ensures { IfOk result (λ list. list.items
+        ≡ map (cap most_written) (wholes (more_in_front owed (drop first amounts.now)))) }
 {
     let mut list = later(alloc, amounts, first)?;
     let asked = amounts[first as usize] as u128 + owed;
@@ -66,7 +67,8 @@ pub fn backlog_costs(
 ) -> Result<Option<Vec<i64>>, AllocError>
     requires low { 1 ≤ item }
     requires high { item ≤ item_count instance.now }
-    ensures { IfOk result (λ made. option_map (λ list. list.items) made ≡ option_map wholes (option_map (drop first) (item_at instance.now item).backlog_cost)) }
+    ensures { IfOk result (λ made. option_map (λ list. list.items) made
+        ≡ option_map wholes (option_map (drop first) (item_at instance.now item).backlog_cost)) }
 {
     match instance.backlog_costs(item) {
         Some(prices) => Ok(Some(later(alloc, prices, first)?)),
@@ -93,9 +95,11 @@ pub fn needs(
     instance: &Instance,
     lines: &[Need],
 ) -> Result<Vec<DraftNeed>, AllocError>
-    requires there { All (λ line. (1 ≤ line.item) × (line.item ≤ item_count instance.now)) lines.now }
+    requires there { All (λ line. (1 ≤ line.item) × (line.item ≤ item_count instance.now))
+        lines.now }
     requires small { All (λ line. (1 ≤ line.quantity) × (line.quantity ≤ MAX_QUANTITY)) lines.now }
-    ensures { IfOk result (λ list. map raw_need list.items ≡ map (need_written instance.now) lines.now) }
+    ensures { IfOk result (λ list. map raw_need list.items
+        ≡ map (need_written instance.now) lines.now) }
 {
     let mut list = Vec::new(alloc);
     for line in lines {
@@ -125,9 +129,11 @@ pub fn uses(
     instance: &Instance,
     lines: &[Usage],
 ) -> Result<Vec<DraftUse>, AllocError>
-    requires there { All (λ line. (1 ≤ line.resource) × (line.resource ≤ resource_count instance.now)) lines.now }
+    requires there { All (λ line. (1 ≤ line.resource)
+        × (line.resource ≤ resource_count instance.now)) lines.now }
     requires small { All (λ line. (line.unit ≤ MAX_AMOUNT) × (line.setup ≤ MAX_AMOUNT)) lines.now }
-    ensures { IfOk result (λ list. map raw_use list.items ≡ map (use_written instance.now) lines.now) }
+    ensures { IfOk result (λ list. map raw_use list.items
+        ≡ map (use_written instance.now) lines.now) }
 {
     let mut list = Vec::new(alloc);
     for line in lines {

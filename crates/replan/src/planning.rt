@@ -26,7 +26,8 @@ use std::alloc::Global;
 /// What is claimed of all plans that agree with the start, in money: what they cost at least. It is what is spent and the least
 /// cost or the bound of the later periods. None where no plan of these is feasible.
 pub fn total(rest: &Rest, found: &Found) -> Option<u128>
-    requires { IfSome (total_claimed rest.now.spent found.now.certificate.claim) (λ amount. amount < 2 ^ 128) }
+    requires { IfSome (total_claimed rest.now.spent found.now.certificate.claim)
+        (λ amount. amount < 2 ^ 128) }
     ensures { result ≡ total_claimed rest.now.spent found.now.certificate.claim }
 {
     match found.certificate.claim {
@@ -68,27 +69,49 @@ pub fn replan<P: Proposer, H: Heuristic<P::Hint>, W: Watch + Drop>(
     requires plan { AllFit instance.now plan.now }
     requires budget { 1 ≤ budget }
     ensures first { (result ≡ Err First) ↔ (instance.now.periods ≤ first) }
-    ensures lead { (item : ℕ) → (result ≡ Err (Lead item)) ↔ ((first < instance.now.periods) × IsFirstLead instance.now item) }
-    ensures draft { (fault : ModelFault) → result ≡ Err (Draft fault) → IsRestRefused instance.now (plan_of plan.now) first fault }
-    ensures refused { (fault : ModelFault) → IsRestRefused instance.now (plan_of plan.now) first fault → (result ≡ Err (Draft fault)) ⊎ (result ≡ Err Memory) }
-    ensures none { (result ≡ Ok NoStart) ↔ (MayGoOn instance.now first × ¬ StartStands instance.now (plan_of plan.now) first) }
+    ensures lead { (item : ℕ) → (result ≡ Err (Lead item)) ↔
+        ((first < instance.now.periods) × IsFirstLead instance.now item) }
+    ensures draft { (fault : ModelFault) → result ≡ Err (Draft fault)
+        → IsRestRefused instance.now (plan_of plan.now) first fault }
+    ensures refused { (fault : ModelFault)
+        → IsRestRefused instance.now (plan_of plan.now) first fault
+        → (result ≡ Err (Draft fault)) ⊎ (result ≡ Err Memory) }
+    ensures none { (result ≡ Ok NoStart) ↔
+        (MayGoOn instance.now first × ¬ StartStands instance.now (plan_of plan.now) first) }
     ensures dead { result ≡ Ok NoStart → NoneAgreesWith instance.now (plan_of plan.now) first }
-    ensures rest { IfOk result (IfPlanned (λ rest found. IsRest instance.now (plan_of plan.now) first rest)) }
-    ensures joined { IfOk result (IfPlanned (λ rest found. IfSome found.plan (λ q. IsJoined instance.now (plan_of plan.now) first rest (plan_of q)))) }
-    ensures decides { IfOk result (IfPlanned (λ rest found. DecidesWhole instance.now (plan_of plan.now) first rest.spent found.certificate.claim found.plan)) }
-    ensures small { IfOk result (IfPlanned (λ rest found. IfSome (total_claimed rest.spent found.certificate.claim) (λ amount. amount < 2 ^ 128))) }
+    ensures rest { IfOk result (IfPlanned
+        (λ rest found. IsRest instance.now (plan_of plan.now) first rest)) }
+    ensures joined { IfOk result (IfPlanned
+        (λ rest found. IfSome found.plan
+        (λ q. IsJoined instance.now (plan_of plan.now) first rest (plan_of q)))) }
+    ensures decides { IfOk result (IfPlanned
+        (λ rest found. DecidesWhole instance.now (plan_of plan.now) first rest.spent
+        found.certificate.claim found.plan)) }
+    ensures small { IfOk result (IfPlanned
+        (λ rest found. IfSome (total_claimed rest.spent found.certificate.claim)
+        (λ amount. amount < 2 ^ 128))) }
     ensures proved { IfOk result (IfPlanned (λ rest found. IsProved rest.instance found)) }
-    ensures plan { IfOk result (IfPlanned (λ rest found. IfSome found.plan (IsGoodPlan rest.instance))) }
+    ensures plan { IfOk result (IfPlanned
+        (λ rest found. IfSome found.plan (IsGoodPlan rest.instance))) }
     ensures within { IfOk result (IfPlanned (λ rest found. found.nodes ≤ budget)) }
     ensures own { IfOk result (IfPlanned (λ rest found. KeepsOwn rest.instance found.plan)) }
-    ensures goes { IfOk result (IfPlanned (λ rest found. GoesTogether rest.instance found.certificate.claim found.plan)) }
-    ensures cause { IfOk result (IfPlanned (λ rest found. IfBound found.certificate.claim (λ amount. WithRows rest.instance found (IsUndecided rest.instance budget no_limits false found)))) }
-    ensures evidence { IfOk result (IfPlanned (λ rest found. IfBound found.certificate.claim (λ amount. WithRows rest.instance found (HasEvidence rest.instance found amount)))) }
+    ensures goes { IfOk result (IfPlanned
+        (λ rest found. GoesTogether rest.instance found.certificate.claim found.plan)) }
+    ensures cause { IfOk result (IfPlanned
+        (λ rest found. IfBound found.certificate.claim
+        (λ amount. WithRows rest.instance found
+        (IsUndecided rest.instance budget no_limits false found)))) }
+    ensures evidence { IfOk result (IfPlanned
+        (λ rest found. IfBound found.certificate.claim
+        (λ amount. WithRows rest.instance found (HasEvidence rest.instance found amount)))) }
     ensures root { IfOk result (IfPlanned (λ rest found. IsSaidAtRoot rest.instance found.root)) }
-    ensures uncoupled { IfOk result (IfPlanned (λ rest found. found.root ≡ Uncoupled ↔ IsUncoupled rest.instance)) }
+    ensures uncoupled { IfOk result (IfPlanned
+        (λ rest found. found.root ≡ Uncoupled ↔ IsUncoupled rest.instance)) }
     ensures uses { IfOk result (IfPlanned (λ rest found. UsesRoot found found.root)) }
-    ensures apart { IfOk result (IfPlanned (λ rest found. IsNoLessThanApart rest.instance found.certificate.claim)) }
-    ensures complete { IfOk result (IfPlanned (λ rest found. DecidesSmall rest.instance budget no_limits false found.certificate.claim)) }
+    ensures apart { IfOk result (IfPlanned
+        (λ rest found. IsNoLessThanApart rest.instance found.certificate.claim)) }
+    ensures complete { IfOk result (IfPlanned
+        (λ rest found. DecidesSmall rest.instance budget no_limits false found.certificate.claim)) }
     ensures version { IfOk result (IfPlanned (λ rest found.
         IsVersionOf rest.instance (shape_of found.certificate))) }
 {

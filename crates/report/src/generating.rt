@@ -59,8 +59,10 @@ pub fn generate(
     periods: u32,
     coupled: bool,
 ) -> Result<Vec<u8>, GenFault>
-    ensures table { IfOk result (λ text. document_of text.items ≡ Some (generated_table seed items periods coupled)) }
-    ensures model { IfOk result (λ text. BytesMean text.items (Ok (generated seed items periods coupled))) }
+    ensures table { IfOk result (λ text. document_of text.items
+        ≡ Some (generated_table seed items periods coupled)) }
+    ensures model { IfOk result (λ text.
+        BytesMean text.items (Ok (generated seed items periods coupled))) }
     ensures feasible { OnOk result (HasOwnPeriod (generated seed items periods coupled)) }
     ensures range { (result ≡ Err GenFault.Range) ↔ (IsModelSize items periods → ⊥) }
 {

@@ -56,7 +56,8 @@ fn only(alloc: Global, table: Table) -> Result<Value, AllocError>
 
 // A line of components: one unit of an item.
 fn need(alloc: Global, component: u32) -> Result<Table, AllocError>
-    ensures { IfOk result (λ made. table_view made ≡ need_table (record { item = component; quantity = 1 })) }
+    ensures { IfOk result (λ made. table_view made
+        ≡ need_table (record { item = component; quantity = 1 })) }
 {
     let mut table = Table::new(alloc);
     let name = item_name(alloc, component)?;
@@ -76,7 +77,8 @@ fn has_next(coupled: bool, items: u32, number: u32) -> bool
 // The components of an item, if it has any.
 fn needs(alloc: Global, coupled: bool, items: u32, number: u32) -> Result<Option<Value>, AllocError>
     requires { number ≤ MAX_ITEMS }
-    ensures { IfOk result (λ value. option_map view value ≡ some_tables need_table (needs_of coupled items number)) }
+    ensures { IfOk result (λ value. option_map view value
+        ≡ some_tables need_table (needs_of coupled items number)) }
 {
     if !has_next(coupled, items, number) {
         return Ok(None);
@@ -86,7 +88,8 @@ fn needs(alloc: Global, coupled: bool, items: u32, number: u32) -> Result<Option
 
 // A line of the resource: 1 for a unit and 5 for a setup.
 fn usage(alloc: Global) -> Result<Table, AllocError>
-    ensures { IfOk result (λ made. table_view made ≡ use_table (record { resource = 1; unit = 1; setup = 5 })) }
+    ensures { IfOk result (λ made. table_view made
+        ≡ use_table (record { resource = 1; unit = 1; setup = 5 })) }
 {
     let mut table = Table::new(alloc);
     let name = resource_name(alloc)?;
@@ -98,7 +101,8 @@ fn usage(alloc: Global) -> Result<Table, AllocError>
 
 // The resources that an item takes time on, if there are any.
 fn uses(alloc: Global, coupled: bool) -> Result<Option<Value>, AllocError>
-    ensures { IfOk result (λ value. option_map view value ≡ some_tables use_table (uses_of coupled)) }
+    ensures { IfOk result (λ value. option_map view value
+        ≡ some_tables use_table (uses_of coupled)) }
 {
     if !coupled {
         return Ok(None);
@@ -147,7 +151,8 @@ fn item_list(
     coupled: bool,
 ) -> Result<Value, AllocError>
     requires { items ≤ MAX_ITEMS }
-    ensures { IfOk result (λ value. view value ≡ array (tables_of (item_table coupled items) (drawn seed items periods coupled))) }
+    ensures { IfOk result (λ value. view value
+        ≡ array (tables_of (item_table coupled items) (drawn seed items periods coupled))) }
 {
     let mut rng = generator(seed);
     let mut list = Vec::with_capacity(alloc, items as usize)?;
@@ -172,7 +177,8 @@ fn resource(alloc: Global, capacity: u32) -> Result<Table, AllocError>
 // The resources, if there are any.
 fn resources(alloc: Global, coupled: bool, items: u32) -> Result<Option<Value>, AllocError>
     requires { items ≤ MAX_ITEMS }
-    ensures { IfOk result (λ value. option_map view value ≡ some_tables resource_table (capacities coupled items)) }
+    ensures { IfOk result (λ value. option_map view value
+        ≡ some_tables resource_table (capacities coupled items)) }
 {
     if !coupled {
         return Ok(None);

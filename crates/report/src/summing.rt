@@ -123,7 +123,9 @@ fn item_value(
 // The parts of the summary on items.
 fn item_values(alloc: Global, instance: &Instance, plan: &Plan) -> Result<Value, AllocError>
     requires { AllFit instance.now plan.now }
-    ensures { IfOk result (λ v. view v ≡ array (items_of (list_to (item_count instance.now) (item_data instance.now (plan_of plan.now))))) }
+    ensures { IfOk result (λ v. view v
+        ≡ array (items_of
+        (list_to (item_count instance.now) (item_data instance.now (plan_of plan.now))))) }
 {
     let mut list = Vec::new(alloc);
     for item in 1..instance.items() + 1 {
@@ -140,7 +142,10 @@ fn used_values(
     resource: u32,
 ) -> Result<Value, AllocError>
     requires { AllFit instance.now plan.now }
-    ensures { IfOk result (λ v. view v ≡ array (items_of (list_to instance.now.periods (λ t. amount (time_used instance.now (plan_of plan.now) resource t))))) }
+    ensures { IfOk result (λ v. view v
+        ≡ array (items_of
+        (list_to instance.now.periods
+        (λ t. amount (time_used instance.now (plan_of plan.now) resource t))))) }
 {
     let mut list = Vec::new(alloc);
     for period in 1..instance.periods() + 1 {
@@ -180,7 +185,9 @@ fn resource_value(
 // The parts of the summary on resources.
 fn resource_values(alloc: Global, instance: &Instance, plan: &Plan) -> Result<Value, AllocError>
     requires { AllFit instance.now plan.now }
-    ensures { IfOk result (λ v. view v ≡ array (items_of (list_to (resource_count instance.now) (resource_data instance.now (plan_of plan.now))))) }
+    ensures { IfOk result (λ v. view v
+        ≡ array (items_of
+        (list_to (resource_count instance.now) (resource_data instance.now (plan_of plan.now))))) }
 {
     let mut list = Vec::new(alloc);
     for resource in 1..instance.resources() + 1 {

@@ -54,7 +54,8 @@ fn make_rounds(
     requires tried { IsTried instance.now }
     requires ready { IsReady instance.now [] program }
     ensures means { IfOk result (RootMeans instance.now) }
-    ensures writable { IfOk result (λ found. AreWritable instance.now (root_cuts found) found.leaf) }
+    ensures writable { IfOk result (λ found.
+        AreWritable instance.now (root_cuts found) found.leaf) }
 {
     let explosion = Explosion::of(alloc, instance)?;
     let list = RootCuts {
@@ -102,9 +103,11 @@ fn make_rounds(
 /// It keeps one program, its tableau and the cuts; it makes a tableau anew in each round.
 pub fn root(alloc: Global, instance: &Instance) -> Result<Root, AllocError>
     ensures means { IfOk result (RootMeans instance.now) }
-    ensures writable { IfOk result (λ found. AreWritable instance.now (root_cuts found) found.leaf) }
+    ensures writable { IfOk result (λ found.
+        AreWritable instance.now (root_cuts found) found.leaf) }
     ensures uncoupled { IfOk result (λ found. found.says ≡ Uncoupled ↔ IsUncoupled instance.now) }
-    ensures skipped { IfOk result (λ found. (cells : ℕ) → found.says ≡ Skipped cells ↔ IsTooLarge instance.now cells) }
+    ensures skipped { IfOk result (λ found. (cells : ℕ)
+        → found.says ≡ Skipped cells ↔ IsTooLarge instance.now cells) }
     ensures bounds { IfOk result (λ found. BoundsPlans instance.now found.says) }
     ensures figures { HasFigures instance.now }
 {

@@ -53,8 +53,10 @@ fn push_cut(
     requires program { IsProgram round.old.lp }
     requires width { width_of round.old.lp ≡ column_count instance.now }
     requires few { width_of round.old.lp + row_count round.old.lp ≤ MAX_ROUND_SIZE }
-    ensures lp { IfOk result (λ _. round.new.lp ≡ with_row round.old.lp (turned_row instance.now false cut.now)) }
-    ensures sides { IfOk result (λ _. round.new.sides.items ≡ round.old.sides.items ++ (side (Cut number) false ∷ [])) }
+    ensures lp { IfOk result (λ _. round.new.lp
+        ≡ with_row round.old.lp (turned_row instance.now false cut.now)) }
+    ensures sides { IfOk result (λ _. round.new.sides.items
+        ≡ round.old.sides.items ++ (side (Cut number) false ∷ [])) }
     ensures fits { IfOk result (λ _. IsProgram round.new.lp) }
     ensures round { IfOk result (λ _. GrowsRound instance.now number cut.now round.old round.new) }
 {
@@ -110,9 +112,13 @@ fn least_round(
     requires low { 1 ≤ round }
     requires high { round ≤ MAX_ROUNDS }
     requires rounds { AreRounds instance.now (round - 1) state.old }
-    requires least { (value : ℚ) × IsOutcome state.old.program.lp MAX_PIVOTS (Least point multipliers value) × IsCertain state.old.program.lp (Least point multipliers value) }
+    requires least { (value : ℚ) × IsOutcome state.old.program.lp MAX_PIVOTS
+        (Least point multipliers value)
+        × IsCertain state.old.program.lp (Least point multipliers value) }
     ensures goes { IfOk result (λ end. IsNone end → AreRounds instance.now round state.new) }
-    ensures ends { IfOk result (λ end. IfSome end (λ verdict. EndsRounds instance.now verdict (shapes state.new.list) state.new.list.rows.items)) }
+    ensures ends { IfOk result (λ end.
+        IfSome end (λ verdict.
+        EndsRounds instance.now verdict (shapes state.new.list) state.new.list.rows.items)) }
 {
     lesser_separates();
     rounds_close();
@@ -160,7 +166,8 @@ fn empty_round(
     requires rounds { AreRounds instance.now (round - 1) state.now }
     requires outcome { IsOutcome state.now.program.lp MAX_PIVOTS (Empty multipliers) }
     requires certain { IsCertain state.now.program.lp (Empty multipliers) }
-    ensures { IfOk result (λ verdict. EndsRounds instance.now verdict (shapes state.now.list) state.now.list.rows.items) }
+    ensures { IfOk result (λ verdict.
+        EndsRounds instance.now verdict (shapes state.now.list) state.now.list.rows.items) }
 {
     rounds_refute();
     let (rows, sides) = (&state.list.rows, &state.program.sides);
@@ -180,7 +187,9 @@ pub(crate) fn make_round(
     requires high { round ≤ MAX_ROUNDS }
     requires rounds { AreRounds instance.now (round - 1) state.old }
     ensures goes { IfOk result (λ end. IsNone end → AreRounds instance.now round state.new) }
-    ensures ends { IfOk result (λ end. IfSome end (λ verdict. EndsRounds instance.now verdict (shapes state.new.list) state.new.list.rows.items)) }
+    ensures ends { IfOk result (λ end.
+        IfSome end (λ verdict.
+        EndsRounds instance.now verdict (shapes state.new.list) state.new.list.rows.items)) }
 {
     match state.program.lp.solve(alloc, MAX_PIVOTS)? {
         Outcome::Least {

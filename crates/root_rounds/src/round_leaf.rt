@@ -63,7 +63,8 @@ fn judge(
 ) -> Result<Verdict, AllocError>
     requires columns { AreOfProblem instance.now rows.now }
     requires den { HasDenominator (leaf_shape leaf) }
-    ensures { IfOk result (λ verdict. IsJudged instance.now rows.now (leaf_shape leaf) round verdict.says verdict.leaf) }
+    ensures { IfOk result (λ verdict.
+        IsJudged instance.now rows.now (leaf_shape leaf) round verdict.says verdict.leaf) }
 {
     let says = match leaf_bound(alloc, instance, rows, &[], &leaf, LEAF_LINE) {
         Ok(LeafSays::AtLeast(amount)) => RootSays::Closed(amount),

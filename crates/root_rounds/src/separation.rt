@@ -67,7 +67,8 @@ fn separate_at(
     requires echelon { IsCutEchelon instance.now echelon.now.item echelon.now }
     requires low { 1 ≤ l }
     requires high { l ≤ instance.now.periods }
-    ensures { IfOk result (λ fits. PutsAt instance.now echelon.now (read_at point.now) l fits list.old list.new) }
+    ensures { IfOk result (λ fits.
+        PutsAt instance.now echelon.now (read_at point.now) l fits list.old list.new) }
 {
     match separate(alloc, echelon, point, l) {
         Ok(Some(chosen)) => {
@@ -95,7 +96,8 @@ fn separate_echelon(
     list: &mut RootCuts,
 ) -> Result<Option<u32>, AllocError>
     requires echelon { IsCutEchelon instance.now echelon.now.item echelon.now }
-    ensures { IfOk result (λ end. PutsEchelon instance.now echelon.now (read_at point.now) end list.old list.new) }
+    ensures { IfOk result (λ end.
+        PutsEchelon instance.now echelon.now (read_at point.now) end list.old list.new) }
 {
     for l in 1..instance.periods() + 1 {
         if !separate_at(alloc, instance, echelon, point, l, list)? {
@@ -116,7 +118,8 @@ fn separate_item(
 ) -> Result<Option<u32>, AllocError>
     requires explosion { IsExplosionOf instance.now explosion.now }
     requires item { IsItem instance.now item }
-    ensures { IfOk result (λ end. PutsItem instance.now (read_at point.now) item end list.old list.new) }
+    ensures { IfOk result (λ end.
+        PutsItem instance.now (read_at point.now) item end list.old list.new) }
 {
     match echelon_for(alloc, instance, explosion, item)? {
         Some(echelon) => separate_echelon(alloc, instance, &echelon, point, list),

@@ -63,7 +63,8 @@ pub fn whole_leaf(
     multipliers: &[Frac],
 ) -> Result<Option<WholeLeaf>, AllocError>
     requires { length multipliers.now ≡ length sides.now }
-    ensures { IfOk result (λ found. MatchOption found (PassWhole multipliers.now) (IsWholeLeaf sides.now multipliers.now)) }
+    ensures { IfOk result (λ found.
+        MatchOption found (PassWhole multipliers.now) (IsWholeLeaf sides.now multipliers.now)) }
 {
     match whole_multipliers(alloc, multipliers)? {
         Some(whole) => {

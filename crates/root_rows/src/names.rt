@@ -70,7 +70,8 @@ fn put_name(
     requires low { 1 ≤ first }
     requires high { first ≤ count_in instance.now kind }
     requires period_high { period ≤ instance.now.periods }
-    ensures { IfOk result (λ _. PutNames instance.now names.old.items (name_in kind first period ∷ []) names.new.items) }
+    ensures { IfOk result (λ _.
+        PutNames instance.now names.old.items (name_in kind first period ∷ []) names.new.items) }
 {
     if is_made(instance, kind, first, period) {
         names.push(name_in(kind, first, period))?;
@@ -87,7 +88,9 @@ fn put_periods(
 ) -> Result<(), AllocError>
     requires low { 1 ≤ first }
     requires high { first ≤ count_in instance.now kind }
-    ensures { IfOk result (λ _. PutNames instance.now names.old.items (names_to instance.now.periods (name_in kind first)) names.new.items) }
+    ensures { IfOk result (λ _.
+        PutNames instance.now names.old.items (names_to instance.now.periods (name_in kind first))
+        names.new.items) }
 {
     for period in 1..instance.periods() + 1 {
         put_name(instance, kind, first, period, names)?;
@@ -97,7 +100,8 @@ fn put_periods(
 
 // Those of a kind.
 fn put_kind(instance: &Instance, kind: Kind, names: &mut Vec<RowName>) -> Result<(), AllocError>
-    ensures { IfOk result (λ _. PutNames instance.now names.old.items (kind_names instance.now kind) names.new.items) }
+    ensures { IfOk result (λ _.
+        PutNames instance.now names.old.items (kind_names instance.now kind) names.new.items) }
 {
     for first in 1..count_in(instance, kind) + 1 {
         put_periods(instance, kind, first, names)?;
@@ -118,7 +122,9 @@ fn end_name(largest: bool, item: u32) -> RowName
 
 // Those of the last stocks of all items.
 fn put_ends(instance: &Instance, largest: bool, names: &mut Vec<RowName>) -> Result<(), AllocError>
-    ensures { IfOk result (λ _. PutNames instance.now names.old.items (names_to (item_count instance.now) (end_name largest)) names.new.items) }
+    ensures { IfOk result (λ _.
+        PutNames instance.now names.old.items
+        (names_to (item_count instance.now) (end_name largest)) names.new.items) }
 {
     for item in 1..instance.items() + 1 {
         names.push(end_name(largest, item))?;

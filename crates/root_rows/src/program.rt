@@ -84,8 +84,10 @@ fn put_side(
     requires columns { All (λ a. IsColumn instance.now a.column) row.now.terms }
     requires small { HasSmallNumbers row.now }
     ensures sides { IfOk result (λ _. sides.new.items ≡ sides.old.items ++ (one ∷ [])) }
-    ensures rows { IfOk result (λ _. PutSides instance.now row.now (one ∷ []) rows.old.items rows.new.items) }
-    ensures fit { IfOk result (λ _. FitProgram instance.now rows.old.items → FitProgram instance.now rows.new.items) }
+    ensures rows { IfOk result (λ _.
+        PutSides instance.now row.now (one ∷ []) rows.old.items rows.new.items) }
+    ensures fit { IfOk result (λ _. FitProgram instance.now rows.old.items
+        → FitProgram instance.now rows.new.items) }
 {
     rows.push(lp_row(alloc, instance, row, one.turned)?)?;
     sides.push(one)?;
@@ -105,9 +107,12 @@ pub(crate) fn put_row(
     requires instance { IsInstance instance.now }
     requires columns { All (λ a. IsColumn instance.now a.column) row.now.terms }
     requires small { HasSmallNumbers row.now }
-    ensures sides { IfOk result (λ _. sides.new.items ≡ sides.old.items ++ sides_of name row.now.equal) }
-    ensures rows { IfOk result (λ _. PutSides instance.now row.now (sides_of name row.now.equal) rows.old.items rows.new.items) }
-    ensures fit { IfOk result (λ _. FitProgram instance.now rows.old.items → FitProgram instance.now rows.new.items) }
+    ensures sides { IfOk result (λ _. sides.new.items
+        ≡ sides.old.items ++ sides_of name row.now.equal) }
+    ensures rows { IfOk result (λ _.
+        PutSides instance.now row.now (sides_of name row.now.equal) rows.old.items rows.new.items) }
+    ensures fit { IfOk result (λ _. FitProgram instance.now rows.old.items
+        → FitProgram instance.now rows.new.items) }
 {
     let plain = Side {
         name,

@@ -106,8 +106,10 @@ pub fn push_row(
     requires program { IsProgram round.old.lp }
     requires width { width_of round.old.lp ≡ column_count instance.now }
     requires few { width_of round.old.lp + row_count round.old.lp ≤ MAX_ROUND_SIZE }
-    ensures lp { IfOk result (λ _. round.new.lp ≡ with_row round.old.lp (turned_row instance.now false row.now)) }
-    ensures sides { IfOk result (λ _. round.new.sides.items ≡ round.old.sides.items ++ (side name false ∷ [])) }
+    ensures lp { IfOk result (λ _. round.new.lp
+        ≡ with_row round.old.lp (turned_row instance.now false row.now)) }
+    ensures sides { IfOk result (λ _. round.new.sides.items
+        ≡ round.old.sides.items ++ (side name false ∷ [])) }
     ensures fits { IfOk result (λ _. IsProgram round.new.lp) }
 {
     an_instance_breaks_no_rule(instance);

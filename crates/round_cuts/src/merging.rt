@@ -77,7 +77,8 @@ pub(crate) fn push(terms: &mut Vec<Term>, term: Term) -> Result<(), AllocError>
 fn take_term(done: &mut Vec<Term>, stretch: Stretch, term: Term) -> Result<Stretch, CutFault>
     requires total { IsTotal stretch.total }
     requires small { IsSmallTerm term }
-    ensures takes { IfOk result (λ next. TakesTerm done.old.items stretch term done.new.items next) }
+    ensures takes { IfOk result (λ next.
+        TakesTerm done.old.items stretch term done.new.items next) }
     ensures total { IfOk result (λ next. IsTotal next.total) }
     ensures fault { IfErr result IsOfSum }
     ensures same { result ≡ Err TooLarge → same_column stretch.column term.column ≡ true }

@@ -56,7 +56,8 @@ fn push_products(made: &mut Vec<Term>, terms: &[Term], times: i128) -> Result<()
     ensures put { IfOk result (λ _. made.new.items ≡ made.old.items ++ products times terms.now) }
     ensures small { IfOk result (λ _. All IsSmallTerm made.new.items) }
     ensures fault { IfErr result IsOfSum }
-    ensures large { result ≡ Err TooLarge → (c : Column) × (2 ^ 127 ≤ unsigned_abs (times *ℤ coefficient terms.now c)) }
+    ensures large { result ≡ Err TooLarge
+        → (c : Column) × (2 ^ 127 ≤ unsigned_abs (times *ℤ coefficient terms.now c)) }
 {
     for place in 0..terms.len() {
         match product(terms[place], times) {
@@ -76,7 +77,8 @@ pub(crate) fn all_products(
     requires { length rows.now ≡ length multipliers.now }
     ensures products { IfOk result (λ made. AreProducts rows.now multipliers.now made.items) }
     ensures fault { IfErr result IsOfSum }
-    ensures large { result ≡ Err TooLarge → (c : Column) × (2 ^ 127 ≤ column_amount rows.now multipliers.now c) }
+    ensures large { result ≡ Err TooLarge
+        → (c : Column) × (2 ^ 127 ≤ column_amount rows.now multipliers.now c) }
 {
     let mut made = Vec::new(alloc);
     for place in 0..rows.len() {

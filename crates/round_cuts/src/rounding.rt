@@ -32,7 +32,8 @@ fn push_rounded(rounded: &mut Vec<Term>, term: Term, divisor: u64) -> Result<(),
     requires small { IsSmallTerm term }
     requires short { HasShortColumns rounded.old.items }
     ensures short { IfOk result (λ _. HasShortColumns rounded.new.items) }
-    ensures terms { IfOk result (λ _. rounded.new.items ≡ rounded.old.items ++ rounded_terms (pos divisor) (term ∷ [])) }
+    ensures terms { IfOk result (λ _. rounded.new.items
+        ≡ rounded.old.items ++ rounded_terms (pos divisor) (term ∷ [])) }
 {
     let times = ceiling(term.times, divisor);
     if times != 0 {
@@ -62,9 +63,11 @@ fn rounded(alloc: Global, terms: &[Term], divisor: u64) -> Result<Vec<Term>, All
 fn summed(alloc: Global, rows: &[Row], multipliers: &[i128]) -> Result<Vec<Term>, CutFault>
     requires { length rows.now ≡ length multipliers.now }
     ensures sums { IfOk result (λ terms. AreSums rows.now multipliers.now terms.items) }
-    ensures room { IfOk result (λ _. (c : Column) → column_amount rows.now multipliers.now c < 2 ^ 127) }
+    ensures room { IfOk result (λ _. (c : Column)
+        → column_amount rows.now multipliers.now c < 2 ^ 127) }
     ensures fault { IfErr result IsOfSum }
-    ensures large { result ≡ Err TooLarge → (c : Column) × (2 ^ 127 ≤ column_amount rows.now multipliers.now c) }
+    ensures large { result ≡ Err TooLarge
+        → (c : Column) × (2 ^ 127 ≤ column_amount rows.now multipliers.now c) }
 {
     let mut terms = all_products(alloc, rows, multipliers)?;
     sort(&mut terms);
@@ -89,11 +92,16 @@ pub fn round_row(
     requires least { 1 ≤ divisor }
     requires most { divisor ≤ MAX_DIVISOR }
     ensures rounded { IfOk result (λ row. IsRounded rows.now multipliers.now divisor row) }
-    ensures one { IfOk result (λ row. (other : LinRow) → HasShortColumns other.terms → IsRounded rows.now multipliers.now divisor other → other ≡ row) }
-    ensures holds { IfOk result (λ row. (q : LinPoint) → q.den ≡ 1 → AllHold q rows.now → HoldsAt q row) }
+    ensures one { IfOk result (λ row. (other : LinRow) → HasShortColumns other.terms
+        → IsRounded rows.now multipliers.now divisor other → other ≡ row) }
+    ensures holds { IfOk result (λ row. (q : LinPoint) → q.den ≡ 1 → AllHold q rows.now
+        → HoldsAt q row) }
     ensures length { (result ≡ Err Length) ↔ (length rows.now ≢ length multipliers.now) }
-    ensures sign { (result ≡ Err Sign) ↔ ((length rows.now ≡ length multipliers.now) × (AreSigned rows.now multipliers.now → ⊥)) }
-    ensures large { result ≡ Err TooLarge → (length rows.now ≡ length multipliers.now) × AreSigned rows.now multipliers.now × IsTooLarge rows.now multipliers.now }
+    ensures sign { (result ≡ Err Sign) ↔
+        ((length rows.now ≡ length multipliers.now) × (AreSigned rows.now multipliers.now → ⊥)) }
+    ensures large { result ≡ Err TooLarge
+        → (length rows.now ≡ length multipliers.now) × AreSigned rows.now multipliers.now
+        × IsTooLarge rows.now multipliers.now }
     ensures room { IfOk result (λ _. IsTooLarge rows.now multipliers.now → ⊥) }
     ensures others { (first last server : ℕ) → result ≢ Err (Potential first last server) }
 {

@@ -29,7 +29,8 @@ fn push_row(
     requires high_items { item ≤ high.now.items }
     requires low_periods { low.now.periods ≡ periods }
     requires high_periods { high.now.periods ≡ periods }
-    ensures { OnOk result (ranges.new.items ≡ ranges.old.items ++ row_list (table_of low.now) (table_of high.now) item periods) }
+    ensures { OnOk result (ranges.new.items
+        ≡ ranges.old.items ++ row_list (table_of low.now) (table_of high.now) item periods) }
 {
     for period in 0..periods {
         let least = low.get(item, period + 1);
@@ -51,7 +52,10 @@ fn push_grids(
 ) -> Result<(), AllocError>
     requires low { Fits instance.now low.now }
     requires high { Fits instance.now high.now }
-    ensures { OnOk result (ranges.new.items ≡ ranges.old.items ++ grid_list (table_of low.now) (table_of high.now) (item_count instance.now) instance.now.periods) }
+    ensures { OnOk result (ranges.new.items
+        ≡ ranges.old.items
+        ++ grid_list (table_of low.now) (table_of high.now) (item_count instance.now)
+        instance.now.periods) }
 {
     let periods = instance.periods();
     for item in 1..instance.items() + 1 {
@@ -66,9 +70,11 @@ fn push_grids(
 /// The error is that memory ran out.
 pub fn listed(alloc: Global, instance: &Instance, ranges: &Ranges) -> Result<Vec<Range>, AllocError>
     requires given { AreGiven instance.now ranges.now }
-    ensures node { IfOk result (λ list. IsNodeOf instance.now (given_ranges ranges.now) list.items []) }
+    ensures node { IfOk result (λ list.
+        IsNodeOf instance.now (given_ranges ranges.now) list.items []) }
     ensures ordered { IfOk result (λ list. AreOrdered list.items) }
-    ensures listed { IfOk result (λ list. AreListed instance.now (given_ranges ranges.now) list.items) }
+    ensures listed { IfOk result (λ list.
+        AreListed instance.now (given_ranges ranges.now) list.items) }
 {
     whole_is_measured();
     let mut list = Vec::new(alloc);
@@ -82,7 +88,8 @@ fn set_least(grid: &mut Grid, ranges: &[Range], first: usize, item: u32)
     requires low { 1 ≤ item }
     requires high { item ≤ grid.old.items }
     requires inside { first + grid.old.periods ≤ length ranges.now }
-    ensures here { (t : ℕ) → 1 ≤ t → t ≤ grid.old.periods → table_of grid.new item t ≡ (range_at ranges.now (first + t - 1)).low }
+    ensures here { (t : ℕ) → 1 ≤ t → t ≤ grid.old.periods
+        → table_of grid.new item t ≡ (range_at ranges.now (first + t - 1)).low }
     ensures others { OtherRowsSame grid.old grid.new item }
     ensures items { grid.new.items ≡ grid.old.items }
     ensures periods { grid.new.periods ≡ grid.old.periods }

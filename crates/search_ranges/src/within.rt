@@ -97,7 +97,8 @@ fn is_item_up_to(instance: &Instance, ranges: &Ranges, most: u64, item: u32) -> 
     requires shape { HaveShape instance.now ranges.now }
     requires item_low { 1 ≤ item }
     requires item_high { item ≤ item_count instance.now }
-    ensures { IsTrue result ↔ ((t : ℕ) → 1 ≤ t → t ≤ instance.now.periods → IsCellUpTo (given_ranges ranges.now) most item t) }
+    ensures { IsTrue result ↔ ((t : ℕ) → 1 ≤ t → t ≤ instance.now.periods
+        → IsCellUpTo (given_ranges ranges.now) most item t) }
 {
     for period in 1..instance.periods() + 1 {
         if !is_cell_up_to(instance, ranges, most, item, period) {
@@ -138,7 +139,9 @@ fn set_row(grid: &mut Grid, item: u32, value: u64)
 // The largest total of each item in each period.
 fn largest_totals(alloc: Global, instance: &Instance) -> Result<Grid, AllocError>
     ensures fits { IfOk result (Fits instance.now) }
-    ensures totals { IfOk result (λ grid. WithTotals instance.now (λ total. (i t : ℕ) → 1 ≤ i → i ≤ item_count instance.now → 1 ≤ t → t ≤ instance.now.periods → table_of grid i t ≡ total i)) }
+    ensures totals { IfOk result (λ grid.
+        WithTotals instance.now (λ total. (i t : ℕ) → 1 ≤ i → i ≤ item_count instance.now → 1 ≤ t
+        → t ≤ instance.now.periods → table_of grid i t ≡ total i)) }
 {
     let mut grid = Grid::filled(alloc, instance.items(), instance.periods(), 0)?;
     for item in 1..instance.items() + 1 {
@@ -155,7 +158,8 @@ fn is_cell_within(instance: &Instance, ranges: &Ranges, plan: &Plan, item: u32, 
     requires item_high { item ≤ item_count instance.now }
     requires low { 1 ≤ period }
     requires high { period ≤ instance.now.periods }
-    ensures { IsTrue result ↔ IsCellWithin (given_ranges ranges.now) (plan_of plan.now) item period }
+    ensures { IsTrue result ↔ IsCellWithin (given_ranges ranges.now) (plan_of plan.now) item
+        period }
 {
     let made = plan.make.get(item, period);
     let setup = plan.setup.get(item, period);
@@ -171,7 +175,8 @@ fn is_item_within(instance: &Instance, ranges: &Ranges, plan: &Plan, item: u32) 
     requires plan { AllFit instance.now plan.now }
     requires item_low { 1 ≤ item }
     requires item_high { item ≤ item_count instance.now }
-    ensures { IsTrue result ↔ ((t : ℕ) → 1 ≤ t → t ≤ instance.now.periods → IsCellWithin (given_ranges ranges.now) (plan_of plan.now) item t) }
+    ensures { IsTrue result ↔ ((t : ℕ) → 1 ≤ t → t ≤ instance.now.periods
+        → IsCellWithin (given_ranges ranges.now) (plan_of plan.now) item t) }
 {
     for period in 1..instance.periods() + 1 {
         if !is_cell_within(instance, ranges, plan, item, period) {
@@ -203,7 +208,8 @@ pub fn is_within(instance: &Instance, ranges: &Ranges, plan: &Plan) -> bool
 pub fn lies_within(instance: &Instance, ranges: &Ranges, plan: &Option<Plan>) -> bool
     requires shape { HaveShape instance.now ranges.now }
     requires plan { IfSome plan.now (AllFit instance.now) }
-    ensures { IsTrue result ↔ IfSome plan.now (λ p. IsWithin instance.now (given_ranges ranges.now) (plan_of p)) }
+    ensures { IsTrue result ↔ IfSome plan.now
+        (λ p. IsWithin instance.now (given_ranges ranges.now) (plan_of p)) }
 {
     match plan {
         Some(plan) => is_within(instance, ranges, plan),

@@ -11,7 +11,8 @@ use lot_model::Instance;
 // The range from which a quantity or a setup starts.
 fn whole_range(instance: &Instance, column: Column) -> Option<(u64, u64)>
     ensures some { IsSome result ↔ IsChoice instance.now column }
-    ensures range { IfSome result (λ range. WithTotals instance.now (λ total. span_of range ≡ whole_ranges total column)) }
+    ensures range { IfSome result (λ range.
+        WithTotals instance.now (λ total. span_of range ≡ whole_ranges total column)) }
 {
     match column {
         Column::X { item, period } if is_cell(instance, item, period) => {
@@ -72,7 +73,8 @@ pub fn branch_range(instance: &Instance, path: &[Bound], column: Column) -> Opti
 ///
 /// It takes time in the length of the path, and no memory.
 pub fn is_split(instance: &Instance, path: &[Bound], column: Column, at: u64) -> bool
-    ensures split { WithTotals instance.now (λ total. IsTrue result ↔ IsSplit instance.now (whole_ranges total) path.now column at) }
+    ensures split { WithTotals instance.now
+        (λ total. IsTrue result ↔ IsSplit instance.now (whole_ranges total) path.now column at) }
     ensures column { IsTrue result → IsChoice instance.now column }
     ensures small { IsTrue result → at + 1 < 2 ^ 64 }
 {

@@ -69,7 +69,8 @@ fn go_down(
 fn go_over(path: &mut Vec<Bound>) -> Result<bool, AllocError>
     requires small { AreSmall path.old.items }
     ensures trees_due { IfOk result (λ more. trees_due more path.new.items ≡ later path.old.items) }
-    ensures choices { OnOk result ((m : Problem) → AreChoices m path.old.items → AreChoices m path.new.items) }
+    ensures choices { OnOk result ((m : Problem) → AreChoices m path.old.items
+        → AreChoices m path.new.items) }
     ensures small { OnOk result (AreSmall path.new.items) }
 {
     while let Some(bound) = path.pop() {
@@ -110,7 +111,8 @@ fn check_leaf(
     ensures ready { IsReadyFor given.entry.instance.now named.new }
     ensures good { OnOk result (LeafIsGood given.entry.instance.now given.entry.rows.now
         given.entry.claim path.now (leaf_shape leaf.now)) }
-    ensures safe { OnOk result (HoldAtPlans given.entry.instance.now given.entry.rows.now → (p : Plan)
+    ensures safe { OnOk result (HoldAtPlans given.entry.instance.now given.entry.rows.now
+        → (p : Plan)
         → IsFeasible given.entry.instance.now p → AreMet (value_in p) path.now
         → IsSafe given.entry.instance.now given.entry.claim p) }
     ensures stop { IfErr result (IsLeafStop given.entry.instance.now given.entry.rows.now
@@ -150,11 +152,15 @@ fn check_node<S: Shelf>(
         AreCovered given.entry.instance.now given.entry.claim (trees_due true path.old.items)
         → AreCovered given.entry.instance.now given.entry.claim (trees_due more path.new.items)) }
     ensures awaited { (whole : TreeShape) (first : ℕ)
-        → AreLeftOf given.entry text.entry whole first (trees_due true path.old.items) (S.shown shelf.old) reader.old
-        → Gives (λ more. AreLeftOf given.entry text.entry whole first (trees_due more path.new.items)
+        → AreLeftOf given.entry text.entry whole first (trees_due true path.old.items)
+        (S.shown shelf.old) reader.old
+        → Gives (λ more.
+        AreLeftOf given.entry text.entry whole first (trees_due more path.new.items)
         (S.shown shelf.new) reader.new)
-        (TreeIsRefused given.entry.instance.now given.entry.rows.now given.entry.claim whole first) result }
-    ensures step { IsStep text.entry.name.now (S.shown shelf.old) (S.shown shelf.new) reader.old reader.new result }
+        (TreeIsRefused given.entry.instance.now given.entry.rows.now given.entry.claim whole first)
+        result }
+    ensures step { IsStep text.entry.name.now (S.shown shelf.old) (S.shown shelf.new) reader.old
+        reader.new result }
 {
     let line = reader.number;
     match read_node(reader, shelf, text)? {
@@ -182,13 +188,15 @@ pub fn check_tree<S: Shelf>(
     requires hold { HoldAtPlans instance.now rows.now }
     requires sound { IsSound reader.old }
     requires version { IsVersion text.version }
-    ensures safe { OnOk result ((p : Plan) → IsFeasible instance.now p → IsSafe instance.now claim p) }
+    ensures safe { OnOk result ((p : Plan) → IsFeasible instance.now p
+        → IsSafe instance.now claim p) }
     ensures awaited { (tree : TreeShape) → longest_path tree ≤ MAX_BRANCHES
         → HasLeft text.entry (S.shown shelf.old) reader.old (tree_values tree ++ EndLine ∷ [])
         → Gives (λ _. TreeIsGood instance.now rows.now claim [] tree
         × HasLeft text.entry (S.shown shelf.new) reader.new (EndLine ∷ []))
         (TreeIsRefused instance.now rows.now claim tree reader.old.number) result }
-    ensures step { IsStep text.entry.name.now (S.shown shelf.old) (S.shown shelf.new) reader.old reader.new result }
+    ensures step { IsStep text.entry.name.now (S.shown shelf.old) (S.shown shelf.new) reader.old
+        reader.new result }
 {
     let given = Given {
         instance,

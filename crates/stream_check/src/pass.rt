@@ -35,9 +35,12 @@ fn read_first<S: Shelf>(
     requires first { reader.old.number ≡ 1 }
     ensures version { IfOk result (λ heads. IsVersion heads.version) }
     ensures number { OnOk result (reader.new.number ≡ first_line) }
-    ensures awaited { (c : Shape) → IsTrue (S.shown shelf.old).told → IsTextOf (rest_in (S.shown shelf.old) name.now reader.old) c
-        → Gives (λ heads. AreHeadsOf c heads (S.shown shelf.new) name.now reader.new) never_refused result }
-    ensures step { IsStep name.now (S.shown shelf.old) (S.shown shelf.new) reader.old reader.new result }
+    ensures awaited { (c : Shape) → IsTrue (S.shown shelf.old).told
+        → IsTextOf (rest_in (S.shown shelf.old) name.now reader.old) c
+        → Gives (λ heads. AreHeadsOf c heads (S.shown shelf.new) name.now reader.new) never_refused
+        result }
+    ensures step { IsStep name.now (S.shown shelf.old) (S.shown shelf.new) reader.old reader.new
+        result }
 {
     match read_heads(reader, shelf, name)? {
         Ok(heads) => Ok(heads),
@@ -53,10 +56,12 @@ fn read_end<S: Shelf>(
 ) -> Result<(), StreamFault>
     requires sound { IsSound reader.old }
     requires version { IsVersion text.version }
-    ensures awaited { HasLeft text.entry (S.shown shelf.old) reader.old (EndLine ∷ []) → Gives (λ _. ⊤) never_refused result }
+    ensures awaited { HasLeft text.entry (S.shown shelf.old) reader.old (EndLine ∷ [])
+        → Gives (λ _. ⊤) never_refused result }
     ensures ends { OnOk result (IsTrue (S.shown shelf.old).told
         → length (bytes_of (S.shown shelf.old) text.entry.name.now) ≤ reader.new.at) }
-    ensures step { IsStep text.entry.name.now (S.shown shelf.old) (S.shown shelf.new) reader.old reader.new result }
+    ensures step { IsStep text.entry.name.now (S.shown shelf.old) (S.shown shelf.new) reader.old
+        reader.new result }
 {
     let number = reader.number;
     match next_line(reader, shelf, text)? {
@@ -82,14 +87,17 @@ pub fn check_text<S: Shelf>(
 ) -> Result<Claim, StreamFault>
     requires sound { IsSound reader.old }
     requires first { reader.old.number ≡ 1 }
-    ensures claim { IfOk result (λ claim. IsTrueOf instance.now claim (plan_given (option_copied plan.entry))) }
+    ensures claim { IfOk result (λ claim.
+        IsTrueOf instance.now claim (plan_given (option_copied plan.entry))) }
     ensures awaited { (c : Shape) → IsTrue (S.shown shelf.old).told
         → IsTextOf (rest_in (S.shown shelf.old) name.now reader.old) c
-        → Gives (λ claim. (c.claim ≡ claim) × IsGoodCertificate instance.now c (option_copied plan.entry))
+        → Gives (λ claim. (c.claim ≡ claim)
+        × IsGoodCertificate instance.now c (option_copied plan.entry))
         (IsRefusedWith instance.now (option_copied plan.entry) c) result }
     ensures ends { OnOk result (IsTrue (S.shown shelf.old).told
         → length (bytes_of (S.shown shelf.old) name.now) ≤ reader.new.at) }
-    ensures step { IsStep name.now (S.shown shelf.old) (S.shown shelf.new) reader.old reader.new result }
+    ensures step { IsStep name.now (S.shown shelf.old) (S.shown shelf.new) reader.old reader.new
+        result }
 {
     plans_are_within();
     let heads = read_first(reader, shelf, name)?;

@@ -40,14 +40,16 @@ fn read_row<S: Shelf>(
     requires version { IsVersion text.version }
     ensures holds { IfOk result (λ row. (p : Plan) → IsFeasible instance.now p
         → AllHold (whole_point (value_in p)) earlier.now → HoldsIn p row) }
-    ensures columns_exist { IfOk result (λ row. All (λ a. IsColumn instance.now a.column) row.terms) }
+    ensures columns_exist { IfOk result (λ row.
+        All (λ a. IsColumn instance.now a.column) row.terms) }
     ensures awaited { (cut : CutShape) (ls : Values)
         → HasLeft text.entry (S.shown shelf.old) reader.old (cut_values cut ++ ls)
         → Gives (λ row. IsRowOf instance.now earlier.now cut row
         × (reader.new.number ≡ reader.old.number + length (cut_values cut))
         × HasLeft text.entry (S.shown shelf.new) reader.new ls)
         (CutIsRefused instance.now earlier.now cut reader.old.number) result }
-    ensures step { IsStep text.entry.name.now (S.shown shelf.old) (S.shown shelf.new) reader.old reader.new result }
+    ensures step { IsStep text.entry.name.now (S.shown shelf.old) (S.shown shelf.new) reader.old
+        reader.new result }
 {
     let line = reader.number;
     let cut = read_cut(reader, shelf, text)?;
@@ -75,7 +77,8 @@ pub fn read_rows<S: Shelf>(
         × (reader.new.number ≡ first_line + length (all_cut_values cuts))
         × HasLeft text.entry (S.shown shelf.new) reader.new ls)
         (CutsAreRefused instance.now cuts) result }
-    ensures step { IsStep text.entry.name.now (S.shown shelf.old) (S.shown shelf.new) reader.old reader.new result }
+    ensures step { IsStep text.entry.name.now (S.shown shelf.old) (S.shown shelf.new) reader.old
+        reader.new result }
 {
     cut_rows_go_on();
     let mut rows = Vec::new(text.alloc);

@@ -26,8 +26,10 @@ use std::alloc::Global;
 pub fn read_claim<S: Shelf>(alloc: Global, shelf: &mut S, name: &str) -> Result<Claim, StreamFault>
     ensures claim { IfOk result (λ claim. IsTrue (S.shown shelf.old).told
         → OfCertificate ((S.shown shelf.old).file name.now) (λ c. c.claim ≡ claim)) }
-    ensures fault { IfErr result (IsStreamFault name.now (S.shown shelf.old) (S.shown shelf.new) never_refused) }
-    ensures whole { WhenRead result (IsTrue (S.shown shelf.old).told → OfBytes ((S.shown shelf.old).file name.now)
+    ensures fault { IfErr result (IsStreamFault name.now (S.shown shelf.old) (S.shown shelf.new)
+        never_refused) }
+    ensures whole { WhenRead result (IsTrue (S.shown shelf.old).told
+        → OfBytes ((S.shown shelf.old).file name.now)
         (λ bytes. GrewBy (length bytes) (S.shown shelf.old).given (S.shown shelf.new).given)) }
     ensures counts { CountsOf result (S.shown shelf.old) (S.shown shelf.new) }
     ensures reads { OnlyReads (S.shown shelf.old) (S.shown shelf.new) }
@@ -55,7 +57,8 @@ pub fn check_stream<S: Shelf>(
     name: &str,
     plan: Option<&Plan>,
 ) -> Result<Claim, StreamFault>
-    ensures claim { IfOk result (λ claim. IsTrueOf instance.now claim (plan_given (option_copied plan.entry))) }
+    ensures claim { IfOk result (λ claim.
+        IsTrueOf instance.now claim (plan_given (option_copied plan.entry))) }
     ensures certified { IfOk result (λ claim. IsTrue (S.shown shelf.old).told
         → OfCertificate ((S.shown shelf.old).file name.now)
         (λ c. (c.claim ≡ claim) × IsGoodCertificate instance.now c (option_copied plan.entry))) }
@@ -63,7 +66,8 @@ pub fn check_stream<S: Shelf>(
         (λ at w. IsTrue (S.shown shelf.old).told → OfCertificate ((S.shown shelf.old).file name.now)
         (λ c. IsRefusedWith instance.now (option_copied plan.entry) c at w))) }
     ensures whole { IsTrue (S.shown shelf.old).told
-        → GaveWhole result ((S.shown shelf.old).file name.now) (S.shown shelf.old).given (S.shown shelf.new).given }
+        → GaveWhole result ((S.shown shelf.old).file name.now) (S.shown shelf.old).given
+        (S.shown shelf.new).given }
     ensures counts { CountsOf result (S.shown shelf.old) (S.shown shelf.new) }
     ensures reads { OnlyReads (S.shown shelf.old) (S.shown shelf.new) }
     ensures given { (S.shown shelf.new).given ≤ (S.shown shelf.old).given + 2 * pass_size }

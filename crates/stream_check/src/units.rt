@@ -57,10 +57,13 @@ pub fn next_line<S: Shelf>(
     requires version { IsVersion text.version }
     ensures line { IfOk result (λ line. HasLine text.entry.version (line_shape line)) }
     ensures further { OnOk result (IsLineFurther reader.old reader.new) }
-    ensures awaited { (l : LineShape) (ls : Values) → HasLeft text.entry (S.shown shelf.old) reader.old (l ∷ ls)
-        → Gives (λ line. (line_shape line ≡ l) × HasLeft text.entry (S.shown shelf.new) reader.new ls)
+    ensures awaited { (l : LineShape) (ls : Values)
+        → HasLeft text.entry (S.shown shelf.old) reader.old (l ∷ ls)
+        → Gives (λ line. (line_shape line ≡ l)
+        × HasLeft text.entry (S.shown shelf.new) reader.new ls)
         never_refused result }
-    ensures step { IsStep text.entry.name.now (S.shown shelf.old) (S.shown shelf.new) reader.old reader.new result }
+    ensures step { IsStep text.entry.name.now (S.shown shelf.old) (S.shown shelf.new) reader.old
+        reader.new result }
 {
     let number = reader.number;
     match next_value(text.alloc, reader, shelf, text.name, text.version)? {
@@ -79,10 +82,12 @@ fn read_part<S: Shelf>(
     requires sound { IsSound reader.old }
     requires version { IsVersion text.version }
     ensures further { OnOk result (IsLineFurther reader.old reader.new) }
-    ensures awaited { (part : Part) (ls : Values) → HasLeft text.entry (S.shown shelf.old) reader.old (PartLine part ∷ ls)
+    ensures awaited { (part : Part) (ls : Values)
+        → HasLeft text.entry (S.shown shelf.old) reader.old (PartLine part ∷ ls)
         → Gives (λ read. (read ≡ part) × HasLeft text.entry (S.shown shelf.new) reader.new ls)
         never_refused result }
-    ensures step { IsStep text.entry.name.now (S.shown shelf.old) (S.shown shelf.new) reader.old reader.new result }
+    ensures step { IsStep text.entry.name.now (S.shown shelf.old) (S.shown shelf.new) reader.old
+        reader.new result }
 {
     let number = reader.number;
     match next_line(reader, shelf, text)? {
@@ -105,9 +110,11 @@ fn read_parts<S: Shelf>(
     ensures left { OnOk result (left_of reader.new ≤ left_of reader.old) }
     ensures awaited { (parts : List Part) (ls : Values) → length parts ≡ count
         → HasLeft text.entry (S.shown shelf.old) reader.old (part_values parts ++ ls)
-        → Gives (λ read. (read.items ≡ parts) × HasLeft text.entry (S.shown shelf.new) reader.new ls)
+        → Gives (λ read. (read.items ≡ parts)
+        × HasLeft text.entry (S.shown shelf.new) reader.new ls)
         never_refused result }
-    ensures step { IsStep text.entry.name.now (S.shown shelf.old) (S.shown shelf.new) reader.old reader.new result }
+    ensures step { IsStep text.entry.name.now (S.shown shelf.old) (S.shown shelf.new) reader.old
+        reader.new result }
 {
     let mut parts = Vec::new(text.alloc);
     for _ in 0..count {
@@ -125,10 +132,13 @@ fn read_list<S: Shelf>(
     requires sound { IsSound reader.old }
     requires version { IsVersion text.version }
     ensures further { OnOk result (IsLineFurther reader.old reader.new) }
-    ensures awaited { (list : ListShape) (ls : Values) → HasLeft text.entry (S.shown shelf.old) reader.old (ListLine list ∷ ls)
-        → Gives (λ read. (list_shape read ≡ list) × HasLeft text.entry (S.shown shelf.new) reader.new ls)
+    ensures awaited { (list : ListShape) (ls : Values)
+        → HasLeft text.entry (S.shown shelf.old) reader.old (ListLine list ∷ ls)
+        → Gives (λ read. (list_shape read ≡ list)
+        × HasLeft text.entry (S.shown shelf.new) reader.new ls)
         never_refused result }
-    ensures step { IsStep text.entry.name.now (S.shown shelf.old) (S.shown shelf.new) reader.old reader.new result }
+    ensures step { IsStep text.entry.name.now (S.shown shelf.old) (S.shown shelf.new) reader.old
+        reader.new result }
 {
     let number = reader.number;
     match next_line(reader, shelf, text)? {
@@ -151,9 +161,11 @@ fn read_lists<S: Shelf>(
     ensures left { OnOk result (left_of reader.new ≤ left_of reader.old) }
     ensures awaited { (lists : List ListShape) (ls : Values) → length lists ≡ count
         → HasLeft text.entry (S.shown shelf.old) reader.old (list_values lists ++ ls)
-        → Gives (λ read. (map list_shape read.items ≡ lists) × HasLeft text.entry (S.shown shelf.new) reader.new ls)
+        → Gives (λ read. (map list_shape read.items ≡ lists)
+        × HasLeft text.entry (S.shown shelf.new) reader.new ls)
         never_refused result }
-    ensures step { IsStep text.entry.name.now (S.shown shelf.old) (S.shown shelf.new) reader.old reader.new result }
+    ensures step { IsStep text.entry.name.now (S.shown shelf.old) (S.shown shelf.new) reader.old
+        reader.new result }
 {
     let mut lists = Vec::new(text.alloc);
     for _ in 0..count {
@@ -171,10 +183,12 @@ fn read_group<S: Shelf>(
     requires sound { IsSound reader.old }
     requires version { IsVersion text.version }
     ensures further { OnOk result (IsLineFurther reader.old reader.new) }
-    ensures awaited { (group : Group) (ls : Values) → HasLeft text.entry (S.shown shelf.old) reader.old (GroupLine group ∷ ls)
+    ensures awaited { (group : Group) (ls : Values)
+        → HasLeft text.entry (S.shown shelf.old) reader.old (GroupLine group ∷ ls)
         → Gives (λ read. (read ≡ group) × HasLeft text.entry (S.shown shelf.new) reader.new ls)
         never_refused result }
-    ensures step { IsStep text.entry.name.now (S.shown shelf.old) (S.shown shelf.new) reader.old reader.new result }
+    ensures step { IsStep text.entry.name.now (S.shown shelf.old) (S.shown shelf.new) reader.old
+        reader.new result }
 {
     let number = reader.number;
     match next_line(reader, shelf, text)? {
@@ -197,9 +211,11 @@ fn read_groups<S: Shelf>(
     ensures left { OnOk result (left_of reader.new ≤ left_of reader.old) }
     ensures awaited { (groups : List Group) (ls : Values) → length groups ≡ count
         → HasLeft text.entry (S.shown shelf.old) reader.old (group_values groups ++ ls)
-        → Gives (λ read. (read.items ≡ groups) × HasLeft text.entry (S.shown shelf.new) reader.new ls)
+        → Gives (λ read. (read.items ≡ groups)
+        × HasLeft text.entry (S.shown shelf.new) reader.new ls)
         never_refused result }
-    ensures step { IsStep text.entry.name.now (S.shown shelf.old) (S.shown shelf.new) reader.old reader.new result }
+    ensures step { IsStep text.entry.name.now (S.shown shelf.old) (S.shown shelf.new) reader.old
+        reader.new result }
 {
     let mut groups = Vec::new(text.alloc);
     for _ in 0..count {
@@ -227,15 +243,19 @@ fn read_reduced<S: Shelf>(
     requires sound { IsSound reader.old }
     requires version { IsVersion text.version }
     ensures den { IfOk result (λ leaf. HasDenominator (leaf_shape leaf)) }
-    ensures number { IfOk result (λ leaf. reader.new.number + 1 ≡ reader.old.number + length (leaf_values (leaf_shape leaf))) }
+    ensures number { IfOk result (λ leaf. reader.new.number + 1
+        ≡ reader.old.number + length (leaf_values (leaf_shape leaf))) }
     ensures left { OnOk result (left_of reader.new ≤ left_of reader.old) }
-    ensures awaited { (parts : List Part) (lists : List ListShape) (groups : List Group) (ls : Values)
+    ensures awaited { (parts : List Part) (lists : List ListShape) (groups : List Group)
+        (ls : Values)
         → HasCounts counts parts lists groups
-        → HasLeft text.entry (S.shown shelf.old) reader.old (reduced_values parts lists groups ++ ls)
+        → HasLeft text.entry (S.shown shelf.old) reader.old
+        (reduced_values parts lists groups ++ ls)
         → Gives (λ leaf. (leaf_shape leaf ≡ ReducedLeaf den parts lists groups)
         × HasLeft text.entry (S.shown shelf.new) reader.new ls)
         never_refused result }
-    ensures step { IsStep text.entry.name.now (S.shown shelf.old) (S.shown shelf.new) reader.old reader.new result }
+    ensures step { IsStep text.entry.name.now (S.shown shelf.old) (S.shown shelf.new) reader.old
+        reader.new result }
 {
     let parts = read_parts(reader, shelf, text, counts.parts)?;
     let lists = read_lists(reader, shelf, text, counts.lists)?;
@@ -257,11 +277,15 @@ pub fn read_cut<S: Shelf>(
     requires sound { IsSound reader.old }
     requires version { IsVersion text.version }
     ensures divisor { IfOk result (λ cut. HasDivisor (cut_shape cut)) }
-    ensures number { IfOk result (λ cut. reader.new.number ≡ reader.old.number + length (cut_values (cut_shape cut))) }
-    ensures awaited { (cut : CutShape) (ls : Values) → HasLeft text.entry (S.shown shelf.old) reader.old (cut_values cut ++ ls)
-        → Gives (λ read. (cut_shape read ≡ cut) × HasLeft text.entry (S.shown shelf.new) reader.new ls)
+    ensures number { IfOk result (λ cut. reader.new.number
+        ≡ reader.old.number + length (cut_values (cut_shape cut))) }
+    ensures awaited { (cut : CutShape) (ls : Values)
+        → HasLeft text.entry (S.shown shelf.old) reader.old (cut_values cut ++ ls)
+        → Gives (λ read. (cut_shape read ≡ cut)
+        × HasLeft text.entry (S.shown shelf.new) reader.new ls)
         never_refused result }
-    ensures step { IsStep text.entry.name.now (S.shown shelf.old) (S.shown shelf.new) reader.old reader.new result }
+    ensures step { IsStep text.entry.name.now (S.shown shelf.old) (S.shown shelf.new) reader.old
+        reader.new result }
 {
     let number = reader.number;
     match next_line(reader, shelf, text)? {
@@ -286,13 +310,16 @@ pub fn read_node<S: Shelf>(
     requires sound { IsSound reader.old }
     requires version { IsVersion text.version }
     ensures den { IfOk result HasNodeDenominator }
-    ensures number { IfOk result (λ node. reader.new.number ≡ reader.old.number + length (node_values node)) }
+    ensures number { IfOk result (λ node. reader.new.number
+        ≡ reader.old.number + length (node_values node)) }
     ensures left { OnOk result (left_of reader.new < left_of reader.old) }
-    ensures awaited { (tree : TreeShape) (ls : Values) → HasLeft text.entry (S.shown shelf.old) reader.old (tree_values tree ++ ls)
+    ensures awaited { (tree : TreeShape) (ls : Values)
+        → HasLeft text.entry (S.shown shelf.old) reader.old (tree_values tree ++ ls)
         → Gives (λ node. (more : Values) × IsFirstOf node tree more
         × HasLeft text.entry (S.shown shelf.new) reader.new (more ++ ls))
         never_refused result }
-    ensures step { IsStep text.entry.name.now (S.shown shelf.old) (S.shown shelf.new) reader.old reader.new result }
+    ensures step { IsStep text.entry.name.now (S.shown shelf.old) (S.shown shelf.new) reader.old
+        reader.new result }
 {
     let number = reader.number;
     match next_line(reader, shelf, text)? {

@@ -19,8 +19,11 @@ pub struct WholeMultipliers {
 // Fractions times their least common denominator. None exactly where one of them is 2^127 or more in absolute value.
 fn numerators(alloc: Global, fractions: &[Frac], den: i128) -> Result<Option<Vec<i128>>, AllocError>
     requires common { IsCommonDenominator fractions.now den }
-    ensures some { IfOk result (λ found. IfSome found (λ list. AreNumerators (length fractions.now) (number_at fractions.now) den list.items)) }
-    ensures none { IfOk result (λ found. IsNone found → HasLarge (length fractions.now) (number_at fractions.now) den) }
+    ensures some { IfOk result (λ found.
+        IfSome found (λ list.
+        AreNumerators (length fractions.now) (number_at fractions.now) den list.items)) }
+    ensures none { IfOk result (λ found. IsNone found
+        → HasLarge (length fractions.now) (number_at fractions.now) den) }
 {
     let mut list = Vec::new(alloc);
     for fraction in fractions {
@@ -40,7 +43,9 @@ pub fn whole_multipliers(
     alloc: Global,
     fractions: &[Frac],
 ) -> Result<Option<WholeMultipliers>, AllocError>
-    ensures some { IfOk result (λ found. IfSome found (λ whole. AreWholeMultipliers fractions.now whole.den whole.numerators.items)) }
+    ensures some { IfOk result (λ found.
+        IfSome found (λ whole.
+        AreWholeMultipliers fractions.now whole.den whole.numerators.items)) }
     ensures none { IfOk result (λ found. IsNone found ↔ PassWhole fractions.now) }
 {
     let Some(den) = common_denominator(fractions) else {

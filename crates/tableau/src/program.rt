@@ -65,7 +65,8 @@ fn are_rows(last: usize, rows: &[LpRow]) -> bool
 
 /// Whether costs and rows meet the conditions of `Lp::new`. It takes no memory, and time in the number of terms.
 pub fn is_program(costs: &[u64], rows: &[LpRow]) -> bool
-    ensures { IsTrue result ↔ IsProgram (record { costs = costs.now; rows = map inequality_of rows.now }) }
+    ensures { IsTrue result ↔ IsProgram
+        (record { costs = costs.now; rows = map inequality_of rows.now }) }
 {
     costs.len() + rows.len() <= MAX_PROGRAM_SIZE as usize && are_rows(costs.len(), rows)
 }

@@ -101,7 +101,8 @@ impl Run {
     pub fn finish(self, lp: &Lp, alloc: Global) -> Result<Outcome, AllocError>
         requires { IsAtEnd lp.now self }
         ensures outcome { IfOk result (IsEndOf lp.now) }
-        ensures length { (made : ℕ) → IsEndAfter lp.now made self → IfOk result (IsOutcome lp.now made) }
+        ensures length { (made : ℕ) → IsEndAfter lp.now made self
+            → IfOk result (IsOutcome lp.now made) }
         ensures certain { IfOk result (IsCertain lp.now) }
     {
         let columns = lp.costs.len();

@@ -46,7 +46,8 @@ fn blocks_of(alloc: Global, single: &SingleItem) -> Result<Blocks, Fail> {
 
 // The least cost of an item without backlog; none where it isn't within bounds, or has backlog costs.
 fn least_cost(alloc: Global, single: &SingleItem) -> Result<Option<u128>, AllocError>
-    ensures least { IfOk result (λ found. IfSome found (IsLeastNetCost (single_of_item single.now))) }
+    ensures least { IfOk result (λ found.
+        IfSome found (IsLeastNetCost (single_of_item single.now))) }
 {
     if !is_within_bounds(single) || single.back.is_some() {
         return Ok(None);

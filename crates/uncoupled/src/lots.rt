@@ -65,8 +65,10 @@ pub fn set_lots(
     requires setup { HasItemCells (period_count (single_of_item single.now)) item setup.old }
     requires no_make { IsEmptyRow make.old item }
     requires no_setup { IsEmptyRow setup.old item }
-    ensures make { (t : ℕ) → 1 ≤ t → t ≤ period_count (single_of_item single.now) → table_of make.new item t ≡ lot_in (single_of_item single.now) blocks.now t }
-    ensures setup { (t : ℕ) → 1 ≤ t → t ≤ period_count (single_of_item single.now) → table_of setup.new item t ≡ setup_in blocks.now t }
+    ensures make { (t : ℕ) → 1 ≤ t → t ≤ period_count (single_of_item single.now)
+        → table_of make.new item t ≡ lot_in (single_of_item single.now) blocks.now t }
+    ensures setup { (t : ℕ) → 1 ≤ t → t ≤ period_count (single_of_item single.now)
+        → table_of setup.new item t ≡ setup_in blocks.now t }
     ensures other_makes { OtherRowsSame make.old make.new item }
     ensures other_setups { OtherRowsSame setup.old setup.new item }
     ensures make_items { make.new.items ≡ make.old.items }

@@ -38,7 +38,8 @@ pub enum PlannedItems {
 // The costs of owing a unit, by period, and zeros where no backlog is allowed.
 fn owing_costs(alloc: Global, periods: u32, costs: Option<Vec<u64>>) -> Result<Vec<u64>, AllocError>
     requires { IfSome (option_map (λ v. v.items) costs) (IsSeries periods MAX_AMOUNT) }
-    ensures own { IfOk result (λ list. IfSome (option_map (λ v. v.items) costs) (λ own. list.items ≡ own)) }
+    ensures own { IfOk result (λ list.
+        IfSome (option_map (λ v. v.items) costs) (λ own. list.items ≡ own)) }
     ensures series { IfOk result (λ list. IsSeries periods MAX_AMOUNT list.items) }
 {
     match costs {
@@ -89,7 +90,8 @@ struct Lots {
 // The lots and setups of a cheapest net plan of each item.
 fn cheapest_lots(alloc: Global, instance: &Instance) -> Result<Lots, AllocError>
     requires uncoupled { IsUncoupled instance.now }
-    ensures { IfOk result (λ lots. AreAllPlanned instance.now lots.make lots.setup lots.potentials.items) }
+    ensures { IfOk result (λ lots.
+        AreAllPlanned instance.now lots.make lots.setup lots.potentials.items) }
 {
     let mut make = Grid::filled(alloc, instance.items(), instance.periods(), 0)?;
     let mut setup = Grid::filled(alloc, instance.items(), instance.periods(), 0)?;

@@ -35,7 +35,9 @@ pub fn sums(alloc: Global, costs: &[u64]) -> Result<Vec<u64>, AllocError>
 // The sums of the costs of owing a unit; none where no backlog is allowed.
 fn owed_sums(alloc: Global, single: &SingleItem) -> Result<Vec<u64>, AllocError>
     requires within { IsWithinBounds (single_of_item single.now) }
-    ensures { IfOk result (λ sums. IfSome (single_of_item single.now).back (λ costs. AreSums (period_count (single_of_item single.now)) (entry costs) sums.items)) }
+    ensures { IfOk result (λ sums.
+        IfSome (single_of_item single.now).back
+        (λ costs. AreSums (period_count (single_of_item single.now)) (entry costs) sums.items)) }
 {
     match &single.back {
         Some(costs) => sums(alloc, costs),

@@ -31,7 +31,8 @@ pub fn insert<L: Ledger>(
     requires low { 1 ≤ low }
     requires high { high ≤ position_count (single_of_item single.now) + 1 }
     requires level { high - low < 2 ^ level }
-    ensures inserted { IsInserted (line_cost (single_of_item single.now)) from level low high line slots.old slots.new }
+    ensures inserted { IsInserted (line_cost (single_of_item single.now)) from level low high line
+        slots.old slots.new }
     ensures steps { steps.new ≤ steps.old + level }
 {
     if high <= low {
@@ -74,8 +75,10 @@ fn cheaper<L: Ledger>(
     requires other { IfSome other (IsLine (single_of_item single.now) position) }
     requires high { position ≤ position_count (single_of_item single.now) }
     ensures either { (result ≡ one) ⊎ (result ≡ other) }
-    ensures least { (x : ℕ) → CostsAtMost (line_cost (single_of_item single.now)) one position x → CostsAtMost (line_cost (single_of_item single.now)) result position x }
-    ensures least_other { (x : ℕ) → CostsAtMost (line_cost (single_of_item single.now)) other position x → CostsAtMost (line_cost (single_of_item single.now)) result position x }
+    ensures least { (x : ℕ) → CostsAtMost (line_cost (single_of_item single.now)) one position x
+        → CostsAtMost (line_cost (single_of_item single.now)) result position x }
+    ensures least_other { (x : ℕ) → CostsAtMost (line_cost (single_of_item single.now)) other
+        position x → CostsAtMost (line_cost (single_of_item single.now)) result position x }
     ensures steps { steps.new ≤ steps.old + 1 }
 {
     let Some(left) = one else {
@@ -108,7 +111,8 @@ pub fn cheapest<L: Ledger>(
     requires at_high { position < high }
     requires high { high ≤ position_count (single_of_item single.now) + 1 }
     requires level { high - low < 2 ^ level }
-    ensures least { (x : ℕ) → IsReached (line_cost (single_of_item single.now)) slots.now level low high position x → CostsAtMost (line_cost (single_of_item single.now)) result position x }
+    ensures least { (x : ℕ) → IsReached (line_cost (single_of_item single.now)) slots.now level low
+        high position x → CostsAtMost (line_cost (single_of_item single.now)) result position x }
     ensures kept { IfSome result (λ line. (k : ℕ) × (1 ≤ k) × (slot_at slots.now k ≡ Some line)) }
     ensures steps { steps.new ≤ steps.old + level }
 {

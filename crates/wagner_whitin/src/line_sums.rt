@@ -15,7 +15,9 @@ use std::alloc::{AllocError, Global};
 fn net_sums(alloc: Global, single: &SingleItem, needed: &[u32]) -> Result<Vec<u64>, AllocError>
     requires within { IsWithinBounds (single_of_item single.now) }
     requires needed { needed.now ≡ positions (single_of_item single.now) }
-    ensures { IfOk result (λ sums. AreSums (position_count (single_of_item single.now)) (net_at (single_of_item single.now)) sums.items) }
+    ensures { IfOk result (λ sums.
+        AreSums (position_count (single_of_item single.now)) (net_at (single_of_item single.now))
+        sums.items) }
 {
     let mut sums = Vec::with_capacity(alloc, needed.len() + 1)?;
     let mut sum = 0u64;
@@ -36,8 +38,11 @@ fn held_net_sums(
 ) -> Result<Vec<u128>, AllocError>
     requires within { IsWithinBounds (single_of_item single.now) }
     requires needed { needed.now ≡ positions (single_of_item single.now) }
-    requires held { AreSums (period_count (single_of_item single.now)) (entry (single_of_item single.now).hold) held.now }
-    ensures { IfOk result (λ sums. AreSums (position_count (single_of_item single.now)) (held_at (single_of_item single.now)) sums.items) }
+    requires held { AreSums (period_count (single_of_item single.now))
+        (entry (single_of_item single.now).hold) held.now }
+    ensures { IfOk result (λ sums.
+        AreSums (position_count (single_of_item single.now)) (held_at (single_of_item single.now))
+        sums.items) }
 {
     let mut sums = Vec::with_capacity(alloc, needed.len() + 1)?;
     let mut sum = 0u128;

@@ -32,10 +32,13 @@ fn enter<L: Ledger>(
     requires small { potential potentials.now (length potentials.now) ≤ most_cost }
     requires order { entered ≤ last }
     requires high { last ≤ period_count (single_of_item single.now) }
-    requires entries { (u : ℕ) → entered < u → u ≤ last → entry_of (single_of_item single.now) u ≡ length potentials.now + 1 }
+    requires entries { (u : ℕ) → entered < u → u ≤ last
+        → entry_of (single_of_item single.now) u ≡ length potentials.now + 1 }
     requires level { position_count (single_of_item single.now) < 2 ^ level }
-    requires hull { IsHull (single_of_item single.now) potentials.now entered (length potentials.now + 1) level slots.old }
-    ensures hull { IsHull (single_of_item single.now) potentials.now last (length potentials.now + 1) level slots.new }
+    requires hull { IsHull (single_of_item single.now) potentials.now entered
+        (length potentials.now + 1) level slots.old }
+    ensures hull { IsHull (single_of_item single.now) potentials.now last
+        (length potentials.now + 1) level slots.new }
     ensures steps { steps.new ≤ steps.old + (last - entered) * level }
 {
     let first = potentials.len() as u32 + 1;
@@ -67,8 +70,10 @@ fn cheapest_line<L: Ledger>(
     requires some { length potentials.now < position_count (single_of_item single.now) }
     requires period { period ≡ period_of (single_of_item single.now) (length potentials.now + 1) }
     requires level { position_count (single_of_item single.now) < 2 ^ level }
-    requires hull { IsHull (single_of_item single.now) potentials.now period (length potentials.now + 1) level slots.now }
-    ensures cheapest { IsCheapest (single_of_item single.now) potentials.now (length potentials.now + 1) result }
+    requires hull { IsHull (single_of_item single.now) potentials.now period
+        (length potentials.now + 1) level slots.now }
+    ensures cheapest { IsCheapest (single_of_item single.now) potentials.now
+        (length potentials.now + 1) result }
     ensures steps { steps.new ≤ steps.old + level }
 {
     let position = potentials.len() as u32 + 1;
@@ -93,8 +98,12 @@ pub fn least_costs<L: Ledger>(
     requires sums { AreLineSums (single_of_item single.now) sums.now }
     requires needed { needed.now ≡ positions (single_of_item single.now) }
     requires level { position_count (single_of_item single.now) < 2 ^ level }
-    ensures table { IfOk result (λ table. IsTable (single_of_item single.now) (position_count (single_of_item single.now)) table.potentials.items table.lasts.items) }
-    ensures steps { steps.new ≤ steps.old + (period_count (single_of_item single.now) + position_count (single_of_item single.now)) * level }
+    ensures table { IfOk result (λ table.
+        IsTable (single_of_item single.now) (position_count (single_of_item single.now))
+        table.potentials.items table.lasts.items) }
+    ensures steps { steps.new ≤ steps.old
+        + (period_count (single_of_item single.now) + position_count (single_of_item single.now))
+        * level }
 {
     let mut slots = vec![in alloc; None; needed.len()]?;
     let mut potentials = Vec::with_capacity(alloc, needed.len())?;

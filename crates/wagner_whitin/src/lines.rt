@@ -69,8 +69,10 @@ pub fn ordered<L: Ledger>(
     requires one { IsLine (single_of_item single.now) position one }
     requires other { IsLine (single_of_item single.now) position other }
     requires high { position ≤ position_count (single_of_item single.now) }
-    ensures either { ((result.0 ≡ one) × (result.1 ≡ other)) ⊎ ((result.0 ≡ other) × (result.1 ≡ one)) }
-    ensures order { line_cost (single_of_item single.now) result.0 position ≤ line_cost (single_of_item single.now) result.1 position }
+    ensures either { ((result.0 ≡ one) × (result.1 ≡ other))
+        ⊎ ((result.0 ≡ other) × (result.1 ≡ one)) }
+    ensures order { line_cost (single_of_item single.now) result.0 position
+        ≤ line_cost (single_of_item single.now) result.1 position }
     ensures step { steps.new ≡ steps.old + 1 }
 {
     let here = cost_at(single, sums, one, position);

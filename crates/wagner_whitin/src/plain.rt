@@ -106,8 +106,10 @@ fn cheapest_last(
     requires cost_sums { AreCostSums (single_of_item single.now) cost_sums.now }
     requires needed { needed.now ≡ positions (single_of_item single.now) }
     requires some { length potentials.now < position_count (single_of_item single.now) }
-    requires small { (k : ℕ) → k ≤ length potentials.now → potential potentials.now k ≤ k * most_for_one }
-    ensures { IsCheapestLast (single_of_item single.now) potentials.now (length potentials.now + 1) result }
+    requires small { (k : ℕ) → k ≤ length potentials.now
+        → potential potentials.now k ≤ k * most_for_one }
+    ensures { IsCheapestLast (single_of_item single.now) potentials.now (length potentials.now + 1)
+        result }
 {
     let last = potentials.len() as u32 + 1;
     let mut best = cheapest_server(
@@ -131,7 +133,9 @@ fn cheapest_last(
 // The table of all positions, each by its cheapest last block.
 fn plain_costs(alloc: Global, single: &SingleItem) -> Result<LeastCosts, AllocError>
     requires within { IsWithinBounds (single_of_item single.now) }
-    ensures { IfOk result (λ table. IsTable (single_of_item single.now) (position_count (single_of_item single.now)) table.potentials.items table.lasts.items) }
+    ensures { IfOk result (λ table.
+        IsTable (single_of_item single.now) (position_count (single_of_item single.now))
+        table.potentials.items table.lasts.items) }
 {
     let needed = echelon::positions(alloc, single)?;
     let cost_sums = CostSums::of(alloc, single)?;

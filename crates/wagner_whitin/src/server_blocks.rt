@@ -33,7 +33,8 @@ pub fn serving_cost(single: &SingleItem, cost_sums: &CostSums, server: u32, peri
     requires low { 1 ≤ period }
     requires high { period ≤ period_count (single_of_item single.now) }
     requires server { IsServer (single_of_item single.now) server period }
-    ensures value { result ≡ net_demand (single_of_item single.now) period * unit_price (single_of_item single.now) server period }
+    ensures value { result ≡ net_demand (single_of_item single.now) period
+        * unit_price (single_of_item single.now) server period }
     ensures small { result ≤ most_serving }
 {
     let net = single.net[(period - 1) as usize];
@@ -44,7 +45,8 @@ pub fn serving_cost(single: &SingleItem, cost_sums: &CostSums, server: u32, peri
 // A block that goes on, or a fresh one where that costs less.
 fn cheaper_start(block: Option<ServerBlock>, fresh: ServerBlock) -> ServerBlock
     ensures no_more { result.cost ≤ fresh.cost }
-    ensures start { ((result ≡ fresh) × IfSome block (λ old. fresh.cost ≤ old.cost)) ⊎ ((block ≡ Some result) × (result.cost ≤ fresh.cost)) }
+    ensures start { ((result ≡ fresh) × IfSome block (λ old. fresh.cost ≤ old.cost))
+        ⊎ ((block ≡ Some result) × (result.cost ≤ fresh.cost)) }
 {
     match block {
         Some(old) if old.cost <= fresh.cost => old,
@@ -68,9 +70,12 @@ fn extended(
     requires low { 1 ≤ period }
     requires high { period ≤ period_count (single_of_item single.now) }
     requires server { IsServer (single_of_item single.now) server period }
-    requires small { potential potentials.now (length potentials.now) ≤ length potentials.now * most_for_one }
-    requires block { IsServerBlockOrNone (single_of_item single.now) potentials.now server (length potentials.now) block }
-    ensures { IsServerBlock (single_of_item single.now) potentials.now server (length potentials.now + 1) result }
+    requires small { potential potentials.now (length potentials.now)
+        ≤ length potentials.now * most_for_one }
+    requires block { IsServerBlockOrNone (single_of_item single.now) potentials.now server
+        (length potentials.now) block }
+    ensures { IsServerBlock (single_of_item single.now) potentials.now server
+        (length potentials.now + 1) result }
 {
     let serving = serving_cost(single, cost_sums, server, period);
     let setup = single.setup[(server - 1) as usize];
@@ -94,7 +99,8 @@ pub fn last_server(single: &SingleItem, period: u32) -> u32
     requires high { period ≤ period_count (single_of_item single.now) }
     ensures high { result ≤ period_count (single_of_item single.now) }
     ensures self_serves { period ≤ result }
-    ensures servers { (server : ℕ) → 1 ≤ server → (IsServer (single_of_item single.now) server period ↔ (server ≤ result)) }
+    ensures servers { (server : ℕ) → 1 ≤ server
+        → (IsServer (single_of_item single.now) server period ↔ (server ≤ result)) }
 {
     match &single.back {
         Some(_) => single.net.len() as u32,
@@ -118,11 +124,15 @@ pub fn serve(
     requires period { period ≡ period_of (single_of_item single.now) (length potentials.now + 1) }
     requires low { 1 ≤ period }
     requires high { period ≤ period_count (single_of_item single.now) }
-    requires small { potential potentials.now (length potentials.now) ≤ length potentials.now * most_for_one }
+    requires small { potential potentials.now (length potentials.now)
+        ≤ length potentials.now * most_for_one }
     requires limit { limit ≤ period_count (single_of_item single.now) }
-    requires servers { (server : ℕ) → 1 ≤ server → (IsServer (single_of_item single.now) server period ↔ (server ≤ limit)) }
-    requires blocks { AreServerBlocks (single_of_item single.now) potentials.now (length potentials.now) blocks.now }
-    ensures { AreServerBlocks (single_of_item single.now) potentials.now (length potentials.now + 1) blocks.new }
+    requires servers { (server : ℕ) → 1 ≤ server
+        → (IsServer (single_of_item single.now) server period ↔ (server ≤ limit)) }
+    requires blocks { AreServerBlocks (single_of_item single.now) potentials.now
+        (length potentials.now) blocks.now }
+    ensures { AreServerBlocks (single_of_item single.now) potentials.now (length potentials.now + 1)
+        blocks.new }
 {
     for server in 1..limit + 1 {
         let block = blocks[(server - 1) as usize];
@@ -151,8 +161,10 @@ fn cheaper(one: Option<ServerBlock>, other: Option<ServerBlock>) -> Option<Serve
 pub fn cheapest(blocks: &[Option<ServerBlock>], limit: u32) -> Option<ServerBlock>
     requires high { limit ≤ length blocks.now }
     requires count { length blocks.now ≤ MAX_PERIODS }
-    ensures kept { IfSome result (λ block. (server : ℕ) × (1 ≤ server) × (server ≤ limit) × (block_at blocks.now server ≡ Some block)) }
-    ensures least { (server x : ℕ) → 1 ≤ server → server ≤ limit → BlockCostsAtMost (block_at blocks.now server) x → BlockCostsAtMost result x }
+    ensures kept { IfSome result (λ block. (server : ℕ) × (1 ≤ server) × (server ≤ limit)
+        × (block_at blocks.now server ≡ Some block)) }
+    ensures least { (server x : ℕ) → 1 ≤ server → server ≤ limit
+        → BlockCostsAtMost (block_at blocks.now server) x → BlockCostsAtMost result x }
 {
     let mut best = None;
     for server in 1..limit + 1 {

@@ -38,7 +38,8 @@ pub fn solve_counted<L: Ledger>(
     requires within { IsWithinBounds (single_of_item single.now) }
     requires no_backlog { IsNone single.now.back }
     ensures solution { IfOk result (IsSolution (single_of_item single.now)) }
-    ensures steps { (d : ℕ) → period_count (single_of_item single.now) < 2 ^ d → steps.new ≤ steps.old + 4 * period_count (single_of_item single.now) * (d + 1) }
+    ensures steps { (d : ℕ) → period_count (single_of_item single.now) < 2 ^ d
+        → steps.new ≤ steps.old + 4 * period_count (single_of_item single.now) * (d + 1) }
 {
     let needed = echelon::positions(alloc, single)?;
     let sums = LineSums::of(alloc, single, &needed)?;

@@ -20,7 +20,9 @@ pub struct LeastCosts {
 /// The table of all positions.
 pub fn least_costs(alloc: Global, single: &SingleItem) -> Result<LeastCosts, AllocError>
     requires within { IsWithinBounds (single_of_item single.now) }
-    ensures { IfOk result (λ table. IsTable (single_of_item single.now) (position_count (single_of_item single.now)) table.potentials.items table.lasts.items) }
+    ensures { IfOk result (λ table.
+        IsTable (single_of_item single.now) (position_count (single_of_item single.now))
+        table.potentials.items table.lasts.items) }
 {
     let needed = echelon::positions(alloc, single)?;
     let cost_sums = CostSums::of(alloc, single)?;
@@ -47,9 +49,12 @@ pub fn least_costs(alloc: Global, single: &SingleItem) -> Result<LeastCosts, All
 // The blocks of a cheapest way to serve all positions, found from the last one back.
 fn trace(alloc: Global, single: &SingleItem, table: &LeastCosts) -> Result<Vec<Block>, AllocError>
     requires within { IsWithinBounds (single_of_item single.now) }
-    requires table { IsTable (single_of_item single.now) (position_count (single_of_item single.now)) table.now.potentials.items table.now.lasts.items }
+    requires table { IsTable (single_of_item single.now)
+        (position_count (single_of_item single.now)) table.now.potentials.items
+        table.now.lasts.items }
     ensures cover { IfOk result (λ blocks. CoverFrom (single_of_item single.now) 0 blocks.items) }
-    ensures cost { IfOk result (λ blocks. blocks_cost (single_of_item single.now) blocks.items ≡ potential table.now.potentials.items (position_count (single_of_item single.now))) }
+    ensures cost { IfOk result (λ blocks. blocks_cost (single_of_item single.now) blocks.items
+        ≡ potential table.now.potentials.items (position_count (single_of_item single.now))) }
 {
     let mut blocks = Vec::new(alloc);
     let mut place = table.lasts.len();
@@ -65,7 +70,8 @@ fn trace(alloc: Global, single: &SingleItem, table: &LeastCosts) -> Result<Vec<B
 /// What the table of all positions says: a cheapest way to serve them, with the potentials that prove it.
 pub fn solution(alloc: Global, single: &SingleItem, table: LeastCosts) -> Result<Blocks, AllocError>
     requires within { IsWithinBounds (single_of_item single.now) }
-    requires table { IsTable (single_of_item single.now) (position_count (single_of_item single.now)) table.potentials.items table.lasts.items }
+    requires table { IsTable (single_of_item single.now)
+        (position_count (single_of_item single.now)) table.potentials.items table.lasts.items }
     ensures { IfOk result (IsSolution (single_of_item single.now)) }
 {
     lot_sizing::last_potential_is_floor();

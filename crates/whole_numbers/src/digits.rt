@@ -54,7 +54,8 @@ fn value_up_to(text: &[u8], most: u128) -> Result<u128, NumberFault>
     requires digits { IsNumeral 10 text.now }
     ensures value { IfOk result (λ number. number ≡ digits_value 10 text.now) }
     ensures most { IfOk result (λ number. number ≤ most) }
-    ensures too_large { IfErr result (λ fault. (fault ≡ NumberFault.TooLarge) × (most < digits_value 10 text.now)) }
+    ensures too_large { IfErr result (λ fault. (fault ≡ NumberFault.TooLarge)
+        × (most < digits_value 10 text.now)) }
 {
     let mut number = 0u128;
     for place in 0..text.len() {
@@ -77,8 +78,10 @@ pub fn read_whole(text: &[u8], most: u128) -> Result<u128, NumberFault>
     ensures written { IfOk result (λ number. text.now ≡ decimal number) }
     ensures unwritten { OnErr result ((n : ℕ) → n ≤ most → text.now ≢ decimal n) }
     ensures not_digits { IsErrOf result NumberFault.NotDigits ↔ (IsNumeral 10 text.now → ⊥) }
-    ensures leading_zero { IsErrOf result NumberFault.LeadingZero ↔ (IsNumeral 10 text.now × StartsWithZero text.now) }
-    ensures too_large { IsErrOf result NumberFault.TooLarge ↔ (IsWholeText text.now × (most < digits_value 10 text.now)) }
+    ensures leading_zero { IsErrOf result NumberFault.LeadingZero ↔
+        (IsNumeral 10 text.now × StartsWithZero text.now) }
+    ensures too_large { IsErrOf result NumberFault.TooLarge ↔
+        (IsWholeText text.now × (most < digits_value 10 text.now)) }
 {
     if !is_numeral(text) {
         return Err(NumberFault::NotDigits);

@@ -92,7 +92,8 @@ fn read_drawing<'a, S: Shelf>(
     shelf: &mut S,
 ) -> Result<Drawing, NotDrawn<'a>>
     ensures files { IfOk result (λ read. IsTrue (S.shown shelf.old).told
-        → HoldsBoth (S.shown shelf.old).file model.entry.now plan.entry.now read.instance read.plan) }
+        → HoldsBoth (S.shown shelf.old).file model.entry.now plan.entry.now read.instance
+        read.plan) }
     ensures fits { IfOk result (λ read. AllFit read.instance read.plan) }
     ensures feasible { IfOk result (λ read. IsFeasible read.instance (plan_of read.plan)) }
     ensures shown { IfOk result (λ read. IsTrue (S.shown shelf.old).told
@@ -103,7 +104,9 @@ fn read_drawing<'a, S: Shelf>(
         (option_map (λ c. c.now) certificate.entry) (S.shown shelf.old) (S.shown shelf.new)) }
     ensures reads { OnlyReads (S.shown shelf.old) (S.shown shelf.new) }
     ensures given { (S.shown shelf.new).given
-        ≤ (S.shown shelf.old).given + (2 * (file_limit + piece_size) + length (proof_files (option_map (λ c. c.now) certificate.entry)) * (3 * pass_size)) }
+        ≤ (S.shown shelf.old).given
+        + (2 * (file_limit + piece_size)
+        + length (proof_files (option_map (λ c. c.now) certificate.entry)) * (3 * pass_size)) }
 {
     let read = match read_feasible(alloc, model, plan, shelf) {
         Ok(read) => read,
@@ -162,7 +165,9 @@ pub fn draw_files<S: Shelf>(
         (S.shown shelf.new)) }
     ensures memory { OnErr result (OnlyReads (S.shown shelf.old) (S.shown shelf.new)) }
     ensures given { (S.shown shelf.new).given
-        ≤ (S.shown shelf.old).given + (2 * (file_limit + piece_size) + length (proof_files (option_map (λ c. c.now) certificate.entry)) * (3 * pass_size)) }
+        ≤ (S.shown shelf.old).given
+        + (2 * (file_limit + piece_size)
+        + length (proof_files (option_map (λ c. c.now) certificate.entry)) * (3 * pass_size)) }
 {
     match read_drawing(alloc, names.model, names.plan, certificate, shelf) {
         Ok(read) => write_page(

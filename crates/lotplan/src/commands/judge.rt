@@ -120,7 +120,8 @@ pub fn read_feasible<'a, S: Shelf>(
     shelf: &mut S,
 ) -> Result<FeasiblePlan, NotFeasible<'a>>
     ensures holds { IfOk result (λ read. IsTrue (S.shown shelf.old).told
-        → HoldsBoth (S.shown shelf.old).file model.entry.now plan.entry.now read.instance read.plan) }
+        → HoldsBoth (S.shown shelf.old).file model.entry.now plan.entry.now read.instance
+        read.plan) }
     ensures feasible { IfOk result (λ read. HoldFeasible read.instance read.plan read.cost) }
     ensures stop { IfErr result (ExplainsNone
         (JudgeExplains model.entry.now plan.entry.now (S.shown shelf.old) (S.shown shelf.new))) }

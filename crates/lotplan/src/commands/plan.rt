@@ -440,7 +440,9 @@ pub fn plan_files<S: Shelf, P: Proposer, H: Heuristic<P::Hint>, W: Watch>(
         (S.shown shelf.new)) }
     ensures memory { OnErr result (OnlyReads (S.shown shelf.old) (S.shown shelf.new)) }
     ensures given { (S.shown shelf.new).given
-        ≤ (S.shown shelf.old).given + (1 + length (start_files (option_map (λ f. f.now) search.entry.start))) * (file_limit + piece_size) }
+        ≤ (S.shown shelf.old).given
+        + (1 + length (start_files (option_map (λ f. f.now) search.entry.start)))
+        * (file_limit + piece_size) }
 {
     match search.start {
         Some(start) => plan_from(

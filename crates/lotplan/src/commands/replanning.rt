@@ -280,7 +280,8 @@ fn read_given<'a, S: Shelf>(
     shelf: &mut S,
 ) -> Result<GivenPlan, PlanStop<'a>>
     ensures holds { IfOk result (λ read. IsTrue (S.shown shelf.old).told
-        → HoldsBoth (S.shown shelf.old).file model.entry.now plan.entry.now read.instance read.plan) }
+        → HoldsBoth (S.shown shelf.old).file model.entry.now plan.entry.now read.instance
+        read.plan) }
     ensures fits { IfOk result (λ read. AllFit read.instance read.plan) }
     ensures stop { IfErr result (ExplainsGivenStop model.entry.now plan.entry.now
         (S.shown shelf.old) (S.shown shelf.new)) }

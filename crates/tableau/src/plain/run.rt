@@ -47,7 +47,8 @@ impl Tableau {
     ) -> Result<Vec<Frac>, AllocError>
         requires row { row < height self.now }
         requires apart { AreApart (width self.now) (nonbasic_at self.now) }
-        ensures { IfOk result (λ list. AreValues (coefficient_at self.now row) first count list.items) }
+        ensures { IfOk result (λ list.
+            AreValues (coefficient_at self.now row) first count list.items) }
     {
         let mut list = Vec::new(alloc);
         list.resize(count, whole(0))?;
@@ -74,7 +75,8 @@ impl Tableau {
         requires row { row < height self.now }
         requires apart { AreApart (width self.now) (nonbasic_at self.now) }
         requires own { IsNowhere self.now row }
-        ensures { IfOk result (λ list. AreValues (opposite_at self.now row) first count list.items) }
+        ensures { IfOk result (λ list.
+            AreValues (opposite_at self.now row) first count list.items) }
     {
         let mut list = self.coefficients(alloc, row, first, count)?;
         for place in 0..count {

@@ -197,7 +197,8 @@ impl Tableau {
         requires row { row < height self.now }
         ensures column { IfOk result (λ found. IfSome found (IsEntering self.now row)) }
         ensures fit { IfOk result (λ found. RatiosFitTo self.now row (width self.now)) }
-        ensures none { IfOk result (λ found. IsNone found → HasNoneTo self.now row (width self.now)) }
+        ensures none { IfOk result (λ found. IsNone found
+            → HasNoneTo self.now row (width self.now)) }
         ensures refused { IfErr result (IsRefusedRatio self.now row) }
     {
         let mut best = None;
@@ -215,9 +216,11 @@ impl Tableau {
         requires pivot_row { pivot_row < height self.old }
         requires row { row < height self.old }
         requires column { column < width self.old }
-        ensures done { IsTrue result → IsSet self.old row column (cell self.old row column -ℚ factor *ℚ cell self.old pivot_row column) self.new }
+        ensures done { IsTrue result → IsSet self.old row column
+            (cell self.old row column -ℚ factor *ℚ cell self.old pivot_row column) self.new }
         ensures fits { IsTrue result → CellFits self.old pivot_row row column factor }
-        ensures refused { result ≡ false → (cell self.old pivot_row column ≢ zero_ℚ) × (CellFits self.old pivot_row row column factor → ⊥) }
+        ensures refused { result ≡ false → (cell self.old pivot_row column ≢ zero_ℚ)
+            × (CellFits self.old pivot_row row column factor → ⊥) }
         ensures names { HasSameNames self.old self.new }
     {
         let source = self.cell(pivot_row, column);
@@ -243,7 +246,8 @@ impl Tableau {
         requires apart { row ≢ pivot_row }
         requires some { cell self.old pivot_row pivot_column ≢ zero_ℚ }
         ensures updated { OnOk result (IsRowUpdated self.old pivot_row pivot_column row self.new) }
-        ensures refused { IfErr result (λ t. (t < width self.old) × (OtherFits self.old pivot_row pivot_column row t → ⊥)) }
+        ensures refused { IfErr result (λ t. (t < width self.old)
+            × (OtherFits self.old pivot_row pivot_column row t → ⊥)) }
         ensures names { HasSameNames self.old self.new }
     {
         let old = self.cell(row, pivot_column);
@@ -266,9 +270,12 @@ impl Tableau {
     fn multiply(&mut self, row: usize, column: usize, factor: Frac) -> bool
         requires row { row < height self.old }
         requires column { column < width self.old }
-        ensures done { IsTrue result → IsSet self.old row column (cell self.old row column *ℚ factor) self.new }
-        ensures fits { IsTrue result → cell self.old row column ≢ zero_ℚ → Fits (cell self.old row column *ℚ factor) }
-        ensures refused { result ≡ false → (cell self.old row column ≢ zero_ℚ) × (Fits (cell self.old row column *ℚ factor) → ⊥) }
+        ensures done { IsTrue result → IsSet self.old row column
+            (cell self.old row column *ℚ factor) self.new }
+        ensures fits { IsTrue result → cell self.old row column ≢ zero_ℚ
+            → Fits (cell self.old row column *ℚ factor) }
+        ensures refused { result ≡ false → (cell self.old row column ≢ zero_ℚ)
+            × (Fits (cell self.old row column *ℚ factor) → ⊥) }
         ensures names { HasSameNames self.old self.new }
     {
         let old = self.cell(row, column);
@@ -288,7 +295,8 @@ impl Tableau {
         requires pivot_column { pivot_column < width self.old }
         requires some { cell self.old pivot_row pivot_column ≢ zero_ℚ }
         ensures divided { OnOk result (IsDivided self.old pivot_row pivot_column self.new) }
-        ensures refused { IfErr result (λ t. (t < width self.old) × (RowFits self.old pivot_row pivot_column t → ⊥)) }
+        ensures refused { IfErr result (λ t. (t < width self.old)
+            × (RowFits self.old pivot_row pivot_column t → ⊥)) }
         ensures names { HasSameNames self.old self.new }
     {
         let Some(corner) = plain::div(whole(1), self.cell(pivot_row, pivot_column)) else {
@@ -323,7 +331,8 @@ impl Tableau {
         requires some { cell self.old row column ≢ zero_ℚ }
         ensures pivoted { OnOk result (IsPivoted self.old row column self.new) }
         ensures fits { OnOk result (UpdatesFit self.old row column) }
-        ensures refused { IfErr result (λ p. (p.0 < height self.old) × (p.1 < width self.old) × (UpdateFits self.old row column p.0 p.1 → ⊥)) }
+        ensures refused { IfErr result (λ p. (p.0 < height self.old) × (p.1 < width self.old)
+            × (UpdateFits self.old row column p.0 p.1 → ⊥)) }
         ensures names { IfErr result (λ p. HasSameNames self.old self.new) }
     {
         for other in 0..self.height() {
