@@ -179,3 +179,56 @@ one_charge m rank start share a b ranks is_a is_b = λ i v low high v_low v_high
     is_a.each i v low high v_low v_high
     ∙ ap (λ x. if may_be_late m i v then x else 0) (arriving_same m start is_a.load is_b.load i v (λ t t_low t_high. one_load m rank start share is_a.load is_b.load ranks is_a.loads is_b.loads i t low high t_low t_high))
     ∙ sym (is_b.each i v low high v_low v_high)
+
+-- two tables of what is on time that agree have the same loads and charges
+arriving_agree : (m : Problem) (a b load : Table) (i v : ℕ) → ((t : ℕ) → 1 ≤ t → t ≤ m.periods → a i t ≡ b i t) → arriving_load m a load i v ≡ arriving_load m b load i v
+arriving_agree m a b load i v same = sum_to-same m.periods _ _ (λ t low high. ap (λ x. if arrival m i t == v then (if x == 0 then 0 else load i t) else 0) (same t low high))
+
+loads_agree : (m : Problem) (a b share load : Table) → EachCell m (λ i t. a i t ≡ b i t) → AreLoads m a share load → AreLoads m b share load
+loads_agree m a b share load same are = record {
+  each = λ j v low high v_low v_high.
+      are.each j v low high v_low v_high
+      ∙ ap (λ x. share j v + x) (sum_to-same (item_count m) (λ i. per_unit m i j * arriving_load m a load i v) (λ i. per_unit m i j * arriving_load m b load i v) (λ i i_low i_high.
+      ap (λ x. per_unit m i j * x) (arriving_agree m a b load i v (λ t t_low t_high. same i t i_low i_high t_low t_high))));
+}
+
+pub charges_agree : (m : Problem) (a b share charge : Table) → EachCell m (λ i t. a i t ≡ b i t) → AreCharges m a share charge → AreCharges m b share charge
+charges_agree m a b share charge same are = record {
+  load = are.load;
+  loads = loads_agree m a b share are.load same are.loads;
+  each = λ i v low high v_low v_high.
+      are.each i v low high v_low v_high
+      ∙ ap (λ x. if may_be_late m i v then x else 0) (arriving_agree m a b are.load i v (λ t t_low t_high. same i t low high t_low t_high));
+}
+
+-- where no share is more than 0, there is no load and no charge
+abbrev nothing : Table
+nothing = λ i t. 0
+
+none_if : (c : Bool) (x : ℕ) → x ≡ 0 → (if c then x else 0) ≡ 0
+none_if true x none = none
+none_if false x none = refl
+
+arriving_none : (m : Problem) (start : Table) (i v : ℕ) → arriving_load m start nothing i v ≡ 0
+arriving_none m start i v =
+    sum_to-same m.periods _ (λ t. 0) (λ t low high. none_if (arrival m i t == v) _ (none_if (start i t == 0) 0 refl))
+    ∙ sum_to-zero m.periods
+
+none_loaded : (m : Problem) (start share : Table) → EachCell m (λ i t. share i t ≡ 0) → AreLoads m start share nothing
+none_loaded m start share none = record {
+  each = λ j v low high v_low v_high.
+      let from_components : sum_to (item_count m) (λ i. per_unit m i j * arriving_load m start nothing i v) ≡ 0 =
+      sum_to-same (item_count m) (λ i. per_unit m i j * arriving_load m start nothing i v) (λ i. 0) (λ i i_low i_high. omega (arith, ap (λ x. per_unit m i j * x) (arriving_none m start i v)))
+      ∙ sum_to-zero (item_count m) in
+      omega (arith, none j v low high v_low v_high, from_components);
+}
+
+none_charged : (m : Problem) (start share : Table) → EachCell m (λ i t. share i t ≡ 0) → AreCharges m start share nothing
+none_charged m start share none = record {
+  load = nothing;
+  loads = none_loaded m start share none;
+  each = λ i v low high v_low v_high. sym (none_if (may_be_late m i v) _ (arriving_none m start i v));
+}
+
+pub no_share_charged : (m : Problem) (rank : ℕ → ℕ) (start share charge : Table) → IsRanking m rank → EachCell m (λ i t. share i t ≡ 0) → AreCharges m start share charge → EachCell m (λ i v. charge i v ≡ 0)
+no_share_charged m rank start share charge ranks none are = one_charge m rank start share charge nothing ranks are (none_charged m start share none)

@@ -11,7 +11,7 @@ use Rattle.must_start.specs.MustStart.{AreMustStart, greatest_to, may_be_late, m
 use Rattle.must_start.proofs.Greatest.{greatest_at, greatest_le, min_left, min_right, min_rises}
 use Rattle.must_start.proofs.Starts.{asked_within, end_later, takes_le, takes_same}
 use Rattle.late_starts.specs.OnTime.{AreOnTime, arrival}
-use Rattle.late_starts.proofs.Solving.{GoesBy, solutions_agree}
+use Rattle.late_starts.proofs.Solving.{GoesBy, solution, solution_solves, solutions_agree}
 
 -- lots arrive within the periods
 min_some : (a b : ℕ) → 1 ≤ a → 1 ≤ b → 1 ≤ min a b
@@ -50,6 +50,38 @@ starts_go_by m rank ranks = λ a b i t low high t_low t_high same.
 
 pub one_on_time : (m : Problem) (rank : ℕ → ℕ) (a b : Table) → IsRanking m rank → AreOnTime m a → AreOnTime m b → EachCell m (λ i t. a i t ≡ b i t)
 one_on_time m rank a b ranks is_a is_b = solutions_agree m rank (λ c i t. must_arrive m c i (arrival m i t)) a b (starts_go_by m rank ranks) is_a.each is_b.each
+
+-- there is a table of what is on time: nothing before the first period, and from there on what must arrive
+abbrev since_first : (ℕ → ℕ) → ℕ → ℕ
+since_first f zero = 0
+since_first f (suc t) = f (suc t)
+
+since_first_at : (f : ℕ → ℕ) (t : ℕ) → 1 ≤ t → since_first f t ≡ f t
+since_first_at f zero low = absurd (omega (arith, low))
+since_first_at f (suc t) low = refl
+
+abbrev arriving : Problem → Table → Table
+arriving m start = λ i t. must_arrive m start i (arrival m i t)
+
+abbrev next_start : Problem → Table → Table
+next_start m start = λ i. since_first (arriving m start i)
+
+next_goes_by : (m : Problem) (rank : ℕ → ℕ) → IsRanking m rank → GoesBy m rank (next_start m)
+next_goes_by m rank ranks = λ a b i t low high t_low t_high same.
+    since_first_at (arriving m a i) t t_low
+    ∙ starts_go_by m rank ranks a b i t low high t_low t_high same
+    ∙ sym (since_first_at (arriving m b i) t t_low)
+
+pub on_time_exists : (m : Problem) (rank : ℕ → ℕ) → IsRanking m rank → (start : Table) × AreOnTime m start
+on_time_exists m rank ranks =
+    let next = next_start m in
+    let start = solution rank next in (
+      start,
+      record {
+        none = λ i low high. refl;
+        each = λ i t low high t_low t_high. solution_solves m rank next (next_goes_by m rank ranks) i t low high t_low t_high ∙ since_first_at (arriving m start i) t t_low;
+      },
+    )
 
 -- what is asked for rises
 pub asked_rises : (m : Problem) (i u v : ℕ) → u ≤ v → v ≤ m.periods → asked_to (asked_of m i) u ≤ asked_to (asked_of m i) v

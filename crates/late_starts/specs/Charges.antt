@@ -49,6 +49,17 @@ LateRowsHold =
     → (p : Plan) → IsFeasible m p
     → sum_cells m (λ i t. share i t * start i t) ≤ sum_cells m (λ i t. share i t * sum_to t (p.make i)) + sum_cells m (λ i v. charge i v * p.backlog i v)
 
+-- the charges are the same whichever of two tables that agree says what is on time
+abbrev pub ChargesAgree : Type 0
+ChargesAgree =
+    (m : Problem) (a b share charge : Table) → EachCell m (λ i t. a i t ≡ b i t) → AreCharges m a share charge → AreCharges m b share charge
+
+-- where no share is more than 0, nothing is charged
+abbrev pub NoShareIsCharged : Type 0
+NoShareIsCharged =
+    (m : Problem) (rank : ℕ → ℕ) (start share charge : Table) → IsRanking m rank → EachCell m (λ i t. share i t ≡ 0) → AreCharges m start share charge
+    → EachCell m (λ i v. charge i v ≡ 0)
+
 -- to any shares there are charges
 abbrev pub ChargesExist : Type 0
 ChargesExist = (m : Problem) (rank : ℕ → ℕ) (start share : Table) → IsRanking m rank → (charge : Table) × AreCharges m start share charge

@@ -55,6 +55,10 @@ abbrev pub OnTimeIsOne : Type 0
 OnTimeIsOne =
     (m : Problem) (rank : ℕ → ℕ) (a b : Table) → IsRanking m rank → AreOnTime m a → AreOnTime m b → EachCell m (λ i t. a i t ≡ b i t)
 
+-- and where no item is its own component, there is such a table
+abbrev pub OnTimeExists : Type 0
+OnTimeExists = (m : Problem) (rank : ℕ → ℕ) → IsRanking m rank → (start : Table) × AreOnTime m start
+
 -- it doesn't fall
 abbrev pub OnTimeRises : Type 0
 OnTimeRises =

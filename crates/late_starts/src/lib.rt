@@ -1,7 +1,7 @@
 //! What would have to be started of each item if nothing were late, how much less a feasible plan may have started,
 //! and what shares of such shortfalls charge on its backlogs.
 //!
-//! Family: single items. It stands on `lot_sizing`, `lot_model` and `must_start`. Nothing stands on it yet.
+//! Family: single items. It stands on `lot_sizing`, `lot_model` and `must_start`; `reduced_groups` stands on it.
 //!
 //! `OnTime` has the quantity of each item that has been started by the end of each period if nothing is late, with
 //! lead times of any length, opening stocks and required end stocks. A feasible plan may have started less: by what

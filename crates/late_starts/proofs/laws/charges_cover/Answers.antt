@@ -1,4 +1,4 @@
-use Rattle.late_starts.proofs.Covering.{charges_exist, one_charge, rows_hold, shares_cost, shares_paid}
+use Rattle.late_starts.proofs.Covering.{charges_agree, charges_exist, no_share_charged, one_charge, rows_hold, shares_cost, shares_paid}
 use Rattle.late_starts.proofs.laws.charges_cover.Goals as goal
 
 pub returns-clause-cover : goal.returns-clause-cover
@@ -15,3 +15,9 @@ returns-clause-exist c = λ m rank start share ranks. charges_exist m rank start
 
 pub returns-clause-one : goal.returns-clause-one
 returns-clause-one c = λ m rank start share a b ranks is_a is_b i v low high v_low v_high. one_charge m rank start share a b ranks is_a is_b i v low high v_low v_high
+
+pub returns-clause-agree : goal.returns-clause-agree
+returns-clause-agree c = λ m a b share charge same are. charges_agree m a b share charge same are
+
+pub returns-clause-none : goal.returns-clause-none
+returns-clause-none c = λ m rank start share charge ranks none are i v low high v_low v_high. no_share_charged m rank start share charge ranks none are i v low high v_low v_high
