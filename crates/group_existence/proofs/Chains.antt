@@ -5,7 +5,7 @@ use Rattle.lot_sizing.specs.Sums.{sum_to}
 use Rattle.lot_sizing.proofs.Sums.{sum_to-bound, sum_to-front, sum_to-le, sum_to-same}
 use Rattle.chain_dp.specs.Chains.{IsChainMade, IsLeastChainCost, IsMade, Level, Lots, chain_cost, lots_cost, made, used_by_next}
 use Rattle.existence.proofs.Deciding.{Decided, all_or_first, both_or_not, if_or_not, le_or_not, lt_or_not}
-use Rattle.group_existence.proofs.Least.{at_most_one, cut, cut_high, cut_low, least_of, one_if_some, one_of_some, quantities, reaches_with, some_at_most}
+use Rattle.group_existence.proofs.Least.{at_most_one, cut, cut_high, cut_low, each_or_not, least_of, one_if_some, one_of_some, quantities, reaches_with, some_at_most}
 
 -- the lots of a level, lot 0 first, with a setup wherever something is made
 abbrev lots_with : (ℕ → ℕ) → Lots
@@ -89,9 +89,6 @@ served_or_not n l used w =
     each : used 0 + sum_to 0 l.need ≤ made w (0 - l.lead) → ((t : ℕ) → 1 ≤ t → t ≤ n → used t + sum_to t l.need ≤ made w (t - l.lead)) → (t : ℕ) → t ≤ n → used t + sum_to t l.need ≤ made w (t - l.lead)
     each none all zero high = none
     each none all (suc t) high = all (suc t) (omega arith) high
-
-each_or_not : (n : ℕ) (R : ℕ → Type 0) → ((t : ℕ) → Decided (R t)) → Decided ((t : ℕ) → 1 ≤ t → t ≤ n → R t)
-each_or_not n R decided = ⊎_elim (λ all. inl all) (λ first. inr (λ all. first.3 (all first.0 first.1 first.2))) (all_or_first R decided n)
 
 made_or_not : (n : ℕ) (l : Level) (used : ℕ → ℕ) (w : Lots) → Decided (IsMade n l used w)
 made_or_not n l used w =

@@ -15,12 +15,13 @@ use Rattle.item_groups.specs.declared.group.Group.{Group}
 use Rattle.item_groups.specs.declared.group.Group.TheVariants as group
 use Rattle.reduced_groups.specs.declared.apart.GroupFault.TheVariants as fault
 use Rattle.reduced_groups.specs.declared.floors.TheConstants.{MAX_HORIZON}
-use Rattle.reduced_groups.specs.Groups.{ChainGroup, GroupShape, ItemGroup, QuantityGroup, chain_levels}
-use Rattle.reduced_groups.specs.Apart.{AreLinked, IsItem, items_in, items_of, times_in}
-use Rattle.reduced_groups.specs.Floors.{AreOnceTo, HasFewEntries, HasFewPeriods, HasSmallPricesOf, HaveSmallPrices, IsFirstTwice, IsGroupOf, IsLinked, IsWithinWork, no_group, shape_of}
+use Rattle.reduced_groups.specs.Groups.{ChainGroup, GroupShape, ItemGroup, LateGroup, QuantityGroup, chain_levels}
+use Rattle.reduced_groups.specs.Apart.{AreLinked, IsGroupOf, IsItem, IsLinked, items_in, items_of, times_in}
+use Rattle.reduced_groups.specs.Floors.{AreOnceTo, HasFewEntries, HasFewPeriods, HasSmallPricesOf, HaveSmallPrices, IsFirstTwice, IsWithinWork, no_group, shape_of}
 use Rattle.reduced_groups.proofs.Placed.{all_shapes, lie_apart}
 use Rattle.existence.proofs.Deciding.{Decided, all_or_first, both_or_not, le_or_not, lt_or_not, none_or_not}
 use Rattle.group_existence.specs.Laws.{GroupsAreJudged, WorkIsJudged}
+use Rattle.group_existence.proofs.Least.{each_or_not}
 
 three_or_not : {A B C : Type 0} → Decided A → Decided B → Decided C → Decided (A × B × C)
 three_or_not a b c =
@@ -59,9 +60,6 @@ all_or_first_out P other decided (x ∷ xs) =
     (λ out. inr (0, omega arith, All-nil P, out))
     (decided x)
 
-each_or_not : (n : ℕ) (R : ℕ → Type 0) → ((t : ℕ) → Decided (R t)) → Decided ((t : ℕ) → 1 ≤ t → t ≤ n → R t)
-each_or_not n R decided = ⊎_elim (λ all. inl all) (λ first. inr (λ all. first.3 (all first.0 first.1 first.2))) (all_or_first R decided n)
-
 -- ---- groups of a problem
 item_or_not : (m : Problem) (i : ℕ) → Decided (IsItem m i)
 item_or_not m i = both_or_not (le_or_not 1 i) (le_or_not i (item_count m))
@@ -83,6 +81,7 @@ shape_or_not m s linked =
 
 group_or_not : (m : Problem) (g : Group) → Decided (IsGroupOf m (shape_of g))
 group_or_not m (group.Item i) = shape_or_not m (ItemGroup i) (inl tt)
+group_or_not m (group.Late i share) = shape_or_not m (LateGroup i share) (inl tt)
 group_or_not m (group.Quantities i) = shape_or_not m (QuantityGroup i) (inl tt)
 group_or_not m (group.Pair low top) = shape_or_not m (ChainGroup low (top ∷ [])) (linked_or_not m low (top ∷ []))
 group_or_not m (group.Triple low mid top) = shape_or_not m (ChainGroup low (mid ∷ (top ∷ []))) (linked_or_not m low (mid ∷ (top ∷ [])))
@@ -141,9 +140,9 @@ module _ (m : Problem) (start : Table) (price : Column → ℕ) where
 
   work_or_not : (s : GroupShape) → Decided (IsWithinWork m start price s)
   work_or_not (ItemGroup i) = prices_or_not i
+  work_or_not (LateGroup i share) = prices_or_not i
   work_or_not (QuantityGroup i) = both_or_not (prices_or_not i) (entries_or_not i)
   work_or_not (ChainGroup low rest) = chain_or_not low rest
-  work_or_not _ = inl tt
 
 pub work_judged : WorkIsJudged
 work_judged m start price groups =

@@ -3,7 +3,12 @@ use Rattle.std.proofs.Common.{◌≡◌, ◌≤◌, ◌<◌, ◌+◌, ◌⊎◌,
 use Rattle.std.proofs.lemmas.Bool.{cases_lt}
 use Rattle.lot_sizing.specs.Sums.{sum_to}
 use Rattle.lot_sizing.proofs.Sums.{sum_to-front, sum_to_at}
+use Rattle.existence.proofs.Deciding.{Decided, all_or_first}
 use Rattle.existence.proofs.Spaces.{Searched, tables}
+
+-- whether it holds at each number from 1 to n
+pub each_or_not : (n : ℕ) (R : ℕ → Type 0) → ((t : ℕ) → Decided (R t)) → Decided ((t : ℕ) → 1 ≤ t → t ≤ n → R t)
+each_or_not n R decided = ⊎_elim (λ all. inl all) (λ first. inr (λ all. first.3 (all first.0 first.1 first.2))) (all_or_first R decided n)
 
 -- quantities of so many periods, none of which is past a limit, can be gone through
 pub quantities : (n most : ℕ) → Searched (ℕ → ℕ) (λ f g. (t : ℕ) → 1 ≤ t → t ≤ n → f t ≡ g t) (λ f. (t : ℕ) → 1 ≤ t → t ≤ n → f t ≤ most)

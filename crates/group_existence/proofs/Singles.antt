@@ -10,15 +10,15 @@ use Rattle.lin_rows.specs.declared.column.Column.TheVariants.{X, Y}
 use Rattle.quantity_dp.specs.Lots.{HasNoChoice, IsChoice, IsLeastPrice, Lots, price, price_at}
 use Rattle.reduced_groups.specs.Groups.{IsItemChoice, made_cost}
 use Rattle.reduced_groups.specs.Numbers.{IsLeastItem}
-use Rattle.existence.proofs.Deciding.{Decided, all_or_first, both_or_not, le_or_not, lt_or_not}
-use Rattle.group_existence.proofs.Least.{at_most_one, cut, cut_high, cut_low, least_of, one_if_some, one_of_some, one_of_sum, quantities, reaches, some_at_most}
+use Rattle.existence.proofs.Deciding.{Decided, both_or_not, le_or_not, lt_or_not}
+use Rattle.group_existence.proofs.Least.{at_most_one, cut, cut_high, cut_low, each_or_not, least_of, one_if_some, one_of_some, one_of_sum, quantities, reaches, some_at_most}
 
 -- what a setup and so many units cost
 abbrev cost_at : (ℕ → ℕ) → (ℕ → ℕ) → (ℕ → ℕ) → ℕ → ℕ
 cost_at fee unit f t = fee t * one_if_some (f t) + unit t * f t
 
 -- quantities of periods, with a setup wherever something is made
-pub plan_of : (ℕ → ℕ) → NetPlan
+unfoldable pub plan_of : (ℕ → ℕ) → NetPlan
 plan_of f = record { make = f; setup = λ t. one_if_some (f t) }
 
 -- what must have been started has been
@@ -34,10 +34,10 @@ abbrev AreSame : ℕ → (ℕ → ℕ) → (ℕ → ℕ) → Type 0
 AreSame n f g = (t : ℕ) → 1 ≤ t → t ≤ n → f t ≡ g t
 
 started_or_not : (n : ℕ) (need f : ℕ → ℕ) → Decided (HasStarted n need f)
-started_or_not n need f = ⊎_elim (λ all. inl all) (λ first. inr (λ all. first.3 (all first.0 first.1 first.2))) (all_or_first (λ t. need t ≤ sum_to t f) (λ t. le_or_not (need t) (sum_to t f)) n)
+started_or_not n need f = each_or_not n (λ t. need t ≤ sum_to t f) (λ t. le_or_not (need t) (sum_to t f))
 
 within_or_not : (n : ℕ) (most f : ℕ → ℕ) → Decided (AreWithin n most f)
-within_or_not n most f = ⊎_elim (λ all. inl all) (λ first. inr (λ all. first.3 (all first.0 first.1 first.2))) (all_or_first (λ t. f t ≤ most t) (λ t. le_or_not (f t) (most t)) n)
+within_or_not n most f = each_or_not n (λ t. f t ≤ most t) (λ t. le_or_not (f t) (most t))
 
 module _ (n : ℕ) (need most fee unit : ℕ → ℕ) where
   -- quantities within the limits that have started enough

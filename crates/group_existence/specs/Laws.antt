@@ -8,7 +8,8 @@ use Rattle.item_groups.specs.declared.group.Group.{Group}
 use Rattle.reduced_groups.specs.declared.apart.GroupFault.{GroupFault}
 use Rattle.reduced_groups.specs.Groups.{GroupShape, ItemGroup, Known}
 use Rattle.reduced_groups.specs.Numbers.{AreNumbersOf, SomeLacksChoice}
-use Rattle.reduced_groups.specs.Floors.{IsGroupFaultOf, IsWithinWork, LieApart, shape_of}
+use Rattle.reduced_groups.specs.Apart.{LieApart}
+use Rattle.reduced_groups.specs.Floors.{IsGroupFaultOf, IsWithinWork, shape_of}
 
 -- at any prices, and whatever is taken to be known of a problem, groups have numbers, or one of them has no choice
 abbrev pub NumbersExist : Type 0

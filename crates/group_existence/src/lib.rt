@@ -3,8 +3,8 @@
 //! Family: proofs. It stands on `reduced_groups`, whose definitions it speaks of, and on `existence`; `answers_exist` stands on
 //! it. It has no code that runs.
 //!
-//! The number of a group is the least cost of choices without end. Quantities past what is asked for can be cut off, so those that
-//! matter can be gone through.
+//! The number of a group is the least cost of choices without end. Quantities past what is asked for can be cut off, and what falls
+//! short of them need be no more than it must, so those that matter can be gone through.
 #![tactic(auto)]
 
 ghost use Rattle.group_existence.specs.Laws.{GroupsAreJudged, NumbersExist, WorkIsJudged};

@@ -17,6 +17,13 @@ pub enum Group {
         /// The item, counted from 1.
         item: u32,
     },
+    /// An item by what is on time of it, that may fall short as far as backlogs allow.
+    Late {
+        /// The item, counted from 1.
+        item: u32,
+        /// What a unit that falls short costs for each period, which is charged on the backlogs that allow it.
+        share: u64,
+    },
     /// An item by what must have been started of it and its largest lots, in whole quantities.
     Quantities {
         /// The item, counted from 1.

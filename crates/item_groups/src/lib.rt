@@ -3,8 +3,9 @@
 //! Family: single items. It stands on nothing. The lines of certificates name groups (`cert_lines`), and `reduced_groups`
 //! says what the number of each is.
 //!
-//! A `Group` is an item, an item in whole quantities, or a chain of two or three items, each of which goes into the next
-//! one; a chain has a `ChainLink` for each.
+//! A `Group` is an item, an item that may fall short of what is on time at a share of the costs of backlogs, an item in
+//! whole quantities, or a chain of two or three items, each of which goes into the next one; a chain has a `ChainLink`
+//! for each.
 #![tactic(auto)]
 
 mod group;

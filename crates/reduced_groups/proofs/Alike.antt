@@ -1,30 +1,31 @@
--- Groups have the same numbers whichever weights, starts and lots are taken of a problem.
-use Rattle.std.proofs.Common.{◌≡◌, ◌≤◌, ◌+◌, ◌-◌, ◌*◌, ◌∙◌, ⊎_elim, inl, inr, ℕ, zero, suc, refl, sym, ap, subst, arith, Bool, true, false, List, [], ◌∷◌}
+-- Groups have the same numbers whichever starts, on time or not, and lots are taken of a problem.
+use Rattle.std.proofs.Common.{◌≡◌, ◌≤◌, ◌+◌, ◌-◌, ◌*◌, ◌∙◌, ⊎_elim, inl, inr, ℕ, zero, suc, refl, sym, ap, arith, List, [], ◌∷◌}
 use Rattle.std.specs.Prelude.{if◌then◌else◌, ◌==◌}
 use Rattle.std.specs.List.{All}
-use Rattle.std.proofs.lemmas.List.Elements.{All-cons, All-head, All-nil, All-tail}
-use Rattle.lot_sizing.specs.Sums.{sum_to}
-use Rattle.lot_sizing.specs.Problem.{Problem, demand, entry, item_at, item_count, per_unit}
-use Rattle.lot_sizing.specs.Echelon.{IsLeadFree, asked_in_echelon, echelon_demand, in_echelon}
-use Rattle.lot_sizing.specs.Net.{needed_to}
+use Rattle.std.proofs.lemmas.List.Elements.{All-head, All-tail}
+use Rattle.lot_sizing.specs.Problem.{Problem, item_count, per_unit}
 use Rattle.lot_sizing.specs.Single.{NetPlan}
 use Rattle.lot_sizing.specs.Totals.{AreLargestTotals, IsRanking}
-use Rattle.lot_sizing.proofs.Ones.{one_total, one_weight}
+use Rattle.lot_sizing.proofs.Ones.{one_total}
 use Rattle.lot_sizing.proofs.Sums.{sum_to-same}
 use Rattle.lin_rows.specs.declared.column.Column.{Column}
 use Rattle.lin_rows.specs.declared.column.Column.TheVariants.{X, Y, R}
 use Rattle.lin_rows.specs.Columns.{IsColumn}
 use Rattle.must_start.specs.MustStart.{MustStartIsOne}
-use Rattle.must_start.specs.Lots.{IsLargestLot, IsPossibleLot}
-use Rattle.quantity_dp.specs.Lots.{HasNoChoice, IsChoice, IsLeastPrice}
+use Rattle.must_start.specs.Lots.{IsLargestLot}
+use Rattle.late_starts.specs.OnTime.{OnTimeIsOne}
+use Rattle.late_starts.specs.Charges.{ChargesAgree}
+use Rattle.late_starts.specs.Choices.{AreSameLots}
+use Rattle.quantity_dp.specs.Lots.{IsChoice}
 use Rattle.item_groups.specs.declared.group.ChainLink.{ChainLink}
-use Rattle.reduced_groups.specs.Groups.{AreKnown, ChainGroup, GroupShape, IsItemChoice, IsLateChoice, ItemGroup, Known, LateGroup, QuantityGroup, asked_besides, chain_levels, last_level, lots_in, lower_level, made_cost}
+use Rattle.reduced_groups.specs.Groups.{AreKnown, ChainGroup, GroupShape, IsItemChoice, ItemGroup, Known, LateGroup, QuantityGroup, asked_besides, chain_levels, last_level, late_lots_in, lots_in, lower_level, made_cost}
 use Rattle.reduced_groups.specs.Numbers.{AreNumbersOf, IsNumberOf, LacksChoice, SomeLacksChoice}
-use Rattle.reduced_groups.specs.Apart.{AreApart, IsAllowed, IsGroupHere, IsItem, items_in, items_of, share_of, shared_by}
+use Rattle.reduced_groups.specs.Apart.{AreApart, IsGroupOf, IsItem, items_of, share_in}
 use Rattle.reduced_groups.specs.Laws.{AreAlike, AreSamePrices}
 use Rattle.reduced_groups.specs.Floors.{HasSmallPricesOf, HaveSmallPrices, IsWithinWork}
 use Rattle.reduced_groups.specs.Levels.{AreAlikeLevels, IsAlikeLevel}
 use Rattle.reduced_groups.proofs.AlikeLevels.{least_same, opening_same}
+use Rattle.reduced_groups.proofs.LateLots.{least_late_same}
 
 -- lots that are the largest by totals that are the same
 lot_below : (m : Problem) (total more : ℕ → ℕ) (i t a b : ℕ) → total i ≡ more i → IsLargestLot m total i t a → IsLargestLot m more i t b → a ≤ b
@@ -34,10 +35,10 @@ lot_below m total more i t a b same is_a is_b =
     (λ none. omega (arith, none))
     is_a.possible
 
-pub known_alike : (m : Problem) (rank total more : ℕ → ℕ) (a b : Known) → MustStartIsOne → IsRanking m rank → AreLargestTotals m total → AreLargestTotals m more → AreKnown m total a → AreKnown m more b → AreAlike m a b
-known_alike m rank total more a b one ranks totals others is_a is_b = record {
-  weight = λ i low high k k_low k_high. one_weight m rank a.weight b.weight ranks is_a.weight is_b.weight i k low high k_low k_high;
+pub known_alike : (m : Problem) (rank total more : ℕ → ℕ) (a b : Known) → MustStartIsOne → OnTimeIsOne → IsRanking m rank → AreLargestTotals m total → AreLargestTotals m more → AreKnown m total a → AreKnown m more b → AreAlike m a b
+known_alike m rank total more a b one timely ranks totals others is_a is_b = record {
   start = λ i low high t t_high. starts i low high t t_high;
+  on_time = λ i low high t t_high. times i low high t t_high;
   lot = λ i t low high t_low t_high.
       let same = one_total m rank total more ranks totals others i low high in
       let up = lot_below m total more i t (a.lot i t) (b.lot i t) same (is_a.lot i t low high t_low t_high) (is_b.lot i t low high t_low t_high) in
@@ -49,10 +50,14 @@ known_alike m rank total more a b one ranks totals others is_a is_b = record {
     starts i low high zero t_high = is_a.start.none i low high ∙ sym (is_b.start.none i low high)
     starts i low high (suc t) t_high = one m rank a.start b.start ranks is_a.start is_b.start i (suc t) low high (omega arith) t_high
 
+    times : (i : ℕ) → 1 ≤ i → i ≤ item_count m → (t : ℕ) → t ≤ m.periods → a.on_time i t ≡ b.on_time i t
+    times i low high zero t_high = is_a.on_time.none i low high ∙ sym (is_b.on_time.none i low high)
+    times i low high (suc t) t_high = timely m rank a.on_time b.on_time ranks is_a.on_time is_b.on_time i (suc t) low high (omega arith) t_high
+
 alike_turned : (m : Problem) (a b : Known) → AreAlike m a b → AreAlike m b a
 alike_turned m a b same = record {
-  weight = λ i low high k k_low k_high. sym (same.weight i low high k k_low k_high);
   start = λ i low high t t_high. sym (same.start i low high t t_high);
+  on_time = λ i low high t t_high. sym (same.on_time i low high t t_high);
   lot = λ i t low high t_low t_high. sym (same.lot i t low high t_low t_high);
 }
 
@@ -62,27 +67,6 @@ module _ (m : Problem) (a b : Known) (same : AreAlike m a b) where
     setup = is.setup;
     made = is.made;
     started = λ t low high. omega (arith, is.started t low high, same.start i item.0 item.1 t high);
-  }
-
-  echelon_same : (i : ℕ) → IsItem m i → (f : ℕ → ℕ) → in_echelon m a.weight i f ≡ in_echelon m b.weight i f
-  echelon_same i item f = sum_to-same (item_count m) (λ j. a.weight i j * f j) (λ j. b.weight i j * f j) (λ j low high. ap (λ w. w * f j) (same.weight i item.0 item.1 j low high))
-
-  needed_same : (i t : ℕ) → IsItem m i → needed_to (asked_in_echelon m a.weight i) t ≡ needed_to (asked_in_echelon m b.weight i) t
-  needed_same i t item =
-      let end = λ (j : ℕ). (item_at m j).end_min in
-      omega (
-        arith,
-        sum_to-same t (echelon_demand m a.weight i) (echelon_demand m b.weight i) (λ u low high. echelon_same i item (λ j. demand m j u)),
-        ap (λ e. if t == m.periods then e else 0) (echelon_same i item end),
-        echelon_same i item (λ j. (item_at m j).opening),
-      )
-
-  late_same : (i : ℕ) (q : NetPlan) (owed : ℕ → ℕ) → IsItem m i → IsLateChoice m a.weight i q owed → IsLateChoice m b.weight i q owed
-  late_same i q owed item is = record {
-    setup = is.setup;
-    made = is.made;
-    served = λ t low high. omega (arith, is.served t low high, needed_same i t item);
-    settled = is.settled;
   }
 
   lots_same : (price other : Column → ℕ) (i : ℕ) (q : NetPlan) → IsItem m i → IsChoice (lots_in m a price i) q → IsChoice (lots_in m b other i) q
@@ -100,36 +84,14 @@ module _ (m : Problem) (a b : Known) (same : AreAlike m a b) where
             ap (λ k. per_unit m i j * (if j == next then 0 else k)) (same.start j j_low j_high t high)),
       )
 
-  allowed_same : (s : GroupShape) → All (IsItem m) (items_in s) → IsAllowed m a s → IsAllowed m b s
-  allowed_same (ItemGroup i) items is = tt
-  allowed_same (LateGroup i shares) items is =
-      let item = All-head (IsItem m) i [] items in
-      (λ j low high counts. is.0 j low high (omega (arith, counts, same.weight i item.0 item.1 j low high)), is.1)
-  allowed_same (QuantityGroup i) items is = tt
-  allowed_same (ChainGroup low rest) items is = is
-
-  pub here_same : (s : GroupShape) → IsGroupHere m a s → IsGroupHere m b s
-  here_same s is = record { items = is.items; allowed = allowed_same s is.items is.allowed }
-
-  all_same : (shapes : List GroupShape) → All (IsGroupHere m a) shapes → All (IsGroupHere m b) shapes
-  all_same [] here = All-nil (IsGroupHere m b)
-  all_same (s ∷ shapes) here = All-cons (IsGroupHere m b) s shapes (here_same s (All-head (IsGroupHere m a) s shapes here)) (all_same shapes (All-tail (IsGroupHere m a) s shapes here))
-
-  share_same : (s : GroupShape) (j t : ℕ) → All (IsItem m) (items_in s) → 1 ≤ j → j ≤ item_count m → share_of a s j t ≡ share_of b s j t
-  share_same (ItemGroup i) j t items low high = refl
-  share_same (LateGroup i shares) j t items low high = let item = All-head (IsItem m) i [] items in ap (λ w. entry shares t * w) (same.weight i item.0 item.1 j low high)
-  share_same (QuantityGroup i) j t items low high = refl
-  share_same (ChainGroup link rest) j t items low high = refl
-
-  shared_same : (shapes : List GroupShape) (j t : ℕ) → All (IsGroupHere m a) shapes → 1 ≤ j → j ≤ item_count m → shared_by a shapes j t ≡ shared_by b shapes j t
-  shared_same [] j t here low high = refl
-  shared_same (s ∷ shapes) j t here low high = omega (arith, share_same s j t (All-head (IsGroupHere m a) s shapes here).items low high, shared_same shapes j t (All-tail (IsGroupHere m a) s shapes here) low high)
-
-  pub apart_same : (price other : Column → ℕ) (shapes : List GroupShape) → ((j t : ℕ) → IsColumn m (R j t) → price (R j t) ≡ other (R j t)) → AreApart m a price shapes → AreApart m b other shapes
-  apart_same price other shapes prices is = record {
-    groups = all_same shapes is.groups;
-    once = is.once;
-    shares = λ j t has. omega (arith, is.shares j t has, shared_same shapes j t is.groups (has.0).0 (has.0).1, prices j t has);
+  pub apart_same : (price other : Column → ℕ) (shapes : List GroupShape) → ChargesAgree → ((j t : ℕ) → IsColumn m (R j t) → price (R j t) ≡ other (R j t)) → AreApart m a price shapes → AreApart m b other shapes
+  apart_same price other shapes agree prices is = record {
+    lie = is.lie;
+    charged = record {
+      charge = is.charged.charge;
+      charges = agree m a.on_time b.on_time (λ i t. share_in shapes i) is.charged.charge (λ i t low high t_low t_high. same.on_time i low high t t_high) is.charged.charges;
+      within = λ j t has. omega (arith, is.charged.within j t has, prices j t has);
+    };
   }
 
 module _ (m : Problem) (a b : Known) (price other : Column → ℕ) (same : AreAlike m a b) (prices : AreSamePrices m price other) where
@@ -137,6 +99,16 @@ module _ (m : Problem) (a b : Known) (price other : Column → ℕ) (same : AreA
   cost_same i q item =
       sum_to-same m.periods (λ t. price (Y i t) * q.setup t + price (X i t) * q.make t) (λ t. other (Y i t) * q.setup t + other (X i t) * q.make t) (λ t low high.
       omega (arith, ap (λ k. k * q.setup t) (prices i t item.0 item.1 low high).1, ap (λ k. k * q.make t) (prices i t item.0 item.1 low high).0))
+
+  late_same : (i share : ℕ) → IsItem m i → AreSameLots (late_lots_in m a price i share) (late_lots_in m b other i share)
+  late_same i share item = record {
+    periods = refl;
+    settled = refl;
+    setup = λ t low high. (prices i t item.0 item.1 low high).1;
+    unit = λ t low high. (prices i t item.0 item.1 low high).0;
+    share = λ t low high. refl;
+    need = λ t low high. same.on_time i item.0 item.1 t high;
+  }
 
   lower_same : (link : ChainLink) (next : ℕ) → IsItem m link.item → IsAlikeLevel m.periods (lower_level m a.start price link next) (lower_level m b.start other link next)
   lower_same link next item = record {
@@ -175,9 +147,9 @@ module _ (m : Problem) (a b : Known) (price other : Column → ℕ) (same : AreA
   all_small_same [] are small = tt
   all_small_same (i ∷ items) are small = (small_same i (All-head (IsItem m) i items are) small.0, all_small_same items (All-tail (IsItem m) i items are) small.1)
 
-  pub work_same : (s : GroupShape) → IsGroupHere m a s → IsWithinWork m a.start price s → IsWithinWork m b.start other s
+  pub work_same : (s : GroupShape) → IsGroupOf m s → IsWithinWork m a.start price s → IsWithinWork m b.start other s
   work_same (ItemGroup i) here is = small_same i (All-head (IsItem m) i [] here.items) is
-  work_same (LateGroup i shares) here is = tt
+  work_same (LateGroup i share) here is = small_same i (All-head (IsItem m) i [] here.items) is
   work_same (QuantityGroup i) here is =
       let item = All-head (IsItem m) i [] here.items in
       (small_same i item is.0, λ t low high. omega (arith, is.1 t low high, ap (λ n. m.periods * (n + 1)) (same.start i item.0 item.1 t high)))
@@ -191,19 +163,14 @@ module _ (m : Problem) (a b : Known) (price other : Column → ℕ) (same : AreA
   back : AreAlike m b a
   back = alike_turned m a b same
 
-  pub number_same : (s : GroupShape) (n : ℕ) → IsGroupHere m a s → IsNumberOf m a price s n → IsNumberOf m b other s n
+  pub number_same : (s : GroupShape) (n : ℕ) → IsGroupOf m s → IsNumberOf m a price s n → IsNumberOf m b other s n
   number_same (ItemGroup i) n here is =
       let item = All-head (IsItem m) i [] here.items in
       record {
         some = let (q, choice, costs) = is.some in (q, item_same m a b same i q item choice, sym (cost_same m a b price other same prices i q item) ∙ costs);
         least = λ q choice. omega (arith, is.least q (item_same m b a back i q item choice), cost_same m a b price other same prices i q item);
       }
-  number_same (LateGroup i shares) n here is =
-      let item = All-head (IsItem m) i [] here.items in
-      record {
-        some = let (q, owed, choice, costs) = is.some in (q, owed, late_same m a b same i q owed item choice, omega (arith, cost_same m a b price other same prices i q item, costs));
-        least = λ q owed choice. omega (arith, is.least q owed (late_same m b a back i q owed item choice), cost_same m a b price other same prices i q item);
-      }
+  number_same (LateGroup i share) n here is = least_late_same (late_lots_in m a price i share) (late_lots_in m b other i share) (late_same m a b price other same prices i share (All-head (IsItem m) i [] here.items)) n is
   number_same (QuantityGroup i) n here is =
       let item = All-head (IsItem m) i [] here.items in
       record {
@@ -216,23 +183,23 @@ module _ (m : Problem) (a b : Known) (price other : Column → ℕ) (same : AreA
     left = is.left;
   }
 
-  pub numbers_same : (shapes : List GroupShape) (amounts : List ℕ) → All (IsGroupHere m a) shapes → AreNumbersOf m a price shapes amounts → AreNumbersOf m b other shapes amounts
+  pub numbers_same : (shapes : List GroupShape) (amounts : List ℕ) → All (IsGroupOf m) shapes → AreNumbersOf m a price shapes amounts → AreNumbersOf m b other shapes amounts
   numbers_same [] [] here are = tt
   numbers_same [] (n ∷ amounts) here are = absurd are
   numbers_same (s ∷ shapes) [] here are = absurd are
-  numbers_same (s ∷ shapes) (n ∷ amounts) here are = (number_same s n (All-head (IsGroupHere m a) s shapes here) are.0, numbers_same shapes amounts (All-tail (IsGroupHere m a) s shapes here) are.1)
+  numbers_same (s ∷ shapes) (n ∷ amounts) here are = (number_same s n (All-head (IsGroupOf m) s shapes here) are.0, numbers_same shapes amounts (All-tail (IsGroupOf m) s shapes here) are.1)
 
 module _ (m : Problem) (a b : Known) (price other : Column → ℕ) (same : AreAlike m a b) where
-  lacks_same : (s : GroupShape) → IsGroupHere m a s → LacksChoice m a price s → LacksChoice m b other s
+  lacks_same : (s : GroupShape) → IsGroupOf m s → LacksChoice m a price s → LacksChoice m b other s
   lacks_same (ItemGroup i) here lacks = lacks
-  lacks_same (LateGroup i shares) here lacks = lacks
+  lacks_same (LateGroup i share) here lacks = lacks
   lacks_same (QuantityGroup i) here lacks = λ q choice. lacks q (lots_same m b a (alike_turned m a b same) other price i q (All-head (IsItem m) i [] here.items) choice)
   lacks_same (ChainGroup low rest) here lacks = lacks
 
-  pub some_lacks_same : (shapes : List GroupShape) → All (IsGroupHere m a) shapes → SomeLacksChoice m a price shapes → SomeLacksChoice m b other shapes
+  pub some_lacks_same : (shapes : List GroupShape) → All (IsGroupOf m) shapes → SomeLacksChoice m a price shapes → SomeLacksChoice m b other shapes
   some_lacks_same [] here lacks = lacks
   some_lacks_same (s ∷ shapes) here lacks =
       ⊎_elim
-      (λ own. inl (lacks_same s (All-head (IsGroupHere m a) s shapes here) own))
-      (λ rest. inr (some_lacks_same shapes (All-tail (IsGroupHere m a) s shapes here) rest))
+      (λ own. inl (lacks_same s (All-head (IsGroupOf m) s shapes here) own))
+      (λ rest. inr (some_lacks_same shapes (All-tail (IsGroupOf m) s shapes here) rest))
       lacks

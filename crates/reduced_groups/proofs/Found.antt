@@ -1,16 +1,15 @@
 -- The numbers that the recursions find.
 use Rattle.std.proofs.Common.{◌≡◌, ◌≤◌, ◌<◌, ◌+◌, ◌-◌, ◌*◌, ◌∙◌, ⊎_elim, ℕ, zero, suc, refl, sym, ap, subst, arith, List, [], ◌∷◌, ◌++◌}
 use Rattle.std.specs.Prelude.{length, min, Option, Some, None}
-use Rattle.std.specs.List.{All}
 use Rattle.std.proofs.lemmas.Bool.{cases_lt}
 use Rattle.std.proofs.lemmas.List.Elements.{All-cons, All-nil}
 use Rattle.std.proofs.lemmas.List.{length_push, get_or_append_left, get_or_push}
 use Rattle.std.proofs.lemmas.Nat.{mul-le}
 use Rattle.lot_sizing.specs.Sums.{sum_to}
-use Rattle.lot_sizing.specs.Problem.{Problem, item_at, item_count}
+use Rattle.lot_sizing.specs.Problem.{Problem, item_count}
 use Rattle.lot_sizing.specs.Plan.{Table}
 use Rattle.lot_sizing.specs.Single.{NetPlan}
-use Rattle.lot_sizing.specs.Totals.{AreLargestTotals, IsRanking}
+use Rattle.lot_sizing.specs.Totals.{IsRanking}
 use Rattle.lot_sizing.specs.declared.limits.TheConstants.{MAX_PERIODS, MAX_TOTAL}
 use Rattle.lot_sizing.proofs.Sums.{sum_to-same}
 use Rattle.lin_rows.specs.declared.column.Column.{Column}
@@ -34,10 +33,10 @@ use Rattle.reduced_groups.specs.declared.floors.Floor.{Floor}
 use Rattle.reduced_groups.specs.declared.floors.Floor.TheVariants.{Least, NoChoice}
 use Rattle.reduced_groups.specs.Groups.{AreKnown, ChainGroup, GroupShape, IsItemChoice, ItemGroup, Known, QuantityGroup, chain_levels, last_level, lots_in, made_cost, stocks_worth}
 use Rattle.reduced_groups.specs.Numbers.{IsChainFloor, IsLeastItem, IsNumberOf, LacksChoice}
-use Rattle.reduced_groups.specs.Apart.{IsItem}
+use Rattle.reduced_groups.specs.Apart.{IsGroupOf, IsItem}
 use Rattle.reduced_groups.specs.Laws.{AreAlike}
 use Rattle.reduced_groups.specs.Prices.{AreSmall, ArePricesFor, PriceLists, price_in}
-use Rattle.reduced_groups.specs.Floors.{AreLotsFor, HasManyEntries, IsFloorFrom, IsFloorOf, IsGroupOf, WhateverIsKnown}
+use Rattle.reduced_groups.specs.Floors.{AreLotsFor, HasManyEntries, IsFloorFrom, IsFloorOf, WhateverIsKnown}
 use Rattle.reduced_groups.specs.Levels.{AreAlikeLevels, IsAlikeLevel}
 use Rattle.reduced_groups.proofs.AlikeLevels.{least_same, opening_same}
 use Rattle.reduced_groups.proofs.Alike.{number_same}
@@ -106,12 +105,12 @@ module _ (m : Problem) (start : Table) (price : Column → ℕ) (link : ChainLin
 module _ (m : Problem) (rank : ℕ → ℕ) (start : Table) (price : Column → ℕ) (one : MustStartIsOne) (ranks : IsRanking m rank) (are : AreMustStart m start) where
   -- the same with these starts
   abbrev pub with_start : Known → Known
-  with_start known = record { weight = known.weight; start = start; lot = known.lot }
+  with_start known = record { start = start; on_time = known.on_time; lot = known.lot }
 
   alike : (total : ℕ → ℕ) (known : Known) → AreKnown m total known → AreAlike m (with_start known) known
   alike total known is = record {
-    weight = λ i low high k k_low k_high. refl;
     start = λ i low high t t_high. same i low high t t_high;
+    on_time = λ i low high t t_high. refl;
     lot = λ i t low high t_low t_high. refl;
   }
     where
@@ -120,10 +119,10 @@ module _ (m : Problem) (rank : ℕ → ℕ) (start : Table) (price : Column → 
       same i low high (suc t) t_high = one m rank start known.start ranks are is.start i (suc t) low high (omega arith) t_high
 
   pub item_known : (i a : ℕ) → IsItem m i → IsLeastItem m start price i a → WhateverIsKnown m (λ known. IsNumberOf m known price (ItemGroup i) a)
-  item_known i a item least = λ total known totals is. number_same m (with_start known) known price price (alike total known is) (λ j t low high t_low t_high. (refl, refl)) (ItemGroup i) a (record { items = All-cons (IsItem m) i [] item (All-nil (IsItem m)); allowed = tt }) least
+  item_known i a item least = λ total known totals is. number_same m (with_start known) known price price (alike total known is) (λ j t low high t_low t_high. (refl, refl)) (ItemGroup i) a (record { items = All-cons (IsItem m) i [] item (All-nil (IsItem m)); linked = tt }) least
 
   pub chain_known : (low : ChainLink) (rest : List ChainLink) (a : ℕ) → IsGroupOf m (ChainGroup low rest) → IsChainFloor m start price low rest a → WhateverIsKnown m (λ known. IsNumberOf m known price (ChainGroup low rest) a)
-  chain_known low rest a group floor = λ total known totals is. number_same m (with_start known) known price price (alike total known is) (λ j t j_low j_high t_low t_high. (refl, refl)) (ChainGroup low rest) a (record { items = group.items; allowed = group.linked }) floor
+  chain_known low rest a group floor = λ total known totals is. number_same m (with_start known) known price price (alike total known is) (λ j t j_low j_high t_low t_high. (refl, refl)) (ChainGroup low rest) a group floor
 
 -- what is found, whatever is known
 abbrev pub IsFloorIn : Problem → Known → (Column → ℕ) → GroupShape → Floor → Type 0

@@ -1,5 +1,5 @@
 mod Items
-mod Late
+mod LateLots
 mod ChainPlans
 mod Bounds
 mod Priced

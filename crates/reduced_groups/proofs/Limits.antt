@@ -1,14 +1,11 @@
 -- Which groups are past the limits of work.
-use Rattle.std.proofs.Common.{◌≡◌, ◌≢◌, ◌≤◌, ◌<◌, ◌+◌, ◌*◌, ⊎_elim, ℕ, refl, sym, ap, subst, arith, List, [], ◌∷◌}
-use Rattle.std.specs.Prelude.{length}
+use Rattle.std.proofs.Common.{◌≡◌, ◌≢◌, ◌≤◌, ◌<◌, ◌+◌, ◌*◌, ⊎_elim, ℕ, refl, ap, subst, arith, List, [], ◌∷◌}
 use Rattle.std.proofs.lemmas.Bool.{cases_eq}
 use Rattle.lot_sizing.specs.Bill.{one_if_same}
 use Rattle.lot_sizing.specs.Problem.{Problem}
 use Rattle.lot_sizing.specs.Plan.{Table}
 use Rattle.lin_rows.specs.declared.column.Column.{Column}
-use Rattle.must_start.specs.Rows.{row_in}
 use Rattle.quantity_dp.specs.Limits.{IsWithinLimits}
-use Rattle.quantity_dp.specs.declared.limits.TheConstants.{MAX_ENTRIES}
 use Rattle.quantity_dp.specs.declared.lots.LotPeriod.{LotPeriod}
 use Rattle.quantity_dp.specs.Lots.{lot_at}
 use Rattle.chain_dp.specs.Chains.{Level, opening_cost}
@@ -48,24 +45,28 @@ large_small m prices i t large small =
 
 small_in : (m : Problem) (start : Table) (price : Column → ℕ) (g : Group) → IsWithinWork m start price (shape_of g) → HaveSmallPrices m price (items_in (shape_of g))
 small_in m start price (group.Item i) is = (is, tt)
+small_in m start price (group.Late i share) is = (is, tt)
 small_in m start price (group.Quantities i) is = (is.0, tt)
 small_in m start price (group.Pair low top) is = is.0
 small_in m start price (group.Triple low mid top) is = is.0
 
 entries_past : (m : Problem) (start : Table) (prices : PriceLists) (g : Group) → IsFloorFaultOf m start prices (shape_of g) Entries → IsWithinWork m start (price_in prices) (shape_of g) → ⊥
 entries_past m start prices (group.Item i) is within = is
+entries_past m start prices (group.Late i share) is within = is
 entries_past m start prices (group.Quantities i) is within = let (t, low, high, many) = is in omega (arith, many, within.1 t low high)
 entries_past m start prices (group.Pair low top) is within = is
 entries_past m start prices (group.Triple low mid top) is within = is
 
 horizon_past : (m : Problem) (start : Table) (prices : PriceLists) (g : Group) → IsFloorFaultOf m start prices (shape_of g) Horizon → IsWithinWork m start (price_in prices) (shape_of g) → ⊥
 horizon_past m start prices (group.Item i) is within = is
+horizon_past m start prices (group.Late i share) is within = is
 horizon_past m start prices (group.Quantities i) is within = is
 horizon_past m start prices (group.Pair low top) is within = is
 horizon_past m start prices (group.Triple low mid top) is within = omega (arith, is, within.1)
 
 dear_past : (m : Problem) (start : Table) (prices : PriceLists) (g : Group) → IsFloorFaultOf m start prices (shape_of g) TooDear → IsWithinWork m start (price_in prices) (shape_of g) → ⊥
 dear_past m start prices (group.Item i) is within = is
+dear_past m start prices (group.Late i share) is within = is
 dear_past m start prices (group.Quantities i) is within = is
 dear_past m start prices (group.Pair low top) is within = omega (arith, is, within.2)
 dear_past m start prices (group.Triple low mid top) is within = omega (arith, is, within.2)

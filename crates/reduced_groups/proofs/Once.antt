@@ -12,10 +12,10 @@ module _ (m : Problem) (known : Known) (price : Column → ℕ) where
       let (qa, choice_a, cost_a) = is_a.some in
       let (qb, choice_b, cost_b) = is_b.some in
       omega (arith, is_a.least qb choice_b, cost_b, is_b.least qa choice_a, cost_a)
-  one_number (LateGroup i shares) a b is_a is_b =
-      let (qa, owed_a, choice_a, cost_a) = is_a.some in
-      let (qb, owed_b, choice_b, cost_b) = is_b.some in
-      omega (arith, is_a.least qb owed_b choice_b, cost_b, is_b.least qa owed_a choice_a, cost_a)
+  one_number (LateGroup i share) a b is_a is_b =
+      let (qa, short_a, choice_a, cost_a) = is_a.some in
+      let (qb, short_b, choice_b, cost_b) = is_b.some in
+      omega (arith, is_a.least qb short_b choice_b, cost_b, is_b.least qa short_a choice_a, cost_a)
   one_number (QuantityGroup i) a b is_a is_b =
       let (qa, choice_a, cost_a) = is_a.some in
       let (qb, choice_b, cost_b) = is_b.some in
@@ -33,7 +33,7 @@ module _ (m : Problem) (known : Known) (price : Column → ℕ) where
 
   number_lacks : (s : GroupShape) (a : ℕ) → IsNumberOf m known price s a → LacksChoice m known price s → ⊥
   number_lacks (ItemGroup i) a is lacks = lacks
-  number_lacks (LateGroup i shares) a is lacks = lacks
+  number_lacks (LateGroup i share) a is lacks = lacks
   number_lacks (QuantityGroup i) a is lacks = let (q, choice, costs) = is.some in lacks q choice
   number_lacks (ChainGroup low rest) a is lacks = lacks
 

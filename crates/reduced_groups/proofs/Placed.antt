@@ -1,17 +1,16 @@
 -- Lists of groups of which no item is in two places.
-use Rattle.std.proofs.Common.{◌≡◌, ◌≢◌, ◌≤◌, ◌<◌, ◌+◌, ◌-◌, ◌∙◌, ⊎_elim, ℕ, zero, suc, refl, sym, ap, subst, arith, List, [], ◌∷◌, ◌++◌, length, slice_index_or, take}
+use Rattle.std.proofs.Common.{◌≡◌, ◌≤◌, ◌<◌, ◌+◌, ◌∙◌, ⊎_elim, ℕ, zero, suc, refl, sym, ap, subst, arith, List, [], ◌∷◌, ◌++◌, length, slice_index_or, take}
 use Rattle.std.specs.Prelude.{map}
 use Rattle.std.specs.List.{All}
 use Rattle.std.proofs.lemmas.Bool.{cases_lt}
 use Rattle.std.proofs.lemmas.List.{get_or_default, take_more}
 use Rattle.std.proofs.lemmas.List.Elements.{All-append, All-cons, All-head, All-nil, All-tail}
 use Rattle.lot_sizing.specs.Problem.{Problem, item_count}
-use Rattle.lot_sizing.specs.Bill.{one_if_same}
 use Rattle.item_groups.specs.declared.group.ChainLink.{ChainLink}
 use Rattle.item_groups.specs.declared.group.Group.{Group}
-use Rattle.reduced_groups.specs.Groups.{ChainGroup, GroupShape, ItemGroup, QuantityGroup}
-use Rattle.reduced_groups.specs.Apart.{IsItem, items_in, times_in, times_of}
-use Rattle.reduced_groups.specs.Floors.{AreGroupsOf, AreOnceTo, GoesInto, IsGroupOf, LieApart, no_group, shape_of}
+use Rattle.reduced_groups.specs.Groups.{ChainGroup, GroupShape, ItemGroup, LateGroup, QuantityGroup}
+use Rattle.reduced_groups.specs.Apart.{IsGroupOf, IsItem, LieApart, items_in, times_in, times_of}
+use Rattle.reduced_groups.specs.Floors.{AreGroupsOf, AreOnceTo, GoesInto, no_group, shape_of}
 use Rattle.reduced_groups.proofs.Items.{other_none}
 
 -- an item that the problem hasn't is in no place
@@ -37,9 +36,12 @@ lie_apart m shapes are once = record {
       (cases_lt 0 i);
 }
 
--- a group of one item, of a pair and of three
+-- a group of one item, late or not, of a pair and of three
 pub one_group : (m : Problem) (i : ℕ) → IsItem m i → IsGroupOf m (ItemGroup i)
 one_group m i item = record { items = All-cons (IsItem m) i [] item (All-nil (IsItem m)); linked = tt }
+
+pub late_group : (m : Problem) (i share : ℕ) → IsItem m i → IsGroupOf m (LateGroup i share)
+late_group m i share item = record { items = All-cons (IsItem m) i [] item (All-nil (IsItem m)); linked = tt }
 
 pub quantity_group : (m : Problem) (i : ℕ) → IsItem m i → IsGroupOf m (QuantityGroup i)
 quantity_group m i item = record { items = All-cons (IsItem m) i [] item (All-nil (IsItem m)); linked = tt }

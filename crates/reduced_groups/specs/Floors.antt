@@ -8,6 +8,8 @@ use Rattle.lin_rows.specs.declared.column.Column.{Column}
 use Rattle.lin_rows.specs.declared.column.Column.TheVariants.{X, Y}
 use Rattle.must_start.specs.Lots.{IsLargestLotOf}
 use Rattle.must_start.specs.Rows.{row_in}
+use Rattle.late_starts.specs.declared.lots.LateLot.{LateLot}
+use Rattle.late_starts.specs.Pricing as late
 use Rattle.quantity_dp.specs.declared.lots.LotPeriod.{LotPeriod}
 use Rattle.quantity_dp.specs.Lots.{lot_at}
 use Rattle.quantity_dp.specs.declared.limits.TheConstants.{MAX_ENTRIES, MAX_PRICE}
@@ -27,28 +29,18 @@ use Rattle.reduced_groups.specs.declared.floors.FloorFault.TheVariants.{Entries,
 use Rattle.reduced_groups.specs.declared.floors.TheConstants.{MAX_HORIZON}
 use Rattle.reduced_groups.specs.Groups.{AreKnown, ChainGroup, GroupShape, ItemGroup, Known, LateGroup, QuantityGroup, chain_levels}
 use Rattle.reduced_groups.specs.Numbers.{IsNumberOf, LacksChoice}
-use Rattle.reduced_groups.specs.Apart.{AreLinked, IsItem, items_in, items_of, times_in, times_of}
+use Rattle.reduced_groups.specs.Apart.{IsGroupOf, items_in, items_of, times_in, times_of}
 use Rattle.reduced_groups.specs.Prices.{AreSmall, PriceLists, price_in}
 
 -- the group that is meant
 abbrev pub shape_of : Group → GroupShape
 shape_of (group.Item i) = ItemGroup i
+shape_of (group.Late i share) = LateGroup i share
 shape_of (group.Quantities i) = QuantityGroup i
 shape_of (group.Pair low top) = ChainGroup low (top ∷ [])
 shape_of (group.Triple low mid top) = ChainGroup low (mid ∷ (top ∷ []))
 
--- it has items of the problem, and those of a chain go into each other
-abbrev pub IsLinked : Problem → GroupShape → Type 0
-IsLinked m (ItemGroup i) = ⊤
-IsLinked m (LateGroup i shares) = ⊤
-IsLinked m (QuantityGroup i) = ⊤
-IsLinked m (ChainGroup low rest) = AreLinked m low rest
-
-pub record IsGroupOf (m : Problem) (s : GroupShape) : Type 0 where
-  pub items : All (IsItem m) (items_in s)
-  pub linked : IsLinked m s
-
--- whatever weights, starts and lots are taken of the problem
+-- whatever starts and lots are taken of the problem
 abbrev pub WhateverIsKnown : Problem → (Known → Type 0) → Type 0
 WhateverIsKnown m P = (total : ℕ → ℕ) (known : Known) → AreLargestTotals m total → AreKnown m total known → P known
 
@@ -80,10 +72,10 @@ HasFewPeriods m [] = ⊤
 HasFewPeriods m (top ∷ []) = ⊤
 HasFewPeriods m (mid ∷ (top ∷ rest)) = m.periods + (item_at m mid.item).lead ≤ MAX_HORIZON
 
--- the work of finding the number of a group, and the numbers in it, stay within the limits; there is no work for a late item yet
+-- the work of finding the number of a group, and the numbers in it, stay within the limits
 abbrev pub IsWithinWork : Problem → Table → (Column → ℕ) → GroupShape → Type 0
 IsWithinWork m start price (ItemGroup i) = HasSmallPricesOf m price i
-IsWithinWork m start price (LateGroup i shares) = ⊤
+IsWithinWork m start price (LateGroup i share) = HasSmallPricesOf m price i
 IsWithinWork m start price (QuantityGroup i) = HasSmallPricesOf m price i × HasFewEntries m start i
 IsWithinWork m start price (ChainGroup low rest) = HaveSmallPrices m price (low.item ∷ items_of rest) × HasFewPeriods m rest × (opening_cost m.periods (chain_levels m start price low rest) < most)
 
@@ -102,14 +94,14 @@ HasLargePriceAs m prices i Memory = ⊥
 -- the table of whole quantities is too large
 abbrev pub HasManyEntries : Problem → Table → GroupShape → Type 0
 HasManyEntries m start (ItemGroup i) = ⊥
-HasManyEntries m start (LateGroup i shares) = ⊥
+HasManyEntries m start (LateGroup i share) = ⊥
 HasManyEntries m start (QuantityGroup i) = (t : ℕ) × (1 ≤ t) × (t ≤ m.periods) × (MAX_ENTRIES < m.periods * (start i t + 1))
 HasManyEntries m start (ChainGroup low rest) = ⊥
 
 -- the second of three items comes so late that there are too many periods
 abbrev pub IsTooLong : Problem → GroupShape → Type 0
 IsTooLong m (ItemGroup i) = ⊥
-IsTooLong m (LateGroup i shares) = ⊥
+IsTooLong m (LateGroup i share) = ⊥
 IsTooLong m (QuantityGroup i) = ⊥
 IsTooLong m (ChainGroup low []) = ⊥
 IsTooLong m (ChainGroup low (top ∷ [])) = ⊥
@@ -118,7 +110,7 @@ IsTooLong m (ChainGroup low (mid ∷ (top ∷ rest))) = MAX_HORIZON < m.periods 
 -- it costs too much to buy all that is asked of a chain before the first period
 abbrev pub IsTooDear : Problem → Table → PriceLists → GroupShape → Type 0
 IsTooDear m start prices (ItemGroup i) = ⊥
-IsTooDear m start prices (LateGroup i shares) = ⊥
+IsTooDear m start prices (LateGroup i share) = ⊥
 IsTooDear m start prices (QuantityGroup i) = ⊥
 IsTooDear m start prices (ChainGroup low rest) = most ≤ opening_cost m.periods (chain_levels m start (price_in prices) low rest)
 
@@ -152,6 +144,15 @@ pub record AreLotsFor (m : Problem) (start : Table) (price : Column → ℕ) (i 
   pub need : (t : ℕ) → 1 ≤ t → t ≤ n → (lot_at lots t).need ≡ start i t
   pub largest : (t : ℕ) → 1 ≤ t → t ≤ n → IsLargestLotOf m i t (lot_at lots t).largest
 
+-- the late lot of an item in a period: its prices, what a unit that falls short costs, and what is on time by its end
+abbrev pub late_lot : Table → (Column → ℕ) → (item share : ℕ) → ℕ → LateLot
+late_lot start price i share t = record { setup = price (Y i t); unit = price (X i t); share = share; need = start i t }
+
+-- the late lots of the first periods of an item
+pub record AreLateLotsFor (start : Table) (price : Column → ℕ) (i share n : ℕ) (lots : List LateLot) : Type 0 where
+  pub size : length lots ≡ n
+  pub each : (t : ℕ) → 1 ≤ t → t ≤ n → late.lot_at lots t ≡ late_lot start price i share t
+
 -- an item of a chain is never late and goes into the next one
 abbrev pub GoesInto : Problem → ℕ → ℕ → Type 0
 GoesInto m i next = IsNone (item_at m i).backlog_cost × (1 ≤ per_unit m i next)
@@ -163,11 +164,6 @@ AreGroupsOf m groups = All (λ g. IsGroupOf m (shape_of g)) groups
 -- no item up to a number is in two places
 abbrev pub AreOnceTo : ℕ → List GroupShape → Type 0
 AreOnceTo n shapes = (i : ℕ) → 1 ≤ i → i ≤ n → times_in shapes i ≤ 1
-
--- groups of items of the problem, and no item is in two places
-pub record LieApart (m : Problem) (shapes : List GroupShape) : Type 0 where
-  pub groups : All (IsGroupOf m) shapes
-  pub once : (i : ℕ) → times_in shapes i ≤ 1
 
 -- read past the last group
 abbrev pub no_group : Group

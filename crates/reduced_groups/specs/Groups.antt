@@ -1,37 +1,37 @@
 -- Groups of items whose reduced costs are bounded together, and what the setups and quantities of each may be.
 use Rattle.std.specs.Prelude.{◌≡◌, ℕ, ◌+◌, ◌-◌, ◌*◌, ◌≤◌, ◌<◌, List, [], ◌∷◌, if◌then◌else◌, ◌==◌}
 use Rattle.lot_sizing.specs.Sums.{sum_to}
-use Rattle.lot_sizing.specs.Problem.{Problem, entry, item_at, item_count, per_unit}
-use Rattle.lot_sizing.specs.Net.{asked_of, asked_to, needed_to}
-use Rattle.lot_sizing.specs.Bill.{AreWeights, bill_of}
-use Rattle.lot_sizing.specs.Echelon.{asked_in_echelon}
+use Rattle.lot_sizing.specs.Problem.{Problem, item_at, item_count, per_unit}
+use Rattle.lot_sizing.specs.Net.{asked_of, asked_to}
 use Rattle.lot_sizing.specs.Plan.{EachCell, Table}
 use Rattle.lot_sizing.specs.Single.{NetPlan}
 use Rattle.lin_rows.specs.declared.column.Column.{Column}
 use Rattle.lin_rows.specs.declared.column.Column.TheVariants.{X, Y}
 use Rattle.must_start.specs.MustStart.{AreMustStart}
 use Rattle.must_start.specs.Lots.{IsLargestLot}
+use Rattle.late_starts.specs.OnTime.{AreOnTime}
+use Rattle.late_starts.specs.Choices.{LateLots, late_lots}
 use Rattle.quantity_dp.specs.Lots.{Lots}
 use Rattle.chain_dp.specs.Chains.{Level}
 use Rattle.item_groups.specs.declared.group.ChainLink.{ChainLink}
 
--- an item by what must have been started of it; a lead-free item whose echelon may be late, with a share of its backlogs for each period; an item by what must have been started and its largest lots, in whole quantities; and a chain of items, the lowest first, each of which goes into the next one
+-- an item by what must have been started of it; an item by what is on time of it, with what a unit that falls short costs for each period; an item by what must have been started and its largest lots, in whole quantities; and a chain of items, the lowest first, each of which goes into the next one
 pub data GroupShape : Type 0 where
   ItemGroup : (item : ℕ) → GroupShape
-  LateGroup : (item : ℕ) → (shares : List ℕ) → GroupShape
+  LateGroup : (item : ℕ) → (share : ℕ) → GroupShape
   QuantityGroup : (item : ℕ) → GroupShape
   ChainGroup : (low : ChainLink) → (rest : List ChainLink) → GroupShape
 
--- what is known of a problem: the units of one item in another, what must have been started of each item by the end of each period, and its largest lots
+-- what is known of a problem: what must have been started of each item by the end of each period, what has been started if nothing is late, and its largest lots
 pub record Known : Type 0 where
-  pub weight : ℕ → ℕ → ℕ
   pub start : Table
+  pub on_time : Table
   pub lot : Table
 
 -- and it is so
 pub record AreKnown (m : Problem) (total : ℕ → ℕ) (known : Known) : Type 0 where
-  pub weight : AreWeights (bill_of m) known.weight
   pub start : AreMustStart m known.start
+  pub on_time : AreOnTime m known.on_time
   pub lot : EachCell m (λ i t. IsLargestLot m total i t (known.lot i t))
 
 -- what the setups and quantities of an item cost at the prices of columns
@@ -44,16 +44,9 @@ pub record IsItemChoice (m : Problem) (start : Table) (i : ℕ) (q : NetPlan) : 
   pub made : (t : ℕ) → 1 ≤ t → t ≤ m.periods → 0 < q.make t → q.setup t ≡ 1
   pub started : (t : ℕ) → 1 ≤ t → t ≤ m.periods → start i t ≤ sum_to t q.make
 
--- setups and quantities of an item, and what its echelon owes at the end of each period: what is made and what is owed serve what is asked of the echelon, and nothing is owed in the end
-pub record IsLateChoice (m : Problem) (weight : ℕ → ℕ → ℕ) (i : ℕ) (q : NetPlan) (owed : ℕ → ℕ) : Type 0 where
-  pub setup : (t : ℕ) → 1 ≤ t → t ≤ m.periods → q.setup t ≤ 1
-  pub made : (t : ℕ) → 1 ≤ t → t ≤ m.periods → 0 < q.make t → q.setup t ≡ 1
-  pub served : (t : ℕ) → 1 ≤ t → t ≤ m.periods → needed_to (asked_in_echelon m weight i) t ≤ sum_to t q.make + owed t
-  pub settled : owed m.periods ≡ 0
-
--- what they cost, with the shares of what is owed
-abbrev pub late_cost : Problem → (Column → ℕ) → ℕ → List ℕ → NetPlan → (ℕ → ℕ) → ℕ
-late_cost m price i shares q owed = made_cost m price i q + sum_to m.periods (λ t. entry shares t * owed t)
+-- the late lots of an item: its prices, what is on time, and what a unit that falls short costs for each period
+abbrev pub late_lots_in : Problem → Known → (Column → ℕ) → (item share : ℕ) → LateLots
+late_lots_in m known price i share = late_lots m known.on_time (λ k t. price (Y k t)) (λ k t. price (X k t)) (λ k t. share) i
 
 -- the lots of an item: its prices, what must have been started, and its largest lots
 abbrev pub lots_in : Problem → Known → (Column → ℕ) → ℕ → Lots

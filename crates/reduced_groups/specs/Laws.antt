@@ -1,5 +1,5 @@
 -- What groups bound, and that each has one number.
-use Rattle.std.specs.Prelude.{◌≡◌, ℕ, ◌*◌, ◌≤◌, ℤ, pos, ◌+ℤ◌, ◌*ℤ◌, ◌≤ℤ◌, List}
+use Rattle.std.specs.Prelude.{◌≡◌, ℕ, ◌≤◌, ℤ, pos, ◌+ℤ◌, ◌*ℤ◌, ◌≤ℤ◌, List}
 use Rattle.std.specs.List.{All}
 use Rattle.lot_sizing.specs.Problem.{EachItem, Problem}
 use Rattle.lot_sizing.specs.Plan.{EachCell, Plan, IsFeasible, cost}
@@ -11,7 +11,7 @@ use Rattle.lin_rows.specs.Combining.{AllHold, AreOfProblem, AreSigned, right_sum
 use Rattle.lin_rows.specs.Rows.{LinRow, whole_point}
 use Rattle.reduced_groups.specs.Groups.{AreKnown, GroupShape, Known}
 use Rattle.reduced_groups.specs.Numbers.{AreNumbersOf, SomeLacksChoice, sum_of}
-use Rattle.reduced_groups.specs.Apart.{AreApart, IsGroupHere}
+use Rattle.reduced_groups.specs.Apart.{AreApart, IsGroupOf}
 use Rattle.reduced_groups.specs.Rows.{AreReduced, paid}
 use Rattle.reduced_groups.specs.Floors.{IsWithinWork}
 
@@ -31,7 +31,7 @@ GroupsBound =
 abbrev pub GroupsRefute : Type 0
 GroupsRefute =
     OfKnown (λ m known. (price : Column → ℕ) (shapes : List GroupShape)
-    → All (IsGroupHere m known) shapes → SomeLacksChoice m known price shapes
+    → All (IsGroupOf m) shapes → SomeLacksChoice m known price shapes
     → (p : Plan) → IsFeasible m p → ⊥)
 
 -- where no reduced cost is below 0, and the rows hold at a feasible plan, den times its cost is at least the sum of the right sides and all its columns at their reduced costs
@@ -63,10 +63,10 @@ NumbersAreChoices =
     (m : Problem) (known : Known) (price : Column → ℕ) (shapes : List GroupShape) (amounts : List ℕ)
     → AreNumbersOf m known price shapes amounts → SomeLacksChoice m known price shapes → ⊥
 
--- weights, starts and lots that are the same at each item and period
+-- starts and lots that are the same at each item and period
 pub record AreAlike (m : Problem) (a b : Known) : Type 0 where
-  pub weight : EachItem m (λ i. EachItem m (λ k. a.weight i k ≡ b.weight i k))
   pub start : EachItem m (λ i. (t : ℕ) → t ≤ m.periods → a.start i t ≡ b.start i t)
+  pub on_time : EachItem m (λ i. (t : ℕ) → t ≤ m.periods → a.on_time i t ≡ b.on_time i t)
   pub lot : EachCell m (λ i t. a.lot i t ≡ b.lot i t)
 
 -- two ways to know a problem in which no item is its own component are alike
@@ -90,19 +90,19 @@ ApartByBoth =
 abbrev pub NumbersByBoth : Type 0
 NumbersByBoth =
     (m : Problem) (a b : Known) (price other : Column → ℕ) (shapes : List GroupShape) (amounts : List ℕ)
-    → AreAlike m a b → AreSamePrices m price other → All (IsGroupHere m a) shapes
+    → AreAlike m a b → AreSamePrices m price other → All (IsGroupOf m) shapes
     → AreNumbersOf m a price shapes amounts → AreNumbersOf m b other shapes amounts
 
 -- and one of them has no choice by either
 abbrev pub ChoicesByBoth : Type 0
 ChoicesByBoth =
     (m : Problem) (a b : Known) (price other : Column → ℕ) (shapes : List GroupShape)
-    → AreAlike m a b → All (IsGroupHere m a) shapes
+    → AreAlike m a b → All (IsGroupOf m) shapes
     → SomeLacksChoice m a price shapes → SomeLacksChoice m b other shapes
 
 -- and the work of finding the number of a group stays within the limits by both
 abbrev pub WorkByBoth : Type 0
 WorkByBoth =
     (m : Problem) (a b : Known) (price other : Column → ℕ) (s : GroupShape)
-    → AreAlike m a b → AreSamePrices m price other → IsGroupHere m a s
+    → AreAlike m a b → AreSamePrices m price other → IsGroupOf m s
     → IsWithinWork m a.start price s → IsWithinWork m b.start other s

@@ -6,18 +6,19 @@ use Rattle.lot_sizing.specs.Single.{NetPlan}
 use Rattle.lin_rows.specs.declared.column.Column.{Column}
 use Rattle.quantity_dp.specs.Lots.{HasNoChoice, IsLeastPrice}
 use Rattle.chain_dp.specs.Chains.{IsLeastChainCost}
+use Rattle.late_starts.specs.Choices.{IsLateChoice, IsLateFloor, LateLots, late_price}
 use Rattle.item_groups.specs.declared.group.ChainLink.{ChainLink}
-use Rattle.reduced_groups.specs.Groups.{ChainGroup, GroupShape, IsItemChoice, IsLateChoice, ItemGroup, Known, LateGroup, QuantityGroup, chain_levels, late_cost, lots_in, made_cost, stocks_worth}
+use Rattle.reduced_groups.specs.Groups.{ChainGroup, GroupShape, IsItemChoice, ItemGroup, Known, LateGroup, QuantityGroup, chain_levels, late_lots_in, lots_in, made_cost, stocks_worth}
 
 -- some setups and quantities of the item cost this, and none cost less
 pub record IsLeastItem (m : Problem) (start : Table) (price : Column → ℕ) (i amount : ℕ) : Type 0 where
   pub some : (q : NetPlan) × IsItemChoice m start i q × (made_cost m price i q ≡ amount)
   pub least : (q : NetPlan) → IsItemChoice m start i q → amount ≤ made_cost m price i q
 
--- some setups, quantities and backlogs of the echelon cost this, and none cost less
-pub record IsLeastLate (m : Problem) (weight : ℕ → ℕ → ℕ) (price : Column → ℕ) (i : ℕ) (shares : List ℕ) (amount : ℕ) : Type 0 where
-  pub some : (q : NetPlan) × (owed : ℕ → ℕ) × IsLateChoice m weight i q owed × (late_cost m price i shares q owed ≡ amount)
-  pub least : (q : NetPlan) (owed : ℕ → ℕ) → IsLateChoice m weight i q owed → amount ≤ late_cost m price i shares q owed
+-- some setups, quantities and shortfalls of late lots cost this, and none cost less
+pub record IsLeastLate (lots : LateLots) (amount : ℕ) : Type 0 where
+  pub some : (q : NetPlan) × (short : ℕ → ℕ) × IsLateChoice lots q short × (late_price lots q short ≡ amount)
+  pub least : IsLateFloor lots amount
 
 -- the least cost of the chain, in which opening stocks of any size are bought at their prices, less what the stocks that are there are worth; and at least 0
 pub record IsChainFloor (m : Problem) (start : Table) (price : Column → ℕ) (low : ChainLink) (rest : List ChainLink) (amount : ℕ) : Type 0 where
@@ -28,14 +29,14 @@ pub record IsChainFloor (m : Problem) (start : Table) (price : Column → ℕ) (
 -- the number of a group at the prices of columns
 abbrev pub IsNumberOf : Problem → Known → (Column → ℕ) → GroupShape → ℕ → Type 0
 IsNumberOf m known price (ItemGroup i) amount = IsLeastItem m known.start price i amount
-IsNumberOf m known price (LateGroup i shares) amount = IsLeastLate m known.weight price i shares amount
+IsNumberOf m known price (LateGroup i share) amount = IsLeastLate (late_lots_in m known price i share) amount
 IsNumberOf m known price (QuantityGroup i) amount = IsLeastPrice (lots_in m known price i) amount
 IsNumberOf m known price (ChainGroup low rest) amount = IsChainFloor m known.start price low rest amount
 
 -- the group has no choice: its largest lots are too small for what must have been started. Groups without bounds on lots always have one
 abbrev pub LacksChoice : Problem → Known → (Column → ℕ) → GroupShape → Type 0
 LacksChoice m known price (ItemGroup i) = ⊥
-LacksChoice m known price (LateGroup i shares) = ⊥
+LacksChoice m known price (LateGroup i share) = ⊥
 LacksChoice m known price (QuantityGroup i) = HasNoChoice (lots_in m known price i)
 LacksChoice m known price (ChainGroup low rest) = ⊥
 

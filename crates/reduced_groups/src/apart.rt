@@ -2,8 +2,8 @@
 ghost use Rattle.std.specs.Prelude.{◌≡◌, ◌↔◌, ◌≤◌, IsTrue, MatchOption, map};
 ghost use Rattle.lot_sizing.specs.Problem.{item_count};
 ghost use Rattle.lot_sizing.specs.Bill.{one_if_same};
-ghost use Rattle.reduced_groups.specs.Apart.{IsItem, items_in, times_in, times_of};
-ghost use Rattle.reduced_groups.specs.Floors.{AreGroupsOf, AreOnceTo, GoesInto, IsFirstOther, IsFirstTwice, IsGroupFaultOf, IsGroupOf, LieApart, shape_of};
+ghost use Rattle.reduced_groups.specs.Apart.{IsGroupOf, IsItem, LieApart, items_in, times_in, times_of};
+ghost use Rattle.reduced_groups.specs.Floors.{AreGroupsOf, AreOnceTo, GoesInto, IsFirstOther, IsFirstTwice, IsGroupFaultOf, shape_of};
 
 use item_groups::{ChainLink, Group};
 use lot_model::Instance;
@@ -51,6 +51,7 @@ pub fn is_group(instance: &Instance, group: &Group) -> bool
 {
     match group {
         Group::Item { item } => is_item(instance, *item),
+        Group::Late { item, .. } => is_item(instance, *item),
         Group::Quantities { item } => is_item(instance, *item),
         Group::Pair { low, top } => is_pair(instance, low, top),
         Group::Triple { low, mid, top } => {
@@ -73,6 +74,7 @@ fn times_in_group(group: &Group, item: u32) -> u128
 {
     match group {
         Group::Item { item: own } => one_if_same(*own, item),
+        Group::Late { item: own, .. } => one_if_same(*own, item),
         Group::Quantities { item: own } => one_if_same(*own, item),
         Group::Pair { low, top } => one_if_same(low.item, item) + one_if_same(top.item, item),
         Group::Triple { low, mid, top } => {

@@ -1,16 +1,21 @@
 // The number of a group.
 ghost use Rattle.std.specs.Prelude.{◌≤◌, [], ◌∷◌, IfErr, IfOk};
 ghost use Rattle.lot_sizing.specs.Problem.{item_count};
+ghost use Rattle.late_starts.specs.Rows.{IsOnTimeOf};
+ghost use Rattle.lot_sizing.specs.Plan.{Table};
 ghost use Rattle.must_start.specs.Rows.{IsMustStartOf, start_in};
-ghost use Rattle.reduced_groups.specs.Groups.{ChainGroup, ItemGroup, QuantityGroup};
-ghost use Rattle.reduced_groups.specs.Floors.{HasLargePriceAs, HasSmallPrices, HasSmallPricesOf, IsFaultFrom, IsFloorFaultOf, IsFloorOf, IsGroupOf, IsPastLimits, IsWithinWork, shape_of};
+ghost use Rattle.reduced_groups.specs.Groups.{ChainGroup, ItemGroup, LateGroup, QuantityGroup};
+ghost use Rattle.reduced_groups.specs.Apart.{IsGroupOf};
+ghost use Rattle.reduced_groups.specs.Floors.{HasLargePriceAs, HasSmallPrices, HasSmallPricesOf, IsFaultFrom, IsFloorFaultOf, IsFloorOf, IsPastLimits, IsWithinWork, shape_of};
 ghost use Rattle.reduced_groups.specs.Prices.{ArePricesFor, price_in};
 
 use crate::chains::{item_floor, pair_floor, triple_floor};
+use crate::late::late_floor;
 use crate::prices::{GroupPrices, first_large};
 use crate::quantities::quantity_floor;
 use chain_dp::{ChainError, ChainTables};
 use item_groups::{ChainLink, Group};
+use late_starts::OnTime;
 use lot_model::{Instance, an_instance_breaks_no_rule};
 use must_start::{MustStart, must_start_holds};
 use std::alloc::{AllocError, Global};
@@ -122,6 +127,34 @@ fn item_group(
         return Err(fault);
     }
     match item_floor(alloc, tables, instance, started, prices, item) {
+        Ok(cost) => Ok(Floor::Least(cost)),
+        Err(_) => Err(FloorFault::Memory),
+    }
+}
+
+// The number of an item that may fall short of what is on time of it.
+fn late_group(
+    alloc: Global,
+    instance: &Instance,
+    on_time: &OnTime,
+    prices: &GroupPrices,
+    item: u32,
+    share: u64,
+) -> Result<Floor, FloorFault>
+    requires on_time { IsOnTimeOf instance.now on_time.now }
+    requires prices { ArePricesFor instance.now prices.now }
+    requires low { 1 ≤ item }
+    requires high { item ≤ item_count instance.now }
+    ensures floor { IfOk result (IsFloorOf instance.now prices.now (LateGroup item share)) }
+    ensures within { IfOk result
+        (λ _. HasSmallPricesOf instance.now (price_in prices.now) item) }
+    ensures fault { IfErr result (λ fault. (start : Table)
+        → IsFloorFaultOf instance.now start prices.now (LateGroup item share) fault) }
+{
+    if let Err(fault) = test_prices(instance, prices, item) {
+        return Err(fault);
+    }
+    match late_floor(alloc, instance, on_time, prices, item, share) {
         Ok(cost) => Ok(Floor::Least(cost)),
         Err(_) => Err(FloorFault::Memory),
     }
@@ -262,17 +295,19 @@ fn triple_group(
 /// has more than `MAX_ENTRIES` entries, that a chain of three items has more than `MAX_HORIZON` periods, that opening
 /// stocks are too dear, and that memory ran out.
 ///
-/// Over `T` periods an item takes some `T^2 / 2` steps, two items some `T^3 / 2`, three some `T^4 / 8`, and whole
-/// quantities some `T` times the units that must be started.
+/// Over `T` periods an item takes some `T^2 / 2` steps, a late item some `T^2`, two items some `T^3 / 2`, three some
+/// `T^4 / 8`, and whole quantities some `T` times the units that must be started.
 pub fn group_floor(
     alloc: Global,
     tables: &mut ChainTables,
     instance: &Instance,
     started: &MustStart,
+    on_time: &OnTime,
     prices: &GroupPrices,
     group: &Group,
 ) -> Result<Floor, FloorFault>
     requires started { IsMustStartOf instance.now started.now }
+    requires on_time { IsOnTimeOf instance.now on_time.now }
     requires prices { ArePricesFor instance.now prices.now }
     requires group { IsGroupOf instance.now (shape_of group.now) }
     ensures floor { IfOk result (IsFloorOf instance.now prices.now (shape_of group.now)) }
@@ -288,6 +323,9 @@ pub fn group_floor(
 {
     match group {
         Group::Item { item } => item_group(alloc, tables, instance, started, prices, *item),
+        Group::Late { item, share } => {
+            late_group(alloc, instance, on_time, prices, *item, *share)
+        }
         Group::Quantities { item } => quantity_group(alloc, instance, started, prices, *item),
         Group::Pair { low, top } => pair_group(alloc, tables, instance, started, prices, low, top),
         Group::Triple { low, mid, top } => {

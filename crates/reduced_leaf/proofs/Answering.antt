@@ -15,14 +15,13 @@ use Rattle.lin_rows.specs.Rows.{LinRow}
 use Rattle.lin_rows.specs.Sums.{Summed, total_of}
 use Rattle.must_start.specs.MustStart.{AreMustStart}
 use Rattle.item_groups.specs.declared.group.Group.{Group}
-use Rattle.item_groups.specs.declared.group.Group.TheVariants as group
 use Rattle.reduced_groups.specs.declared.floors.Floor.{Floor}
 use Rattle.reduced_groups.specs.declared.floors.Floor.TheVariants.{Least, NoChoice}
 use Rattle.reduced_groups.specs.Groups.{AreKnown, GroupShape, Known}
 use Rattle.reduced_groups.specs.Numbers.{sum_of}
-use Rattle.reduced_groups.specs.Apart.{AreApart, IsGroupHere, shared_by}
+use Rattle.reduced_groups.specs.Apart.{AreCharged, IsGroupOf, LieApart}
 use Rattle.reduced_groups.specs.Rows.{AreReduced}
-use Rattle.reduced_groups.specs.Floors.{AreGroupsOf, IsGroupOf, IsWithinWork, LieApart, WhateverIsKnown, shape_of}
+use Rattle.reduced_groups.specs.Floors.{AreGroupsOf, IsWithinWork, WhateverIsKnown, no_group, shape_of}
 use Rattle.reduced_groups.specs.Laws.{AreAlike, AreSamePrices, ChoicesByBoth, KnownAreAlike, NumbersByBoth, WorkByBoth}
 use Rattle.reduced_leaf.specs.declared.sums.ReducedSum.{ReducedSum}
 use Rattle.reduced_leaf.specs.declared.sums.ReducedSum.TheVariants as found
@@ -31,21 +30,7 @@ use Rattle.reduced_leaf.specs.declared.sums.ReducedFault.TheVariants as fault
 use Rattle.reduced_leaf.specs.Leaf.{AreGroupsFor, IsAnswerOf}
 use Rattle.reduced_leaf.specs.Faults.{AreSumsWithin, AreSumsOf, IsFirstPastAt, IsReducedFaultOf, OfSums, shape_at}
 use Rattle.reduced_leaf.specs.Laws.{KnownExists}
-use Rattle.reduced_leaf.specs.Found.{IsAnswerFrom, IsSumIn, IsSumOfFloors, StopsAt, left_price}
-
--- groups of the problem, whatever is known
-here_group : (m : Problem) (known : Known) (g : Group) → IsGroupOf m (shape_of g) → IsGroupHere m known (shape_of g)
-here_group m known (group.Item i) is = record { items = is.items; allowed = tt }
-here_group m known (group.Quantities i) is = record { items = is.items; allowed = tt }
-here_group m known (group.Pair low top) is = record { items = is.items; allowed = is.linked }
-here_group m known (group.Triple low mid top) is = record { items = is.items; allowed = is.linked }
-
-pub all_here : (m : Problem) (known : Known) (groups : List Group) → All (IsGroupOf m) (map shape_of groups) → All (IsGroupHere m known) (map shape_of groups)
-all_here m known [] are = All-nil (IsGroupHere m known)
-all_here m known (g ∷ groups) are =
-    All-cons (IsGroupHere m known) (shape_of g) (map shape_of groups)
-    (here_group m known g (All-head (IsGroupOf m) (shape_of g) (map shape_of groups) are))
-    (all_here m known groups (All-tail (IsGroupOf m) (shape_of g) (map shape_of groups) are))
+use Rattle.reduced_leaf.specs.Found.{IsAnswerFrom, IsSumIn, IsSumOfFloors, StopsAt, StopsBy, left_price}
 
 pub groups_of : (m : Problem) (groups : List Group) → All (IsGroupOf m) (map shape_of groups) → AreGroupsOf m groups
 groups_of m [] are = All-nil (λ g. IsGroupOf m (shape_of g))
@@ -54,71 +39,54 @@ groups_of m (g ∷ groups) are =
     (All-head (IsGroupOf m) (shape_of g) (map shape_of groups) are)
     (groups_of m groups (All-tail (IsGroupOf m) (shape_of g) (map shape_of groups) are))
 
--- they take no backlogs
-none_shared : (known : Known) (groups : List Group) (j t : ℕ) → shared_by known (map shape_of groups) j t ≡ 0
-none_shared known [] j t = refl
-none_shared known (group.Item i ∷ groups) j t = omega (arith, none_shared known groups j t)
-none_shared known (group.Quantities i ∷ groups) j t = omega (arith, none_shared known groups j t)
-none_shared known (group.Pair low top ∷ groups) j t = omega (arith, none_shared known groups j t)
-none_shared known (group.Triple low mid top ∷ groups) j t = omega (arith, none_shared known groups j t)
-
-apart_by : (m : Problem) (known : Known) (price : Column → ℕ) (groups : List Group) → LieApart m (map shape_of groups) → AreApart m known price (map shape_of groups)
-apart_by m known price groups lie = record {
-  groups = all_here m known groups lie.groups;
-  once = lie.once;
-  shares = λ j t has. omega (arith, none_shared known groups j t);
-}
-
 -- OTHER PRICES that are the same at setups and quantities, and other starts
 
 alike_itself : (m : Problem) (known : Known) → AreAlike m known known
 alike_itself m known = record {
-  weight = λ i low high k k_low k_high. refl;
   start = λ i low high t t_high. refl;
+  on_time = λ i low high t t_high. refl;
   lot = λ i t low high t_low t_high. refl;
 }
 
 pub floors_priced : (m : Problem) (price other : Column → ℕ) (groups : List Group) (floor : Floor) → NumbersByBoth → ChoicesByBoth → LieApart m (map shape_of groups) → AreSamePrices m price other → IsSumOfFloors m price (map shape_of groups) floor → IsSumOfFloors m other (map shape_of groups) floor
 floors_priced m price other groups (Least a) both none lie same is = λ total known totals are.
     let (amounts, numbers, capped) = is total known totals are in
-    (amounts, both m known known price other (map shape_of groups) amounts (alike_itself m known) same (all_here m known groups lie.groups) numbers, capped)
+    (amounts, both m known known price other (map shape_of groups) amounts (alike_itself m known) same lie.groups numbers, capped)
 floors_priced m price other groups NoChoice both none lie same is = λ total known totals are.
-    none m known known price other (map shape_of groups) (alike_itself m known) (all_here m known groups lie.groups) (is total known totals are)
+    none m known known price other (map shape_of groups) (alike_itself m known) lie.groups (is total known totals are)
 
 module _ (m : Problem) (rank : ℕ → ℕ) (start : Table) (price other : Column → ℕ) (groups : List Group) (known_one : KnownAreAlike) (work : WorkByBoth) (ranks : IsRanking m rank) (starts : AreMustStart m start) (lie : LieApart m (map shape_of groups)) (same : AreSamePrices m price other) where
   -- the same with these starts
   abbrev pub with_start : Known → Known
-  with_start known = record { weight = known.weight; start = start; lot = known.lot }
+  with_start known = record { start = start; on_time = known.on_time; lot = known.lot }
 
   alike : (total : ℕ → ℕ) (known : Known) → AreLargestTotals m total → AreKnown m total known → AreAlike m (with_start known) known
-  alike total known totals are = known_one m rank total total (with_start known) known ranks totals totals (record { weight = are.weight; start = starts; lot = are.lot }) are
+  alike total known totals are = known_one m rank total total (with_start known) known ranks totals totals (record { start = starts; on_time = are.on_time; lot = are.lot }) are
 
   back : (total : ℕ → ℕ) (known : Known) → AreLargestTotals m total → AreKnown m total known → AreAlike m known (with_start known)
-  back total known totals are = known_one m rank total total known (with_start known) ranks totals totals are (record { weight = are.weight; start = starts; lot = are.lot })
+  back total known totals are = known_one m rank total total known (with_start known) ranks totals totals are (record { start = starts; on_time = are.on_time; lot = are.lot })
 
   turned : AreSamePrices m other price
   turned = λ i t low high t_low t_high. let e = same i t low high t_low t_high in (sym e.0, sym e.1)
 
-  here : (known : Known) → All (IsGroupHere m known) (map shape_of groups)
-  here known = all_here m known groups lie.groups
-
   pub within_known : All (IsWithinWork m start price) (map shape_of groups) → WhateverIsKnown m (λ known. All (IsWithinWork m known.start other) (map shape_of groups))
   within_known within = λ total known totals are. λ k d less.
-      work m (with_start known) known price other (slice_index_or (map shape_of groups) k d) (alike total known totals are) same (here (with_start known) k d less) (within k d less)
+      work m (with_start known) known price other (slice_index_or (map shape_of groups) k d) (alike total known totals are) same (lie.groups k d less) (within k d less)
 
   first_known : (k : ℕ) → IsFirstPastAt m start price (map shape_of groups) k → WhateverIsKnown m (λ known. IsFirstPastAt m known.start other (map shape_of groups) k)
   first_known k is = λ total known totals are. record {
     place = is.place;
-    before = λ j d less. work m (with_start known) known price other (slice_index_or (take k (map shape_of groups)) j d) (alike total known totals are) same (All-take (IsGroupHere m (with_start known)) k (map shape_of groups) (here (with_start known)) j d less) (is.before j d less);
-    past = λ within. is.past (work m known (with_start known) other price (shape_at (map shape_of groups) k) (back total known totals are) turned (here known k (shape_of (group.Item 0)) is.place) within);
+    before = λ j d less. work m (with_start known) known price other (slice_index_or (take k (map shape_of groups)) j d) (alike total known totals are) same (All-take (IsGroupOf m) k (map shape_of groups) lie.groups j d less) (is.before j d less);
+    past = λ within. is.past (work m known (with_start known) other price (shape_at (map shape_of groups) k) (back total known totals are) turned (lie.groups k (shape_of no_group) is.place) within);
   }
 
-  pub stops_known : (result : ReducedFault) → StopsAt m start price (map shape_of groups) result → WhateverIsKnown m (λ known. StopsAt m known.start other (map shape_of groups) result)
-  stops_known (fault.Group k) is = absurd is
-  stops_known (fault.Twice i) is = absurd is
-  stops_known (fault.Work k) is = first_known k is
-  stops_known fault.TooLarge is = absurd is
-  stops_known fault.Memory is = λ total known totals are. tt
+  pub stops_known : (result : ReducedFault) → WhateverIsKnown m (λ known. AreCharged m known other (map shape_of groups)) → StopsAt m start price (map shape_of groups) result → WhateverIsKnown m (StopsBy m other (map shape_of groups) result)
+  stops_known (fault.Group k) charged is = absurd is
+  stops_known (fault.Twice i) charged is = absurd is
+  stops_known (fault.Charge i t) charged is = absurd is
+  stops_known (fault.Work k) charged is = λ total known totals are. (charged total known totals are, first_known k is total known totals are)
+  stops_known fault.TooLarge charged is = absurd is
+  stops_known fault.Memory charged is = λ total known totals are. tt
 
 -- THE ANSWER
 
@@ -138,14 +106,14 @@ module _ (m : Problem) (rank : ℕ → ℕ) (summed : Summed) (den : ℕ) (group
       ap (λ z. (pos den *ℤ pos (column_cost m c)) -ℤ z) (sym (are.columns c has))
       ∙ abs_up left (omega (arith, linear, costs c has))
 
-  module _ (total : ℕ → ℕ) (rows : List LinRow) (times : List ℤ) (totals : AreLargestTotals m total) (are : AreSumsOf m summed rows times) (known : Known) (is_known : AreKnown m total known) where
+  module _ (total : ℕ → ℕ) (rows : List LinRow) (times : List ℤ) (totals : AreLargestTotals m total) (are : AreSumsOf m summed rows times) (known : Known) (is_known : AreKnown m total known) (charged : AreCharged m known price shapes) where
     abbrev groups_for : All (IsWithinWork m known.start price) shapes → AreGroupsFor m total rows times den shapes
     groups_for within = record {
       known = known;
       is_known = is_known;
       price = price;
       reduced = reduced rows times are;
-      apart = apart_by m known price groups lie;
+      apart = record { lie = lie; charged = charged };
       within = within;
     }
 
@@ -180,36 +148,50 @@ module _ (m : Problem) (rank : ℕ → ℕ) (summed : Summed) (den : ℕ) (group
           from.1,
     )
 
-  answer_known : (floor : Floor) (answer : ReducedSum) → IsSumOfFloors m price shapes floor → WhateverIsKnown m (λ known. All (IsWithinWork m known.start price) shapes) → IsAnswerFrom summed.right.sum floor (Ok answer) → OfSums m summed (λ total rows times. IsAnswerOf m total rows times den shapes answer)
-  answer_known floor answer floors within from = λ total rows times totals are.
+  answer_known : (floor : Floor) (answer : ReducedSum) → IsSumOfFloors m price shapes floor → WhateverIsKnown m (λ known. All (IsWithinWork m known.start price) shapes) → WhateverIsKnown m (λ known. AreCharged m known price shapes) → IsAnswerFrom summed.right.sum floor (Ok answer) → OfSums m summed (λ total rows times. IsAnswerOf m total rows times den shapes answer)
+  answer_known floor answer floors within charged from = λ total rows times totals are.
       let (known, is_known) = exists m rank total ranks totals in
-      answered total rows times totals are known is_known (within total known totals is_known) floor answer (floors total known totals is_known) from
+      answered total rows times totals are known is_known (charged total known totals is_known) (within total known totals is_known) floor answer (floors total known totals is_known) from
 
-  fault_known : (floor : Floor) (e : ReducedFault) → IsSumOfFloors m price shapes floor → WhateverIsKnown m (λ known. All (IsWithinWork m known.start price) shapes) → IsAnswerFrom summed.right.sum floor (Err e) → OfSums m summed (λ total rows times. IsReducedFaultOf m total rows times den groups e)
-  fault_known floor e floors within from = λ total rows times totals are.
+  fault_known : (floor : Floor) (e : ReducedFault) → IsSumOfFloors m price shapes floor → WhateverIsKnown m (λ known. All (IsWithinWork m known.start price) shapes) → WhateverIsKnown m (λ known. AreCharged m known price shapes) → IsAnswerFrom summed.right.sum floor (Err e) → OfSums m summed (λ total rows times. IsReducedFaultOf m total rows times den groups e)
+  fault_known floor e floors within charged from = λ total rows times totals are.
       let (known, is_known) = exists m rank total ranks totals in
-      passed total rows times totals are known is_known (within total known totals is_known) floor e (floors total known totals is_known) from
+      passed total rows times totals are known is_known (charged total known totals is_known) (within total known totals is_known) floor e (floors total known totals is_known) from
 
-  pub answer_found : (floor : Floor) (result : Result ReducedSum ReducedFault) → IsSumOfFloors m price shapes floor → WhateverIsKnown m (λ known. All (IsWithinWork m known.start price) shapes) → IsAnswerFrom summed.right.sum floor result → IfOk result (λ answer. OfSums m summed (λ total rows times. IsAnswerOf m total rows times den shapes answer))
-  answer_found floor (Ok answer) floors within from = answer_known floor answer floors within from
-  answer_found floor (Err e) floors within from = tt
+  pub answer_found : (floor : Floor) (result : Result ReducedSum ReducedFault) → IsSumOfFloors m price shapes floor → WhateverIsKnown m (λ known. All (IsWithinWork m known.start price) shapes) → WhateverIsKnown m (λ known. AreCharged m known price shapes) → IsAnswerFrom summed.right.sum floor result → IfOk result (λ answer. OfSums m summed (λ total rows times. IsAnswerOf m total rows times den shapes answer))
+  answer_found floor (Ok answer) floors within charged from = answer_known floor answer floors within charged from
+  answer_found floor (Err e) floors within charged from = tt
 
-  pub fault_found : (floor : Floor) (result : Result ReducedSum ReducedFault) → IsSumOfFloors m price shapes floor → WhateverIsKnown m (λ known. All (IsWithinWork m known.start price) shapes) → IsAnswerFrom summed.right.sum floor result → IfErr result (λ e. OfSums m summed (λ total rows times. IsReducedFaultOf m total rows times den groups e))
-  fault_found floor (Ok answer) floors within from = tt
-  fault_found floor (Err e) floors within from = fault_known floor e floors within from
+  pub fault_found : (floor : Floor) (result : Result ReducedSum ReducedFault) → IsSumOfFloors m price shapes floor → WhateverIsKnown m (λ known. All (IsWithinWork m known.start price) shapes) → WhateverIsKnown m (λ known. AreCharged m known price shapes) → IsAnswerFrom summed.right.sum floor result → IfErr result (λ e. OfSums m summed (λ total rows times. IsReducedFaultOf m total rows times den groups e))
+  fault_found floor (Ok answer) floors within charged from = tt
+  fault_found floor (Err e) floors within charged from = fault_known floor e floors within charged from
 
-  pub stop_found : (e : ReducedFault) → WhateverIsKnown m (λ known. StopsAt m known.start price shapes e) → OfSums m summed (λ total rows times. IsReducedFaultOf m total rows times den groups e)
+  pub stop_found : (e : ReducedFault) → WhateverIsKnown m (StopsBy m price shapes e) → OfSums m summed (λ total rows times. IsReducedFaultOf m total rows times den groups e)
   stop_found (fault.Group k) stops = λ total rows times totals are. let (known, is_known) = exists m rank total ranks totals in absurd (stops total known totals is_known)
   stop_found (fault.Twice i) stops = λ total rows times totals are. let (known, is_known) = exists m rank total ranks totals in absurd (stops total known totals is_known)
-  stop_found (fault.Work k) stops = λ total rows times totals are.
+  stop_found (fault.Charge i t) stops = λ total rows times totals are.
       let (known, is_known) = exists m rank total ranks totals in
+      let over = stops total known totals is_known in
       record {
         known = known;
         is_known = is_known;
         price = price;
         reduced = reduced rows times are;
-        apart = apart_by m known price groups lie;
-        first = stops total known totals is_known;
+        lie = lie;
+        charge = over.charge;
+        charges = over.charges;
+        first = over.first;
+      }
+  stop_found (fault.Work k) stops = λ total rows times totals are.
+      let (known, is_known) = exists m rank total ranks totals in
+      let past = stops total known totals is_known in
+      record {
+        known = known;
+        is_known = is_known;
+        price = price;
+        reduced = reduced rows times are;
+        apart = record { lie = lie; charged = past.0 };
+        first = past.1;
       }
   stop_found fault.TooLarge stops = λ total rows times totals are. let (known, is_known) = exists m rank total ranks totals in absurd (stops total known totals is_known)
   stop_found fault.Memory stops = λ total rows times totals are. tt

@@ -1,17 +1,16 @@
--- Of a problem in which no item is its own component, weights, starts and lots exist, and they are the same by all largest totals.
+-- Of a problem in which no item is its own component, starts and lots exist, and they are the same by all largest totals.
 use Rattle.std.proofs.Common.{◌≡◌, ◌≤◌, ◌<◌, ◌+◌, ◌*◌, ◌⊎◌, ⊎_elim, inl, inr, ℕ, zero, suc, refl, sym, subst, arith}
 use Rattle.std.specs.Prelude.{min, Option, Some, None, IfSome}
 use Rattle.std.proofs.lemmas.Bool.{cases_eq, cases_lt}
-use Rattle.bill.specs.Laws.{WeightsExist}
 use Rattle.lot_sizing.specs.Laws.{TotalsAreOne}
 use Rattle.lot_sizing.specs.Sums.{sum_to}
 use Rattle.lot_sizing.specs.Problem.{Problem, capacity, item_at, item_count, resource_count, setup_time, unit_time}
 use Rattle.lot_sizing.specs.Plan.{Table}
-use Rattle.lot_sizing.specs.Bill.{bill_of}
 use Rattle.lot_sizing.specs.Totals.{AreLargestTotals, IsRanking}
 use Rattle.lot_sizing.proofs.Sums.{sum_to-front, sum_to_at}
 use Rattle.must_start.specs.MustStart.{AreMustStart, greatest_to, must_arrive_in_time}
 use Rattle.must_start.specs.Lots.{IsLargestLot, IsPossibleLot}
+use Rattle.late_starts.specs.OnTime.{OnTimeExists}
 use Rattle.must_start.proofs.Greatest.{greatest_same}
 use Rattle.must_start.proofs.Starts.{arrival_same}
 use Rattle.reduced_groups.specs.Groups.{AreKnown, Known}
@@ -120,11 +119,11 @@ module _ (m : Problem) (total : ℕ → ℕ) (i t : ℕ) where
 
 -- ALL THAT IS KNOWN
 
-pub known_exists : (m : Problem) (rank total : ℕ → ℕ) → WeightsExist → IsRanking m rank → (known : Known) × AreKnown m total known
+pub known_exists : (m : Problem) (rank total : ℕ → ℕ) → OnTimeExists → IsRanking m rank → (known : Known) × AreKnown m total known
 known_exists m rank total exist ranks =
-    let (weight, weigh) = exist (bill_of m) rank ranks in (
-      record { weight = weight; start = start_to m (all_levels m rank); lot = λ i t. (largest_lot m total i t).0 },
-      record { weight = weigh; start = starts_are m rank ranks; lot = λ i t low high t_low t_high. (largest_lot m total i t).1 },
+    let (on_time, timed) = exist m rank ranks in (
+      record { start = start_to m (all_levels m rank); on_time = on_time; lot = λ i t. (largest_lot m total i t).0 },
+      record { start = starts_are m rank ranks; on_time = timed; lot = λ i t low high t_low t_high. (largest_lot m total i t).1 },
     )
 
 -- by other totals lots are the same
@@ -136,7 +135,7 @@ lot_by_both m total more i t lot same is = record {
 
 pub known_by_both : (m : Problem) (rank total more : ℕ → ℕ) (known : Known) → TotalsAreOne → IsRanking m rank → AreLargestTotals m total → AreLargestTotals m more → AreKnown m total known → AreKnown m more known
 known_by_both m rank total more known one ranks totals others is = record {
-  weight = is.weight;
   start = is.start;
+  on_time = is.on_time;
   lot = λ i t low high t_low t_high. lot_by_both m total more i t (known.lot i t) (one m rank total more ranks totals others i low high) (is.lot i t low high t_low t_high);
 }

@@ -4,3 +4,4 @@ mod Faulty
 mod Adding
 mod Pricing
 mod Answering
+mod Charging

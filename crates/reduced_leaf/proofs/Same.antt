@@ -22,7 +22,7 @@ pos_same : (a b : ℕ) → pos a ≡ pos b → a ≡ b
 pos_same a b e = grind (arith, ints, e)
 
 -- a column has one price
-price_one : (m : Problem) (rows : List LinRow) (times : List ℤ) (den : ℕ) (price other : Column → ℕ) → AreReduced m rows times den price → AreReduced m rows times den other → (c : Column) → IsColumn m c → price c ≡ other c
+pub price_one : (m : Problem) (rows : List LinRow) (times : List ℤ) (den : ℕ) (price other : Column → ℕ) → AreReduced m rows times den price → AreReduced m rows times den other → (c : Column) → IsColumn m c → price c ≡ other c
 price_one m rows times den price other is also c has = pos_same (price c) (other c) (sym (is c has) ∙ also c has)
 
 pub prices_one : (m : Problem) (rows : List LinRow) (times : List ℤ) (den : ℕ) (price other : Column → ℕ) → AreReduced m rows times den price → AreReduced m rows times den other → AreSamePrices m price other
@@ -38,7 +38,7 @@ module _ (m : Problem) (rank total more : ℕ → ℕ) (rows : List LinRow) (tim
       let to = also.groups in
       let over = both m by.known to.known by.price to.price shapes is.amounts
       (alike m rank total more by.known to.known ranks totals others by.is_known to.is_known)
-      (prices_one m rows times den by.price to.price by.reduced to.reduced) by.apart.groups is.numbers in
+      (prices_one m rows times den by.price to.price by.reduced to.reduced) by.apart.lie.groups is.numbers in
       let same = one m to.known to.price shapes is.amounts also.amounts over also.numbers in
       is.sum_is ∙ (ap (λ xs. right_sum rows times +ℤ pos (sum_of xs)) same ∙ sym also.sum_is)
 
@@ -49,7 +49,7 @@ module _ (m : Problem) (rank total more : ℕ → ℕ) (rows : List LinRow) (tim
       choices m to.known to.price shapes is.amounts
       (both m by.known to.known by.price to.price shapes is.amounts
       (alike m rank total more by.known to.known ranks totals others by.is_known to.is_known)
-      (prices_one m rows times den by.price to.price by.reduced to.reduced) by.apart.groups is.numbers)
+      (prices_one m rows times den by.price to.price by.reduced to.reduced) by.apart.lie.groups is.numbers)
       lacks.lacks
 
   abbrev groups_by_both : TotalsAreOne → AreGroupsFor m total rows times den shapes → AreGroupsFor m more rows times den shapes
@@ -78,4 +78,4 @@ sum_bounds m rank total rows times den shapes sum bound some ranks totals signed
 pub lacks_refutes : (m : Problem) (rank total : ℕ → ℕ) (rows : List LinRow) (times : List ℤ) (den : ℕ) (shapes : List GroupShape) → GroupsRefute → 1 ≤ m.periods → IsRanking m rank → AreLargestTotals m total → LacksOneChoice m total rows times den shapes → (p : Plan) → IsFeasible m p → ⊥
 lacks_refutes m rank total rows times den shapes refute some ranks totals is p f =
     let by = is.groups in
-    refute m rank total by.known some ranks totals by.is_known by.price shapes by.apart.groups is.lacks p f
+    refute m rank total by.known some ranks totals by.is_known by.price shapes by.apart.lie.groups is.lacks p f

@@ -15,7 +15,7 @@ use Rattle.reduced_leaf.specs.declared.sums.ReducedFault.TheVariants.{Memory}
 use Rattle.reduced_leaf.specs.Leaf.{IsAnswerOf, IsReducedSum, LacksOneChoice}
 use Rattle.reduced_leaf.specs.Faults.{IsReducedFaultOf}
 
--- of a problem in which no item is its own component the weights, starts and lots are known
+-- of a problem in which no item is its own component it is known what must have been started, what is on time, and the largest lots
 abbrev pub KnownExists : Type 0
 KnownExists = (m : Problem) (rank total : ℕ → ℕ) → IsRanking m rank → AreLargestTotals m total → (known : Known) × AreKnown m total known
 

@@ -2,6 +2,7 @@
 ghost use Rattle.std.specs.Prelude.{◌≡◌, ◌≤◌, ◌<◌, ◌+◌, ◌^◌, pos, ◌+ℤ◌, length, map, IfErr, IfOk, IfSome, IsNone};
 ghost use Rattle.std.specs.List.{All};
 ghost use Rattle.must_start.specs.Rows.{IsMustStartOf, start_in};
+ghost use Rattle.late_starts.specs.Rows.{IsOnTimeOf};
 ghost use Rattle.reduced_groups.specs.Prices.{ArePricesFor, price_in};
 ghost use Rattle.reduced_groups.specs.Floors.{AreGroupsOf, IsWithinWork, shape_of};
 ghost use Rattle.reduced_leaf.specs.Found.{AreBoth, IsSumOfFloors, IsWorkFault, StopsAt};
@@ -9,6 +10,7 @@ ghost use Rattle.reduced_leaf.specs.Found.{AreBoth, IsSumOfFloors, IsWorkFault, 
 use crate::sums::ReducedFault;
 use chain_dp::ChainTables;
 use item_groups::Group;
+use late_starts::OnTime;
 use lot_model::Instance;
 use must_start::MustStart;
 use reduced_groups::{Floor, FloorFault, GroupPrices, group_floor};
@@ -46,10 +48,12 @@ pub(crate) fn floors_of(
     alloc: Global,
     instance: &Instance,
     started: &MustStart,
+    on_time: &OnTime,
     prices: &GroupPrices,
     groups: &[Group],
 ) -> Result<Floor, ReducedFault>
     requires started { IsMustStartOf instance.now started.now }
+    requires on_time { IsOnTimeOf instance.now on_time.now }
     requires prices { ArePricesFor instance.now prices.now }
     requires groups { AreGroupsOf instance.now groups.now }
     ensures floor { IfOk result
@@ -69,6 +73,7 @@ pub(crate) fn floors_of(
             &mut tables,
             instance,
             started,
+            on_time,
             prices,
             &groups[place],
         ) {

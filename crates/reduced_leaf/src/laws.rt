@@ -1,17 +1,17 @@
 // Laws, each the contract of a function that does nothing.
 ghost use Rattle.reduced_leaf.specs.Laws.{ChoicesAreOne, FaultsExclude, KnownExists, LacksByBoth, ReducedSumBounds, ReducedSumRefutes, SumByBoth, SumsAreOne};
 
-use bill::totals_exist;
+use late_starts::{charges_cover, on_time_is_one};
 use lot_sizing::totals_are_one;
 use must_start::must_start_holds;
 use reduced_groups::{groups_bound, numbers_are_one, reduced_costs_bound};
 
-/// Of every problem in which no item is its own component the weights, what must have been started and the largest lots
-/// are known, so that what is said of all of them is said of some.
+/// Of every problem in which no item is its own component it is known what must have been started, what is on time and
+/// what the largest lots are, so that what is said of all of them is said of some.
 pub fn known_exists()
     ensures { KnownExists }
 {
-    totals_exist();
+    on_time_is_one();
 }
 
 /// The sum of rows that hold at a feasible plan, and of groups, is at most `den` times its cost (`bound`). Where one of
@@ -32,6 +32,7 @@ pub fn reduced_sums_are_one()
     ensures faults { FaultsExclude }
 {
     numbers_are_one();
+    charges_cover();
 }
 
 /// Rows and groups have the same sum by all largest totals of a problem (`sum`), and a group has no choice by all of

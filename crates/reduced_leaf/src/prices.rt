@@ -1,5 +1,5 @@
 // The reduced costs of setups and quantities.
-ghost use Rattle.std.specs.Prelude.{◌≡◌, ◌≤◌, ◌<◌, ◌^◌, pos, ◌-ℤ◌, ◌*ℤ◌, ◌≤ℤ◌, IfOk, map};
+ghost use Rattle.std.specs.Prelude.{◌≡◌, ◌≤◌, ◌<◌, ◌^◌, pos, ◌-◌, ◌-ℤ◌, ◌*ℤ◌, ◌≤ℤ◌, IfOk, map};
 ghost use Rattle.lot_sizing.specs.Problem.{item_count};
 ghost use Rattle.lin_rows.specs.Columns.{IsColumn, column_cost};
 ghost use Rattle.lin_rows.specs.Sums.{total_of};
@@ -34,8 +34,9 @@ fn column_of(kind: Kind, item: u32, period: u32) -> Column
 // What a sum leaves of a cost that is at least as much.
 fn left_of(whole: u128, sum: i128) -> u128
     requires within { sum ≤ℤ pos whole }
-    requires small { whole < 2 ^ 127 }
-    ensures { pos result ≡ pos whole -ℤ sum }
+    requires small { whole < 2 ^ 126 }
+    ensures value { pos result ≡ pos whole -ℤ sum }
+    ensures small { result < 2 ^ 128 - 1 }
 {
     if sum < 0 {
         whole + sum.unsigned_abs()
@@ -44,11 +45,12 @@ fn left_of(whole: u128, sum: i128) -> u128
     }
 }
 
-// The reduced cost of a column.
-fn price_of(instance: &Instance, sums: &Sums, den: u64, column: Column) -> u128
+// The reduced cost of a column, which stays below the greatest number of 128 bits.
+pub(crate) fn price_of(instance: &Instance, sums: &Sums, den: u64, column: Column) -> u128
     requires column { IsColumn instance.now column }
     requires within { AreSumsWithin instance.now sums.now den }
-    ensures { result ≡ left_price instance.now sums.now den column }
+    ensures value { result ≡ left_price instance.now sums.now den column }
+    ensures small { result < 2 ^ 128 - 1 }
 {
     let whole = u128::from(den) * u128::from(column_cost(instance, column));
     left_of(whole, sums.column(column))

@@ -1,15 +1,18 @@
 // The sum of rows and groups.
 ghost use Rattle.std.specs.Prelude.{map, IfErr, IfOk, MatchOption};
 ghost use Rattle.std.specs.List.{All};
-ghost use Rattle.reduced_groups.specs.Floors.{IsWithinWork, LieApart, WhateverIsKnown, shape_of};
+ghost use Rattle.reduced_groups.specs.Apart.{AreCharged, LieApart};
+ghost use Rattle.reduced_groups.specs.Floors.{IsWithinWork, WhateverIsKnown, shape_of};
 ghost use Rattle.reduced_leaf.specs.Leaf.{IsAnswerOf};
 ghost use Rattle.reduced_leaf.specs.Faults.{AreSumsWithin, IsReducedFaultOf, OfSums};
-ghost use Rattle.reduced_leaf.specs.Found.{IsAnswerFrom, IsFaultFrom, IsSumOfFloors, IsSumWith, PassesSum, StopsAt, left_price};
+ghost use Rattle.reduced_leaf.specs.Found.{IsAnswerFrom, IsFaultFrom, IsSumOfFloors, IsSumWith, PassesSum, StopsBy, left_price};
 
+use crate::charges::pay_shares;
 use crate::floors::floors_of;
 use crate::laws::known_exists;
 use crate::prices::prices_of;
 use item_groups::Group;
+use late_starts::{OnTime, charges_cover};
 use lin_rows::Sums;
 use lot_model::{Instance, an_instance_breaks_no_rule};
 use must_start::MustStart;
@@ -35,6 +38,15 @@ pub enum ReducedFault {
     /// This item is the first in more than one place of the groups.
     #[error("item {0} is in more than one group")]
     Twice(u32),
+    /// What falls short at the shares of late groups charges more on the backlog of this item at the end of this period
+    /// than its reduced cost. It is the first one by item and then by period.
+    #[error("more is charged on the backlog of item {item} in period {period} than it costs")]
+    Charge {
+        /// The item, counted from 1.
+        item: u32,
+        /// The period, counted from 1.
+        period: u32,
+    },
     /// The group at this place, counted from 0, is the first that takes too much work or has numbers that are too large.
     #[error("group {0} is past the limits")]
     Work(usize),
@@ -90,7 +102,8 @@ fn answer_of(right: i128, floor: Floor) -> Result<ReducedSum, ReducedFault>
     }
 }
 
-// The numbers of groups that lie apart, added, at the reduced costs. Without groups nothing is computed.
+// The numbers of groups that lie apart, added, at the reduced costs, where these pay for their shares. Without groups
+// nothing is computed.
 fn floors_at(
     alloc: Global,
     instance: &Instance,
@@ -106,18 +119,24 @@ fn floors_at(
     ensures within { IfOk result (λ _. WhateverIsKnown instance.now (λ known.
         All (IsWithinWork instance.now known.start (left_price instance.now sums.now den))
         (map shape_of groups.now))) }
-    ensures fault { IfErr result (λ fault. WhateverIsKnown instance.now (λ known.
-        StopsAt instance.now known.start (left_price instance.now sums.now den)
+    ensures charged { IfOk result (λ _. WhateverIsKnown instance.now (λ known.
+        AreCharged instance.now known (left_price instance.now sums.now den)
+        (map shape_of groups.now))) }
+    ensures fault { IfErr result (λ fault. WhateverIsKnown instance.now
+        (StopsBy instance.now (left_price instance.now sums.now den)
         (map shape_of groups.now) fault)) }
 {
+    numbers_are_one();
+    charges_cover();
+    an_instance_breaks_no_rule(instance);
     if groups.is_empty() {
         return Ok(Floor::Least(0));
     }
-    numbers_are_one();
-    an_instance_breaks_no_rule(instance);
+    let on_time = OnTime::of(alloc, instance)?;
+    pay_shares(alloc, instance, sums, den, &on_time, groups)?;
     let started = MustStart::of(alloc, instance)?;
     let prices = prices_of(alloc, instance, sums, den)?;
-    floors_of(alloc, instance, &started, &prices, groups)
+    floors_of(alloc, instance, &started, &on_time, &prices, groups)
 }
 
 // The sum of rows and of groups that lie apart.
@@ -147,12 +166,13 @@ fn sum_apart(
 /// which takes a column more often than `den` times its cost. `den` times the cost of each feasible plan at which the
 /// rows hold is at least as much (`reduced_sum_bounds`), in the unit of the columns' costs.
 ///
-/// The errors are, in this order: the first group that is none of the model, the first item in two places, the first
-/// group whose work is past the limits, and a sum that is too large; and that memory ran out. A group without a choice
-/// counts only where no group is refused.
+/// The errors are, in this order: the first group that is none of the model, the first item in two places, shares of late
+/// groups that charge more on a backlog than its reduced cost, the first group whose work is past the limits, and a sum
+/// that is too large; and that memory ran out. A group without a choice counts only where no group is refused.
 ///
-/// Without groups it takes no time; with them, time in the number of items times periods, and that of `group_floor` for
-/// each group.
+/// Without groups it takes no time; with them, time in the number of periods times lines of components, and that of
+/// `group_floor` for each group; where shares of late groups are more than 0, also in the number of periods times pairs
+/// of items.
 pub fn reduced_sum(
     alloc: Global,
     instance: &Instance,

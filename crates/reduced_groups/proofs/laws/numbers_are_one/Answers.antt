@@ -9,10 +9,10 @@ pub returns-clause-choices : goal.returns-clause-choices
 returns-clause-choices c = λ m known price shapes amounts are lacks. numbers_lack m known price shapes amounts are lacks
 
 pub returns-clause-known : goal.returns-clause-known
-returns-clause-known c = λ m rank total more a b ranks totals others is_a is_b. known_alike m rank total more a b c.must_start_holds.ensures.one ranks totals others is_a is_b
+returns-clause-known c = λ m rank total more a b ranks totals others is_a is_b. known_alike m rank total more a b c.must_start_holds.ensures.one c.on_time_is_one.ensures.one ranks totals others is_a is_b
 
 pub returns-clause-apart : goal.returns-clause-apart
-returns-clause-apart c = λ m a b price other shapes same prices is. apart_same m a b same price other shapes prices is
+returns-clause-apart c = λ m a b price other shapes same prices is. apart_same m a b same price other shapes c.charges_cover.ensures.agree prices is
 
 pub returns-clause-both : goal.returns-clause-both
 returns-clause-both c = λ m a b price other shapes amounts same prices here are. numbers_same m a b price other same prices shapes amounts here are

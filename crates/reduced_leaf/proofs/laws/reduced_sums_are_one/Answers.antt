@@ -15,4 +15,5 @@ returns-clause-choices c = λ m rank total more rows times den shapes ranks tota
 pub returns-clause-faults : goal.returns-clause-faults
 returns-clause-faults c = λ m rank total rows times den groups fault answer ranks totals told is has.
     let laws = c.numbers_are_one.ensures in
-    faults_exclude m rank total rows times den groups (record { alike = laws.known; both = laws.both; one = laws.one; choices = laws.choices; work = laws.work }) ranks totals fault answer told is has
+    let shares = c.charges_cover.ensures in
+    faults_exclude m rank total rows times den groups (record { alike = laws.known; both = laws.both; one = laws.one; choices = laws.choices; work = laws.work; charges = shares.one; agree = shares.agree }) ranks totals fault answer told is has

@@ -11,4 +11,4 @@ loop-period-preserved c =
     let f = λ (u : _). price (column_of c.args.kind c.args.item u) in
     let e : t ≡ t + 1 - 1 = omega arith in
     subst (HasSeries (t + 1 - 1) f) (sym c.in_ok-push.ensures.items)
-    (series_next (t - 1) (t + 1 - 1) c.price_of.result f c.loop-period.row.items (omega (arith, c.loop-period.auto.period)) c.loop-period.invariant (c.price_of.ensures ∙ (ap price c.column_of.ensures ∙ ap f e)))
+    (series_next (t - 1) (t + 1 - 1) c.price_of.result f c.loop-period.row.items (omega (arith, c.loop-period.auto.period)) c.loop-period.invariant (c.price_of.ensures.value ∙ (ap price c.column_of.ensures ∙ ap f e)))

@@ -12,7 +12,7 @@ returns-in-Ok-clause-answer c =
     let fits : SFits w128 c.right.result = search rules in
     let right : to_z w128 (of_z w128 c.right.result) ≡ c.right.result = to_z-of_z fits in
     answer_found c.args.instance.now rank c.args.sums.now c.args.den c.args.groups.now c.known_exists.ensures ranks c.requires.costs c.requires.apart
-    c.in-Ok.floor c.answer_of.result c.in-Ok.ensures.floor c.in-Ok.ensures.within
+    c.in-Ok.floor c.answer_of.result c.in-Ok.ensures.floor c.in-Ok.ensures.within c.in-Ok.ensures.charged
     (subst (λ z. IsAnswerFrom z c.in-Ok.floor c.answer_of.result) (right ∙ c.right.ensures) c.answer_of.ensures)
 
 pub returns-in-Ok-clause-fault : goal.returns-in-Ok-clause-fault
@@ -21,7 +21,7 @@ returns-in-Ok-clause-fault c =
     let fits : SFits w128 c.right.result = search rules in
     let right : to_z w128 (of_z w128 c.right.result) ≡ c.right.result = to_z-of_z fits in
     fault_found c.args.instance.now rank c.args.sums.now c.args.den c.args.groups.now c.known_exists.ensures ranks c.requires.costs c.requires.apart
-    c.in-Ok.floor c.answer_of.result c.in-Ok.ensures.floor c.in-Ok.ensures.within
+    c.in-Ok.floor c.answer_of.result c.in-Ok.ensures.floor c.in-Ok.ensures.within c.in-Ok.ensures.charged
     (subst (λ z. IsAnswerFrom z c.in-Ok.floor c.answer_of.result) (right ∙ c.right.ensures) c.answer_of.ensures)
 
 pub returns-in-Err-clause-fault : goal.returns-in-Err-clause-fault
