@@ -5,11 +5,15 @@ use Rattle.std.specs.List.{All}
 use Rattle.std.proofs.lemmas.List.Elements.{All-nil}
 use Rattle.algebra.proofs.Integers.{add_zero}
 use Rattle.algebra.proofs.Order.{linear}
+use Rattle.lot_sizing.specs.Problem.{Problem}
+use Rattle.lot_sizing.specs.Plan.{EachCell, Table}
+use Rattle.lot_sizing.specs.Totals.{IsRanking}
 use Rattle.lin_rows.specs.declared.column.Column.{Column}
 use Rattle.lin_rows.specs.Columns.{IsColumn, column_cost}
+use Rattle.late_starts.specs.Charges.{ChargesExist, NoShareIsCharged}
 use Rattle.reduced_groups.specs.Groups.{Known}
 use Rattle.reduced_groups.specs.Numbers.{AreNumbersOf, sum_of}
-use Rattle.reduced_groups.specs.Apart.{IsGroupHere}
+use Rattle.reduced_groups.specs.Apart.{AreApart, AreCharged, IsGroupOf, share_in}
 use Rattle.reduced_groups.specs.Floors.{IsWithinWork}
 use Rattle.reduced_groups.specs.Rows.{reduced_cost}
 use Rattle.reduced_leaf.specs.Laws.{KnownExists}
@@ -39,11 +43,32 @@ sum_is n den parts sum is =
 within_costs : (n : Named) (den : ℕ) (parts : List Part) (sum : ℤ) → IsSumOf n den parts [] sum → (c : Column) → IsColumn n.problem c → sum_of_column n parts c ≤ℤ (pos den *ℤ pos (column_cost n.problem c))
 within_costs n den parts sum is c has = omega (arith, linear, is.groups.reduced c has)
 
+-- what is known of problems: what must have been started of them, and what shares charge
+pub record AreLaws : Type 0 where
+  pub known : KnownExists
+  pub charges : ChargesExist
+  pub none : NoShareIsCharged
+
+-- no groups lie apart: they have no shares, so that nothing is charged
+none_charged : AreLaws → (m : Problem) (rank : ℕ → ℕ) (known : Known) (price : Column → ℕ) → IsRanking m rank → AreCharged m known price []
+none_charged laws m rank known price ranks =
+    let share : Table = λ i t. share_in [] i in
+    let (charge, charges) = laws.charges m rank known.on_time share ranks in
+    let no_share : EachCell m (λ i t. share i t ≡ 0) = λ i t low high t_low t_high. refl in
+    let nothing : EachCell m (λ i t. charge i t ≡ 0) = laws.none m rank known.on_time share charge ranks no_share charges in
+    record { charge = charge; charges = charges; within = λ i t is. omega (arith, nothing i t (is.0).0 (is.0).1 (is.0).2 (is.0).3) }
+
+none_apart : AreLaws → (m : Problem) (rank : ℕ → ℕ) (known : Known) (price : Column → ℕ) → IsRanking m rank → AreApart m known price []
+none_apart laws m rank known price ranks = record {
+  lie = record { groups = All-nil (IsGroupOf m); once = λ i. omega arith };
+  charged = none_charged laws m rank known price ranks;
+}
+
 -- and where none is, the right side is a sum
-plain_sum : KnownExists → (n : Named) (den : ℕ) (parts : List Part) → IsRanked n.problem n.total → ((c : Column) → IsColumn n.problem c → sum_of_column n parts c ≤ℤ (pos den *ℤ pos (column_cost n.problem c))) → IsSumOf n den parts [] (sum_of_right n parts)
-plain_sum exists n den parts ranked within =
+plain_sum : AreLaws → (n : Named) (den : ℕ) (parts : List Part) → IsRanked n.problem n.total → ((c : Column) → IsColumn n.problem c → sum_of_column n parts c ≤ℤ (pos den *ℤ pos (column_cost n.problem c))) → IsSumOf n den parts [] (sum_of_right n parts)
+plain_sum laws n den parts ranked within =
     let m = n.problem in
-    let (known, are) = exists m ranked.rank n.total ranked.ranks ranked.totals in
+    let (known, are) = laws.known m ranked.rank n.total ranked.ranks ranked.totals in
     let price = λ (c : Column). unsigned_abs (reduced_cost m (rows_of n parts) (times_of parts) den c) in
     record {
       groups = record {
@@ -51,7 +76,7 @@ plain_sum exists n den parts ranked within =
         is_known = are;
         price = price;
         reduced = λ c has. natural_is (reduced_cost m (rows_of n parts) (times_of parts) den c) (omega (arith, linear, within c has));
-        apart = record { groups = All-nil (IsGroupHere m known); once = λ i. omega arith; shares = λ j t is. omega arith };
+        apart = none_apart laws m ranked.rank known price ranked.ranks;
         within = All-nil (IsWithinWork m known.start price);
       };
       amounts = [];
@@ -59,7 +84,7 @@ plain_sum exists n den parts ranked within =
       sum_is = sym (add_zero (sum_of_right n parts));
     }
 
-module _ (exists : KnownExists) (n : Named) (parts : List Part) (lists : List ListShape) (ranked : IsRanked n.problem n.total) (each : All (HasEach n) lists) where
+module _ (laws : AreLaws) (n : Named) (parts : List Part) (lists : List ListShape) (ranked : IsRanked n.problem n.total) (each : All (HasEach n) lists) where
   pub bound_linear : (den bound : ℕ) → IsReducedBound n den parts lists [] bound → IsLinear n (pos den) (all_parts parts lists) bound
   bound_linear den bound is =
       let all = all_parts parts lists in
@@ -78,7 +103,7 @@ module _ (exists : KnownExists) (n : Named) (parts : List Part) (lists : List Li
         listed = record { parts_exist = is.parts_exist; each = each };
         positive = omega (arith, linear, is.positive);
         sum = sum_of_right n all;
-        adds = plain_sum exists n den all ranked is.columns;
+        adds = plain_sum laws n den all ranked is.columns;
         right = is.right;
       }
 
@@ -102,5 +127,5 @@ module _ (exists : KnownExists) (n : Named) (parts : List Part) (lists : List Li
       record {
         ranked = ranked;
         listed = record { parts_exist = is.parts_exist; each = each };
-        refuted = inr (refl, sum_of_right n all, plain_sum exists n 0 all ranked (λ c has. omega (arith, linear, is.columns c has)), is.right);
+        refuted = inr (refl, sum_of_right n all, plain_sum laws n 0 all ranked (λ c has. omega (arith, linear, is.columns c has)), is.right);
       }

@@ -4,20 +4,22 @@ use Rattle.std.specs.Prelude.{min, map, Some, ℤ, pos, negsuc}
 use Rattle.std.proofs.lemmas.List.Elements.{All-from_recursion, All-nil}
 use Rattle.algebra.proofs.Order.{linear}
 use Rattle.lot_sizing.specs.Sums.{sum_to}
-use Rattle.lot_sizing.specs.Problem.{capacity, item_at, setup_time, unit_time}
+use Rattle.lot_sizing.specs.Problem.{capacity, item_at, item_count, per_unit, setup_time, unit_time}
 use Rattle.lot_sizing.specs.Bill.{one_if_same}
 use Rattle.lot_sizing.specs.Plan.{Table}
 use Rattle.lot_sizing.specs.Single.{NetPlan}
 use Rattle.lin_rows.specs.declared.base.RowName.TheVariants.{Balance}
 use Rattle.lin_rows.specs.declared.column.Column.{Column}
 use Rattle.lin_rows.specs.declared.column.Column.TheVariants.{X, Y, S, R}
-use Rattle.must_start.specs.MustStart.{AreMustStart, greatest_to, must_arrive_in_time}
+use Rattle.must_start.specs.MustStart.{AreMustStart, greatest_to, must_arrive, must_arrive_in_time}
 use Rattle.must_start.specs.Lots.{IsLargestLot, IsPossibleLot}
+use Rattle.late_starts.specs.OnTime.{AreOnTime, arrival}
+use Rattle.late_starts.specs.Charges.{AreCharges, arriving_load, charge_of}
 use Rattle.quantity_dp.specs.Lots.{IsChoice, IsLeastPrice, price}
 use Rattle.quantity_dp.specs.declared.limits.TheConstants.{MAX_ENTRIES, MAX_PRICE}
 use Rattle.item_groups.specs.declared.group.Group.TheVariants.{Quantities}
 use Rattle.reduced_groups.specs.Groups.{AreKnown, GroupShape, Known, QuantityGroup, lots_in}
-use Rattle.reduced_groups.specs.Apart.{AreApart, IsGroupHere, IsItem, times_in}
+use Rattle.reduced_groups.specs.Apart.{AreApart, IsGroupOf, IsItem, share_in, times_in}
 use Rattle.reduced_groups.specs.Floors.{IsWithinWork, shape_of}
 use Rattle.reduced_groups.specs.Rows.{AreReduced, reduced_cost}
 use Rattle.reduced_leaf.specs.Leaf.{AreGroupsFor, IsSmallSum}
@@ -50,12 +52,18 @@ start i (suc zero) = 2
 start i (suc (suc t)) = 10
 
 abbrev known : Known
-known = record { weight = weight; start = start; lot = λ i t. 5 }
+known = record { start = start; on_time = start; lot = λ i t. 5 }
 
 start_is : AreMustStart model start
 start_is = record {
   none = λ i low high. refl;
   each = cells (λ i t. start i t ≡ greatest_to (min (t + (item_at model i).lead) model.periods) (must_arrive_in_time model start i)) refl refl;
+}
+
+on_time_is : AreOnTime model start
+on_time_is = record {
+  none = λ i low high. refl;
+  each = cells (λ i t. start i t ≡ must_arrive model start i (arrival model i t)) refl refl;
 }
 
 possible : (t : ℕ) → capacity model 1 t ≡ 6 → IsPossibleLot model total 1 t 5
@@ -73,8 +81,8 @@ largest t is = record {
 
 known_is : AreKnown model total known
 known_is = record {
-  weight = known_model.weights;
   start = start_is;
+  on_time = on_time_is;
   lot = cells (λ i t. IsLargestLot model total i t 5) (largest 1 refl) (largest 2 refl);
 }
 
@@ -104,8 +112,8 @@ reduced : AreReduced model (rows_of at_root parts) (times_of parts) 1 cost_of
 reduced = columns (λ c. reduced_cost model (rows_of at_root parts) (times_of parts) 1 c ≡ pos (cost_of c)) refl refl refl refl refl refl
 
 -- ---- the group
-here : IsGroupHere model known (QuantityGroup 1)
-here = record { items = All-from_recursion (IsItem model) (1 ∷ []) ((omega arith, omega arith), tt); allowed = tt }
+here : IsGroupOf model (QuantityGroup 1)
+here = record { items = All-from_recursion (IsItem model) (1 ∷ []) ((omega arith, omega arith), tt); linked = tt }
 
 once : (i : ℕ) → times_in shapes i ≤ 1
 once i = at_most i
@@ -113,11 +121,20 @@ once i = at_most i
     at_most : (j : ℕ) → (one_if_same 1 j + 0) + 0 ≤ 1
     at_most j = grind arith
 
+abbrev nothing : Table
+nothing i t = 0
+
+no_charge : AreCharges model start (λ i t. share_in shapes i) nothing
+no_charge = record {
+  load = nothing;
+  loads = record { each = cells (λ j v. nothing j v ≡ share_in shapes j + sum_to (item_count model) (λ i. per_unit model i j * arriving_load model start nothing i v)) refl refl };
+  each = cells (λ i v. nothing i v ≡ charge_of model start nothing i v) refl refl;
+}
+
 lie_apart : AreApart model known cost_of shapes
 lie_apart = record {
-  groups = All-from_recursion (IsGroupHere model known) shapes (here, tt);
-  once = once;
-  shares = λ j t is. absurd (no_back j (is.0).0 (is.0).1 is.2);
+  lie = record { groups = All-from_recursion (IsGroupOf model) shapes (here, tt); once = once };
+  charged = record { charge = nothing; charges = no_charge; within = λ j t is. absurd (no_back j (is.0).0 (is.0).1 is.2) };
 }
 
 within : IsWithinWork model start cost_of (QuantityGroup 1)

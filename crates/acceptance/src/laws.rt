@@ -6,6 +6,7 @@ ghost use Rattle.acceptance.specs.Worked.{IsAcceptedHere, IsKnownModel, by_branc
 ghost use Rattle.acceptance.specs.Laws.{AcceptedByBoth, AcceptedIsTrue, AcceptedOverRanges, CutRowsAreOne, CutRowsByPlaces, CutRowsGoOn, CutsHold, EchelonRowsAreOne, FitsByBoth, LeavesBound, PlainIsLinear, SaysAreOne, SmallCutsGoOn, WholeByBoth};
 
 use echelon_rows::{cost_rows_hold, priced_is_net};
+use late_starts::charges_cover;
 use lin_rows::{sums_bound, sums_hold, sums_refute};
 use lot_sizing::{echelons_balance, totals_are_bounded, totals_are_one, weights_are_one};
 use reduced_leaf::{known_exists, reduced_by_both, reduced_sum_bounds, reduced_sums_are_one};
@@ -68,6 +69,7 @@ pub fn plain_is_linear()
     ensures { PlainIsLinear }
 {
     known_exists();
+    charges_cover();
 }
 
 /// Cuts have one list of rows, in a problem within the limits.

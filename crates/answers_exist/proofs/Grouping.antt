@@ -1,38 +1,37 @@
--- Groups that are meant by certificates take no backlogs: where no item is in two places, they lie apart.
-use Rattle.std.proofs.Common.{◌≡◌, ◌≤◌, ◌+◌, ℕ, refl, arith, List, [], ◌∷◌}
-use Rattle.std.specs.Prelude.{map}
-use Rattle.std.specs.List.{All}
-use Rattle.std.proofs.lemmas.List.Elements.{All-cons, All-head, All-nil, All-tail}
-use Rattle.lot_sizing.specs.Problem.{Problem}
+-- What groups charge on backlogs is within the reduced costs of all of them, or above that of a first one.
+use Rattle.std.proofs.Common.{◌≤◌, ◌⊎◌, ⊎_elim, inl, inr, ℕ, arith}
+use Rattle.lot_sizing.specs.Problem.{IsWithinLimits, Problem, item_count}
+use Rattle.lot_sizing.specs.Plan.{Table}
 use Rattle.lin_rows.specs.declared.column.Column.{Column}
-use Rattle.item_groups.specs.declared.group.Group.{Group}
-use Rattle.item_groups.specs.declared.group.Group.TheVariants as group
-use Rattle.reduced_groups.specs.Groups.{Known}
-use Rattle.reduced_groups.specs.Apart.{AreApart, IsGroupHere, shared_by}
-use Rattle.reduced_groups.specs.Floors.{IsGroupOf, LieApart, shape_of}
+use Rattle.lin_rows.specs.declared.column.Column.TheVariants.{R}
+use Rattle.lin_rows.specs.Columns.{IsColumn}
+use Rattle.plan_rules.specs.Order.{IsFirst}
+use Rattle.reduced_leaf.specs.Faults.{IsFirstOver}
+use Rattle.existence.proofs.Deciding.{Decided, each_or_first, if_or_not, le_or_not}
+use Rattle.answers_exist.proofs.Columns.{column_or_not}
 
-one_here : (m : Problem) (known : Known) (g : Group) → IsGroupOf m (shape_of g) → IsGroupHere m known (shape_of g)
-one_here m known (group.Item i) is = record { items = is.items; allowed = tt }
-one_here m known (group.Quantities i) is = record { items = is.items; allowed = tt }
-one_here m known (group.Pair low top) is = record { items = is.items; allowed = is.linked }
-one_here m known (group.Triple low mid top) is = record { items = is.items; allowed = is.linked }
+module _ (m : Problem) (limits : IsWithinLimits m) (price : Column → ℕ) (charge : Table) where
+  -- it is on this backlog, where there is one
+  abbrev IsWithin : ℕ → ℕ → Type 0
+  IsWithin j t = IsColumn m (R j t) → charge j t ≤ price (R j t)
 
-all_here : (m : Problem) (known : Known) (groups : List Group) → All (IsGroupOf m) (map shape_of groups) → All (IsGroupHere m known) (map shape_of groups)
-all_here m known [] are = All-nil (IsGroupHere m known)
-all_here m known (g ∷ groups) are =
-    let P = IsGroupOf m in
-    All-cons (IsGroupHere m known) (shape_of g) (map shape_of groups) (one_here m known g (All-head P (shape_of g) (map shape_of groups) are)) (all_here m known groups (All-tail P (shape_of g) (map shape_of groups) are))
+  within_or_not : (j t : ℕ) → Decided (IsWithin j t)
+  within_or_not j t = if_or_not (column_or_not m limits (R j t)) (le_or_not (charge j t) (price (R j t)))
 
-none_shared : (known : Known) (groups : List Group) (j t : ℕ) → shared_by known (map shape_of groups) j t ≡ 0
-none_shared known [] j t = refl
-none_shared known (group.Item i ∷ groups) j t = omega (arith, none_shared known groups j t)
-none_shared known (group.Quantities i ∷ groups) j t = omega (arith, none_shared known groups j t)
-none_shared known (group.Pair low top ∷ groups) j t = omega (arith, none_shared known groups j t)
-none_shared known (group.Triple low mid top ∷ groups) j t = omega (arith, none_shared known groups j t)
+  first_over : (j t : ℕ) → IsFirst (item_count m) m.periods IsWithin j t → IsFirstOver m price charge j t
+  first_over j t first =
+      ⊎_elim
+      (λ has. record {
+        column = has;
+        above = ⊎_elim (λ le. absurd (first.broken (λ _. le))) (λ not_le. omega (arith, not_le)) (le_or_not (charge j t) (price (R j t)));
+        before = λ k u is sooner. first.before k u is.0.0 is.0.1 is.0.2 is.0.3 sooner is;
+      })
+      (λ none. absurd (first.broken (λ has. absurd (none has))))
+      (column_or_not m limits (R j t))
 
-pub apart_of : (m : Problem) (known : Known) (price : Column → ℕ) (groups : List Group) → LieApart m (map shape_of groups) → AreApart m known price (map shape_of groups)
-apart_of m known price groups is = record {
-  groups = all_here m known groups is.groups;
-  once = is.once;
-  shares = λ j t has. omega (arith, none_shared known groups j t);
-}
+  pub charged_or_over : ((j t : ℕ) → IsColumn m (R j t) → charge j t ≤ price (R j t)) ⊎ ((j t : ℕ) × IsFirstOver m price charge j t)
+  charged_or_over =
+      ⊎_elim
+      (λ each. inl (λ j t has. each j t has.0.0 has.0.1 has.0.2 has.0.3 has))
+      (λ found. inr (found.0, found.1, first_over found.0 found.1 found.2))
+      (each_or_first (item_count m) m.periods IsWithin within_or_not)

@@ -1,12 +1,10 @@
 -- Each leaf says enough for a claim or has a fault, and so does each tree: whichever largest totals are taken.
-use Rattle.std.proofs.Common.{◌≡◌, ◌≤◌, ◌<◌, ◌+◌, ◌-◌, ◌∙◌, ◌⊎◌, ⊎_elim, inl, inr, ℕ, zero, suc, refl, sym, ap, subst, arith, List, [], ◌∷◌, ◌++◌, length}
-use Rattle.std.specs.Prelude.{ℤ, pos, negsuc, ◌*ℤ◌, ◌≤ℤ◌, ◌<ℤ◌, unsigned_abs}
+use Rattle.std.proofs.Common.{◌≡◌, ◌≤◌, ◌<◌, ◌+◌, ◌∙◌, ◌⊎◌, ⊎_elim, inl, inr, ℕ, zero, suc, refl, sym, ap, subst, arith, List, [], ◌∷◌, ◌++◌, length}
+use Rattle.std.specs.Prelude.{ℤ, pos, ◌*ℤ◌, ◌≤ℤ◌, ◌<ℤ◌}
 use Rattle.std.specs.List.{All}
 use Rattle.std.proofs.lemmas.Bool.{cases_eq}
-use Rattle.std.proofs.lemmas.Int.{by_lt_z, ints}
+use Rattle.std.proofs.lemmas.Int.{by_lt_z}
 use Rattle.std.proofs.lemmas.List.Elements.{All-append}
-use Rattle.std.proofs.Math.Nat.{mul-le-mul_right}
-use Rattle.algebra.proofs.Order.{linear}
 use Rattle.lot_sizing.specs.Problem.{EachItem, IsWithinLimits, Problem, item_count}
 use Rattle.lot_sizing.specs.Plan.{EachCell, Plan, cost}
 use Rattle.lot_sizing.specs.Least.{HasChoice, least_plan}
@@ -19,7 +17,6 @@ use Rattle.lin_rows.specs.Columns.{column_cost}
 use Rattle.lin_rows.specs.Combining.{AreOfProblem, right_sum}
 use Rattle.lin_rows.specs.Rows.{LinRow}
 use Rattle.cert_lines.specs.declared.parts.Claim.{Claim}
-use Rattle.cert_lines.specs.declared.parts.Claim.TheVariants.{Optimal, Infeasible, Bound as BoundOf}
 use Rattle.cert_lines.specs.declared.parts.Part.{Part}
 use Rattle.cert_lines.specs.Shapes.{FarkasLeaf, LeafShape, LinearLeaf, PointLeaf, ReducedLeaf}
 use Rattle.certificate.specs.Shapes.{End, Split, TreeShape}
@@ -32,12 +29,11 @@ use Rattle.acceptance.specs.declared.says.LeafSays.TheVariants.{NoPlan, AtLeast}
 use Rattle.acceptance.specs.Named.{Named, names}
 use Rattle.acceptance.specs.Parts.{sum_of_right, times_of}
 use Rattle.acceptance.specs.Says.{HasOneValue, IsRoundedUp, Says, point_make, point_setup}
-use Rattle.acceptance.specs.Accepts.{IsEnough}
 use Rattle.cert_checker.specs.declared.fault.Why.{Why}
 use Rattle.cert_checker.specs.declared.fault.Why.TheVariants as why
 use Rattle.cert_checker.specs.Leaves.{HasDenominator, IsFarkasFault, IsSumFault, farkas_most}
 use Rattle.cert_checker.specs.Checks.{HaveDenominators, IsGoodLeaf, IsGoodTree, IsNodeFault, IsTreeFault, ground}
-use Rattle.existence.proofs.Deciding.{Decided, both_or_not, each_or_first, le_or_not, lt_or_not, all_or_first}
+use Rattle.existence.proofs.Deciding.{Decided, both_or_not, each_or_first, le_or_not, lt_or_not}
 use Rattle.existence.proofs.Judging.{feasible_or_not}
 use Rattle.answers_exist.proofs.Columns.{four_or_not}
 use Rattle.answers_exist.proofs.Enough.{enough_or_not, has_rounded_up, none_is_enough}

@@ -12,7 +12,6 @@ use Rattle.lin_rows.specs.declared.base.RowName.TheVariants.{Balance, Link, Capa
 use Rattle.lin_rows.specs.Texts.{one_text}
 use Rattle.round_cuts.specs.declared.rounding.TheConstants.{MAX_DIVISOR}
 use Rattle.item_groups.specs.declared.group.ChainLink.{ChainLink}
-use Rattle.item_groups.specs.declared.group.Group.{Group}
 use Rattle.item_groups.specs.declared.group.Group.TheVariants as group
 use Rattle.cert_lines.specs.declared.limits.TheConstants.{MAX_GROUPS, MAX_LINE, MAX_LISTS, MAX_PARTS, MAX_ROUND_PARTS, REDUCED_CERT_VERSION}
 use Rattle.cert_lines.specs.declared.parts.ListKind.{ListKind}
@@ -325,6 +324,11 @@ module _ (Good Bad : LineShape → Type 0) (either : (l : LineShape) → IsSmall
   item_found : Found ⊎ ((i : ℕ) → i < bound_32 → IfSmall (GroupLine (group.Item i)))
   item_found = one LineShape bound_32 (λ i. GroupLine (group.Item i)) Good IfSmall (λ i low. if_small (GroupLine (group.Item i)) (inl low))
 
+  late_found : Found ⊎ ((i share : ℕ) → i < bound_32 → share < bound_64 → IfSmall (GroupLine (group.Late i share)))
+  late_found =
+      two LineShape bound_32 bound_64 (λ i share. GroupLine (group.Late i share)) Good IfSmall
+      (λ i share low high. if_small (GroupLine (group.Late i share)) (inl (low, high)))
+
   quantities_found : Found ⊎ ((i : ℕ) → i < bound_32 → IfSmall (GroupLine (group.Quantities i)))
   quantities_found = one LineShape bound_32 (λ i. GroupLine (group.Quantities i)) Good IfSmall (λ i low. if_small (GroupLine (group.Quantities i)) (inl low))
 
@@ -355,7 +359,7 @@ module _ (Good Bad : LineShape → Type 0) (either : (l : LineShape) → IsSmall
       (both ls_found (both price_found (both block_found round_found)))
       (both
       (both part_found (both branch_found (both linear_found (both farkas_found (both (if_found PointLine tt) (if_found EndLine tt))))))
-      (both reduced_found (both list_found (both item_found (both quantities_found (both pair_found triple_found)))))))
+      (both reduced_found (both list_found (both item_found (both late_found (both quantities_found (both pair_found triple_found))))))))
     where
       if_found : (l : LineShape) → IsSmallLine l → Found ⊎ Bad l
       if_found l small = ⊎_elim (λ good. inl (l, good)) (λ bad. inr bad) (either l small)
@@ -363,7 +367,7 @@ module _ (Good Bad : LineShape → Type 0) (either : (l : LineShape) → IsSmall
       each :
           ((x : Marked) → IsMarked x → IfSmall (ls_line x)) × (((x : Priced) → IsPriced x → IfSmall (price_of x)) × (((x : Priced × List ℕ) → IsStepped x → IfSmall (block_of x)) × ((q k : ℕ) → q < MAX_DIVISOR + 1 → k < MAX_ROUND_PARTS + 1 → IfSmall (RoundLine q k))))
           → ((x : RowName × ℤ) → IsSmallName x.0 × Is127 (unsigned_abs x.1) → IfSmall (part_of x)) × (((x : Column × ℕ) → IsSmallColumn x.0 × Is64 x.1 → IfSmall (BranchLine x.0 x.1)) × (((x : ℤ × ℕ) → Is127 (unsigned_abs x.0) × (x.1 < MAX_PARTS + 1) → IfSmall (LinearLine x.0 x.1)) × (((k : ℕ) → k < MAX_PARTS + 1 → IfSmall (FarkasLine k)) × (Bad PointLine × Bad EndLine))))
-          → ((x : Four) → IsReduced x → IfSmall (ReducedLine x.0.0 x.0.1 x.1.0 x.1.1)) × (((x : Listed) → IsListed x → IfSmall (list_of_words x)) × (((i : ℕ) → i < bound_32 → IfSmall (GroupLine (group.Item i))) × (((i : ℕ) → i < bound_32 → IfSmall (GroupLine (group.Quantities i))) × (((x : Paired) → ArePaired x → IfSmall (pair_of x)) × ((x : (ℕ × ℕ) × Paired) → IsLink x.0 × ArePaired x.1 → IfSmall (triple_of x))))))
+          → ((x : Four) → IsReduced x → IfSmall (ReducedLine x.0.0 x.0.1 x.1.0 x.1.1)) × (((x : Listed) → IsListed x → IfSmall (list_of_words x)) × (((i : ℕ) → i < bound_32 → IfSmall (GroupLine (group.Item i))) × (((i share : ℕ) → i < bound_32 → share < bound_64 → IfSmall (GroupLine (group.Late i share))) × (((i : ℕ) → i < bound_32 → IfSmall (GroupLine (group.Quantities i))) × (((x : Paired) → ArePaired x → IfSmall (pair_of x)) × ((x : (ℕ × ℕ) × Paired) → IsLink x.0 × ArePaired x.1 → IfSmall (triple_of x)))))))
           → (l : LineShape) → HasForm l → Bad l
       each cuts others reduced (CutLine (LsCut item last chosen)) form =
           let small = form.small in
@@ -400,13 +404,16 @@ module _ (Good Bad : LineShape → Type 0) (either : (l : LineShape) → IsSmall
           let long = three_long (codes "parts ") (kind_text a.kind) (one_text a.index) (signed_list_text a.times) MAX_LINE form.short in
           reduced.1.0 (a.kind, (a.index, a.times)) (tt, (small.0, (omega (arith, long, signed_long a.times), small.1))) small
       each cuts others reduced (GroupLine (group.Item i)) form = reduced.1.1.0 i form.small form.small
-      each cuts others reduced (GroupLine (group.Quantities i)) form = reduced.1.1.1.0 i form.small form.small
+      each cuts others reduced (GroupLine (group.Late i share)) form =
+          let small = form.small in
+          reduced.1.1.1.0 i share small.0 small.1 small
+      each cuts others reduced (GroupLine (group.Quantities i)) form = reduced.1.1.1.1.0 i form.small form.small
       each cuts others reduced (GroupLine (group.Pair low top)) form =
           let small = form.small in
-          reduced.1.1.1.1.0 ((low.item, low.opening_price), (top.item, top.opening_price)) (small.0, small.1) small
+          reduced.1.1.1.1.1.0 ((low.item, low.opening_price), (top.item, top.opening_price)) (small.0, small.1) small
       each cuts others reduced (GroupLine (group.Triple low mid top)) form =
           let small = form.small in
-          reduced.1.1.1.1.1 ((low.item, low.opening_price), ((mid.item, mid.opening_price), (top.item, top.opening_price))) (small.0, (small.1, small.2)) small
+          reduced.1.1.1.1.1.1 ((low.item, low.opening_price), ((mid.item, mid.opening_price), (top.item, top.opening_price))) (small.0, (small.1, small.2)) small
       each cuts others reduced EndLine form = others.1.1.1.1.1
 
 -- ---- the first line of a text

@@ -1,5 +1,5 @@
 -- Each leaf over reduced costs says enough for a claim or has a fault: whichever largest totals are taken.
-use Rattle.std.proofs.Common.{◌≡◌, ◌≤◌, ◌<◌, ◌+◌, ◌^◌, ◌∙◌, ◌⊎◌, ⊎_elim, inl, inr, ℕ, zero, suc, refl, sym, subst, arith, List, [], ◌∷◌, ◌++◌, length, take, slice_index_or}
+use Rattle.std.proofs.Common.{◌≡◌, ◌≤◌, ◌<◌, ◌+◌, ◌^◌, ◌⊎◌, ⊎_elim, inl, inr, ℕ, suc, refl, sym, subst, arith, List, [], ◌∷◌, length, take, slice_index_or}
 use Rattle.std.specs.Prelude.{ℤ, pos, negsuc, ◌+ℤ◌, ◌-ℤ◌, ◌*ℤ◌, ◌≤ℤ◌, ◌<ℤ◌, map, unsigned_abs}
 use Rattle.std.specs.List.{All, flat_map}
 use Rattle.std.proofs.lemmas.Bool.{cases_eq}
@@ -7,24 +7,27 @@ use Rattle.std.proofs.lemmas.Int.{by_lt_z}
 use Rattle.std.proofs.lemmas.List.Elements.{All-append, All-cons, All-head, All-nil, All-tail}
 use Rattle.algebra.proofs.Order.{linear}
 use Rattle.lot_sizing.specs.Problem.{EachItem, IsWithinLimits, Problem}
+use Rattle.lot_sizing.specs.Plan.{Table}
 use Rattle.lot_sizing.specs.Totals.{AreLargestTotals, IsRanking}
 use Rattle.lin_rows.specs.declared.bound.Bound.{Bound}
 use Rattle.lin_rows.specs.declared.column.Column.{Column}
-use Rattle.lin_rows.specs.Columns.{IsColumn, column_cost}
-use Rattle.lin_rows.specs.Combining.{AreOfProblem, column_sum, right_sum}
+use Rattle.lin_rows.specs.declared.column.Column.TheVariants.{R}
+use Rattle.lin_rows.specs.Columns.{column_cost}
+use Rattle.lin_rows.specs.Combining.{AreOfProblem, right_sum}
 use Rattle.lin_rows.specs.Rows.{LinRow}
-use Rattle.must_start.specs.Lots.{IsLargestLot, IsPossibleLot}
+use Rattle.must_start.specs.Lots.{IsLargestLot}
+use Rattle.late_starts.specs.Charges.{AreCharges, ChargesExist}
 use Rattle.item_groups.specs.declared.group.Group.{Group}
 use Rattle.reduced_groups.specs.declared.apart.GroupFault.{GroupFault}
 use Rattle.reduced_groups.specs.declared.apart.GroupFault.TheVariants as place
 use Rattle.reduced_groups.specs.Groups.{AreKnown, GroupShape, Known}
-use Rattle.reduced_groups.specs.Numbers.{AreNumbersOf, SomeLacksChoice, sum_of}
+use Rattle.reduced_groups.specs.Numbers.{SomeLacksChoice, sum_of}
 use Rattle.reduced_groups.specs.Rows.{AreReduced, reduced_cost}
-use Rattle.reduced_groups.specs.Floors.{IsGroupFaultOf, IsWithinWork, LieApart, shape_of}
-use Rattle.reduced_leaf.specs.declared.sums.ReducedFault.{ReducedFault}
+use Rattle.reduced_groups.specs.Apart.{AreApart, LieApart, share_in}
+use Rattle.reduced_groups.specs.Floors.{IsGroupFaultOf, IsWithinWork, shape_of}
 use Rattle.reduced_leaf.specs.declared.sums.ReducedFault.TheVariants as reduced
 use Rattle.reduced_leaf.specs.Leaf.{AreGroupsFor, IsReducedSum, IsSmallSum, LacksOneChoice}
-use Rattle.reduced_leaf.specs.Faults.{IsFirstPast}
+use Rattle.reduced_leaf.specs.Faults.{IsFirstOver, IsFirstPast, IsOvercharged}
 use Rattle.reduced_leaf.specs.Laws.{ChoicesAreOne, KnownExists, LacksByBoth, SumByBoth, SumsAreOne}
 use Rattle.group_existence.specs.Laws.{GroupsAreJudged, IsPastFirst, NumbersExist, WorkIsJudged}
 use Rattle.cert_lines.specs.declared.parts.Claim.{Claim}
@@ -35,21 +38,22 @@ use Rattle.split_trees.specs.Ranges.{WithTotals, whole_ranges}
 use Rattle.acceptance.specs.declared.says.LeafSays.TheVariants.{NoPlan, AtLeast}
 use Rattle.acceptance.specs.Named.{Named, names}
 use Rattle.acceptance.specs.Parts.{AreParts, IsPart, rows_of, times_of}
-use Rattle.acceptance.specs.Lists.{AreListed, HasEach, all_parts, parts_of_list}
-use Rattle.acceptance.specs.Says.{GroupLacksChoice, IsRanked, IsReducedRefuted, IsSumOf, Says}
+use Rattle.acceptance.specs.Lists.{AreListed, all_parts, parts_of_list}
+use Rattle.acceptance.specs.Says.{GroupLacksChoice, IsRanked, IsSumOf, Says}
 use Rattle.acceptance.specs.Accepts.{IsSmallLeaf}
 use Rattle.cert_checker.specs.declared.fault.Why.{Why}
 use Rattle.cert_checker.specs.declared.fault.Why.TheVariants as why
-use Rattle.cert_checker.specs.Leaves.{IsFirstWrongList, IsGoodSum, IsGroupsFault, IsList, IsReducedFault, IsWrongList, no_list}
+use Rattle.cert_checker.specs.Leaves.{IsGoodSum, IsGroupsFault, IsList, IsWrongList, no_list}
 use Rattle.cert_checker.specs.Checks.{IsGoodLeaf, IsNodeFault, ground}
 use Rattle.existence.proofs.Deciding.{Decided}
 use Rattle.answers_exist.proofs.Enough.{enough_or_not, has_rounded_up, none_is_enough}
-use Rattle.answers_exist.proofs.Grouping.{apart_of}
-use Rattle.answers_exist.proofs.Sums.{good_same, le_z_or_not, not_both, parts_out, parts_same, range_wrong, rows_same, sign_wrong, sum_out}
+use Rattle.answers_exist.proofs.Grouping.{charged_or_over}
+use Rattle.answers_exist.proofs.Sums.{good_same, not_both, parts_out, parts_same, range_wrong, rows_same, sign_wrong, sum_out}
 
 -- what the laws below say
 pub record ReducedGrounds : Type 0 where
   pub exists : KnownExists
+  pub charges : ChargesExist
   pub numbers : NumbersExist
   pub judged : GroupsAreJudged
   pub work : WorkIsJudged
@@ -136,8 +140,8 @@ module _
 
   known_to : (b : ℕ → ℕ) → Same b → (known : Known) → AreKnown m a known → AreKnown m b known
   known_to b same known are = record {
-    weight = are.weight;
     start = are.start;
+    on_time = are.on_time;
     lot = λ i t low high t_low t_high. lot_to b i t (known.lot i t) (same i low high) (are.lot i t low high t_low t_high);
   }
 
@@ -185,15 +189,15 @@ module _
             inl (inr (parts_same m limits a one cuts path b same parts parts_are, inr (lists_to b same lists lists_are, inr (good_to b same, faults b totals)))),
       )
 
-      -- ---- groups that lie apart
-      module _ (apart : LieApart m shapes) (known : Known) (are : AreKnown m a known) where
-        price : Column → ℕ
-        price c = unsigned_abs (reduced_cost m rows times den c)
+      price : Column → ℕ
+      price c = unsigned_abs (reduced_cost m rows times den c)
 
-        is_reduced : AreReduced m rows times den price
-        unfolding price
-        is_reduced c has = natural (reduced_cost m rows times den c) (omega (arith, linear, good.columns c has))
+      is_reduced : AreReduced m rows times den price
+      unfolding price
+      is_reduced c has = natural (reduced_cost m rows times den c) (omega (arith, linear, good.columns c has))
 
+      -- ---- groups that lie apart, and whose shares are paid for by the backlogs
+      module _ (known : Known) (are : AreKnown m a known) (apart : AreApart m known price shapes) where
         past_fault : (k : ℕ) → IsPastFirst m known.start price shapes k → Fault
         past_fault k past =
             group_fault (line + 1 + length parts + length lists + k) why.Work
@@ -208,7 +212,7 @@ module _
                   is_known = known_to b same known are;
                   price = price;
                   reduced = is_reduced;
-                  apart = apart_of m known price groups apart;
+                  apart = apart;
                   first = record { place = past.place; before = past.before; past = past.past };
                 }),
               ),
@@ -216,7 +220,7 @@ module _
 
         module _ (within : All (IsWithinWork m known.start price) shapes) where
           are_groups : AreGroupsFor m a rows times den shapes
-          are_groups = record { known = known; is_known = are; price = price; reduced = is_reduced; apart = apart_of m known price groups apart; within = within }
+          are_groups = record { known = known; is_known = are; price = price; reduced = is_reduced; apart = apart; within = within }
 
           sum_to : (sum : ℤ) → IsReducedSum m a rows times den shapes sum → (b : ℕ → ℕ) → AreLargestTotals m b → IsSumOf (here b) den all groups sum
           sum_to sum is b totals = subst (λ rs. IsReducedSum m b rs times den shapes sum) (same_rows b (one b totals)) (by.sums m rank a b rows times den shapes ranks totals_a totals sum is)
@@ -327,6 +331,37 @@ module _
         apart_out : Good ⊎ Fault
         apart_out = ⊎_elim (λ within. numbers_out within) (λ past. inr (past_fault past.0 past.1)) (by.work m known.start price groups)
 
+      -- ---- groups that lie apart
+      module _ (lie : LieApart m shapes) (known : Known) (are : AreKnown m a known) (charge : Table) (charges : AreCharges m known.on_time (λ i t. share_in shapes i) charge) where
+        over_fault : (i t : ℕ) → IsFirstOver m price charge i t → Fault
+        over_fault i t over =
+            group_fault line (why.Column (R i t))
+            (λ b totals.
+            let same = one b totals in (
+              ranked b totals,
+              inl (
+                reduced.Charge i t,
+                (refl, refl),
+                subst (λ rs. IsOvercharged m b rs times den shapes i t) (same_rows b same) (record {
+                  known = known;
+                  is_known = known_to b same known are;
+                  price = price;
+                  reduced = is_reduced;
+                  lie = lie;
+                  charge = charge;
+                  charges = charges;
+                  first = over;
+                }),
+              ),
+            ))
+
+        charged_out : Good ⊎ Fault
+        charged_out =
+            ⊎_elim
+            (λ within. apart_out known are (record { lie = lie; charged = record { charge = charge; charges = charges; within = within } }))
+            (λ over. inr (over_fault over.0 over.1 over.2))
+            (charged_or_over m limits price charge)
+
       place_fault : (fault : GroupFault) → IsGroupFaultOf m groups fault → Fault
       place_fault (place.Group k) is = group_fault (line + 1 + length parts + length lists + k) why.Range (λ b totals. (ranked b totals, inl (reduced.Group k, (refl, refl), is)))
       place_fault (place.Twice i) is = group_fault line why.Range (λ b totals. (ranked b totals, inl (reduced.Twice i, (refl, refl), is)))
@@ -334,7 +369,10 @@ module _
       groups_are_out : Good ⊎ Fault
       groups_are_out =
           ⊎_elim
-          (λ apart. let known = by.exists m rank a ranks totals_a in apart_out apart known.0 known.1)
+          (λ lie.
+          let known = by.exists m rank a ranks totals_a in
+          let charged = by.charges m rank known.0.on_time (λ i t. share_in shapes i) ranks in
+          charged_out lie known.0 known.1 charged.0 charged.1)
           (λ other. inr (place_fault other.0 other.1))
           (by.judged m groups)
 

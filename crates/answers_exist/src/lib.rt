@@ -4,9 +4,10 @@
 //! Family: search. It stands on `base_bound`, `cert_checker`, `cert_stream`, `existence` and `group_existence`; `lotplan`
 //! stands on it.
 //!
-//! The laws of `existence` speak of models, plans and exact runs, and those of `group_existence` of the groups of leaves.
-//! These go on to what is made of them: with all of them all words and files call for a status. The proofs go through all
-//! lines within the limits, all columns and all blocks; no program does that.
+//! The laws of `existence` speak of models, plans and exact runs, those of `group_existence` of the groups of leaves, and
+//! one of `late_starts` of what such groups charge on backlogs. These go on to what is made of them: with all of them all
+//! words and files call for a status. The proofs go through all lines within the limits, all columns and all blocks; no
+//! program does that.
 #![tactic(auto)]
 
 ghost use Rattle.answers_exist.specs.Bounding.{BoundsComeOut};
@@ -18,6 +19,7 @@ use bill::totals_exist;
 use cert_stream::taken_are_bodies;
 use existence::{plans_are_judged, runs_come_out};
 use group_existence::{groups_are_judged, numbers_exist};
+use late_starts::charges_cover;
 use lot_sizing::{least_stocks_are_best, totals_are_one, weights_are_one};
 use reduced_leaf::{known_exists, reduced_by_both, reduced_sums_are_one};
 use root_rows::{base_names_are_all, empty_is_said, least_is_said};
@@ -59,6 +61,7 @@ pub fn certificates_come_out()
     plans_are_within();
     plans_are_judged();
     known_exists();
+    charges_cover();
     numbers_exist();
     groups_are_judged();
     reduced_sums_are_one();

@@ -89,6 +89,7 @@ module _ (n : Named) (den : ℕ) (parts : List Part) (lists : List ListShape) (g
 pub has_line : (m : Problem) (total : ℕ → ℕ) (rows : List LinRow) (times : List ℤ) (den : ℕ) (groups : List Group) (f : ReducedFault) (first : ℕ) → IsReducedFaultOf m total rows times den groups f → first + length groups < 2 ^ 64 → HasLine f first
 has_line m total rows times den groups (fault.Group k) first is few = omega (arith, is.place, few)
 has_line m total rows times den groups (fault.Twice i) first is few = tt
+has_line m total rows times den groups (fault.Charge i t) first is few = tt
 has_line m total rows times den groups (fault.Work k) first is few = omega (arith, is.first.place, few, length-map groups shape_of)
 has_line m total rows times den groups fault.TooLarge first is few = tt
 has_line m total rows times den groups fault.Memory first is few = tt

@@ -4,7 +4,6 @@ use Rattle.std.specs.Prelude.{ℤ, pos, ◌<ℤ◌}
 use Rattle.algebra.proofs.Order.{linear}
 use Rattle.item_groups.specs.declared.group.Group.{Group}
 use Rattle.reduced_groups.specs.Floors.{shape_of}
-use Rattle.reduced_groups.specs.Laws.{KnownAreAlike, WorkByBoth}
 use Rattle.reduced_leaf.specs.declared.sums.ReducedFault.{ReducedFault}
 use Rattle.reduced_leaf.specs.declared.sums.ReducedFault.TheVariants as reduced
 use Rattle.reduced_leaf.specs.declared.sums.ReducedSum.{ReducedSum}
@@ -25,7 +24,7 @@ use Rattle.acceptance.specs.Accepts.{IsSmallLeaf}
 use Rattle.acceptance.specs.Laws.{SaysAreOne}
 use Rattle.cert_checker.specs.declared.fault.Why.{Why}
 use Rattle.cert_checker.specs.Leaves.{AreWithinMost, IsGroupsFault, IsReducedFault, IsRefusedAs, IsShortReduced, linear_most}
-use Rattle.cert_checker.proofs.GroupFaults.{FaultsAreOne, faults_are_one}
+use Rattle.cert_checker.proofs.GroupFaults.{AreGroupLaws, FaultsAreOne, faults_are_one}
 use Rattle.cert_checker.proofs.Listed.{listed_lists, listed_parts, no_first_wrong_list}
 use Rattle.cert_checker.proofs.SumNever.{no_first_wrong, no_sum_fault}
 
@@ -37,8 +36,8 @@ pub record AreLeafLaws : Type 0 where
   pub exclude : FaultsExclude
   pub faults : FaultsAreOne
 
-pub leaf_laws : SaysAreOne → SumsAreOne → ChoicesAreOne → FaultsExclude → KnownAreAlike → WorkByBoth → AreLeafLaws
-leaf_laws says sums choices exclude alike work = record { says = says; sums = sums; choices = choices; exclude = exclude; faults = faults_are_one alike work }
+pub leaf_laws : SaysAreOne → SumsAreOne → ChoicesAreOne → FaultsExclude → AreGroupLaws → AreLeafLaws
+leaf_laws says sums choices exclude groups = record { says = says; sums = sums; choices = choices; exclude = exclude; faults = faults_are_one groups }
 
 -- a refusal isn't want of memory
 pub not_memory : (f : ReducedFault) (line first at : ℕ) (w : Why) → IsRefusedAs f line first at w → f ≢ reduced.Memory

@@ -41,6 +41,7 @@ one_stage A B Good one next none at other w v (inr x) (inr y) = next at other w 
 same_refusal : (f : ReducedFault) (line first : ℕ) → IsOne (IsRefusedAs f line first)
 same_refusal (reduced.Group k) line first at other w v a b = (a.0 ∙ sym b.0, a.1 ∙ sym b.1)
 same_refusal (reduced.Twice i) line first at other w v a b = (a.0 ∙ sym b.0, a.1 ∙ sym b.1)
+same_refusal (reduced.Charge i t) line first at other w v a b = (a.0 ∙ sym b.0, a.1 ∙ sym b.1)
 same_refusal (reduced.Work k) line first at other w v a b = (a.0 ∙ sym b.0, a.1 ∙ sym b.1)
 same_refusal reduced.TooLarge line first at other w v a b = (a.0 ∙ sym b.0, a.1 ∙ sym b.1)
 same_refusal reduced.Memory line first at other w v a b = absurd a

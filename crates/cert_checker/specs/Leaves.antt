@@ -5,7 +5,7 @@ use Rattle.lot_sizing.specs.Plan.{Plan, IsFeasible, Table}
 use Rattle.lot_sizing.specs.Problem.{Problem}
 use Rattle.lin_rows.specs.declared.bound.Bound.{Bound}
 use Rattle.lin_rows.specs.declared.column.Column.{Column}
-use Rattle.lin_rows.specs.declared.column.Column.TheVariants.{X, Y}
+use Rattle.lin_rows.specs.declared.column.Column.TheVariants.{X, Y, R}
 use Rattle.lin_rows.specs.declared.base.RowName.TheVariants.{Balance}
 use Rattle.lin_rows.specs.Columns.{IsColumn, column_cost, order_of, value_in}
 use Rattle.lin_rows.specs.Rows.{LinRow}
@@ -141,6 +141,7 @@ pub record IsFirstWrongList (n : Named) (lists : List ListShape) (line at : ℕ)
 abbrev pub IsRefusedAs : ReducedFault → (line first at : ℕ) → Why → Type 0
 IsRefusedAs (reduced.Group k) line first at w = (at ≡ first + k) × (w ≡ why.Range)
 IsRefusedAs (reduced.Twice i) line first at w = (at ≡ line) × (w ≡ why.Range)
+IsRefusedAs (reduced.Charge i t) line first at w = (at ≡ line) × (w ≡ why.Column (R i t))
 IsRefusedAs (reduced.Work k) line first at w = (at ≡ first + k) × (w ≡ why.Work)
 IsRefusedAs reduced.TooLarge line first at w = (at ≡ line) × (w ≡ why.TooLarge)
 IsRefusedAs reduced.Memory line first at w = ⊥
@@ -203,6 +204,7 @@ IsShortBy den sum line at w = (at ≡ line) × (w ≡ why.Short 0) × (den ≡ 0
 abbrev pub HasLine : ReducedFault → (first : ℕ) → Type 0
 HasLine (reduced.Group k) first = first + k < 2 ^ 64
 HasLine (reduced.Twice i) first = ⊤
+HasLine (reduced.Charge i t) first = ⊤
 HasLine (reduced.Work k) first = first + k < 2 ^ 64
 HasLine reduced.TooLarge first = ⊤
 HasLine reduced.Memory first = ⊤

@@ -2,6 +2,7 @@
 ghost use Rattle.cert_checker.specs.Laws.{CertifiedIsNotRefused, ChecksAreOne, LinesAreBytes};
 
 use acceptance::{cut_rows_are_one, cut_rows_go_on, says_are_one};
+use late_starts::charges_cover;
 use plan_rules::judgement_is_one;
 use reduced_groups::numbers_are_one;
 use reduced_leaf::reduced_sums_are_one;
@@ -22,6 +23,7 @@ pub fn checks_are_one()
     says_are_one();
     reduced_sums_are_one();
     numbers_are_one();
+    charges_cover();
 }
 
 /// A certificate that is accepted, and whose sums stay below 2^127, has no refusal.
@@ -34,4 +36,5 @@ pub fn certified_is_not_refused()
     says_are_one();
     reduced_sums_are_one();
     numbers_are_one();
+    charges_cover();
 }

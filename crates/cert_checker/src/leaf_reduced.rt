@@ -15,7 +15,7 @@ use crate::parts::test_parts;
 use crate::{CheckFault, NamedSums, Rejected, Why};
 use acceptance::LeafSays;
 use certificate::{Group, ListKind, Part, PartList};
-use lin_rows::{Bound, Row, RowName};
+use lin_rows::{Bound, Column, Row, RowName};
 use lot_model::{Instance, an_instance_breaks_no_rule};
 use reduced_leaf::{ReducedFault, ReducedSum, reduced_sum, reduced_sums_are_one};
 use std::alloc::{AllocError, Global};
@@ -119,6 +119,9 @@ fn refusal(fault: ReducedFault, line: u64, first: u64) -> CheckFault
     match fault {
         ReducedFault::Group(place) => refused(first + place as u64, Why::Range),
         ReducedFault::Twice(_) => refused(line, Why::Range),
+        ReducedFault::Charge { item, period } => {
+            refused(line, Why::Column(Column::R { item, period }))
+        }
         ReducedFault::Work(place) => refused(first + place as u64, Why::Work),
         ReducedFault::TooLarge => refused(line, Why::TooLarge),
         ReducedFault::Memory => CheckFault::Memory,

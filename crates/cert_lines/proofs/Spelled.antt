@@ -111,6 +111,7 @@ last_spelled link = ap (λ t. one_text link.item ++ t) (append-nil (one_text lin
 
 group_spelled : (g : Group) → words_text (group_words g) ≡ 32 ∷ group_line g
 group_spelled (group.Item item) = one_spelled (codes "item") item
+group_spelled (group.Late item share) = two_spelled (codes "late") item share
 group_spelled (group.Quantities item) = one_spelled (codes "quantities") item
 group_spelled (group.Pair low top) = ap (λ t. word_text (codes "pair") ++ t) (link_spelled low (link_words top) ∙ ap (λ t. link_text low ++ t) (last_spelled top))
 group_spelled (group.Triple low mid top) =
@@ -198,6 +199,7 @@ link_visible link rest small r = (decimal_visible link.item (omega (arith, small
 
 group_visible : (g : Group) → IsSmallGroup g → AreVisible (group_words g)
 group_visible (group.Item item) small = one_visible (codes "item") item (search rules) (omega (arith, small))
+group_visible (group.Late item share) small = two_visible (codes "late") item share (search rules) (omega (arith, small.0)) (omega (arith, small.1))
 group_visible (group.Quantities item) small = one_visible (codes "quantities") item (search rules) (omega (arith, small))
 group_visible (group.Pair low top) small = (search rules, link_visible low (link_words top) small.0 (link_visible top [] small.1 tt))
 group_visible (group.Triple low mid top) small = (search rules, link_visible low (link_words mid ++ link_words top) small.0 (link_visible mid (link_words top) small.1 (link_visible top [] small.2 tt)))

@@ -77,6 +77,7 @@ IsSmallLink link = Is32 link.item × Is127 link.opening_price
 
 abbrev pub IsSmallGroup : Group → Type 0
 IsSmallGroup (group.Item item) = Is32 item
+IsSmallGroup (group.Late item share) = Is32 item × Is64 share
 IsSmallGroup (group.Quantities item) = Is32 item
 IsSmallGroup (group.Pair low top) = IsSmallLink low × IsSmallLink top
 IsSmallGroup (group.Triple low mid top) = IsSmallLink low × IsSmallLink mid × IsSmallLink top

@@ -93,6 +93,7 @@ link_text link = one_text link.item ++ one_text link.opening_price
 
 abbrev pub group_line : Group → List ℕ
 group_line (group.Item item) = codes "item" ++ one_text item
+group_line (group.Late item share) = codes "late" ++ (one_text item ++ one_text share)
 group_line (group.Quantities item) = codes "quantities" ++ one_text item
 group_line (group.Pair low top) = codes "pair" ++ (link_text low ++ link_text top)
 group_line (group.Triple low mid top) = codes "triple" ++ (link_text low ++ (link_text mid ++ link_text top))

@@ -99,6 +99,7 @@ link_words link = decimal link.item ∷ decimal link.opening_price ∷ []
 
 abbrev pub group_words : Group → Lines
 group_words (group.Item item) = one_words (codes "item") item
+group_words (group.Late item share) = codes "late" ∷ decimal item ∷ decimal share ∷ []
 group_words (group.Quantities item) = one_words (codes "quantities") item
 group_words (group.Pair low top) = codes "pair" ∷ (link_words low ++ link_words top)
 group_words (group.Triple low mid top) = codes "triple" ∷ (link_words low ++ (link_words mid ++ link_words top))

@@ -195,7 +195,7 @@ fn is_small_group(group: Group) -> bool
     ensures { IsTrue result ↔ IsSmallGroup group }
 {
     match group {
-        Group::Item { .. } | Group::Quantities { .. } => true,
+        Group::Item { .. } | Group::Late { .. } | Group::Quantities { .. } => true,
         Group::Pair { low, top } => is_small_link(low) && is_small_link(top),
         Group::Triple { low, mid, top } => {
             is_small_link(low) && is_small_link(mid) && is_small_link(top)

@@ -247,6 +247,9 @@ pub fn group_length(group: Group) -> u128
 {
     match group {
         Group::Item { item } => 4 + one_length(u128::from(item)),
+        Group::Late { item, share } => {
+            4 + one_length(u128::from(item)) + one_length(u128::from(share))
+        }
         Group::Quantities { item } => 10 + one_length(u128::from(item)),
         Group::Pair { low, top } => 4 + link_length(low) + link_length(top),
         Group::Triple { low, mid, top } => {

@@ -165,6 +165,26 @@ fn read_single(words: &[&[u8]]) -> Option<Group>
     }
 }
 
+// An item that may fall short, and its share.
+fn read_late(words: &[&[u8]]) -> Option<(u32, u64)>
+    ensures some { IfSome result (λ p.
+        HasWords (map (λ w. w.now) words.now) (group_words (group.Late p.0 p.1))
+        × Is32 p.0 × Is64 p.1) }
+    ensures none { IsNone result → (item share : ℕ) → Is32 item → Is64 share
+        → HasWords (map (λ w. w.now) words.now) (group_words (group.Late item share)) → ⊥ }
+{
+    if words.len() != 3 || !is_word(words, 0, b"late") {
+        return None;
+    }
+    let Some(item) = number_at(words, 1, 0, MOST_32) else {
+        return None;
+    };
+    match number_at(words, 2, 0, MOST_64) {
+        Some(share) => Some((item as u32, share as u64)),
+        None => None,
+    }
+}
+
 // A chain of two items.
 fn read_pair(words: &[&[u8]]) -> Option<(ChainLink, ChainLink)>
     ensures some { IfSome result (λ p.
@@ -218,6 +238,9 @@ pub(crate) fn read_group(words: &[&[u8]]) -> Option<Group>
 {
     if let Some(group) = read_single(words) {
         return Some(group);
+    }
+    if let Some((item, share)) = read_late(words) {
+        return Some(Group::Late { item, share });
     }
     if let Some((low, top)) = read_pair(words) {
         return Some(Group::Pair { low, top });

@@ -287,6 +287,7 @@ pub fn add_group_line(text: &mut String, group: &Group) -> Result<(), AllocError
 {
     match group {
         Group::Item { item } => write!(text, "item {item}\n")?,
+        Group::Late { item, share } => write!(text, "late {item} {share}\n")?,
         Group::Quantities { item } => write!(text, "quantities {item}\n")?,
         Group::Pair { low, top } => add_pair(text, *low, *top)?,
         Group::Triple { low, mid, top } => add_triple(text, *low, *mid, *top)?,

@@ -18,6 +18,7 @@ returns c = certificates_out (record {
   judged = c.plans_are_judged.ensures.grids;
   reduced = record {
     exists = c.known_exists.ensures;
+    charges = c.charges_cover.ensures.exist;
     numbers = c.numbers_exist.ensures;
     judged = c.groups_are_judged.ensures.apart;
     work = c.groups_are_judged.ensures.work;
