@@ -9,11 +9,13 @@
 //!
 //! `Level` has what lots of an item cost and what is asked of it. `ChainPlans::new` makes tables without memory;
 //! `plan_one`, `plan_two` and `plan_three` find the least cost of so many levels, and a plan at that cost; `made` and
-//! `setups` give the plan of each level.
+//! `setups` give the plan of each level. `plan_late` plans one level whose units may fall short at a price (Zangwill 1966), and
+//! `short` gives what falls short.
 //!
 //! Nothing is claimed of costs and plans. What is proved is that the calls are safe and return.
 #![tactic(auto)]
 
+mod late;
 mod level;
 mod numbers;
 mod plans;

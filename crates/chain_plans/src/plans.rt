@@ -1,6 +1,7 @@
 // The calls that plan a chain.
+use crate::late::{LateRows, Owing};
 use crate::level::{Level, Levels, Lots, NONE, has_lots};
-use crate::numbers::part;
+use crate::numbers::{part, within};
 use crate::quantities::Quantities;
 use crate::states::States;
 use crate::stretches::Stretches;
@@ -19,6 +20,7 @@ pub struct ChainPlans {
     top: Lots,
     stretches: Stretches,
     states: States,
+    late: LateRows,
     made_low: Quantities,
     made_mid: Quantities,
     made_top: Quantities,
@@ -64,6 +66,7 @@ impl ChainPlans {
             top: Lots::new(alloc),
             stretches: Stretches::new(alloc),
             states: States::new(alloc),
+            late: LateRows::new(alloc),
             made_low: Quantities::new(alloc),
             made_mid: Quantities::new(alloc),
             made_top: Quantities::new(alloc),
@@ -76,6 +79,7 @@ impl ChainPlans {
         self.made_low.clear();
         self.made_mid.clear();
         self.made_top.clear();
+        self.late.short.clear();
     }
 
     /// The least cost of a level, and a plan at that cost; `NONE` and no plan where it is `NONE` or more, or where the lists of
@@ -95,6 +99,40 @@ impl ChainPlans {
         self.made_low.begin(lots)?;
         self.stretches.trace(&self.low, &mut self.made_low, 0, lots);
         Ok(cost)
+    }
+
+    /// The least cost of a level whose units may fall short of what is asked for, before a position from which on nothing may, and
+    /// a plan at that cost, as `plan_one`. Each unit that falls short costs `share` for each position, and a number below 0 is
+    /// read as 0. What is there before the first position isn't used.
+    pub fn plan_late(
+        &mut self,
+        _alloc: Global,
+        level: &Level,
+        share: i64,
+        settled: usize,
+    ) -> Result<i64, AllocError> {
+        self.clear();
+        let lots = level.fee.len();
+        if !has_lots(level, lots) {
+            return Ok(NONE);
+        }
+        self.low.refill(level)?;
+        let owing = Owing {
+            share: within(share),
+            settled,
+        };
+        let cost = self.late.fill(&self.low, owing)?;
+        if cost >= NONE {
+            return Ok(NONE);
+        }
+        self.late.trace(&self.low, &mut self.made_low)?;
+        Ok(cost)
+    }
+
+    /// The units that fall short of what is asked for by the end of each position in the plan of `plan_late`: one entry for each
+    /// lot, as `made`. It is empty where nothing may fall short.
+    pub fn short(&self) -> &[i64] {
+        &self.late.short
     }
 
     /// The least cost of two levels of which the first one goes into the other, and a plan at that cost, as `plan_one`.

@@ -82,6 +82,8 @@ fn chains_without_a_plan(rt: HostRuntime) -> Result<(), Fail> {
     assert_eq!(rt; plans.plan_one(alloc, &short)?, 1);
     for item in [&uneven, &empty, &closed] {
         assert_eq!(rt; plans.plan_one(alloc, item)?, NONE);
+        assert_eq!(rt; plans.plan_late(alloc, item, 1, 2)?, NONE);
+        assert!(rt; plans.short().is_empty());
         assert!(rt; plans.made(0).is_empty());
     }
     assert_eq!(rt; plans.plan_two(alloc, &short, &long)?, NONE);
@@ -123,6 +125,9 @@ fn numbers_at_their_limits(rt: HostRuntime) -> Result<(), Fail> {
     assert_eq!(rt; plans.plan_one(alloc, &small)?, 0);
     assert_eq!(rt; plans.plan_one(alloc, &dear)?, NONE - 2);
     for item in [&large, &small, &dear] {
+        plans.plan_late(alloc, item, most, 2)?;
+        plans.plan_late(alloc, item, NONE - 1, usize::MAX)?;
+        plans.plan_late(alloc, item, least, 0)?;
         plans.plan_two(alloc, item, &large)?;
         plans.plan_two(alloc, item, &dear)?;
         plans.plan_three(alloc, &dear, item, &large)?;
@@ -307,6 +312,117 @@ fn small_chains_cost_the_least_of_all_choices(rt: HostRuntime) -> Result<(), Fai
                 wanted,
                 "{count} {positions} {chain}"
             );
+        }
+    }
+    Ok(())
+}
+
+#[test]
+fn late_items_by_hand(rt: HostRuntime) -> Result<(), Fail> {
+    let alloc = rt.alloc();
+    let mut plans = ChainPlans::new(alloc);
+    // The first lot is dear, and the 2 units of the first position fall short for one position: all in the second lot.
+    let dear = level(alloc, &[0, 20, 4, 4], &[NONE, 1, 1, 1], &[2, 0, 3], 1)?;
+    assert_eq!(rt; plans.plan_late(alloc, &dear, 1, 2)?, 11);
+    assert_eq!(rt; plans.made(0), [0, 0, 5, 0].as_slice());
+    assert_eq!(rt; plans.setups(0), [0, 0, 1, 0].as_slice());
+    assert_eq!(rt; plans.short(), [0, 2, 0, 0].as_slice());
+    // They may not.
+    assert_eq!(rt; plans.plan_late(alloc, &dear, 1, 1)?, 25);
+    assert_eq!(rt; plans.made(0), [0, 5, 0, 0].as_slice());
+    assert_eq!(rt; plans.short(), [0, 0, 0, 0].as_slice());
+    // They fall short for two positions at a low share: one setup at 4, and 5 units at 1, and 2 units for two positions.
+    assert_eq!(rt;
+        plans.plan_late(
+            alloc,
+            &level(alloc, &[0, 20, 9, 4], &[0, 1, 1, 1], &[2, 0, 3], 1)?,
+            1,
+            3
+        )?,
+        13
+    );
+    assert_eq!(rt; plans.short(), [0, 2, 2, 0].as_slice());
+    // Nothing is asked for.
+    let none = level(alloc, &[0, 5, NONE], &[0, 1, 1], &[0, 0], 1)?;
+    assert_eq!(rt; plans.plan_late(alloc, &none, 1, 2)?, 0);
+    assert_eq!(rt; plans.made(0), [0, 0, 0].as_slice());
+    assert_eq!(rt; plans.plan_one(alloc, &none)?, 0);
+    assert!(rt; plans.short().is_empty());
+    Ok(())
+}
+
+// What a choice of setups of a late item costs where each unit is made as cheaply as it allows.
+fn late_choice_cost(level: &Level, share: i64, settled: u32, positions: u32, choice: u32) -> i64 {
+    let mut cost = 0i64;
+    for lot in 1..positions.saturating_add(1) {
+        if is_set_up(choice, positions, 0, lot) {
+            cost = cost.saturating_add(at(&level.fee, lot as usize));
+        }
+    }
+    for period in 1..positions.saturating_add(1) {
+        let mut least = NONE;
+        for lot in 1..period.max(settled).min(positions).saturating_add(1) {
+            if is_set_up(choice, positions, 0, lot) {
+                let late = i64::from(lot.saturating_sub(period)).saturating_mul(share);
+                least = least.min(at(&level.unit, lot as usize).saturating_add(late));
+            }
+        }
+        let place = period as usize;
+        let before = at(&level.asked, place);
+        let units = at(&level.asked, place.wrapping_add(1)).wrapping_sub(before);
+        cost = cost.saturating_add(least.saturating_mul(units));
+    }
+    cost.min(NONE)
+}
+
+// What the plan of a late item costs; None where it makes units without a setup, or less than is on time and doesn't fall short.
+fn late_plan_cost(plans: &ChainPlans, level: &Level, share: i64, settled: usize) -> Option<i64> {
+    let (mut cost, mut sum) = (0i64, 0i64);
+    let mut lot = 0usize;
+    let mut serves = plans.setups(0).len() == level.fee.len();
+    for (units, short) in plans.made(0).iter().zip(plans.short()) {
+        sum = sum.saturating_add(*units);
+        cost = cost.saturating_add(at(&level.unit, lot).saturating_mul(*units));
+        cost = cost.saturating_add(share.saturating_mul(*short));
+        let setup = at(plans.setups(0), lot);
+        cost = cost.saturating_add(at(&level.fee, lot).saturating_mul(setup));
+        serves = serves && (*units == 0 || setup == 1) && (lot < settled || *short == 0);
+        lot = lot.wrapping_add(1);
+        serves = serves && sum.saturating_add(*short) >= at(&level.asked, lot);
+    }
+    if serves && lot == level.fee.len() {
+        Some(cost)
+    } else {
+        None
+    }
+}
+
+#[test]
+fn small_late_items_cost_the_least_of_all_choices(rt: HostRuntime) -> Result<(), Fail> {
+    let alloc = rt.alloc();
+    let mut plans = ChainPlans::new(alloc);
+    let mut draws = Draws { state: 5 };
+    for (positions, items) in [(1u32, 30), (2, 60), (4, 200), (6, 150)] {
+        for item in 0..items {
+            let mut level = draws.level(alloc, positions as usize, true)?;
+            if let Some(price) = level.unit.first_mut() {
+                *price = NONE;
+            }
+            let share = draws.below(6);
+            let drawn = draws.below(i64::from(positions).saturating_add(2));
+            let settled = u32::try_from(drawn).unwrap_or(0);
+            let cost = plans.plan_late(alloc, &level, share, settled as usize)?;
+            let mut least = NONE;
+            for choice in 0..1u32.wrapping_shl(positions) {
+                least = least.min(late_choice_cost(&level, share, settled, positions, choice));
+            }
+            assert_eq!(rt; cost, least, "{positions} {item}");
+            if least < NONE {
+                let found = late_plan_cost(&plans, &level, share, settled as usize);
+                assert_eq!(rt; found, Some(least), "{positions} {item}");
+            } else {
+                assert!(rt; plans.made(0).is_empty() && plans.short().is_empty());
+            }
         }
     }
     Ok(())

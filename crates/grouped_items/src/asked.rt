@@ -2,9 +2,11 @@
 ghost use Rattle.std.specs.Prelude.{◌≤◌};
 ghost use Rattle.lot_sizing.specs.Problem.{item_count};
 ghost use Rattle.must_start.specs.Rows.{IsMustStartOf};
+ghost use Rattle.late_starts.specs.Rows.{IsOnTimeOf};
 
 use integer_grids::IntegerGrid;
 use integer_grids::numbers::{less, of_amount, plus, times};
+use late_starts::OnTime;
 use lot_model::Instance;
 use must_start::{MustStart, must_start_holds};
 
@@ -23,6 +25,19 @@ pub(crate) fn ask_by_starts(
         let before = of_amount(started.by_end(item, period - 1));
         let more = less(of_amount(started.by_end(item, period)), before);
         asked.put(item, period, more);
+    }
+}
+
+/// What is on time of an item in each period beyond what was before is written to its line.
+pub(crate) fn ask_on_time(instance: &Instance, on_time: &OnTime, item: u32, asked: &mut IntegerGrid)
+    requires on_time { IsOnTimeOf instance.now on_time.now }
+    requires low { 1 ≤ item }
+    requires high { item ≤ item_count instance.now }
+{
+    for period in 1..instance.periods() + 1 {
+        let before = of_amount(on_time.by_end(item, period - 1));
+        let more = less(of_amount(on_time.by_end(item, period)), before);
+        asked.put(item, period, more.max(0));
     }
 }
 

@@ -18,8 +18,9 @@ const LONG_CHAIN: u32 = 72;
 pub(crate) struct Cover {
     // By item whether it is left: neither planned alone nor in a group yet.
     left: Vec<bool>,
-    /// The groups so far.
-    pub(crate) groups: Vec<Group>,
+    // By item whether it is planned by what is on time of it: then it is in a group of its own.
+    late: Vec<bool>,
+    groups: Vec<Group>,
 }
 
 // What the setups of an item cost in all periods.
@@ -34,6 +35,14 @@ fn fees_of(instance: &Instance, item: u32) -> i64
     sum
 }
 
+// Whether a list says so of an item.
+fn is_true(list: &[bool], item: u32) -> bool {
+    match list.get((item as usize).wrapping_sub(1)) {
+        Some(found) => *found,
+        None => false,
+    }
+}
+
 // A link of a chain.
 fn link(item: u32) -> ChainLink {
     ChainLink {
@@ -43,24 +52,30 @@ fn link(item: u32) -> ChainLink {
 }
 
 impl Cover {
-    /// No groups yet. `alone` says by item whether it is planned alone. It takes no memory.
-    pub(crate) fn new(alloc: Global, alone: &[bool]) -> Result<Cover, AllocError> {
-        let mut left = Vec::with_capacity(alloc, alone.len())?;
-        for is_alone in alone {
-            left.push(!*is_alone)?;
+    /// No groups yet. `short` says by item whether it may fall short: then it is planned by what is on time of it, or alone where
+    /// `are_alone`. The error is that memory ran out.
+    pub(crate) fn new(alloc: Global, short: &[bool], are_alone: bool) -> Result<Cover, AllocError> {
+        let mut left = Vec::with_capacity(alloc, short.len())?;
+        let mut late = Vec::with_capacity(alloc, short.len())?;
+        for is_short in short {
+            left.push(!*is_short || !are_alone)?;
+            late.push(*is_short && !are_alone)?;
         }
         Ok(Cover {
             left,
+            late,
             groups: Vec::new(alloc),
         })
     }
 
+    // Whether an item is planned by what is on time of it.
+    fn is_late(&self, item: u32) -> bool {
+        is_true(&self.late, item)
+    }
+
     // Whether an item is left.
     fn is_left(&self, item: u32) -> bool {
-        match self.left.get((item as usize).wrapping_sub(1)) {
-            Some(left) => *left,
-            None => false,
-        }
+        is_true(&self.left, item)
     }
 
     // An item isn't left.
@@ -70,12 +85,14 @@ impl Cover {
         }
     }
 
-    // Whether an item may stand below another one in a chain: it is left, and none of its own is ever late.
-    fn may_be_below(&self, instance: &Instance, item: u32) -> bool {
-        if item < 1 || item > instance.items() {
-            return false;
-        }
-        self.is_left(item) && !instance.has_backlog_cost(item)
+    /// The groups so far, and by item whether it is planned by what is on time of it.
+    pub(crate) fn into_groups(self) -> (Vec<Group>, Vec<bool>) {
+        (self.groups, self.late)
+    }
+
+    // Whether an item may stand below another one in a chain: it is left, and never falls short.
+    fn may_be_below(&self, item: u32) -> bool {
+        self.is_left(item) && !self.is_late(item)
     }
 
     // The component of an item whose setups cost most, of those that may stand below it.
@@ -86,7 +103,7 @@ impl Cover {
         let mut best = None;
         let mut most = 0;
         for need in instance.needs(item) {
-            if need.quantity >= 1 && self.may_be_below(instance, need.item) {
+            if need.quantity >= 1 && self.may_be_below(need.item) {
                 let fees = fees_of(instance, need.item);
                 if fees > most {
                     most = fees;
@@ -97,9 +114,15 @@ impl Cover {
         best
     }
 
-    // A group of an item and, where there are such, of a component of it and of one of that.
+    // A group of an item that is planned by what is on time of it; else of an item and, where there are such, of a component of it and of one of that.
     fn group_below(&mut self, instance: &Instance, top: u32) -> Group {
         self.take(top);
+        if self.is_late(top) {
+            return Group::Late {
+                item: top,
+                share: 0,
+            };
+        }
         let Some(mid) = self.below(instance, top) else {
             return Group::Item { item: top };
         };

@@ -2,13 +2,15 @@
 ghost use Rattle.std.specs.Prelude.{◌≤◌};
 ghost use Rattle.lot_sizing.specs.Problem.{item_count};
 ghost use Rattle.must_start.specs.Rows.{IsMustStartOf};
+ghost use Rattle.late_starts.specs.Rows.{IsOnTimeOf};
 
-use crate::asked::{ask_besides, ask_by_starts};
+use crate::asked::{ask_besides, ask_by_starts, ask_on_time};
 use crate::cover::Cover;
 use crate::weights::weights_of;
 use integer_grids::IntegerGrid;
 use integer_grids::numbers::{less, of_amount, plus, times};
 use item_groups::{ChainLink, Group};
+use late_starts::OnTime;
 use lot_model::Instance;
 use must_start::MustStart;
 use std::alloc::{AllocError, Global};
@@ -23,6 +25,8 @@ pub struct Grouping {
     weights: IntegerGrid,
     // By item the most that can be made of it in all.
     most: IntegerGrid,
+    // By item whether it is planned by what is on time of it.
+    late: Vec<bool>,
 }
 
 // Whether something of an item is ever late, its components left out.
@@ -35,31 +39,49 @@ fn has_lead(instance: &Instance, item: u32) -> bool {
     item >= 1 && item <= instance.items() && instance.lead(item) >= 1
 }
 
-// Whether an item goes into one that may be late, or is one, while neither it nor any that it goes into has a lead time.
-fn is_alone(instance: &Instance, weights: &IntegerGrid, item: u32) -> bool {
-    let mut late = false;
+// Whether an item may fall short of what is on time: it may be late, or goes into one that may be.
+fn may_fall_short(instance: &Instance, weights: &IntegerGrid, item: u32) -> bool {
     for other in 1..instance.items() + 1 {
-        if weights.get(other, item) > 0 {
-            if has_lead(instance, other) {
-                return false;
-            }
-            late = late || is_late(instance, other);
+        if weights.get(other, item) > 0 && is_late(instance, other) {
+            return true;
         }
     }
-    late
+    false
 }
 
-// By item whether it is planned alone, with what is owed.
-fn alone_of(
+// By item whether it may fall short.
+fn short_of(
     alloc: Global,
     instance: &Instance,
     weights: &IntegerGrid,
 ) -> Result<Vec<bool>, AllocError> {
-    let mut alone = Vec::with_capacity(alloc, instance.items() as usize)?;
+    let mut short = Vec::with_capacity(alloc, instance.items() as usize)?;
     for item in 1..instance.items() + 1 {
-        alone.push(is_alone(instance, weights, item))?;
+        short.push(may_fall_short(instance, weights, item))?;
     }
-    Ok(alone)
+    Ok(short)
+}
+
+// Whether an item or one that it goes into has a lead time.
+fn waits(instance: &Instance, weights: &IntegerGrid, item: u32) -> bool {
+    for other in 1..instance.items() + 1 {
+        if weights.get(other, item) > 0 && has_lead(instance, other) {
+            return true;
+        }
+    }
+    false
+}
+
+// Whether some item that may fall short has a lead time, or goes into one that has.
+fn some_wait(instance: &Instance, weights: &IntegerGrid, short: &[bool]) -> bool {
+    let mut item = 0u32;
+    for is_short in short {
+        item = item.saturating_add(1);
+        if *is_short && waits(instance, weights, item) {
+            return true;
+        }
+    }
+    false
 }
 
 // What remains of an item at the end at most, and what is demanded of it beyond the opening stock.
@@ -110,11 +132,28 @@ fn ask(
     }
 }
 
+// What is asked of an item that may fall short.
+fn ask_late(instance: &Instance, on_time: &OnTime, item: u32, asked: &mut IntegerGrid)
+    requires on_time { IsOnTimeOf instance.now on_time.now }
+{
+    if item >= 1 && item <= instance.items() {
+        ask_on_time(instance, on_time, item, asked);
+    }
+}
+
 // What is asked of the items of a group.
-fn ask_group(instance: &Instance, started: &MustStart, group: &Group, asked: &mut IntegerGrid)
+fn ask_group(
+    instance: &Instance,
+    started: &MustStart,
+    on_time: &OnTime,
+    group: &Group,
+    asked: &mut IntegerGrid,
+)
     requires started { IsMustStartOf instance.now started.now }
+    requires on_time { IsOnTimeOf instance.now on_time.now }
 {
     match group {
+        Group::Late { item, .. } => ask_late(instance, on_time, *item, asked),
         Group::Item { item } | Group::Quantities { item } => {
             ask(instance, started, *item, None, asked);
         }
@@ -133,13 +172,8 @@ fn ask_group(instance: &Instance, started: &MustStart, group: &Group, asked: &mu
 // Whether a group says more than its items do alone: it has several, or one that has a lead time or goes into such an item.
 fn is_useful(instance: &Instance, weights: &IntegerGrid, group: &Group) -> bool {
     match group {
-        Group::Item { item } | Group::Quantities { item } => {
-            for other in 1..instance.items() + 1 {
-                if weights.get(other, *item) > 0 && has_lead(instance, other) {
-                    return true;
-                }
-            }
-            false
+        Group::Item { item } | Group::Quantities { item } | Group::Late { item, .. } => {
+            waits(instance, weights, *item)
         }
         Group::Pair { .. } | Group::Triple { .. } => true,
     }
@@ -181,9 +215,11 @@ fn with_price(group: Group, item: u32, price: u128) -> Group {
 }
 
 impl Grouping {
-    /// The groups of an instance: a chain from each item that is in none yet down to the components whose setups cost most, at most
-    /// three items long. None where that says no more than each item by itself: where no item has a lead time, and none of those
-    /// that are never late goes into another one. In `order` each item comes before its components.
+    /// The groups of an instance: each item that may be late, or goes into one that may be, by what is on time of it, and a chain from
+    /// each other item that is in none yet down to the components whose setups cost most, at most three items long. Where no item that
+    /// may be late, or goes into such an item, has a lead time there, these are left to be planned alone. None where groups say no more
+    /// than each item by itself: where no item has a lead time, and none of those that are never late goes into another one. In `order`
+    /// each item comes before its components.
     ///
     /// The error is that memory ran out. It takes time in the square of the number of items times that of the periods.
     pub fn of(
@@ -192,25 +228,28 @@ impl Grouping {
         order: &[u32],
     ) -> Result<Option<Grouping>, AllocError> {
         let weights = weights_of(alloc, instance, order)?;
-        let alone = alone_of(alloc, instance, &weights)?;
-        let mut cover = Cover::new(alloc, &alone)?;
+        let short = short_of(alloc, instance, &weights)?;
+        let are_alone = !some_wait(instance, &weights, &short);
+        let mut cover = Cover::new(alloc, &short, are_alone)?;
         for item in order {
             cover.put(instance, *item)?;
         }
-        let groups = cover.groups;
+        let (groups, late) = cover.into_groups();
         if !are_useful(instance, &weights, &groups) {
             return Ok(None);
         }
         let started = MustStart::of(alloc, instance)?;
+        let on_time = OnTime::of(alloc, instance)?;
         let mut asked = IntegerGrid::zero(alloc, instance.items(), instance.periods())?;
         for group in groups.iter() {
-            ask_group(instance, &started, group, &mut asked);
+            ask_group(instance, &started, &on_time, group, &mut asked);
         }
         Ok(Some(Grouping {
             groups,
             asked,
             most: most_of(alloc, instance, &weights)?,
             weights,
+            late,
         }))
     }
 
@@ -226,7 +265,7 @@ impl Grouping {
         let mut sum = 0u64;
         for group in self.groups.iter() {
             let steps = match group {
-                Group::Item { .. } | Group::Quantities { .. } => square,
+                Group::Item { .. } | Group::Quantities { .. } | Group::Late { .. } => square,
                 Group::Pair { .. } => square.saturating_mul(u64::from(periods)) / 2,
                 Group::Triple { .. } => square.saturating_mul(square) / 8,
             };
@@ -240,6 +279,19 @@ impl Grouping {
         for group in self.groups.iter_mut() {
             *group = with_price(*group, item, u128::from(price));
         }
+    }
+
+    /// Whether an item is planned by what is on time of it: it may be late, or goes into an item that may be.
+    pub fn is_late(&self, item: u32) -> bool {
+        match self.late.get((item as usize).wrapping_sub(1)) {
+            Some(late) => *late,
+            None => false,
+        }
+    }
+
+    /// Whether some item is.
+    pub fn has_late(&self) -> bool {
+        self.late.iter().any(|late| *late)
     }
 
     /// What is asked of an item in each period, other than by the next one in its chain; nothing of an item in no group.

@@ -2,11 +2,12 @@
 //!
 //! `Grouping::of` tells which items of an instance are planned in which group, once for all prices: an item with lead times, or
 //! one that goes into others, by what must have been started of it (`must_start`), with up to two components, so that one setup of
-//! a part serves several lots of what it goes into. An item that may be late, or that goes into such an item, and has no lead
-//! time there, is left to be planned alone with what is owed. `MovedCosts` are what setups and units cost where the price of
+//! a part serves several lots of what it goes into. An item that may be late, or that goes into such an item, is planned by what is on
+//! time of it (`late_starts`), of which it may fall short, or left to be planned alone with what is owed where none of these has a lead
+//! time. `MovedCosts` are what setups and units cost where the price of
 //! stock is moved to the units that are stocked. `write_level` writes an item of a group as a level of `chain_plans`.
 //!
-//! Family: plugins. It stands on `lot_model`, on `must_start`, on `item_groups`, whose groups certificates name, on `path_setups` for what a
+//! Family: plugins. It stands on `lot_model`, on `must_start` and `late_starts`, on `item_groups`, whose groups certificates name, on `path_setups` for what a
 //! path says of setups, and on `integer_grids`; `priced_items` and `price_rounds` stand on it.
 //!
 //! Nothing is claimed of what groups cost. What is proved is that the calls are safe and return.
@@ -21,4 +22,4 @@ mod weights;
 
 pub use grouping::Grouping;
 pub use levels::{Place, write_level};
-pub use moved::MovedCosts;
+pub use moved::{MovedCosts, RowPrices};

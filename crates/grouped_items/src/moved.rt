@@ -8,14 +8,14 @@ use integer_grids::numbers::{add_times, less, of_amount, plus, times};
 use lot_model::{Instance, Usage};
 use std::alloc::{AllocError, Global};
 
-/// What setups and units of all items cost at prices of capacity and stock, all times the scale of the prices.
+/// What setups and units of all items cost at prices of capacity, stock and least lots, all times the scale of the prices.
 ///
 /// A unit that arrives costs the price of its stock from then to the last period, and takes from its components what theirs
 /// would have cost from the period on in which it takes them. Where that makes a unit cheaper than nothing, all units of the item are
 /// lifted: what is made of it in all is bounded.
 #[derive(Debug, Drop)]
 pub struct MovedCosts {
-    /// A setup, with the time that it takes, by item and period.
+    /// A setup, with the time that it takes and its least lot, by item and period.
     pub fee: IntegerGrid,
     /// A unit, with the time that it takes and its stock.
     pub unit: IntegerGrid,
@@ -23,6 +23,17 @@ pub struct MovedCosts {
     pub tail: IntegerGrid,
     /// By how much all units of an item are lifted.
     pub lift: IntegerGrid,
+}
+
+/// Prices of what couples the items of a plan, and of their least lots.
+#[derive(Clone, Copy)]
+pub struct RowPrices<'a> {
+    /// A unit of time, by resource and period.
+    pub capacity: &'a IntegerGrid,
+    /// A unit in stock at the end of a period, by item.
+    pub stock: &'a IntegerGrid,
+    /// A unit by which a lot is larger than the least lot of its setup, by item and period.
+    pub lot: &'a IntegerGrid,
 }
 
 // Numbers from each place on, added.
@@ -93,18 +104,19 @@ impl MovedCosts {
     }
 
     // What setups of an item cost.
-    fn write_fees(&mut self, instance: &Instance, scale: i64, capacity: &IntegerGrid, item: u32)
+    fn write_fees(&mut self, instance: &Instance, scale: i64, rows: RowPrices<'_>, item: u32)
         requires low { 1 ≤ item }
         requires high { item ≤ item_count instance.now }
     {
         if let Some(line) = self.fee.line_mut(item) {
             write_scaled(line, instance.setup_costs(item), scale);
-            add_time(line, instance.uses(item), capacity, true);
+            add_time(line, instance.uses(item), rows.capacity, true);
+            add_times(line, rows.lot.line(item), of_amount(instance.min_lot(item)));
         }
     }
 
     // What units of an item cost, without a lift.
-    fn write_units(&mut self, instance: &Instance, scale: i64, capacity: &IntegerGrid, item: u32)
+    fn write_units(&mut self, instance: &Instance, scale: i64, rows: RowPrices<'_>, item: u32)
         requires low { 1 ≤ item }
         requires high { item ≤ item_count instance.now }
     {
@@ -113,7 +125,8 @@ impl MovedCosts {
             return;
         };
         write_scaled(line, instance.unit_costs(item), scale);
-        add_time(line, instance.uses(item), capacity, false);
+        add_time(line, instance.uses(item), rows.capacity, false);
+        add_times(line, rows.lot.line(item), -1);
         add_times(line, from_place(self.tail.line(item), lead), 1);
         for need in instance.needs(item) {
             let units = less(0, of_amount(need.quantity));
@@ -136,25 +149,18 @@ impl MovedCosts {
         }
     }
 
-    /// The costs at these prices, of which the first is by how much they are larger than money, the second that of a unit of
-    /// time, by resource and period, and the third that of a unit in stock, by item and period. It takes no memory, and time in the number
-    /// of items times that of the periods, for each resource and component.
-    pub fn write(
-        &mut self,
-        instance: &Instance,
-        scale: u64,
-        capacity: &IntegerGrid,
-        stock: &IntegerGrid,
-    ) {
+    /// The costs at these prices, which are so much larger than money. It takes no memory, and time in the number of items times
+    /// that of the periods, for each resource and component.
+    pub fn write(&mut self, instance: &Instance, scale: u64, rows: RowPrices<'_>) {
         let scale = of_amount(scale);
         for item in 1..instance.items() + 1 {
             if let Some(line) = self.tail.line_mut(item) {
-                write_tail(line, stock.line(item));
+                write_tail(line, rows.stock.line(item));
             }
         }
         for item in 1..instance.items() + 1 {
-            self.write_fees(instance, scale, capacity, item);
-            self.write_units(instance, scale, capacity, item);
+            self.write_fees(instance, scale, rows, item);
+            self.write_units(instance, scale, rows, item);
             self.lift_units(instance, item);
         }
     }

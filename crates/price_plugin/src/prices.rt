@@ -51,6 +51,9 @@ const TRIAL_ROUNDS: u32 = 60;
 
 const TRIAL_STEPS: u64 = 640_000_000;
 
+// Where the search ends by a clock, it is read before each of so many equal parts of these rounds.
+const TRIAL_PARTS: u32 = 6;
+
 // Branches are tried before one is chosen in a model with at most so many items times periods.
 const TRIED_SIZE: u32 = 400;
 
@@ -124,12 +127,29 @@ fn trial_number(
     alloc: Global,
     instance: &Instance,
     pricing: &Pricing,
+    until: Deadline,
 ) -> Result<Option<i128>, AllocError> {
     let fixed = fixed_setups(alloc, instance, &[])?;
     let prices = split_prices(alloc, instance, pricing)?;
     let mut rounds = Rounds::start(alloc, instance, pricing, prices, None, &fixed)?;
     let count = within_work(instance, pricing, TRIAL_STEPS, TRIAL_ROUNDS);
-    let _ = rounds.go_on(alloc, instance, pricing, &fixed, None, count)?;
+    if until.millis_left().is_none() {
+        let _ = rounds.go_on(alloc, instance, pricing, &fixed, None, count)?;
+        return Ok(rounds.number());
+    }
+    for _part in 0..TRIAL_PARTS {
+        if until.is_past() {
+            break;
+        }
+        let _ = rounds.go_on(
+            alloc,
+            instance,
+            pricing,
+            &fixed,
+            None,
+            (count / TRIAL_PARTS).max(1),
+        )?;
+    }
     Ok(rounds.number())
 }
 
@@ -147,13 +167,14 @@ fn choose_grouping(
     alloc: Global,
     instance: &Instance,
     pricing: &mut Pricing,
+    until: Deadline,
 ) -> Result<(), AllocError> {
     if pricing.grouping().is_none() {
         return Ok(());
     }
-    let together = trial_number(alloc, instance, pricing)?;
+    let together = trial_number(alloc, instance, pricing, until)?;
     let grouping = pricing.take_grouping();
-    let apart = trial_number(alloc, instance, pricing)?;
+    let apart = trial_number(alloc, instance, pricing, until)?;
     if !is_more(apart, together) {
         pricing.set_grouping(grouping);
     }
@@ -371,8 +392,8 @@ impl Proposer for Prices {
         let explosion = Explosion::of(alloc, instance)?;
         let mut pricing = Pricing::new(alloc, instance, &explosion)?;
         let prices = split_prices(alloc, instance, &pricing)?;
-        tune_openings(alloc, instance, &mut pricing, &prices)?;
-        choose_grouping(alloc, instance, &mut pricing)?;
+        tune_openings(alloc, instance, &mut pricing, &prices, self.until)?;
+        choose_grouping(alloc, instance, &mut pricing, self.until)?;
         Ok(Pricings {
             pricing,
             notes: Notes::new(alloc),

@@ -5,11 +5,12 @@ ghost use Rattle.lot_sizing.specs.Problem.{item_count};
 use crate::lots::{Average, Spare};
 use chain_plans::{ChainPlans, Level, NONE};
 use grouped_items::{Grouping, MovedCosts, Place, write_level};
+use integer_grids::IntegerGrid;
 use integer_grids::numbers::{less, of_amount, wide};
 use item_groups::{ChainLink, Group};
 use lot_model::Instance;
 use path_setups::Fixed;
-use priced_items::DualPrices;
+use priced_items::{DualPrices, Pricing};
 use std::alloc::{AllocError, Global};
 
 /// What groups are planned with.
@@ -17,6 +18,8 @@ use std::alloc::{AllocError, Global};
 pub(crate) struct GroupPlanning {
     /// What setups and units cost.
     pub(crate) moved: MovedCosts,
+    // What falls short costs, by item.
+    share: IntegerGrid,
     chains: ChainPlans,
     low: Level,
     mid: Level,
@@ -149,6 +152,7 @@ impl GroupPlanning {
     pub(crate) fn new(alloc: Global, instance: &Instance) -> Result<GroupPlanning, AllocError> {
         Ok(GroupPlanning {
             moved: MovedCosts::zero(alloc, instance)?,
+            share: IntegerGrid::zero(alloc, instance.items(), 1)?,
             chains: ChainPlans::new(alloc),
             low: empty_level(alloc),
             mid: empty_level(alloc),
@@ -158,8 +162,8 @@ impl GroupPlanning {
 
     /// What setups and units cost is written, by these prices.
     pub(crate) fn write_costs(&mut self, instance: &Instance, prices: &DualPrices) {
-        self.moved
-            .write(instance, prices.scale, &prices.capacity, &prices.stock);
+        self.moved.write(instance, prices.scale, prices.rows());
+        self.share.take_from(&prices.share);
     }
 
     // The plan of a level becomes that of its item.
@@ -191,6 +195,23 @@ impl GroupPlanning {
         write(&mut self.top, given, &self.moved, item, place)?;
         let cost = self.chains.plan_one(alloc, &self.top)?;
         self.take_plan(given, 0, item, 0, plan);
+        Ok(i128::from(cost))
+    }
+
+    // What an item by itself costs that may fall short of what is on time.
+    fn late_value(
+        &mut self,
+        alloc: Global,
+        given: Given<'_>,
+        item: u32,
+        plan: &mut Average,
+    ) -> Result<i128, AllocError> {
+        let place = top_place(given.instance, item, given.instance.periods() as usize);
+        write(&mut self.top, given, &self.moved, item, place)?;
+        let share = self.share.get(item, 1);
+        let cost = self.chains.plan_late(alloc, &self.top, share, place.open)?;
+        self.take_plan(given, 0, item, 0, plan);
+        plan.write_short(item, self.chains.short());
         Ok(i128::from(cost))
     }
 
@@ -256,6 +277,7 @@ impl GroupPlanning {
             Group::Item { item } | Group::Quantities { item } => {
                 self.item_value(alloc, given, *item, plan)
             }
+            Group::Late { item, .. } => self.late_value(alloc, given, *item, plan),
             Group::Pair { low, top } => self.pair_value(alloc, given, low, top, plan),
             Group::Triple { low, mid, top } => {
                 self.triple_value(alloc, given, low, mid, top, plan)
@@ -293,6 +315,7 @@ impl GroupPlanning {
         &mut self,
         alloc: Global,
         instance: &Instance,
+        pricing: &Pricing,
         grouping: &Grouping,
         prices: &DualPrices,
         fixed: &Fixed,
@@ -304,7 +327,7 @@ impl GroupPlanning {
             grouping,
             fixed,
         };
-        let mut sum = stock_value(instance, prices);
+        let mut sum = stock_value(instance, pricing, prices);
         for group in grouping.groups() {
             let cost = self.group_value(alloc, given, group, plan)?;
             sum = sum.saturating_add(cost);
@@ -317,8 +340,9 @@ impl GroupPlanning {
     }
 }
 
-// What stocks cost that aren't moved to units: by what is there before the first period, less what is demanded.
-fn item_stock_value(instance: &Instance, prices: &DualPrices, item: u32) -> i128
+// What stocks cost that aren't moved to units: by what is there before the first period, less what is demanded; and by the least end
+// stock.
+fn item_stock_value(instance: &Instance, pricing: &Pricing, prices: &DualPrices, item: u32) -> i128
     requires low { 1 ≤ item }
     requires high { item ≤ item_count instance.now }
 {
@@ -328,14 +352,15 @@ fn item_stock_value(instance: &Instance, prices: &DualPrices, item: u32) -> i128
         left = less(left, of_amount(*amount));
         sum = sum.saturating_add(wide(*price, left));
     }
-    sum
+    let ended = of_amount(instance.end_min(item));
+    sum.saturating_add(wide(prices.end_rest(instance, pricing, item), ended))
 }
 
 // The same of all items.
-fn stock_value(instance: &Instance, prices: &DualPrices) -> i128 {
+fn stock_value(instance: &Instance, pricing: &Pricing, prices: &DualPrices) -> i128 {
     let mut sum = 0i128;
     for item in 1..instance.items() + 1 {
-        sum = sum.saturating_add(item_stock_value(instance, prices, item));
+        sum = sum.saturating_add(item_stock_value(instance, pricing, prices, item));
     }
     sum
 }

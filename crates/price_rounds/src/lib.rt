@@ -13,6 +13,7 @@ mod groups;
 mod lots;
 mod rounds;
 mod slopes;
+mod steps;
 mod tuning;
 mod valuing;
 

@@ -10,7 +10,7 @@ use std::alloc::{AllocError, Global};
 pub struct Average {
     pub(crate) units: IntegerGrid,
     pub(crate) setups: IntegerGrid,
-    // Stocks and backlogs of echelons.
+    // Stocks and backlogs of echelons; in groups what falls short of what is on time.
     pub(crate) stocks: IntegerGrid,
     pub(crate) owed: IntegerGrid,
 }
@@ -179,6 +179,16 @@ impl Average {
             }
         }
         total
+    }
+
+    // What falls short of an item at the end of each period, from period 0 on; nothing does where the list is empty.
+    pub(crate) fn write_short(&mut self, item: u32, short: &[i64]) {
+        if let Some(owed) = self.owed.line_mut(item) {
+            clear(owed);
+            for (cell, units) in owed.iter_mut().zip(from_place(short, 1)) {
+                *cell = times(*units, UNIT);
+            }
+        }
     }
 
     /// More is made of an item.

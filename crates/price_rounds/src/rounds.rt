@@ -200,8 +200,8 @@ impl Rounds {
             since: 0,
             is_tried: false,
             plan: Average::zero(alloc, items, periods)?,
-            slopes: Slopes::zero(alloc, instance)?,
-            others: Slopes::zero(alloc, instance)?,
+            slopes: Slopes::zero(alloc, instance, pricing)?,
+            others: Slopes::zero(alloc, instance, pricing)?,
         })
     }
 
@@ -240,8 +240,7 @@ impl Rounds {
     fn try_prices(&mut self, given: Given<'_>, square: i128) {
         let gap = gap_to(self.number, self.best.scale, given.plan_cost);
         let part = gap.saturating_mul(ONE).saturating_mul(self.step) / WHOLE_STEP;
-        let rate = Rate::new(part, square);
-        self.slopes.go(&self.best, &mut self.trial, rate);
+        self.slopes.go(&self.best, &mut self.trial, part, square);
         settle(given.instance, given.pricing, &mut self.trial);
     }
 

@@ -3,11 +3,16 @@ ghost use Rattle.std.specs.Prelude.{◌≤◌};
 ghost use Rattle.lot_sizing.specs.Problem.{item_count};
 
 use crate::lots::Average;
-use integer_grids::numbers::{Rate, UNIT, add_times, less, of_amount, plus, times};
+use crate::steps::Steps;
+use grouped_items::Grouping;
+use integer_grids::numbers::{Rate, UNIT, add_times, less, of_amount, plus, sum_of, times};
 use integer_grids::{IntegerGrid, clear};
 use lot_model::Instance;
 use priced_items::{DualPrices, Pricing};
 use std::alloc::{AllocError, Global};
+
+// Shares and prices of least lots take so many times the steps of prices of stock.
+const FAR: i128 = 9;
 
 // By how much what the leaf says changes with each price, at plans of the items.
 #[derive(Debug, Drop)]
@@ -15,6 +20,9 @@ pub(crate) struct Slopes {
     capacity: IntegerGrid,
     stock: IntegerGrid,
     back: IntegerGrid,
+    share: IntegerGrid,
+    lot: IntegerGrid,
+    steps: Steps,
 }
 
 // What there is of a resource, below 0.
@@ -73,22 +81,34 @@ fn add_up(line: &mut [i64], first: i64) {
 }
 
 impl Slopes {
-    pub(crate) fn zero(alloc: Global, instance: &Instance) -> Result<Slopes, AllocError> {
+    pub(crate) fn zero(
+        alloc: Global,
+        instance: &Instance,
+        pricing: &Pricing,
+    ) -> Result<Slopes, AllocError> {
         let periods = instance.periods();
         Ok(Slopes {
             capacity: IntegerGrid::zero(alloc, instance.resources(), periods)?,
             stock: IntegerGrid::zero(alloc, instance.items(), periods)?,
             back: IntegerGrid::zero(alloc, instance.items(), periods)?,
+            share: IntegerGrid::zero(alloc, instance.items(), 1)?,
+            lot: IntegerGrid::zero(alloc, instance.items(), periods)?,
+            steps: Steps::of(alloc, instance, pricing)?,
         })
     }
 
-    // The sum of the products with other directions.
+    // The sum of the products with other directions, each times the steps of its price.
     pub(crate) fn dot(&self, other: &Slopes) -> i128 {
-        let capacity = self.capacity.dot(&other.capacity);
         let stock = self.stock.dot(&other.stock);
-        capacity
+        let far = self
+            .share
+            .dot(&other.share)
+            .saturating_add(self.lot.dot(&other.lot));
+        self.steps
+            .dot(&self.capacity, &other.capacity)
             .saturating_add(stock)
             .saturating_add(self.back.dot(&other.back))
+            .saturating_add(far.saturating_mul(FAR))
     }
 
     // The time that an item takes of each resource.
@@ -154,10 +174,14 @@ impl Slopes {
         let Some(line) = self.stock.line_mut(item) else {
             return;
         };
+        if pricing.is_late_end(instance, item) {
+            clear(line);
+            return;
+        }
         match pricing.get(item) {
-            Some(found) => {
+            Some(_) => {
                 stay_below(line, own, instance.hold_costs(item), scale);
-                if found.backlogged {
+                if pricing.is_backlogged(item) {
                     stay_owed(line, own, prices.back.line(item));
                 }
             }
@@ -206,8 +230,19 @@ impl Slopes {
         }
     }
 
-    // What is in stock of each item where items are planned in groups.
-    fn write_grouped_stock(&mut self, instance: &Instance, plan: &Average) {
+    // The least end stock of an item isn't counted in its last stock.
+    fn take_end(&mut self, instance: &Instance, item: u32)
+        requires low { 1 ≤ item }
+        requires high { item ≤ item_count instance.now }
+    {
+        let units = times(UNIT, of_amount(instance.end_min(item)));
+        let stock = self.stock.get(item, instance.periods());
+        self.stock.put(item, instance.periods(), less(stock, units));
+    }
+
+    // What is in stock of each item where items are planned in groups, or more where it may be owed: what falls short of what is on time
+    // is none of it.
+    fn write_grouped_stock(&mut self, instance: &Instance, pricing: &Pricing, plan: &Average) {
         for item in 1..instance.items() + 1 {
             self.write_arrivals(instance, plan, item);
         }
@@ -220,8 +255,13 @@ impl Slopes {
                 add_up(line, opening);
             }
         }
+        let is_late = pricing.late_grouping().is_some();
         for item in 1..instance.items() + 1 {
-            self.add_owed(instance, plan, item);
+            if is_late {
+                self.take_end(instance, item);
+            } else {
+                self.add_owed(instance, plan, item);
+            }
         }
     }
 
@@ -241,7 +281,7 @@ impl Slopes {
         plan: &Average,
     ) {
         if pricing.grouping().is_some() {
-            self.write_grouped_stock(instance, plan);
+            self.write_grouped_stock(instance, pricing, plan);
         } else {
             self.stock.take_from(&plan.stocks);
             self.take_all_stocks(instance, plan);
@@ -301,6 +341,68 @@ impl Slopes {
         }
     }
 
+    // By how much the least lots of the setups of an item are larger than its lots.
+    fn write_lot(&mut self, instance: &Instance, prices: &DualPrices, plan: &Average, item: u32)
+        requires low { 1 ≤ item }
+        requires high { item ≤ item_count instance.now }
+    {
+        let least = of_amount(instance.min_lot(item));
+        if least == 0 {
+            return;
+        }
+        if let Some(line) = self.lot.line_mut(item) {
+            clear(line);
+            add_times(line, plan.setups.line(item), least);
+            add_times(line, plan.units.line(item), -1);
+            stay_positive(line, prices.lot.line(item));
+        }
+    }
+
+    // What falls short of an item in all periods, and not of the end products that it goes into. The share of an end product is what is
+    // left.
+    fn write_share(
+        &mut self,
+        instance: &Instance,
+        grouping: &Grouping,
+        prices: &DualPrices,
+        plan: &Average,
+        item: u32,
+    )
+        requires low { 1 ≤ item }
+        requires high { item ≤ item_count instance.now }
+    {
+        if instance.has_backlog_cost(item) {
+            return;
+        }
+        let mut sum = sum_of(plan.owed.line(item));
+        for end in 1..instance.items() + 1 {
+            if instance.has_backlog_cost(end) {
+                let weight = grouping.weight(item, end);
+                sum = less(sum, times(weight, sum_of(plan.owed.line(end))));
+            }
+        }
+        if prices.share.get(item, 1) <= 0 {
+            sum = sum.max(0);
+        }
+        self.share.put(item, 1, sum);
+    }
+
+    // The same of all items that may fall short, and what least lots miss.
+    fn write_shares(
+        &mut self,
+        instance: &Instance,
+        grouping: &Grouping,
+        prices: &DualPrices,
+        plan: &Average,
+    ) {
+        for item in 1..instance.items() + 1 {
+            if grouping.is_late(item) {
+                self.write_share(instance, grouping, prices, plan, item);
+            }
+            self.write_lot(instance, prices, plan, item);
+        }
+    }
+
     // The directions at prices and plans.
     pub(crate) fn write(
         &mut self,
@@ -314,13 +416,27 @@ impl Slopes {
         if pricing.may_owe() {
             self.write_back(instance, pricing, prices, plan);
         }
+        if let Some(grouping) = pricing.late_grouping() {
+            self.write_shares(instance, grouping, prices, plan);
+        }
     }
 
-    // Other prices: some further, by so much of these directions.
-    pub(crate) fn go(&self, from: &DualPrices, to: &mut DualPrices, rate: Rate) {
-        to.capacity.go(&from.capacity, &self.capacity, rate);
+    // Other prices: some further, by such a part of a whole of these directions, each times the steps of its price.
+    pub(crate) fn go(&self, from: &DualPrices, to: &mut DualPrices, part: i128, whole: i128) {
+        let rate = Rate::new(part, whole);
+        let far = Rate::new(part.saturating_mul(FAR), whole);
+        self.steps.go(
+            &mut to.capacity,
+            &from.capacity,
+            &self.capacity,
+            part,
+            whole,
+        );
         to.stock.go(&from.stock, &self.stock, rate);
         to.back.go(&from.back, &self.back, rate);
+        to.share.go(&from.share, &self.share, far);
+        to.lot.go(&from.lot, &self.lot, far);
         to.capacity.cut_at_zero();
+        to.lot.cut_at_zero();
     }
 }

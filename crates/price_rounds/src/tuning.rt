@@ -8,6 +8,7 @@ use lot_model::Instance;
 use path_setups::{Fixed, fixed_setups};
 use priced_items::{DualPrices, Pricing};
 use std::alloc::{AllocError, Global};
+use work_clock::Deadline;
 
 // A price is halved or not so many times, from the largest one on.
 const HALVINGS: u32 = 34;
@@ -108,12 +109,14 @@ fn tune_group(
 /// Prices of what is there of the lower items of chains before the first period are found, at which the chains take as much of it as there
 /// is; at these prices of capacity and stock. Where items are planned by themselves there is nothing to find.
 ///
-/// The error is that memory ran out. It takes time in the number of chains, for each of which up to some hundred plans are made.
+/// It ends early, with the prices that are there, once the time is past. The error is that memory ran out. It takes time in the
+/// number of chains, for each of which up to some hundred plans are made.
 pub fn tune_openings(
     alloc: Global,
     instance: &Instance,
     pricing: &mut Pricing,
     prices: &DualPrices,
+    until: Deadline,
 ) -> Result<(), AllocError> {
     let Some(grouping) = pricing.grouping_mut() else {
         return Ok(());
@@ -128,6 +131,9 @@ pub fn tune_openings(
     let mut plan = Average::zero(alloc, instance.items(), instance.periods())?;
     planning.write_costs(instance, prices);
     for place in 0..grouping.groups().len() {
+        if until.is_past() {
+            break;
+        }
         tune_group(given, &mut planning, grouping, place, &mut plan)?;
     }
     Ok(())

@@ -157,7 +157,7 @@ impl Planning {
         let mut sum = Some(0i128);
         for number in 1..instance.items() + 1 {
             if let Some(item) = pricing.get(number) {
-                if item.backlogged {
+                if pricing.is_backlogged(number) {
                     let cost = self.alone_value(instance, item, prices, fixed, plan)?;
                     sum = added(sum, cost);
                 }
@@ -183,7 +183,7 @@ impl Planning {
             Some(groups) => groups,
             None => GroupPlanning::new(alloc, instance)?,
         };
-        let sum = groups.value(alloc, instance, grouping, prices, fixed, plan)?;
+        let sum = groups.value(alloc, instance, pricing, grouping, prices, fixed, plan)?;
         self.groups = Some(groups);
         let rest = self.rest_value(instance, pricing, prices, fixed, plan)?;
         let used = 0i128.checked_sub(capacity_value(instance, prices));

@@ -81,7 +81,7 @@ impl Costs {
         }
     }
 
-    /// What setups of an item cost, with the time that they take. The error is that memory ran out.
+    /// What setups of an item cost, with the time that they take and the price of their least lots. The error is that memory ran out.
     pub fn write_fees(
         &mut self,
         instance: &Instance,
@@ -94,6 +94,8 @@ impl Costs {
         let scale = of_amount(prices.scale);
         refill_scaled(&mut self.fee, instance.setup_costs(item), scale)?;
         add_time(&mut self.fee, instance.uses(item), prices, true);
+        let least = of_amount(instance.min_lot(item));
+        add_times(&mut self.fee, prices.lot.line(item), least);
         Ok(())
     }
 

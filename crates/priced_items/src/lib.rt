@@ -20,6 +20,7 @@ mod pricing;
 mod quick;
 mod recursion;
 mod settling;
+mod shares;
 mod splitting;
 
 pub use costs::Costs;

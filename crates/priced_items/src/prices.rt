@@ -1,6 +1,10 @@
 // Prices of capacity, of stock and of backlog.
+ghost use Rattle.std.specs.Prelude.{◌≤◌};
+ghost use Rattle.lot_sizing.specs.Problem.{item_count};
+
 use crate::pricing::Pricing;
 use crate::settling::settle;
+use grouped_items::RowPrices;
 use integer_grids::IntegerGrid;
 use integer_grids::numbers::{less, of_amount, times};
 use lot_model::Instance;
@@ -21,6 +25,10 @@ pub struct DualPrices {
     pub stock: IntegerGrid,
     /// A unit of an item's echelon owed at the end of a period, by item: at least 0.
     pub back: IntegerGrid,
+    /// A unit of an item that falls short at the end of any period, by item, where it is planned by what is on time of it: at least 0.
+    pub share: IntegerGrid,
+    /// A unit by which a lot is larger than the least lot of its setup, by item and period: at least 0.
+    pub lot: IntegerGrid,
 }
 
 impl DualPrices {
@@ -36,7 +44,34 @@ impl DualPrices {
             capacity: IntegerGrid::zero(alloc, instance.resources(), periods)?,
             stock: IntegerGrid::zero(alloc, instance.items(), periods)?,
             back: IntegerGrid::zero(alloc, instance.items(), periods)?,
+            share: IntegerGrid::zero(alloc, instance.items(), 1)?,
+            lot: IntegerGrid::zero(alloc, instance.items(), periods)?,
         })
+    }
+
+    /// The prices by which costs of setups and units are written where items are planned in groups.
+    pub fn rows(&self) -> RowPrices<'_> {
+        RowPrices {
+            capacity: &self.capacity,
+            stock: &self.stock,
+            lot: &self.lot,
+        }
+    }
+
+    /// What a unit of an item that remains at the end costs beyond the price of its stock; 0 where items aren't planned by what is on time
+    /// of them. So much is known of each unit of the least end stock.
+    pub fn end_rest(&self, instance: &Instance, pricing: &Pricing, item: u32) -> i64
+        requires low { 1 ≤ item }
+        requires high { item ≤ item_count instance.now }
+    {
+        if pricing.late_grouping().is_none() || instance.end_min(item) == 0 {
+            return 0;
+        }
+        let cost = match instance.hold_costs(item).last() {
+            Some(cost) => times(of_amount(self.scale), of_amount(*cost)),
+            None => 0,
+        };
+        less(cost, self.stock.get(item, instance.periods())).max(0)
     }
 
     /// The same prices once more. The error is that memory ran out.
@@ -46,6 +81,8 @@ impl DualPrices {
             capacity: self.capacity.copy(alloc)?,
             stock: self.stock.copy(alloc)?,
             back: self.back.copy(alloc)?,
+            share: self.share.copy(alloc)?,
+            lot: self.lot.copy(alloc)?,
         })
     }
 
@@ -55,6 +92,8 @@ impl DualPrices {
         self.capacity.take_from(&other.capacity);
         self.stock.take_from(&other.stock);
         self.back.take_from(&other.back);
+        self.share.take_from(&other.share);
+        self.lot.take_from(&other.lot);
     }
 
     /// The same prices with all costs dropped: their scale is 0, and what a unit in stock costs is taken off its price.
@@ -76,6 +115,8 @@ impl DualPrices {
         self.capacity.take_from(&other.capacity);
         self.stock.take_from(&other.stock);
         self.back.clear();
+        self.share.clear();
+        self.lot.take_from(&other.lot);
         let scale = of_amount(other.scale);
         for item in 1..instance.items() + 1 {
             if let Some(line) = self.stock.line_mut(item) {

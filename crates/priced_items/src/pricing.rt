@@ -113,9 +113,25 @@ impl Pricing {
         self.grouping = grouping;
     }
 
-    /// Whether something may be owed.
+    /// The groups in which items are planned together, where some item is planned by what is on time of it.
+    pub fn late_grouping(&self) -> Option<&Grouping> {
+        match self.grouping() {
+            Some(grouping) if grouping.has_late() => Some(grouping),
+            _ => None,
+        }
+    }
+
+    /// Whether an item may be owed that is planned by what is on time of it: an end product with a price of backlog.
+    pub fn is_late_end(&self, instance: &Instance, item: u32) -> bool {
+        if item < 1 || item > instance.items() || !instance.has_backlog_cost(item) {
+            return false;
+        }
+        self.late_grouping().is_some()
+    }
+
+    /// Whether echelons may be owed that are planned alone.
     pub fn may_owe(&self) -> bool {
-        self.may_owe
+        self.may_owe && self.late_grouping().is_none()
     }
 
     /// The units of a lead-free item in one unit of another; 0 of one that isn't.
@@ -126,10 +142,10 @@ impl Pricing {
         }
     }
 
-    /// Whether the echelon of a lead-free item may be owed.
+    /// Whether the echelon of a lead-free item may be owed, and is planned alone.
     pub fn is_backlogged(&self, item: u32) -> bool {
         match self.get(item) {
-            Some(found) => found.backlogged,
+            Some(found) => found.backlogged && self.late_grouping().is_none(),
             None => false,
         }
     }

@@ -4,6 +4,7 @@ ghost use Rattle.lot_sizing.specs.Problem.{item_count};
 
 use crate::prices::DualPrices;
 use crate::pricing::Pricing;
+use crate::shares::settle_shares;
 use integer_grids::numbers::{less, lower, of_amount, over, plus, share, times};
 use integer_grids::{IntegerGrid, clear};
 use lot_model::{Instance, Need};
@@ -13,6 +14,13 @@ use std::alloc::{AllocError, Global};
 fn bound_above(line: &mut [i64], costs: &[u64], scale: i64) {
     for (cell, cost) in line.iter_mut().zip(costs) {
         *cell = (*cell).min(times(scale, of_amount(*cost)));
+    }
+}
+
+// Prices of stock are the holding costs.
+fn fill_scaled(line: &mut [i64], costs: &[u64], scale: i64) {
+    for (cell, cost) in line.iter_mut().zip(costs) {
+        *cell = times(scale, of_amount(*cost));
     }
 }
 
@@ -38,17 +46,22 @@ fn bound_grouped(instance: &Instance, line: &mut [i64], item: u32, scale: i64)
 }
 
 // Prices of stock of an item are at most its holding costs, and 0 where the item isn't lead-free and no items are planned in groups;
-// where the echelon may be owed, a unit in stock and one owed together cost no less than nothing.
+// where the echelon may be owed and is planned alone, a unit in stock and one owed together cost no less than nothing. Those of an end
+// product that is planned by what is on time of it are its holding costs.
 fn bound_stock(instance: &Instance, pricing: &Pricing, prices: &mut DualPrices, item: u32)
     requires low { 1 ≤ item }
     requires high { item ≤ item_count instance.now }
 {
     let scale = of_amount(prices.scale);
     if let Some(line) = prices.stock.line_mut(item) {
+        if pricing.is_late_end(instance, item) {
+            fill_scaled(line, instance.hold_costs(item), scale);
+            return;
+        }
         match pricing.get(item) {
-            Some(found) => {
+            Some(_) => {
                 bound_above(line, instance.hold_costs(item), scale);
-                if found.backlogged {
+                if pricing.is_backlogged(item) {
                     bound_below(line, prices.back.line(item));
                 }
             }
@@ -236,6 +249,9 @@ pub fn settle(instance: &Instance, pricing: &Pricing, prices: &mut DualPrices) {
         bound_stock(instance, pricing, prices, item);
     }
     order_stocks(instance, pricing, prices);
+    if let Some(grouping) = pricing.late_grouping() {
+        settle_shares(instance, grouping, prices);
+    }
 }
 
 // How many echelons an item is in.

@@ -2,6 +2,7 @@
 use crate::prices::DualPrices;
 use crate::pricing::{Item, Pricing};
 use crate::settling::{settle, split_backs};
+use crate::shares::split_shares;
 use integer_grids::numbers::{less, lower, of_amount, over, plus, times};
 use integer_grids::{IntegerGrid, clear};
 use lot_model::Instance;
@@ -168,6 +169,9 @@ pub fn split_prices(
     split_backs(alloc, instance, pricing, &mut prices)?;
     if pricing.grouping().is_some() {
         fill_stocks(alloc, instance, pricing, &mut prices)?;
+    }
+    if let Some(grouping) = pricing.late_grouping() {
+        split_shares(instance, grouping, &mut prices);
     }
     settle(instance, pricing, &mut prices);
     Ok(prices)

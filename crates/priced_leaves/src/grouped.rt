@@ -19,7 +19,7 @@ use std::alloc::{AllocError, Global};
 pub struct Grouped {
     /// Block cuts of the items that are planned alone, in rising order.
     pub cuts: Vec<Cut>,
-    /// The parts: the cuts by their numbers, largest end stocks, lots that come too late, and bounds of the path.
+    /// The parts: the cuts by their numbers, least lots, end stocks, lots that come too late, and bounds of the path.
     pub parts: Vec<Part>,
     /// Capacities and balances, by period.
     pub lists: Vec<PartList>,
@@ -136,6 +136,40 @@ fn put_late(
     Ok(())
 }
 
+// Least lots of an item are taken as often as they are priced.
+fn put_lots(given: Given<'_>, item: u32, making: &mut Making) -> Result<(), AllocError> {
+    for period in 1..given.instance.periods() + 1 {
+        let price = given.prices.lot.get(item, period);
+        making.put(RowName::Least(item, period), price)?;
+    }
+    Ok(())
+}
+
+// The end stocks of an item are taken as often as they are priced.
+fn put_ends(
+    given: Given<'_>,
+    moved: &MovedCosts,
+    item: u32,
+    making: &mut Making,
+) -> Result<(), AllocError>
+    requires low { 1 ≤ item }
+    requires high { item ≤ item_count given.instance.now }
+{
+    let Given {
+        instance,
+        pricing,
+        grouping,
+        prices,
+        ..
+    } = given;
+    let rest = prices.end_rest(instance, pricing, item);
+    making.put(RowName::EndMin(item), rest)?;
+    making.put(
+        RowName::EndMax(item),
+        moved.end_price(instance, grouping, item),
+    )
+}
+
 // The cut of an item that is planned alone.
 fn put_alone(
     alloc: Global,
@@ -183,26 +217,42 @@ fn put_item(
     requires high { number ≤ item_count given.instance.now }
 {
     if let Some(item) = given.pricing.get(number) {
-        if item.backlogged {
+        if given.pricing.is_backlogged(number) {
             return put_alone(alloc, given, item, costs, serving, first_cut, making);
         }
     }
     let fees = moved.fee.line(number);
     let setups = closed_fees(alloc, fees)?;
     making.put_fixed(fees, &setups, given.fixed, number)?;
+    put_lots(given, number, making)?;
     put_late(given, moved, number, making)
+}
+
+// A group, with the share of what falls short by the prices.
+fn with_share(prices: &DualPrices, group: Group) -> Group {
+    match group {
+        Group::Late { item, .. } => Group::Late {
+            item,
+            share: u64::try_from(prices.share.get(item, 1)).unwrap_or(0),
+        },
+        other => other,
+    }
+}
+
+// All groups.
+fn groups_of(alloc: Global, given: Given<'_>) -> Result<Vec<Group>, AllocError> {
+    let mut groups = Vec::new(alloc);
+    for group in given.grouping.groups() {
+        groups.push(with_share(given.prices, *group))?;
+    }
+    Ok(groups)
 }
 
 // The leaf.
 fn leaf_at(alloc: Global, given: Given<'_>, first_cut: u32) -> Result<Option<Grouped>, AllocError> {
     let instance = given.instance;
     let mut moved = MovedCosts::zero(alloc, instance)?;
-    moved.write(
-        instance,
-        given.prices.scale,
-        &given.prices.capacity,
-        &given.prices.stock,
-    );
+    moved.write(instance, given.prices.scale, given.prices.rows());
     let mut making = Making::new(alloc, instance)?;
     let mut costs = Costs::new(alloc);
     let mut serving = Serving::new(alloc);
@@ -217,8 +267,7 @@ fn leaf_at(alloc: Global, given: Given<'_>, first_cut: u32) -> Result<Option<Gro
             first_cut,
             &mut making,
         )?;
-        let price = moved.end_price(instance, given.grouping, number);
-        making.put(RowName::EndMax(number), price)?;
+        put_ends(given, &moved, number, &mut making)?;
     }
     let lists = lists_of(alloc, given, &moved)?;
     let Some((cuts, parts)) = making.into_lines() else {
@@ -228,7 +277,7 @@ fn leaf_at(alloc: Global, given: Given<'_>, first_cut: u32) -> Result<Option<Gro
         cuts,
         parts,
         lists,
-        groups: given.grouping.groups().to_vec(alloc)?,
+        groups: groups_of(alloc, given)?,
         den: given.prices.scale,
     }))
 }

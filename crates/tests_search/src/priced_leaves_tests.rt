@@ -12,6 +12,7 @@ use priced_leaves::{
 use std::alloc::{AllocError, Global};
 use std::boxed::Box;
 use std::test::Fail;
+use work_clock::Deadline;
 
 // The resource, with so many hours in each period.
 fn machine(hours: &[i64]) -> Resource {
@@ -99,7 +100,7 @@ fn pricing_of(alloc: Global, instance: &Instance) -> Result<Pricing, Fail> {
     let explosion = Explosion::of(alloc, instance)?;
     let mut pricing = Pricing::new(alloc, instance, &explosion)?;
     let prices = split_prices(alloc, instance, &pricing)?;
-    tune_openings(alloc, instance, &mut pricing, &prices)?;
+    tune_openings(alloc, instance, &mut pricing, &prices, Deadline::none())?;
     Ok(pricing)
 }
 
@@ -479,6 +480,78 @@ fn paths_fix_setups(rt: HostRuntime) -> Result<(), Fail> {
     assert_eq!(rt;
         held(alloc, &instance, true)?,
         (Held::AtMostZero(1), Held::Free)
+    );
+    Ok(())
+}
+
+// A may be late and has a lead time, and is there at first.
+const LATE: Item<'static> = Item {
+    backlog_cost: Some(&[6, 9, 6, 6]),
+    opening: 4,
+    lead: 1,
+    ..FIRST
+};
+
+#[test]
+fn leaves_say_what_rounds_claim_of_late_items(rt: HostRuntime) -> Result<(), Fail> {
+    let slow = Item {
+        lead: 1,
+        min_lot: 5,
+        opening: 8,
+        ..SECOND
+    };
+    let found = leaves_say(rt.alloc(), &[LATE, slow, THIRD])?;
+    assert_eq!(rt; found, SAY_NO_MORE);
+    Ok(())
+}
+
+// One that goes into A is never late besides, and there are end stocks.
+#[test]
+fn leaves_say_what_rounds_claim_of_late_items_with_end_stocks(rt: HostRuntime) -> Result<(), Fail> {
+    let loose = Item {
+        end_min: 1,
+        end_max: Some(6),
+        lead: 0,
+        min_lot: 3,
+        ..LATE
+    };
+    let slow = Item {
+        lead: 2,
+        min_lot: 6,
+        end_min: 3,
+        end_max: Some(20),
+        ..THIRD
+    };
+    let found = leaves_say(rt.alloc(), &[loose, SECOND, slow])?;
+    assert_eq!(rt; found, SAY_NO_MORE);
+    Ok(())
+}
+
+// Too few hours for items that may be late.
+#[test]
+fn too_few_hours_are_refuted_of_late_items(rt: HostRuntime) -> Result<(), Fail> {
+    let alloc = rt.alloc();
+    let slow = Item {
+        lead: 1,
+        opening: 8,
+        ..SECOND
+    };
+    let instance = instance(alloc, 4, &[machine(&[8])], &[LATE, slow, THIRD])?;
+    let (prices, _, reached) = improved(alloc, &instance, &[], 60)?;
+    let pricing = pricing_of(alloc, &instance)?;
+    let fixed = fixed_setups(alloc, &instance, &[])?;
+    let groups = pricing.grouping().ok_or("no groups")?;
+    let found = dropped_grouped_leaf(alloc, &instance, &pricing, groups, &prices, &fixed, 1)?;
+    let found = reduced(found.ok_or("no leaf")?);
+    let made = Certificate {
+        version: found.version,
+        claim: Claim::Infeasible,
+        cuts: found.cuts,
+        tree: Tree::Leaf(found.leaf),
+    };
+    assert_eq!(rt;
+        (reached, is_accepted(alloc, &instance, &made)?),
+        (Reached::Refuted, true)
     );
     Ok(())
 }
