@@ -5,7 +5,8 @@ use Rattle.std.specs.Str.Parse.{AllDigits, digits_value}
 use Rattle.std.proofs.lemmas.Bool.{cases_eq}
 use Rattle.lot_sizing.specs.Problem.{Problem, item_count}
 use Rattle.lot_sizing.specs.Plan.{Plan}
-use Rattle.plan_file.specs.Records.{HasHeader, HasNumbers, IsGood, IsNumber, IsPlanOf, Record, field, field_number, is_header, is_row, number_of, record_at}
+use Rattle.csv_records.specs.Records.{IsNumber, Record, field, record_at}
+use Rattle.plan_file.specs.Records.{HasHeader, HasNumbers, IsGood, IsPlanOf, field_number, is_header, is_row, number_of}
 use Rattle.plan_file.specs.Faults.{IsCellFault, IsFirstBad, IsPlanFault, IsRecordFault}
 use Rattle.plan_file.specs.declared.fault.NumberField.{NumberField}
 use Rattle.plan_file.specs.declared.fault.NumberField.TheVariants.{Make, Setup, Stock, Backlog}

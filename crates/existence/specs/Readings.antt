@@ -4,7 +4,8 @@ use Rattle.lot_sizing.specs.Problem.{Problem}
 use Rattle.lot_sizing.specs.Plan.{Plan}
 use Rattle.lot_draft.specs.declared.fault.ModelFault.{ModelFault}
 use Rattle.instance_reader.specs.Model.{MeanUpTo}
-use Rattle.plan_file.specs.Records.{IsPlanOf, Record}
+use Rattle.csv_records.specs.Records.{Record}
+use Rattle.plan_file.specs.Records.{IsPlanOf}
 use Rattle.plan_file.specs.Faults.{IsPlanFault}
 use Rattle.plan_file.specs.declared.fault.PlanFault.{PlanFault}
 use Rattle.plan_file.specs.declared.fault.PlanFault.TheVariants.{Memory}

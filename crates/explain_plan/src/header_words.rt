@@ -1,7 +1,7 @@
 // Words on the first row of a file of records.
 
-use crate::rows::{field, first_rows};
 use csv::ByteRecord;
+use csv_records::{field, first_records};
 use explain_lookup::quoted;
 use std::alloc::{AllocError, Global};
 
@@ -67,7 +67,7 @@ fn on_first_row(
             "Its columns stand apart by tabs: save with commas (CSV UTF-8).\n",
         );
     }
-    let rows = first_rows(alloc, bytes, 1)?;
+    let rows = first_records(alloc, bytes, 1)?;
     match rows.first() {
         Some(row) => on_columns(alloc, row, names),
         None => String::from_str(alloc, "The file is empty.\n"),

@@ -1,12 +1,13 @@
 //! Words for people on plans and schedules: what a printed line means in this file of theirs.
 //!
-//! Standard output has one exact line for programs; these words go beside it, with the names and rows of the files.
-//! `words_on_plan` finds the row of a plan file that holds none, or lists the rules that its plan breaks.
-//! `words_on_schedule` does so for a schedule file.
+//! Standard output has one exact line for programs; these words go beside it, with the names and
+//! rows of the files. `words_on_plan` finds the row of a plan file that holds none, or lists the
+//! rules that its plan breaks. `words_on_schedule` does so for a schedule file.
 //!
-//! Family: commands. It stands on `explain_lookup`, on `lot_model`, `plan_rules` and `plan_file` for models and plans, on `csv` for the
-//! rows of files, and on `strsim` for how alike two names are; `explain` stands on it. Nothing is proved of the words. A line of
-//! another kind gets none.
+//! Family: commands. It stands on `explain_lookup`, on `lot_model`, `plan_rules` and `plan_file`
+//! for models and plans, on `csv` and `csv_records` for the rows of files, and on `strsim` for how
+//! alike two names are; `explain` stands on it. Nothing is proved of the words. A line of another
+//! kind gets none.
 #![tactic(auto)]
 
 mod balance_words;

@@ -3,9 +3,10 @@
 use crate::header_words::on_header;
 use crate::number_words::on_number;
 use crate::row_words::{on_count, on_row};
-use crate::rows::{field, first_rows, row_of};
+use crate::rows::row_of;
 use crate::rule_words::on_rules;
 use csv::ByteRecord;
+use csv_records::{field, first_records};
 use explain_lookup::{place_at, plain, word_at};
 use lot_model::Instance;
 use plan_file::{PlanFault, read_plan};
@@ -30,7 +31,7 @@ fn plan_rows(
     bytes: &[u8],
 ) -> Result<Vec<ByteRecord>, AllocError> {
     let cells = u64::from(instance.items()).saturating_mul(u64::from(instance.periods()));
-    first_rows(alloc, bytes, cells.saturating_add(2) as usize)
+    first_records(alloc, bytes, cells.saturating_add(2) as usize)
 }
 
 // Words on the record of this number, where a field of it is at fault or, for field 0, all of it.

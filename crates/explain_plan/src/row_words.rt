@@ -2,8 +2,9 @@
 
 use crate::cells::item_of;
 use crate::name_words::{Kind, on_unknown_name};
-use crate::rows::{field, row_of};
+use crate::rows::row_of;
 use csv::ByteRecord;
+use csv_records::field;
 use explain_lookup::{item_name, number_of, quoted};
 use lot_model::Instance;
 use std::alloc::{AllocError, Global};

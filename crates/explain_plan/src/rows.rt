@@ -1,38 +1,6 @@
-// The records of a file, and the rows of a spreadsheet that they stand in.
+// The rows of a spreadsheet that the records of a file stand in.
 
-use csv::{ByteRecord, ReaderBuilder};
-use std::alloc::{AllocError, Global};
-
-/// The first records of a file, at most so many.
-pub(crate) fn first_rows(
-    alloc: Global,
-    bytes: &[u8],
-    most: usize,
-) -> Result<Vec<ByteRecord>, AllocError> {
-    let rdr = ReaderBuilder::new()
-        .has_headers(false)
-        .flexible(true)
-        .from_reader(alloc, bytes);
-    let mut rows = Vec::new(alloc);
-    for row in rdr.into_byte_records() {
-        if rows.len() >= most {
-            return Ok(rows);
-        }
-        let Ok(row) = row else {
-            return Err(AllocError);
-        };
-        rows.push(row)?;
-    }
-    Ok(rows)
-}
-
-/// A field of a record, counted from 1; nothing where it is absent.
-pub(crate) fn field(row: &ByteRecord, number: usize) -> &[u8] {
-    match row.get(number.saturating_sub(1)) {
-        Some(found) => found,
-        None => &[],
-    }
-}
+use csv::ByteRecord;
 
 // Where the first byte from a place on stands that ends no line.
 fn after_line_ends(bytes: &[u8], from: usize) -> usize {

@@ -2,11 +2,12 @@
 
 use crate::cells::cell_of;
 use crate::header_words::on_header;
-use crate::rows::{first_rows, row_of};
+use crate::rows::row_of;
 use crate::slot_words::{
     FoundSlot, do_overlap, found_slot, is_same_lot, is_same_place, lot_words, on_no_slot,
 };
 use csv::ByteRecord;
+use csv_records::first_records;
 use explain_lookup::{capacity_of, lot_time, place_at, plain, word_at};
 use lot_model::Instance;
 use plan_rules::Plan;
@@ -135,7 +136,7 @@ fn on_record(
     number: u32,
     fault: &str,
 ) -> Result<String, AllocError> {
-    let rows = first_rows(alloc, bytes, (number as usize).saturating_add(1))?;
+    let rows = first_records(alloc, bytes, (number as usize).saturating_add(1))?;
     let Some(row) = rows.get(number as usize) else {
         return Ok(String::new(alloc));
     };

@@ -2,8 +2,8 @@
 
 use crate::cells::{item_of, resource_of};
 use crate::name_words::{Kind, on_unknown_name};
-use crate::rows::field;
 use csv::ByteRecord;
+use csv_records::field;
 use explain_lookup::{item_name, number_of, quoted, resource_name};
 use lot_model::Instance;
 use std::alloc::{AllocError, Global};

@@ -1,7 +1,7 @@
 -- The first column with a quantity or setup that is no number.
-use Rattle.std.proofs.Common.{◌≡◌, ◌<◌, ◌⊎◌, ⊎_elim, inl, inr, ℕ, refl, sym, subst, arith, Option, Some, None}
+use Rattle.std.proofs.Common.{◌≡◌, ◌<◌, ⊎_elim, inl, inr, ℕ, refl, sym, subst, arith, Option, Some, None}
 use Rattle.std.proofs.lemmas.Option.{none-some, same_Some}
-use Rattle.plan_file.specs.Records.{IsNumber, Record, field}
+use Rattle.csv_records.specs.Records.{IsNumber, Record, field}
 use Rattle.std.proofs.lemmas.Bool.{cases_lt}
 use Rattle.lot_quantities.specs.Tables.{HasNumbers}
 use Rattle.lot_quantities.specs.Faults.{HoldsNumbers, IsFirstBad}

@@ -3,7 +3,8 @@ use Rattle.std.proofs.Common.{◌≡◌, ◌≢◌, ◌≤◌, ◌<◌, ◌+◌,
 use Rattle.std.proofs.lemmas.Bool.{cases_lt}
 use Rattle.lot_sizing.specs.Problem.{Problem, item_count}
 use Rattle.plan_rules.specs.Order.{IsBefore, IsFirst}
-use Rattle.plan_file.specs.Records.{Record, number_of, record_at}
+use Rattle.csv_records.specs.Records.{Record, record_at}
+use Rattle.plan_file.specs.Records.{number_of}
 use Rattle.lot_quantities.specs.Tables.{IsGood, setup_in}
 use Rattle.lot_quantities.specs.Numbers.{AreReadBefore, AreSame, IsPutFrom, IsReadInto}
 use Rattle.lot_quantities.specs.Faults.{IsCellFault, IsRecordFault}

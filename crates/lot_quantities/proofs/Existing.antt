@@ -7,8 +7,9 @@ use Rattle.std.proofs.lemmas.Slice.Eq.{bytes_eq-Decides}
 use Rattle.whole_numbers.proofs.Numerals.{whole_is_decimal}
 use Rattle.lot_sizing.specs.Problem.{Problem, item_count}
 use Rattle.lot_sizing.specs.Plan.{Table}
-use Rattle.plan_file.specs.Records.{IsNumber, Record, field, number_of, record_at}
-use Rattle.plan_file.proofs.Plain.{number_read}
+use Rattle.csv_records.specs.Records.{IsNumber, Record, field, record_at}
+use Rattle.plan_file.specs.Records.{number_of}
+use Rattle.csv_records.proofs.Numbers.{number_read}
 use Rattle.existence.proofs.Deciding.{Decided, all_or_first, each_or_first, lt_or_not, not_or_not, true_or_not}
 use Rattle.lot_quantities.specs.Columns.{HasColumns, HasText, IsColumn, IsNoColumn, IsTwice}
 use Rattle.lot_quantities.specs.Tables.{HasHeader, HasNumbers, IsGood, IsTableOf, is_row, setup_in}

@@ -1,5 +1,5 @@
 -- The least stocks and backlogs of quantities and setups that a feasible plan has fit 64 bits.
-use Rattle.std.proofs.Common.{◌≡◌, ◌^◌, ◌⊎◌, ⊎_elim, inl, inr, ℕ, refl, sym, subst, arith}
+use Rattle.std.proofs.Common.{◌≡◌, ◌^◌, ⊎_elim, inl, inr, ℕ, refl, sym, subst, arith}
 use Rattle.std.proofs.lemmas.Bool.{cases_lt}
 use Rattle.lot_sizing.specs.Problem.{Problem}
 use Rattle.lot_sizing.specs.Plan.{Plan, Table, EachCell, IsFeasible}

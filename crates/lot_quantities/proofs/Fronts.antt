@@ -1,12 +1,12 @@
 -- What holds of the first records holds of all.
-use Rattle.std.proofs.Common.{◌≡◌, ◌≢◌, ◌≤◌, ◌<◌, ◌+◌, ◌-◌, ◌*◌, ⊎_elim, inl, inr, ℕ, List, take, length, sym, subst, arith, IsTrue}
-use Rattle.std.proofs.Math.Nat.{mul-le-mul_right}
-use Rattle.std.proofs.lemmas.Bool.{cases_lt}
+use Rattle.std.proofs.Common.{◌≡◌, ◌≢◌, ◌≤◌, ◌<◌, ◌+◌, ◌*◌, inl, inr, ℕ, List, take, length, sym, subst, arith, IsTrue}
 use Rattle.lot_sizing.specs.Problem.{Problem, item_count}
 use Rattle.plan_rules.specs.Cells.{table_of}
 use Rattle.plan_rules.specs.Order.{IsFirst}
-use Rattle.plan_file.specs.Records.{Record, number_of}
-use Rattle.plan_file.proofs.Fronts.{IsFront, front}
+use Rattle.csv_records.specs.Records.{Record}
+use Rattle.plan_file.specs.Records.{number_of}
+use Rattle.csv_records.proofs.Fronts.{IsFront, count_all, count_front, front}
+use Rattle.plan_file.proofs.Fronts.{number_small}
 use Rattle.lot_quantities.specs.Columns.{HasColumns}
 use Rattle.lot_quantities.specs.Tables.{AreNumbersOf, HasHeader, HasNumbers, IsGood, IsTableOf, is_row}
 use Rattle.lot_quantities.specs.Numbers.{AreRead}
@@ -15,13 +15,6 @@ use Rattle.lot_quantities.specs.declared.columns.Columns.{Columns}
 use Rattle.lot_quantities.specs.declared.quantities.Quantities.{Quantities}
 use Rattle.lot_quantities.specs.declared.fault.QuantityFault.{QuantityFault}
 use Rattle.lot_quantities.specs.declared.fault.QuantityFault.TheVariants as fault
-
--- the records of a table stand before these
-number_small : (m : Problem) (i t : ℕ) → i ≤ item_count m → 1 ≤ t → t ≤ m.periods → 1 ≤ i → number_of m i t < item_count m * m.periods + 2
-number_small m i t high t_low t_high low =
-    let e : i ≡ i - 1 + 1 = omega (arith, low) in
-    let rows : (i - 1 + 1) * m.periods ≤ item_count m * m.periods = mul-le-mul_right m.periods (omega (arith, low, high)) in
-    omega (arith, rows, t_low, t_high)
 
 good_all : (m : Problem) (n : ℕ) (rs all : List Record) (k : Columns) → IsFront n rs all → n ≡ item_count m * m.periods + 2 → (i t : ℕ) → 1 ≤ i → i ≤ item_count m → 1 ≤ t → t ≤ m.periods → IsGood m rs k i t → IsGood m all k i t
 good_all m n rs all k fr size i t low high t_low t_high good =
@@ -76,18 +69,6 @@ rows_fault m n rs all k is size header (fault.Row j) x = (k, header_all n rs all
 rows_fault m n rs all k is size header (fault.Number j c) x = (k, header_all n rs all k (front n rs all is) (omega (arith, size)) header, cell_all m n rs all k (front n rs all is) size (fault.Number j c) x)
 rows_fault m n rs all k is size header fault.Memory (i, t, first, wrong) = absurd wrong
 
-count_front : (m : Problem) (n : ℕ) (rs all : List Record) → IsFront n rs all → n ≡ item_count m * m.periods + 2 → length all ≡ item_count m * m.periods + 1 → length rs ≡ item_count m * m.periods + 1
-count_front m n rs all fr size count =
-    let N = item_count m * m.periods in
-    let low : N < length rs = fr.back N (omega (arith, size)) (omega (arith, count)) in
-    ⊎_elim (λ more. absurd (omega (arith, fr.there (N + 1) (omega (arith, size)) more, count))) (λ no. omega (arith, no, low)) (cases_lt (N + 1) (length rs))
-
-count_all : (m : Problem) (n : ℕ) (rs all : List Record) → IsFront n rs all → n ≡ item_count m * m.periods + 2 → length rs ≡ item_count m * m.periods + 1 → length all ≡ item_count m * m.periods + 1
-count_all m n rs all fr size count =
-    let N = item_count m * m.periods in
-    let low : N < length all = fr.there N (omega (arith, size)) (omega (arith, count)) in
-    ⊎_elim (λ more. absurd (omega (arith, fr.back (N + 1) (omega (arith, size)) more, count))) (λ no. omega (arith, no, low)) (cases_lt (N + 1) (length all))
-
 -- all records are read, and too many are there
 pub more_fault : (m : Problem) (n : ℕ) (rs all : List Record) (k : Columns) (q : Quantities) → rs ≡ take n all → n ≡ item_count m * m.periods + 2 → HasHeader rs k → AreRead m rs k q → length rs ≢ item_count m * m.periods + 1 → IsQuantityFault m all fault.RowCount
 more_fault m n rs all k q is size header read other =
@@ -97,7 +78,7 @@ more_fault m n rs all k q is size header read other =
       header_all n rs all k fr (omega (arith, size)) header,
       record {
         good = λ i t low high t_low t_high. good_all m n rs all k fr size i t low high t_low t_high (read i t low high t_low t_high).0;
-        more = λ count. other (count_front m n rs all fr size count);
+        more = λ count. other (count_front n (item_count m * m.periods + 1) rs all fr (omega arith) (omega (arith, size)) count);
       },
     )
 
@@ -108,7 +89,7 @@ table_read m n rs all k q is size header read count =
     record {
       columns = k;
       header = header_all n rs all k fr (omega (arith, size)) header;
-      count = count_all m n rs all fr size count;
+      count = count_all n (item_count m * m.periods + 1) rs all fr (omega arith) (omega (arith, size)) count;
       each = λ i t low high t_low t_high.
           let here = read i t low high t_low t_high in
           (good_all m n rs all k fr size i t low high t_low t_high here.0, subst (λ r. AreNumbersOf r k (table_of q.make) (table_of q.setup) i t) (fr.same (number_of m i t) (omega (arith, number_small m i t high t_low t_high low, size))) here.1);

@@ -3,7 +3,8 @@ use Rattle.std.proofs.Common.{◌≡◌, ◌≢◌, ◌≤◌, ◌∙◌, ◌⊎
 use Rattle.lot_sizing.specs.Problem.{Problem, item_count}
 use Rattle.lot_sizing.specs.Plan.{EachCell, Table}
 use Rattle.plan_rules.specs.Order.{IsBefore, IsFirst}
-use Rattle.plan_file.specs.Records.{Record, number_of, record_at}
+use Rattle.csv_records.specs.Records.{Record, record_at}
+use Rattle.plan_file.specs.Records.{number_of}
 use Rattle.lot_quantities.specs.Columns.{IsColumn, IsNoColumn}
 use Rattle.lot_quantities.specs.Tables.{AreNumbersOf, HasHeader, IsGood, IsTableOf, setup_in}
 use Rattle.lot_quantities.specs.Faults.{HasMore, IsCellFault, IsQuantityFault, IsRecordFault}

@@ -1,8 +1,8 @@
 -- Columns by their names.
-use Rattle.std.proofs.Common.{◌≡◌, ◌<◌, ◌≤◌, ◌+◌, ◌⊎◌, ⊎_elim, ℕ, arith, IfNone, IfSome, List, Option, Some, None, codes, length}
+use Rattle.std.proofs.Common.{◌≡◌, ◌<◌, ◌≤◌, ◌+◌, ⊎_elim, ℕ, arith, IfNone, IfSome, List, Option, Some, None, codes, length}
 use Rattle.std.proofs.lemmas.Bool.{cases_lt}
-use Rattle.plan_file.specs.Records.{Record}
-use Rattle.lot_quantities.specs.Columns.{AreCounted, HasColumns, HasText, IsColumn, IsNoColumn, IsTwice, NoneBetween}
+use Rattle.csv_records.specs.Records.{Record}
+use Rattle.lot_quantities.specs.Columns.{HasColumns, HasText, IsColumn, IsNoColumn, IsTwice, NoneBetween}
 use Rattle.lot_quantities.specs.declared.columns.Columns.{Columns}
 
 -- a text that stands in one column, and neither before nor after it
@@ -37,10 +37,3 @@ neither r text a b None two some none = none a two.low (omega (arith, two.less, 
 
 pub setups_twice : (r : Record) (a b : ℕ) (k : Columns) → IsTwice r (codes "setup") a b → HasColumns r k → ⊥
 setups_twice r a b k two has = neither r (codes "setup") a b k.setup two has.setup has.no_setup
-
-setup_low : (r : Record) (text : List ℕ) (s : Option ℕ) → IfSome s (IsColumn r text) → IfSome s (λ c. 1 ≤ c)
-setup_low r text (Some c) some = some.low
-setup_low r text None some = some
-
-pub counted : (r : Record) (k : Columns) → HasColumns r k → AreCounted k
-counted r k has = record { item = has.item.low; period = has.period.low; make = has.make.low; setup = setup_low r (codes "setup") k.setup has.setup }

@@ -2,7 +2,7 @@
 use Rattle.std.proofs.Common.{◌≡◌, ◌∙◌, ℕ, List, sym, ap, subst, IsTrue, false}
 use Rattle.lot_sizing.specs.Problem.{Problem}
 use Rattle.plan_rules.specs.Cells.{table_of}
-use Rattle.plan_file.specs.Records.{Record}
+use Rattle.csv_records.specs.Records.{Record}
 use Rattle.plan_file.proofs.Places.{IsHere}
 use Rattle.lot_quantities.specs.Tables.{AreNumbersOf, HasNumbers, is_row, setup_in}
 use Rattle.lot_quantities.specs.Numbers.{HasLot, IsPut, IsPutFrom, IsReadInto}

@@ -1,7 +1,7 @@
 -- Where the columns of a table stand, by the names in its first record.
 use Rattle.std.specs.Prelude.{◌≡◌, ℕ, ◌≤◌, ◌<◌, IfNone, IfSome, IsTrue, List, codes, length}
 use Rattle.std.specs.Str.{bytes_eq}
-use Rattle.plan_file.specs.Records.{Record, field}
+use Rattle.csv_records.specs.Records.{Record, field}
 use Rattle.lot_quantities.specs.declared.columns.Columns.{Columns}
 use Rattle.lot_quantities.specs.declared.columns.Found.{Found}
 use Rattle.lot_quantities.specs.declared.columns.Found.TheVariants as found
@@ -33,13 +33,6 @@ pub record HasColumns (r : Record) (k : Columns) : Type 0 where
   pub make : IsColumn r (codes "make") k.make
   pub setup : IfSome k.setup (IsColumn r (codes "setup"))
   pub no_setup : IfNone k.setup (IsNoColumn r (codes "setup"))
-
--- columns are counted from 1
-pub record AreCounted (k : Columns) : Type 0 where
-  pub item : 1 ≤ k.item
-  pub period : 1 ≤ k.period
-  pub make : 1 ≤ k.make
-  pub setup : IfSome k.setup (λ c. 1 ≤ c)
 
 -- a text stands in two columns
 pub record IsTwice (r : Record) (text : List ℕ) (c d : ℕ) : Type 0 where

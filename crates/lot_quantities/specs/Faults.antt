@@ -3,7 +3,8 @@ use Rattle.std.specs.Prelude.{◌≡◌, ◌≢◌, ◌⊎◌, ℕ, ◌+◌, ◌
 use Rattle.lot_sizing.specs.Problem.{Problem, item_count}
 use Rattle.lot_sizing.specs.Plan.{EachCell}
 use Rattle.plan_rules.specs.Order.{IsFirst}
-use Rattle.plan_file.specs.Records.{IsNumber, Record, field, number_of, record_at}
+use Rattle.csv_records.specs.Records.{IsNumber, Record, field, record_at}
+use Rattle.plan_file.specs.Records.{number_of}
 use Rattle.lot_quantities.specs.Tables.{HasHeader, IsGood, is_row}
 use Rattle.lot_quantities.specs.declared.columns.Columns.{Columns}
 use Rattle.lot_quantities.specs.declared.fault.QuantityFault.{QuantityFault}

@@ -2,7 +2,7 @@
 use Rattle.std.specs.Prelude.{◌≡◌, ◌≢◌, ◌⊎◌, List}
 use Rattle.lot_sizing.specs.Problem.{Problem}
 use Rattle.lot_sizing.specs.Plan.{EachCell, Table}
-use Rattle.plan_file.specs.Records.{Record}
+use Rattle.csv_records.specs.Records.{Record}
 use Rattle.lot_quantities.specs.Tables.{IsTableOf}
 use Rattle.lot_quantities.specs.Faults.{IsQuantityFault}
 use Rattle.lot_quantities.specs.declared.fault.QuantityFault.{QuantityFault}

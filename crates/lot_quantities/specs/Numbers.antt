@@ -5,7 +5,7 @@ use Rattle.lot_sizing.specs.Problem.{Problem, item_count}
 use Rattle.lot_sizing.specs.Plan.{EachCell}
 use Rattle.plan_rules.specs.Cells.{Fits, table_of}
 use Rattle.plan_rules.specs.Order.{HoldsBefore}
-use Rattle.plan_file.specs.Records.{Record, field}
+use Rattle.csv_records.specs.Records.{Record, field}
 use Rattle.lot_quantities.specs.Tables.{HasNumbers, IsRead, setup_in}
 use Rattle.lot_quantities.specs.declared.columns.Columns.{Columns}
 use Rattle.lot_quantities.specs.declared.quantities.Quantities.{Quantities}

@@ -4,7 +4,8 @@ use Rattle.std.specs.Str.{bytes_eq}
 use Rattle.std.specs.Str.Parse.{digits_value}
 use Rattle.lot_sizing.specs.Problem.{Problem, item_at, item_count}
 use Rattle.lot_sizing.specs.Plan.{EachCell, Table}
-use Rattle.plan_file.specs.Records.{IsNumber, Record, field, number_of, record_at}
+use Rattle.csv_records.specs.Records.{IsNumber, Record, field, record_at}
+use Rattle.plan_file.specs.Records.{number_of}
 use Rattle.lot_quantities.specs.Columns.{HasColumns}
 use Rattle.lot_quantities.specs.declared.columns.Columns.{Columns}
 

@@ -3,8 +3,8 @@ ghost use Rattle.std.specs.Prelude.{◌≤◌, ◌<◌, ◌+◌, ℕ, IfNone, If
 ghost use Rattle.csv.specs.Records.{fields_of};
 ghost use Rattle.lot_quantities.specs.Columns.{HasColumns, HasText, IsColumn, IsFound, NoneBetween};
 
-use crate::fields::field;
 use csv::ByteRecord;
+use csv_records::field;
 
 /// Where the columns of a table stand, counted from 1.
 #[derive(Clone, Copy, Debug, PartialEq, Eq)]

@@ -3,16 +3,16 @@ ghost use Rattle.std.specs.Prelude.{◌≤◌, ◌<◌, ◌+◌, IfErr, IfNone, 
 ghost use Rattle.csv.specs.Records.{fields_of};
 ghost use Rattle.lot_sizing.specs.Problem.{item_count};
 ghost use Rattle.plan_rules.specs.Cells.{table_of};
-ghost use Rattle.plan_file.specs.Records.{records_of};
+ghost use Rattle.csv_records.specs.Records.{records_of};
 ghost use Rattle.lot_quantities.specs.Tables.{HasHeader, IsTableOf};
 ghost use Rattle.lot_quantities.specs.Numbers.{AreRead, AreReadBefore, BothFit, IsPut, IsPutFrom};
 ghost use Rattle.lot_quantities.specs.Faults.{IsCellFault, IsQuantityFault, IsRecordFault};
 
 use crate::columns::columns_of;
-use crate::records::first_records;
 use crate::rows::{Lot, is_row, lot_of};
 use crate::{Columns, Quantities, QuantityFault};
 use csv::ByteRecord;
+use csv_records::first_records;
 use lot_model::Instance;
 use plan_rules::Grid;
 use std::alloc::Global;
@@ -40,7 +40,6 @@ fn read_record(
     period: u32,
     into: &mut Quantities,
 ) -> Result<(), QuantityFault>
-    requires header { HasHeader (map fields_of rows.now) columns }
     requires fits { BothFit instance.now into.old }
     requires item_low { 1 ≤ item }
     requires item_high { item ≤ item_count instance.now }
@@ -77,7 +76,6 @@ fn read_item(
     item: u32,
     into: &mut Quantities,
 ) -> Result<(), QuantityFault>
-    requires header { HasHeader (map fields_of rows.now) columns }
     requires fits { BothFit instance.now into.old }
     requires low { 1 ≤ item }
     requires high { item ≤ item_count instance.now }
@@ -100,7 +98,6 @@ fn read_records(
     columns: Columns,
     into: &mut Quantities,
 ) -> Result<(), QuantityFault>
-    requires header { HasHeader (map fields_of rows.now) columns }
     requires fits { BothFit instance.now into.old }
     ensures fits { OnOk result (BothFit instance.now into.new) }
     ensures read { OnOk result (AreRead instance.now (map fields_of rows.now) columns into.new) }
@@ -123,12 +120,12 @@ fn header_of(rows: &[ByteRecord]) -> Option<Columns>
     }
 }
 
-/// The quantities and setups in the records of these bytes, after a first record that names the columns, or the first
-/// fault in their order.
+/// The quantities and setups in the records of these bytes, after a first record that names the
+/// columns, or the first fault in their order.
 ///
-/// The columns `item`, `period` and `make` are needed and `setup` may be there, in any order and among any others.
-/// Without it there is a setup where something is made. It takes time in the length of the bytes, and memory for no
-/// more records than there are items times periods and two.
+/// The columns `item`, `period` and `make` are needed and `setup` may be there, in any order and
+/// among any others. Without it there is a setup where something is made. It takes time in the
+/// length of the bytes, and memory for no more records than there are items times periods and two.
 pub fn read_quantities(
     alloc: Global,
     instance: &Instance,

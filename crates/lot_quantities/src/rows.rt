@@ -2,15 +2,13 @@
 ghost use Rattle.std.specs.Prelude.{◌≡◌, ◌≤◌, IfErr, IfOk, Some};
 ghost use Rattle.csv.specs.Records.{fields_of};
 ghost use Rattle.lot_sizing.specs.Problem.{item_count};
-ghost use Rattle.plan_file.specs.Records.{field};
-ghost use Rattle.lot_quantities.specs.Columns.{AreCounted};
 ghost use Rattle.lot_quantities.specs.Tables.{is_row, setup_for};
 ghost use Rattle.lot_quantities.specs.Numbers.{HasLot};
 ghost use Rattle.lot_quantities.specs.Faults.{IsFirstBad};
 
 use crate::Columns;
-use crate::fields::{field, is_period, number};
 use csv::ByteRecord;
+use csv_records::{field, is_number, number};
 use lot_model::Instance;
 
 // Whether a record is that of an item and a period.
@@ -23,12 +21,11 @@ pub(crate) fn is_row(
 ) -> bool
     requires low { 1 ≤ item }
     requires high { item ≤ item_count instance.now }
-    requires columns { AreCounted columns }
     ensures { result ≡ is_row instance.now columns item period (fields_of row.now) }
 {
     row.len() == columns.width
         && field(row, columns.item) == instance.item_name(item).as_bytes()
-        && is_period(field(row, columns.period), period)
+        && is_number(field(row, columns.period), period as u64)
 }
 
 /// A quantity and a setup.
@@ -45,10 +42,9 @@ fn setup_for(make: u64) -> u64
     if make == 0 { 0 } else { 1 }
 }
 
-// The quantity and the setup in two columns of a record, or the first of them that holds no number.
+// The quantity and the setup in two columns of a record, or the first of them that holds no
+// number.
 fn both_of(row: &ByteRecord, make_at: usize, setup_at: usize) -> Result<Lot, usize>
-    requires make { 1 ≤ make_at }
-    requires setup { 1 ≤ setup_at }
     ensures ok { IfOk result (HasLot (fields_of row.now) make_at (Some setup_at)) }
     ensures bad { IfErr result (IsFirstBad (fields_of row.now) make_at (Some setup_at)) }
 {
@@ -66,9 +62,9 @@ fn both_of(row: &ByteRecord, make_at: usize, setup_at: usize) -> Result<Lot, usi
     }
 }
 
-// The quantity and the setup of a record, or the first column with one of them that holds no number.
+// The quantity and the setup of a record, or the first column with one of them that holds no
+// number.
 pub(crate) fn lot_of(row: &ByteRecord, columns: Columns) -> Result<Lot, usize>
-    requires { AreCounted columns }
     ensures ok { IfOk result (HasLot (fields_of row.now) columns.make columns.setup) }
     ensures bad { IfErr result (IsFirstBad (fields_of row.now) columns.make columns.setup) }
 {

@@ -1,15 +1,9 @@
 -- Records of five fields.
-use Rattle.std.proofs.Common.{◌≡◌, ◌≢◌, ◌≤◌, ◌<◌, ◌^◌, ◌∙◌, ℕ, true, List, [], ◌∷◌, length, decimal, refl, sym, ap, subst, arith}
-use Rattle.std.specs.Prelude.{◌==◌, ◌&&◌, codes}
-use Rattle.std.specs.Str.{bytes_eq}
-use Rattle.std.specs.Str.Parse.{digits_value}
-use Rattle.std.proofs.lemmas.Bool.{and_parts, eqb-true}
-use Rattle.std.proofs.lemmas.Slice.Eq.{bytes_eq-Decides}
+use Rattle.std.proofs.Common.{◌≡◌, ◌≢◌, ◌≤◌, ◌<◌, ◌^◌, ◌∙◌, ℕ, List, [], ◌∷◌, length, decimal, refl, sym, subst, arith}
 use Rattle.csv.specs.Records.{field_at}
 use Rattle.lot_sizing.specs.Problem.{Problem, item_at, item_count, resource_at, resource_count}
-use Rattle.plan_file.specs.Records.{Record, field}
-use Rattle.plan_file.proofs.Plain.{number_value}
-use Rattle.lot_schedule.specs.Records.{IsRow, header, is_header, row_of}
+use Rattle.csv_records.specs.Records.{Record, field}
+use Rattle.lot_schedule.specs.Records.{IsRow, row_of}
 use Rattle.lot_schedule.specs.declared.slot.Slot.{Slot}
 
 -- a record of five fields is these
@@ -39,20 +33,6 @@ has_fields m s r is = subst (HasFields m s) (sym is) (record { size = refl; reso
 pub row_is : (m : Problem) (s : Slot) (r : Record) → HasFields m s r → r ≡ row_of m s
 row_is m s r has = five r has.size ∙ rw (has.resource, has.period, has.item, has.start, has.end) refl
 
--- the header
-pub header_is : (r : Record) → is_header r ≡ true → r ≡ header
-header_is r is =
-    let (size, texts) = and_parts (length r == 5) (bytes_eq (field r 1) (codes "resource") && (bytes_eq (field r 2) (codes "period") && (bytes_eq (field r 3) (codes "item") && (bytes_eq (field r 4) (codes "start") && bytes_eq (field r 5) (codes "end"))))) is in
-    let (one, after_one) = and_parts (bytes_eq (field r 1) (codes "resource")) (bytes_eq (field r 2) (codes "period") && (bytes_eq (field r 3) (codes "item") && (bytes_eq (field r 4) (codes "start") && bytes_eq (field r 5) (codes "end")))) texts in
-    let (two, after_two) = and_parts (bytes_eq (field r 2) (codes "period")) (bytes_eq (field r 3) (codes "item") && (bytes_eq (field r 4) (codes "start") && bytes_eq (field r 5) (codes "end"))) after_one in
-    let (three, after_three) = and_parts (bytes_eq (field r 3) (codes "item")) (bytes_eq (field r 4) (codes "start") && bytes_eq (field r 5) (codes "end")) after_two in
-    let (four, last) = and_parts (bytes_eq (field r 4) (codes "start")) (bytes_eq (field r 5) (codes "end")) after_three in
-    five r (eqb-true (length r) 5 size) ∙ rw ((bytes_eq-Decides (field r 1) (codes "resource")).0 one, (bytes_eq-Decides (field r 2) (codes "period")).0 two, (bytes_eq-Decides (field r 3) (codes "item")).0 three, (bytes_eq-Decides (field r 4) (codes "start")).0 four, (bytes_eq-Decides (field r 5) (codes "end")).0 last) refl
-
-pub is_the_header : (r : Record) → r ≡ header → is_header r ≡ true
-unfolding field_at
-is_the_header r is = subst (λ x. is_header x ≡ true) (sym is) refl
-
 -- ---- records that are no slot's row
 pub no_resource : (m : Problem) (r : Record) (x : List ℕ) → x ≡ field r 1 → ((k : ℕ) → 1 ≤ k → k ≤ resource_count m → x ≢ (resource_at m k).name) → IsRow m r → ⊥
 no_resource m r x e none (s, is) = none s.resource is.exists.resource_low is.exists.resource_high (e ∙ (has_fields m s r is.row).resource)
@@ -68,7 +48,3 @@ no_start m r x e none (s, is) = none s.start is.start (e ∙ (has_fields m s r i
 
 pub no_end : (m : Problem) (r : Record) (x : List ℕ) → x ≡ field r 5 → ((n : ℕ) → n < 2 ^ 64 → x ≢ decimal n) → IsRow m r → ⊥
 no_end m r x e none (s, is) = none s.end is.end (e ∙ (has_fields m s r is.row).end)
-
--- no two numbers of 64 bits are written alike
-pub number_same : (x y : ℕ) → x < 2 ^ 64 → y < 2 ^ 64 → decimal x ≡ decimal y → x ≡ y
-number_same x y x_fits y_fits same = sym (number_value x x_fits) ∙ ap (digits_value 10) same ∙ number_value y y_fits

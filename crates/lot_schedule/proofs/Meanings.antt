@@ -1,9 +1,10 @@
 -- What records mean is one thing.
 use Rattle.std.proofs.Common.{◌≡◌, ◌≢◌, ◌≤◌, ◌<◌, ◌+◌, ◌-◌, ◌∙◌, ⊎_elim, ℕ, List, refl, ap, subst, sym, arith}
 use Rattle.std.proofs.lemmas.Bool.{cases_order}
+use Rattle.std.proofs.lemmas.Fmt.{decimal_injective}
 use Rattle.std.proofs.lemmas.List.{ext_get_or}
 use Rattle.lot_sizing.specs.Problem.{Problem, item_at, resource_at}
-use Rattle.plan_file.specs.Records.{Record, record_at}
+use Rattle.csv_records.specs.Records.{Record, record_at}
 use Rattle.lot_schedule.specs.Slots.{no_slot, slot_at}
 use Rattle.lot_schedule.specs.Records.{AreRowsOf, IsRowOf}
 use Rattle.lot_schedule.specs.Faults.{IsSlotFault}
@@ -11,7 +12,7 @@ use Rattle.lot_schedule.specs.declared.fault.SlotFault.{SlotFault}
 use Rattle.lot_schedule.specs.declared.fault.SlotFault.TheVariants.{Header, Memory, Row}
 use Rattle.lot_schedule.specs.Laws.{AreNamed, RecordsMeanOneThing}
 use Rattle.lot_schedule.specs.declared.slot.Slot.{Slot}
-use Rattle.lot_schedule.proofs.Fields.{has_fields, number_same}
+use Rattle.lot_schedule.proofs.Fields.{has_fields}
 
 slot_same : (a b : Slot) → a.resource ≡ b.resource → a.period ≡ b.period → a.item ≡ b.item → a.start ≡ b.start → a.end ≡ b.end → a ≡ b
 slot_same a b resource period item start end =
@@ -35,10 +36,10 @@ one_slot m r a b is x y =
     let q = has_fields m b r y.row in
     slot_same a b
     (one_name _ (λ k. (resource_at m k).name) is.resource_names a.resource b.resource x.exists.resource_low x.exists.resource_high y.exists.resource_low y.exists.resource_high (sym p.resource ∙ q.resource))
-    (number_same a.period b.period (omega (arith, x.exists.period_high, is.limits.periods)) (omega (arith, y.exists.period_high, is.limits.periods)) (sym p.period ∙ q.period))
+    (decimal_injective a.period b.period (omega (arith, x.exists.period_high, is.limits.periods)) (omega (arith, y.exists.period_high, is.limits.periods)) (sym p.period ∙ q.period))
     (one_name _ (λ i. (item_at m i).name) is.names a.item b.item x.exists.item_low x.exists.item_high y.exists.item_low y.exists.item_high (sym p.item ∙ q.item))
-    (number_same a.start b.start x.start y.start (sym p.start ∙ q.start))
-    (number_same a.end b.end x.end y.end (sym p.end ∙ q.end))
+    (decimal_injective a.start b.start x.start y.start (sym p.start ∙ q.start))
+    (decimal_injective a.end b.end x.end y.end (sym p.end ∙ q.end))
 
 one_list : (m : Problem) (rs : List Record) → AreNamed m → (xs ys : List Slot) → AreRowsOf m rs xs → AreRowsOf m rs ys → xs ≡ ys
 one_list m rs is xs ys x y =

@@ -1,18 +1,19 @@
 -- Records mean slots, or a fault that isn't out of memory.
 use Rattle.std.proofs.Common.{◌≡◌, ◌≢◌, ◌≤◌, ◌<◌, ◌+◌, ◌-◌, ◌^◌, ◌⊎◌, ⊎_elim, inl, inr, ℕ, zero, suc, refl, subst, arith, List, [], ◌∷◌, ◌++◌, length, decimal}
 use Rattle.std.specs.Str.{bytes_eq}
-use Rattle.std.proofs.lemmas.Bool.{cases_Bool, cases_eq}
+use Rattle.std.proofs.lemmas.Bool.{cases_Bool, cases_eq, cases_lt}
 use Rattle.std.proofs.lemmas.Slice.Eq.{bytes_eq-Decides}
 use Rattle.lot_sizing.specs.Problem.{Problem, item_at, item_count, resource_at, resource_count}
-use Rattle.plan_file.specs.Records.{Record, field, record_at}
+use Rattle.csv_records.specs.Records.{Record, are_fields, field, record_at}
+use Rattle.csv_records.proofs.SameFields.{are_fields-Decides}
 use Rattle.lot_schedule.specs.Slots.{AllExist}
-use Rattle.lot_schedule.specs.Records.{AreRowsOf, HasHeader, IsRow, is_header}
+use Rattle.lot_schedule.specs.Records.{AreRowsOf, HasHeader, IsRow, header}
 use Rattle.lot_schedule.specs.Faults.{IsFirstBadRow}
 use Rattle.lot_schedule.specs.Laws.{RecordsMeanSlots}
 use Rattle.lot_schedule.specs.declared.slot.Slot.{Slot}
 use Rattle.lot_schedule.specs.declared.fault.SlotFault.TheVariants.{Header, Row}
-use Rattle.lot_schedule.proofs.Fields.{has_fields, header_is, is_the_header, no_end, no_item, no_period, no_resource, no_start, row_is}
-use Rattle.lot_schedule.proofs.Rowed.{AreReadTo, first_bad, read_all, read_more, some_record}
+use Rattle.lot_schedule.proofs.Fields.{has_fields, no_end, no_item, no_period, no_resource, no_start, row_is}
+use Rattle.lot_schedule.proofs.Rowed.{AreReadTo, first_bad, read_all, read_more}
 use Rattle.lot_schedule.proofs.Searching.{some_below, some_to}
 
 -- slots whose rows there are exist
@@ -68,9 +69,12 @@ row_or_not m r =
 header_or_not : (rs : List Record) → HasHeader rs ⊎ (HasHeader rs → ⊥)
 header_or_not rs =
     ⊎_elim
-    (λ yes. inl (header_is (record_at rs 0) yes))
-    (λ no. inr (λ has. let yes = is_the_header (record_at rs 0) has in cc (no, yes)))
-    (cases_Bool (is_header (record_at rs 0)))
+    (λ there. ⊎_elim
+    (λ yes. inl (record { there = there; header = (are_fields-Decides (record_at rs 0) header).0 yes }))
+    (λ no. inr (λ has. let yes = (are_fields-Decides (record_at rs 0) header).1 has.header in cc (no, yes)))
+    (cases_Bool (are_fields (record_at rs 0) header)))
+    (λ none. inr (λ has. omega (arith, has.there, none)))
+    (cases_lt 0 (length rs))
 
 -- slots are read up to a record, or an earlier one is the first that is no row
 read_to : (m : Problem) (rs : List Record) (n : ℕ) → n + 1 ≤ length rs → ((xs : List Slot) × AreReadTo m rs xs (n + 1)) ⊎ ((k : ℕ) × IsFirstBadRow m rs k)
@@ -90,7 +94,7 @@ pub slots_or_fault : RecordsMeanSlots
 slots_or_fault m rs =
     ⊎_elim
     (λ header.
-    let some = some_record rs header in
+    let some : 0 < length rs = header.there in
     ⊎_elim
     (λ read. inl (read.0, read_all m rs read.0 (length rs - 1 + 1) header read.1 (omega (arith, some))))
     (λ bad. inr (Row bad.0, (λ e. cc e), (header, bad.1)))

@@ -1,18 +1,13 @@
 -- Records that are read as slots, row by row.
-use Rattle.std.proofs.Common.{◌≡◌, ◌<◌, ◌+◌, ◌-◌, ◌∙◌, ⊎_elim, ℕ, List, [], ◌∷◌, ◌++◌, length, map, slice_index_or, sym, ap, subst, arith}
+use Rattle.std.proofs.Common.{◌≡◌, ◌<◌, ◌+◌, ◌-◌, ⊎_elim, ℕ, List, [], ◌∷◌, ◌++◌, length, sym, subst, arith}
 use Rattle.std.proofs.lemmas.Bool.{cases_lt}
-use Rattle.std.proofs.lemmas.List.{get_or-map, get_or_append_left, get_or_push, length_push}
-use Rattle.csv.specs.Records.{Row, fields_of}
+use Rattle.std.proofs.lemmas.List.{get_or_append_left, get_or_push, length_push}
 use Rattle.lot_sizing.specs.Problem.{Problem}
-use Rattle.plan_file.specs.Records.{Record, record_at}
+use Rattle.csv_records.specs.Records.{Record, record_at}
 use Rattle.lot_schedule.specs.Slots.{no_slot, slot_at}
 use Rattle.lot_schedule.specs.Records.{AreRowsOf, HasHeader, IsRow, IsRowOf}
 use Rattle.lot_schedule.specs.Faults.{IsFirstBadRow}
 use Rattle.lot_schedule.specs.declared.slot.Slot.{Slot}
-
--- a record by its number
-pub record_is : (rows : List Row) (n : ℕ) (row : Row) → n < length rows → row ≡ slice_index_or rows n row → record_at (map fields_of rows) n ≡ fields_of row
-record_is rows n row less found = get_or-map fields_of rows n row [] less ∙ ap fields_of (sym found)
 
 -- the slots are those of the records after the header, as far as these were read
 pub record AreReadTo (m : Problem) (rs : List Record) (xs : List Slot) (place : ℕ) : Type 0 where
@@ -44,7 +39,3 @@ first_bad m rs xs place so_far there bad = record {
       let e : o - 1 + 1 ≡ o = omega (arith, low) in
       (slot_at xs (o - 1), subst (λ k. IsRowOf m (slot_at xs (o - 1)) (record_at rs k)) e (so_far.each (o - 1) (omega (arith, less, low, so_far.count))));
 }
-
-pub some_record : (rs : List Record) → HasHeader rs → 0 < length rs
-some_record [] header = absurd (omega (arith, ap length header))
-some_record (r ∷ rest) header = omega arith

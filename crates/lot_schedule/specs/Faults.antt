@@ -3,7 +3,7 @@ use Rattle.std.specs.Prelude.{◌≡◌, ◌⊎◌, ℕ, ◌+◌, ◌<◌, ◌�
 use Rattle.lot_sizing.specs.Problem.{Problem, capacity, item_count, resource_count}
 use Rattle.lot_sizing.specs.Plan.{Plan}
 use Rattle.plan_rules.specs.Order.{IsFirst}
-use Rattle.plan_file.specs.Records.{Record, record_at}
+use Rattle.csv_records.specs.Records.{Record, record_at}
 use Rattle.lot_schedule.specs.Slots.{AreOfOneLot, AreTogether, HasAll, HasSlot, length_of, slot_at, slot_length}
 use Rattle.lot_schedule.specs.Records.{HasHeader, IsRow}
 use Rattle.lot_schedule.specs.declared.slot.Slot.{Slot}

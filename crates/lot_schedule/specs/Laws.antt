@@ -4,7 +4,7 @@ use Rattle.lot_sizing.specs.Problem.{IsWithinLimits, Problem}
 use Rattle.lot_sizing.specs.Plan.{Plan}
 use Rattle.lot_sizing.specs.Least.{HasChoice}
 use Rattle.lot_model.specs.Valid.{HaveOwnNames, HaveOwnResourceNames}
-use Rattle.plan_file.specs.Records.{Record}
+use Rattle.csv_records.specs.Records.{Record}
 use Rattle.lot_schedule.specs.Slots.{AllExist, IsSchedule}
 use Rattle.lot_schedule.specs.Records.{AreRowsOf}
 use Rattle.lot_schedule.specs.Faults.{IsSlotBroken, IsSlotFault}

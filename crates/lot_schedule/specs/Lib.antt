@@ -5,5 +5,4 @@ pub mod Faults
 pub mod Runs
 pub mod Records
 pub mod Texts
-pub mod Written
 pub mod Laws

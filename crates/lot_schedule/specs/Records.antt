@@ -1,8 +1,7 @@
 -- What the records of a schedule file mean.
-use Rattle.std.specs.Prelude.{◌≡◌, ℕ, ◌+◌, ◌^◌, ◌<◌, Bool, ◌&&◌, ◌==◌, List, [], ◌∷◌, length, map, codes, decimal}
-use Rattle.std.specs.Str.{bytes_eq}
+use Rattle.std.specs.Prelude.{◌≡◌, ℕ, ◌+◌, ◌^◌, ◌<◌, List, [], ◌∷◌, length, map, codes, decimal}
 use Rattle.lot_sizing.specs.Problem.{Problem, item_at, resource_at}
-use Rattle.plan_file.specs.Records.{Record, field, record_at}
+use Rattle.csv_records.specs.Records.{BeginsWith, Record, record_at}
 use Rattle.lot_schedule.specs.Slots.{Exists, slot_at}
 use Rattle.lot_schedule.specs.declared.slot.Slot.{Slot}
 
@@ -10,16 +9,17 @@ use Rattle.lot_schedule.specs.declared.slot.Slot.{Slot}
 abbrev pub header : Record
 header = codes "resource" ∷ codes "period" ∷ codes "item" ∷ codes "start" ∷ codes "end" ∷ []
 
--- whether a record is it, field by field
-abbrev pub is_header : Record → Bool
-is_header r = (length r == 5) && (bytes_eq (field r 1) (codes "resource") && (bytes_eq (field r 2) (codes "period") && (bytes_eq (field r 3) (codes "item") && (bytes_eq (field r 4) (codes "start") && bytes_eq (field r 5) (codes "end")))))
-
 abbrev pub HasHeader : List Record → Type 0
-HasHeader rs = record_at rs 0 ≡ header
+HasHeader rs = BeginsWith rs header
 
 -- the row of a slot
 abbrev pub row_of : Problem → Slot → Record
 row_of m s = (resource_at m s.resource).name ∷ decimal s.period ∷ (item_at m s.item).name ∷ decimal s.start ∷ decimal s.end ∷ []
+
+-- both times of a slot fit 64 bits
+pub record TimesFit (s : Slot) : Type 0 where
+  pub start : s.start < 2 ^ 64
+  pub end : s.end < 2 ^ 64
 
 -- the record is the row of this slot, whose resource, period and item exist and whose times fit 64 bits
 pub record IsRowOf (m : Problem) (s : Slot) (r : Record) : Type 0 where

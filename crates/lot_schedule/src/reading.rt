@@ -1,38 +1,24 @@
 // From the records of a text to slots.
 ghost use Rattle.std.specs.Prelude.{◌≡◌, IfErr, IfOk, IsTrue, ◌↔◌, map};
 ghost use Rattle.csv.specs.Records.{fields_of};
-ghost use Rattle.plan_file.specs.Records.{records_of};
-ghost use Rattle.lot_schedule.specs.Records.{AreRowsOf, HasHeader, is_header};
+ghost use Rattle.csv_records.specs.Records.{records_of};
+ghost use Rattle.lot_schedule.specs.Records.{AreRowsOf, HasHeader};
 ghost use Rattle.lot_schedule.specs.Slots.{AllExist};
 ghost use Rattle.lot_schedule.specs.Faults.{IsSlotFault};
 
-use crate::records::all_records;
-use crate::rows::{field, slot_of};
+use crate::header::header;
+use crate::rows::slot_of;
 use crate::{Slot, SlotFault};
 use csv::ByteRecord;
+use csv_records::all_records;
 use lot_model::Instance;
 use std::alloc::Global;
-
-// Whether a record is the header.
-fn is_header(row: &ByteRecord) -> bool
-    ensures { result ≡ is_header (fields_of row.now) }
-{
-    row.len() == 5
-        && field(row, 1) == b"resource".as_slice()
-        && field(row, 2) == b"period".as_slice()
-        && field(row, 3) == b"item".as_slice()
-        && field(row, 4) == b"start".as_slice()
-        && field(row, 5) == b"end".as_slice()
-}
 
 // Whether the first record is the header.
 fn has_header(rows: &[ByteRecord]) -> bool
     ensures { IsTrue result ↔ HasHeader (map fields_of rows.now) }
 {
-    match rows.first() {
-        Some(row) => is_header(row),
-        None => false,
-    }
+    csv_records::has_header(rows, &header())
 }
 
 // The slots whose rows are the records after the header.
@@ -56,10 +42,11 @@ fn read_rows(
     Ok(slots)
 }
 
-/// The slots whose rows these bytes are, after a header, or the first fault in their order. What is read of the
-/// text that `write_schedule` gives is its slots.
+/// The slots whose rows these bytes are, after a header, or the first fault in their order. What
+/// is read of the text that `write_schedule` gives is its slots.
 ///
-/// It takes time and memory in the length of the bytes, and for each record time in the number of names.
+/// It takes time and memory in the length of the bytes, and for each record time in the number of
+/// names.
 pub fn read_schedule(
     alloc: Global,
     instance: &Instance,

@@ -1,25 +1,13 @@
 // The slot whose row a record is.
-ghost use Rattle.std.specs.Prelude.{◌≡◌, ◌≢◌, ◌≤◌, ◌<◌, ◌^◌, ℕ, IfSome, IfNone, decimal};
+ghost use Rattle.std.specs.Prelude.{◌≡◌, ◌≢◌, ◌≤◌, ℕ, IfSome, IfNone, decimal};
 ghost use Rattle.csv.specs.Records.{fields_of};
 ghost use Rattle.lot_sizing.specs.Problem.{item_at, item_count, resource_at, resource_count};
-ghost use Rattle.plan_file.specs.Records.{field};
 ghost use Rattle.lot_schedule.specs.Records.{IsRow, IsRowOf};
 
 use crate::Slot;
 use csv::ByteRecord;
+use csv_records::{field, number};
 use lot_model::Instance;
-use whole_numbers::read_whole;
-
-// A field of a record, counted from 1, and nothing where it is absent.
-pub(crate) fn field(row: &ByteRecord, number: usize) -> &[u8]
-    requires { 1 ≤ number }
-    ensures { result.now ≡ field (fields_of row.entry.now) number }
-{
-    match row.get(number - 1) {
-        Some(found) => found,
-        None => &[],
-    }
-}
 
 // The resource of this name.
 fn resource_named(instance: &Instance, name: &[u8]) -> Option<u32>
@@ -58,26 +46,12 @@ fn period_of(instance: &Instance, text: &[u8]) -> Option<u32>
     ensures none { IfNone result ((t : ℕ) → 1 ≤ t → t ≤ instance.now.periods
         → text.now ≢ decimal t) }
 {
-    match read_whole(text, instance.periods() as u128) {
-        Ok(number) => {
-            if number < 1 {
-                return None;
-            }
-            Some(number as u32)
-        }
-        Err(_) => None,
+    let last = instance.periods() as u64;
+    let found = number(text)?;
+    if found < 1 || found > last {
+        return None;
     }
-}
-
-// The time that a text is.
-fn time_of(text: &[u8]) -> Option<u64>
-    ensures found { IfSome result (λ n. (n < 2 ^ 64) × (text.now ≡ decimal n)) }
-    ensures none { IfNone result ((n : ℕ) → n < 2 ^ 64 → text.now ≢ decimal n) }
-{
-    match read_whole(text, u64::MAX as u128) {
-        Ok(number) => Some(number as u64),
-        Err(_) => None,
-    }
+    Some(found as u32)
 }
 
 // The slot whose row a record is, if it is one.
@@ -91,8 +65,8 @@ pub(crate) fn slot_of(instance: &Instance, row: &ByteRecord) -> Option<Slot>
     let resource = resource_named(instance, field(row, 1))?;
     let period = period_of(instance, field(row, 2))?;
     let item = item_named(instance, field(row, 3))?;
-    let start = time_of(field(row, 4))?;
-    let end = time_of(field(row, 5))?;
+    let start = number(field(row, 4))?;
+    let end = number(field(row, 5))?;
     Some(Slot {
         resource,
         period,

@@ -3,3 +3,4 @@ pub mod Walk
 pub mod Adding
 pub mod Totals
 pub mod Timing
+pub mod Rows

@@ -4,7 +4,8 @@ use Rattle.std.proofs.lemmas.Bool.{cases_lt}
 use Rattle.lot_sizing.specs.Problem.{Problem, item_count}
 use Rattle.lot_sizing.specs.Plan.{Plan}
 use Rattle.plan_rules.specs.Order.{HoldsBefore, IsBefore, IsFirst}
-use Rattle.plan_file.specs.Records.{IsGood, IsRead, Record, field_number}
+use Rattle.csv_records.specs.Records.{Record}
+use Rattle.plan_file.specs.Records.{IsGood, IsRead, field_number}
 use Rattle.plan_file.specs.Numbers.{AreSame, IsPutFrom}
 use Rattle.plan_file.specs.Faults.{IsRecordFault, IsCellFault}
 use Rattle.plan_file.specs.declared.fault.PlanFault.{PlanFault}

@@ -1,6 +1,8 @@
 -- The numbers of the fields that hold numbers.
-use Rattle.std.proofs.Common.{◌≡◌, ◌≤◌, refl, arith}
-use Rattle.plan_file.specs.Records.{field_number}
+use Rattle.std.proofs.Common.{◌≡◌, ◌≤◌, ⊎_elim, refl, sym, subst, arith}
+use Rattle.std.proofs.lemmas.Bool.{cases_eq}
+use Rattle.csv_records.specs.Records.{IsNumber, Record, field}
+use Rattle.plan_file.specs.Records.{HasNumbers, field_number}
 use Rattle.plan_file.specs.declared.fault.NumberField.{NumberField}
 use Rattle.plan_file.specs.declared.fault.NumberField.TheVariants.{Make, Setup, Stock, Backlog}
 
@@ -34,3 +36,17 @@ one_field Backlog Make e = absurd (omega (arith, e))
 one_field Backlog Setup e = absurd (omega (arith, e))
 one_field Backlog Stock e = absurd (omega (arith, e))
 one_field Backlog Backlog e = refl
+
+-- where the last four fields are numbers all are that hold one
+pub four : (r : Record) → IsNumber (field r 3) → IsNumber (field r 4) → IsNumber (field r 5) → IsNumber (field r 6) → HasNumbers r
+four r make setup stock backlog c low high =
+    ⊎_elim
+    (λ e. subst (λ k. IsNumber (field r k)) (sym e) make)
+    (λ a. ⊎_elim
+    (λ e. subst (λ k. IsNumber (field r k)) (sym e) setup)
+    (λ b. ⊎_elim
+    (λ e. subst (λ k. IsNumber (field r k)) (sym e) stock)
+    (λ d. let e : c ≡ 6 = omega (arith, a, b, d, low, high) in subst (λ k. IsNumber (field r k)) (sym e) backlog)
+    (cases_eq c 5))
+    (cases_eq c 4))
+    (cases_eq c 3)

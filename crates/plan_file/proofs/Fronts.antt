@@ -1,44 +1,18 @@
 -- What holds of the first records holds of all.
-use Rattle.std.proofs.Common.{◌≡◌, ◌≢◌, ◌≤◌, ◌<◌, ◌+◌, ◌-◌, ◌*◌, ⊎_elim, inl, inr, ℕ, zero, suc, List, [], ◌∷◌, take, length, slice_index_or, refl, sym, subst, arith, IsTrue}
+use Rattle.std.proofs.Common.{◌≡◌, ◌≢◌, ◌≤◌, ◌<◌, ◌+◌, ◌-◌, ◌*◌, inl, inr, ℕ, List, take, length, sym, subst, arith, IsTrue}
 use Rattle.std.proofs.Math.Nat.{mul-le-mul_right}
-use Rattle.std.proofs.lemmas.Bool.{cases_lt}
 use Rattle.lot_sizing.specs.Problem.{Problem, item_count}
 use Rattle.lot_sizing.specs.Plan.{EachCell, Plan}
 use Rattle.plan_rules.specs.Order.{IsFirst}
-use Rattle.plan_file.specs.Records.{AreNumbersOf, HasHeader, HasNumbers, IsGood, IsPlanOf, IsRead, Record, is_header, is_row, number_of, record_at}
+use Rattle.csv_records.specs.Records.{Record}
+use Rattle.csv_records.proofs.Fronts.{IsFront, count_all, count_front, front}
+use Rattle.plan_file.specs.Records.{AreNumbersOf, HasHeader, HasNumbers, IsGood, IsPlanOf, IsRead, is_header, is_row, number_of}
 use Rattle.plan_file.specs.Faults.{IsCellFault, IsFirstBad, IsPlanFault, IsRecordFault}
 use Rattle.plan_file.specs.declared.fault.PlanFault.{PlanFault}
 use Rattle.plan_file.specs.declared.fault.PlanFault.TheVariants as fault
 
--- up to n the two lists have the same records
-pub record IsFront (n : ℕ) (rs all : List Record) : Type 0 where
-  pub there : (k : ℕ) → k < n → k < length rs → k < length all
-  pub back : (k : ℕ) → k < n → k < length all → k < length rs
-  pub same : (k : ℕ) → k < n → record_at rs k ≡ record_at all k
-
-take_there : (n k : ℕ) (xs : List Record) → k < length (take n xs) → k < length xs
-take_there zero k xs h = absurd (omega (arith, h))
-take_there (suc n) k [] h = absurd (omega (arith, h))
-take_there (suc n) zero (x ∷ xs) h = omega arith
-take_there (suc n) (suc k) (x ∷ xs) h = omega (arith, take_there n k xs (omega (arith, h)))
-
-take_back : (n k : ℕ) (xs : List Record) → k < n → k < length xs → k < length (take n xs)
-take_back zero k xs low h = absurd (omega (arith, low))
-take_back (suc n) k [] low h = absurd (omega (arith, h))
-take_back (suc n) zero (x ∷ xs) low h = omega arith
-take_back (suc n) (suc k) (x ∷ xs) low h = omega (arith, take_back n k xs (omega (arith, low)) (omega (arith, h)))
-
-take_same : (n k : ℕ) (xs : List Record) → k < n → slice_index_or (take n xs) k [] ≡ slice_index_or xs k []
-take_same zero k xs low = absurd (omega (arith, low))
-take_same (suc n) k [] low = refl
-take_same (suc n) zero (x ∷ xs) low = refl
-take_same (suc n) (suc k) (x ∷ xs) low = take_same n k xs (omega (arith, low))
-
-pub front : (n : ℕ) (rs all : List Record) → rs ≡ take n all → IsFront n rs all
-front n rs all is = subst (λ xs. IsFront n xs all) (sym is) (record { there = λ k low h. take_there n k all h; back = λ k low h. take_back n k all low h; same = λ k low. take_same n k all low })
-
 -- the records of a plan stand before these
-number_small : (m : Problem) (i t : ℕ) → i ≤ item_count m → 1 ≤ t → t ≤ m.periods → 1 ≤ i → number_of m i t < item_count m * m.periods + 2
+pub number_small : (m : Problem) (i t : ℕ) → i ≤ item_count m → 1 ≤ t → t ≤ m.periods → 1 ≤ i → number_of m i t < item_count m * m.periods + 2
 number_small m i t high t_low t_high low =
     let e : i ≡ i - 1 + 1 = omega (arith, low) in
     let rows : (i - 1 + 1) * m.periods ≤ item_count m * m.periods = mul-le-mul_right m.periods (omega (arith, low, high)) in
@@ -90,18 +64,6 @@ rows_fault m n rs all is size header (fault.Row k) x = (header_all n rs all (fro
 rows_fault m n rs all is size header (fault.Number k c) x = (header_all n rs all (front n rs all is) (omega (arith, size)) header, cell_all m n rs all (front n rs all is) size (fault.Number k c) x)
 rows_fault m n rs all is size header fault.Memory (i, t, first, wrong) = absurd wrong
 
-count_front : (m : Problem) (n : ℕ) (rs all : List Record) → IsFront n rs all → n ≡ item_count m * m.periods + 2 → length all ≡ item_count m * m.periods + 1 → length rs ≡ item_count m * m.periods + 1
-count_front m n rs all fr size count =
-    let N = item_count m * m.periods in
-    let low : N < length rs = fr.back N (omega (arith, size)) (omega (arith, count)) in
-    ⊎_elim (λ more. absurd (omega (arith, fr.there (N + 1) (omega (arith, size)) more, count))) (λ no. omega (arith, no, low)) (cases_lt (N + 1) (length rs))
-
-count_all : (m : Problem) (n : ℕ) (rs all : List Record) → IsFront n rs all → n ≡ item_count m * m.periods + 2 → length rs ≡ item_count m * m.periods + 1 → length all ≡ item_count m * m.periods + 1
-count_all m n rs all fr size count =
-    let N = item_count m * m.periods in
-    let low : N < length all = fr.there N (omega (arith, size)) (omega (arith, count)) in
-    ⊎_elim (λ more. absurd (omega (arith, fr.back (N + 1) (omega (arith, size)) more, count))) (λ no. omega (arith, no, low)) (cases_lt (N + 1) (length all))
-
 -- all records are read, and too many or too few are there
 pub more_fault : (m : Problem) (n : ℕ) (rs all : List Record) (p : Plan) → rs ≡ take n all → n ≡ item_count m * m.periods + 2 → HasHeader rs → EachCell m (IsRead m rs p) → length rs ≢ item_count m * m.periods + 1 → IsPlanFault m all fault.RowCount
 more_fault m n rs all p is size header read other =
@@ -109,7 +71,7 @@ more_fault m n rs all p is size header read other =
       header_all n rs all fr (omega (arith, size)) header,
       inr (record {
         good = λ i t low high t_low t_high. good_all m n rs all fr size i t low high t_low t_high (read i t low high t_low t_high).0;
-        more = λ count. other (count_front m n rs all fr size count);
+        more = λ count. other (count_front n (item_count m * m.periods + 1) rs all fr (omega arith) (omega (arith, size)) count);
       }),
     )
 
@@ -119,7 +81,7 @@ plan_read m n rs all p is size header read count =
     let fr = front n rs all is in
     record {
       header = header_all n rs all fr (omega (arith, size)) header;
-      count = count_all m n rs all fr size count;
+      count = count_all n (item_count m * m.periods + 1) rs all fr (omega arith) (omega (arith, size)) count;
       each = λ i t low high t_low t_high.
           let here = read i t low high t_low t_high in
           (good_all m n rs all fr size i t low high t_low t_high here.0, subst (λ r. AreNumbersOf r p i t) (fr.same (number_of m i t) (omega (arith, number_small m i t high t_low t_high low, size))) here.1);

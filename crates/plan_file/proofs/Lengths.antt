@@ -1,29 +1,20 @@
 -- How long the text of a plan is at most.
-use Rattle.std.proofs.Common.{◌≡◌, ◌≤◌, ◌<◌, ◌+◌, ◌*◌, ◌^◌, ℕ, zero, suc, List, ◌++◌, decimal, length, arith}
-use Rattle.std.specs.Prelude.{codes, nat_le, ◌&&◌}
-use Rattle.std.specs.List.{list_all}
+use Rattle.std.proofs.Common.{◌≡◌, ◌≤◌, ◌+◌, ◌*◌, ℕ, zero, suc, List, ◌++◌, decimal, length, arith}
+use Rattle.std.specs.Prelude.{codes}
 use Rattle.std.proofs.Math.Nat.{mul-le-mul, mul-le-mul_right}
-use Rattle.std.proofs.lemmas.Bool.{and_parts, leb-true}
 use Rattle.std.proofs.lemmas.List.{length-append}
-use Rattle.std.proofs.lemmas.Fmt.{length-decimal-le_wide}
-use Rattle.lot_sizing.specs.Problem.{IsName, IsWithinLimits, Problem, is_name_byte, item_at, item_count}
+use Rattle.lot_sizing.specs.Problem.{IsName, IsWithinLimits, Problem, item_at, item_count}
 use Rattle.lot_sizing.specs.Plan.{EachCell, Plan}
 use Rattle.lot_sizing.specs.Texts.{item_records, join_to, plan_header, plan_record}
 use Rattle.lot_sizing.specs.declared.limits.TheConstants.{MAX_ITEMS, MAX_NAME, MAX_PERIODS}
+use Rattle.csv_records.proofs.Names.{name_short}
+use Rattle.csv_records.proofs.Numbers.{number_short}
 use Rattle.plan_file.specs.Written.{FitIn64}
 use Rattle.plan_file.specs.Laws.{PlanTextsAreShort}
 
 -- a name, five numbers, five commas and a line feed
 abbrev longest_record : ℕ
 longest_record = MAX_NAME + 5 * 20 + 6
-
-number_short : (n : ℕ) → n < 2 ^ 64 → length (decimal n) ≤ 20
-number_short n small = length-decimal-le_wide 20 n (omega arith) (omega (arith, small)) (omega (arith, small))
-
-name_short : (name : List ℕ) → IsName name → length name ≤ MAX_NAME
-name_short name is =
-    let (some, rest) = and_parts (nat_le 1 (length name)) (nat_le (length name) MAX_NAME && list_all is_name_byte name) is in
-    leb-true (length name) MAX_NAME (and_parts (nat_le (length name) MAX_NAME) (list_all is_name_byte name) rest).0
 
 fields_size : (a b c d e f : List ℕ) → length (a ++ (codes "," ++ (b ++ (codes "," ++ (c ++ (codes "," ++ (d ++ (codes "," ++ (e ++ (codes "," ++ (f ++ codes "\n"))))))))))) ≡ length a + length b + length c + length d + length e + length f + 6
 fields_size a b c d e f = simp length-append (omega arith)

@@ -4,7 +4,8 @@ use Rattle.std.proofs.lemmas.Bool.{cases_lt}
 use Rattle.lot_sizing.specs.Problem.{Problem, item_count}
 use Rattle.lot_sizing.specs.Plan.{Plan, EachCell}
 use Rattle.plan_rules.specs.Order.{IsFirst}
-use Rattle.plan_file.specs.Records.{HasHeader, IsGood, IsPlanOf, Record, field_number, number_of, record_at}
+use Rattle.csv_records.specs.Records.{Record, record_at}
+use Rattle.plan_file.specs.Records.{HasHeader, IsGood, IsPlanOf, field_number, number_of}
 use Rattle.plan_file.specs.Faults.{HasMore, IsCellFault, IsFirstBad, IsPlanFault, IsRecordFault}
 use Rattle.plan_file.specs.Laws.{HaveSame, RecordsMeanOneThing}
 use Rattle.plan_file.specs.declared.fault.NumberField.{NumberField}

@@ -1,11 +1,13 @@
 -- Where the record of an item and a period stands.
-use Rattle.std.proofs.Common.{◌≡◌, ◌≤◌, ◌<◌, ◌+◌, ◌-◌, ◌*◌, ◌∙◌, ℕ, List, [], map, length, slice_index_or, sym, ap, subst, arith, IsTrue, false}
-use Rattle.std.proofs.lemmas.List.{get_or_default, length-map}
-use Rattle.std.proofs.Math.ListN.{get_or-map}
+use Rattle.std.proofs.Common.{◌≡◌, ◌≤◌, ◌<◌, ◌+◌, ◌-◌, ◌*◌, ◌∙◌, ℕ, List, map, length, slice_index_or, sym, ap, subst, arith, IsTrue, false}
+use Rattle.std.proofs.lemmas.List.{length-map}
 use Rattle.csv.specs.Records.{Row, fields_of}
 use Rattle.lot_sizing.specs.Problem.{Problem}
 use Rattle.lot_sizing.specs.Plan.{Plan}
-use Rattle.plan_file.specs.Records.{AreNumbersOf, IsGood, IsNumber, Record, field, is_row, number_of, record_at}
+use Rattle.csv_records.specs.Records.{BeginsWith, IsNumber, Record, field, record_at}
+use Rattle.csv_records.proofs.Rows.{record_is}
+use Rattle.csv_records.proofs.SameFields.{are_fields-Decides}
+use Rattle.plan_file.specs.Records.{AreNumbersOf, HasHeader, IsGood, header, is_row, number_of}
 use Rattle.plan_file.specs.Numbers.{ArePut, HasNumbersIn, IsPutFrom}
 use Rattle.plan_file.specs.declared.reading.Numbers.{Numbers}
 
@@ -21,7 +23,7 @@ here m rows i t periods n row size is low high found =
     record {
       number = number;
       there = omega (arith, number, high, length-map rows fields_of);
-      same = ap (record_at (map fields_of rows)) (sym number) ∙ get_or_default (map fields_of rows) n [] (fields_of row) (omega (arith, high, length-map rows fields_of)) ∙ get_or-map fields_of rows n row ∙ ap fields_of (sym found);
+      same = ap (record_at (map fields_of rows)) (sym number) ∙ record_is rows n row high found;
     }
 
 pub not_row : (m : Problem) (i t : ℕ) (r : Record) → is_row m i t r ≡ false → IsTrue (is_row m i t r) → ⊥
@@ -40,3 +42,10 @@ put_from m rs i t n r p q x at row numbers put =
       }),
     ) in
     record { read = read; others = put.others }
+
+-- the first record is the header
+pub has_header : (rs : List Record) → BeginsWith rs header → HasHeader rs
+has_header rs begins = record { there = begins.there; header = (are_fields-Decides (record_at rs 0) header).1 begins.header }
+
+pub begins_with : (rs : List Record) → HasHeader rs → BeginsWith rs header
+begins_with rs has = record { there = has.there; header = (are_fields-Decides (record_at rs 0) header).0 has.header }

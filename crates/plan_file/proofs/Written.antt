@@ -1,86 +1,86 @@
 -- A plan that is written is read again.
-use Rattle.std.proofs.Common.{◌≡◌, ◌≤◌, ◌+◌, ◌-◌, ◌*◌, ◌^◌, ◌∙◌, ℕ, zero, suc, List, [], ◌∷◌, ◌++◌, decimal, map, length, slice_index_or, refl, ap, sym, subst, arith, true, ⊎_elim, append_assoc, append-nil, IsTrue}
-use Rattle.std.specs.Str.{bytes_eq}
+use Rattle.std.proofs.Common.{◌≡◌, ◌≢◌, ◌≤◌, ◌+◌, ◌-◌, ◌*◌, ◌∙◌, ℕ, zero, suc, List, [], ◌∷◌, ◌++◌, decimal, length, slice_index_or, refl, ap, sym, subst, arith, true, ⊎_elim, append-nil, IsTrue}
+use Rattle.std.specs.List.{All, flat_map}
 use Rattle.std.proofs.Math.Nat.{mul-le-mul_right}
-use Rattle.std.specs.Prelude.{◌==◌}
-use Rattle.std.proofs.lemmas.Bool.{cases_eq, cases_lt}
-use Rattle.std.proofs.lemmas.List.{get_or-append-add, get_or_append_left, map-append, length-append}
+use Rattle.std.proofs.lemmas.Bool.{cases_lt}
+use Rattle.std.proofs.lemmas.List.{get_or-append-add, get_or_append_left, length-append}
+use Rattle.std.proofs.lemmas.List.Concat.{flat_map-append}
+use Rattle.std.proofs.lemmas.List.Elements.{All-append, All-cons, All-nil, All-weaker}
+use Rattle.std.proofs.lemmas.Slice.Eq.{bytes_eq-Decides}
 use Rattle.csv.specs.Records.{field_at}
-use Rattle.csv.specs.Reading.{default_config, records, strip_bom}
-use Rattle.csv.specs.Writing.{default_writer, fields_text, is_blank, read_back, row_text}
-use Rattle.csv.proofs.RoundTrip.{rows_text}
+use Rattle.csv.specs.Reading.{strip_bom}
 use Rattle.lot_sizing.specs.Problem.{IsWithinLimits, Problem, item_at, item_count}
+use Rattle.lot_sizing.specs.declared.limits.TheConstants.{MAX_PERIODS}
 use Rattle.lot_sizing.specs.Plan.{EachCell, Plan}
-use Rattle.lot_sizing.specs.Texts.{item_records, join_to, plan_header, plan_record, plan_text}
-use Rattle.plan_file.specs.Records.{AreNumbersOf, HasNumbers, IsNumber, IsPlanOf, Record, field, is_row, number_of, record_at, records_of, header}
+use Rattle.lot_sizing.specs.Texts.{item_records, join_to, plan_header, plan_text}
 use Rattle.plan_rules.specs.Cells.{place}
+use Rattle.csv_records.specs.Records.{Record, record_at, records_of}
+use Rattle.csv_records.specs.Written.{IsPlain, IsPlainRecord, line_of, records_text}
+use Rattle.csv_records.proofs.Names.{plain_name}
+use Rattle.csv_records.proofs.Numbers.{number_read, number_value}
+use Rattle.csv_records.proofs.Plain.{plain_number, rows_are_lines}
+use Rattle.csv_records.proofs.ReadBack.{written_read}
+use Rattle.plan_file.specs.Records.{AreNumbersOf, HasNumbers, IsPlanOf, header, is_row, number_of}
+use Rattle.plan_file.proofs.Fields.{four}
 use Rattle.plan_file.specs.Written.{FitIn64, list_to, lists_to, plan_records, record_of, records_of_item}
-use Rattle.plan_file.proofs.Plain.{IsPlain, number_read, number_value, plain_name, plain_number}
-use Rattle.plan_file.proofs.Reached.{records-written}
+
+-- ---- lists that grow
+pub list_to_more : {A : Type 0} (n : ℕ) (f : ℕ → A) → 1 ≤ n → list_to (n + 1 - 1) f ≡ list_to (n - 1) f ++ (f n ∷ [])
+list_to_more zero f low = absurd (omega (arith, low))
+list_to_more (suc n) f low = let e : suc n + 1 - 1 ≡ suc n = omega arith in let d : suc n - 1 ≡ n = omega arith in rw (e, d) refl
+
+pub lists_to_more : {A : Type 0} (n : ℕ) (g : ℕ → List A) → 1 ≤ n → lists_to (n + 1 - 1) g ≡ lists_to (n - 1) g ++ g n
+lists_to_more zero g low = absurd (omega (arith, low))
+lists_to_more (suc n) g low = let e : suc n + 1 - 1 ≡ suc n = omega arith in let d : suc n - 1 ≡ n = omega arith in rw (e, d) refl
+
+all_to : {A : Type 0} (P : A → Type 0) (n : ℕ) (f : ℕ → A) → ((k : ℕ) → 1 ≤ k → k ≤ n → P (f k)) → All P (list_to n f)
+all_to P zero f each = All-nil P
+all_to P (suc n) f each = All-append P (list_to n f) (f (suc n) ∷ []) (all_to P n f (λ k low high. each k low (omega (arith, high)))) (All-cons P (f (suc n)) [] (each (suc n) (omega arith) (omega arith)) (All-nil P))
+
+all_lists : {A : Type 0} (P : A → Type 0) (n : ℕ) (g : ℕ → List A) → ((k : ℕ) → 1 ≤ k → k ≤ n → All P (g k)) → All P (lists_to n g)
+all_lists P zero g each = All-nil P
+all_lists P (suc n) g each = All-append P (lists_to n g) (g (suc n)) (all_lists P n g (λ k low high. each k low (omega (arith, high)))) (each (suc n) (omega arith) (omega arith))
 
 -- ---- the text of the records
-rows_more : (xs ys : List Record) → rows_text (xs ++ ys) ≡ rows_text xs ++ rows_text ys
-unfolding rows_text
-rows_more [] ys = refl
-rows_more (x ∷ xs) ys = ap (λ t. row_text default_writer x ++ t) (rows_more xs ys) ∙ sym (append_assoc (row_text default_writer x) (rows_text xs) (rows_text ys))
+lines_to : (n : ℕ) (f : ℕ → Record) → flat_map line_of (list_to n f) ≡ join_to n (λ k. line_of (f k))
+lines_to zero f = refl
+lines_to (suc n) f = flat_map-append line_of (list_to n f) (f (suc n) ∷ []) ∙ rw (lines_to n f, append-nil (line_of (f (suc n)))) refl
 
-rows_one : (x : Record) → rows_text (x ∷ []) ≡ row_text default_writer x
-unfolding rows_text
-rows_one x = append-nil (row_text default_writer x)
+lines_all : (n : ℕ) (f : ℕ → List Record) (g : ℕ → List ℕ) → ((k : ℕ) → flat_map line_of (f k) ≡ g k) → flat_map line_of (lists_to n f) ≡ join_to n g
+lines_all zero f g same = refl
+lines_all (suc n) f g same = flat_map-append line_of (lists_to n f) (f (suc n)) ∙ rw (lines_all n f g same, same (suc n)) refl
 
-rows_to : (n : ℕ) (f : ℕ → Record) (g : ℕ → List ℕ) → ((k : ℕ) → 1 ≤ k → k ≤ n → row_text default_writer (f k) ≡ g k) → rows_text (list_to n f) ≡ join_to n g
-unfolding rows_text
-rows_to zero f g same = refl
-rows_to (suc n) f g same = rows_more (list_to n f) (f (suc n) ∷ []) ∙ rw (rows_to n f g (λ k low high. same k low (omega (arith, high))), rows_one (f (suc n)), same (suc n) (omega arith) (omega arith)) refl
+lines_are : (m : Problem) (p : Plan) → flat_map line_of (plan_records m p) ≡ plan_text m p
+lines_are m p = ap (λ t. plan_header ++ t) (lines_all (item_count m) (records_of_item m p) (item_records m p) (λ i. lines_to m.periods (record_of m p i)))
 
-rows_all : (n : ℕ) (f : ℕ → List Record) (g : ℕ → List ℕ) → ((k : ℕ) → 1 ≤ k → k ≤ n → rows_text (f k) ≡ g k) → rows_text (lists_to n f) ≡ join_to n g
-unfolding rows_text
-rows_all zero f g same = refl
-rows_all (suc n) f g same = rows_more (lists_to n f) (f (suc n)) ∙ rw (rows_all n f g (λ k low high. same k low (omega (arith, high))), same (suc n) (omega arith) (omega arith)) refl
+-- no field of the records needs quotes
+record_plain : (m : Problem) (p : Plan) (i t : ℕ) → IsPlain (item_at m i).name → t ≤ MAX_PERIODS → FitIn64 p i t → IsPlainRecord (record_of m p i t)
+record_plain m p i t name small fits = record {
+  some = λ e. cc e;
+  shown = λ e. cc e;
+  plain = rw (name, plain_number t (omega (arith, small)), plain_number (p.make i t) (omega (arith, fits.make)), plain_number (p.setup i t) (omega (arith, fits.setup)), plain_number (p.stock i t) (omega (arith, fits.stock)), plain_number (p.backlog i t) (omega (arith, fits.backlog))) refl;
+}
 
-regroup : (a b c d e f : List ℕ) → (a ++ 44 ∷ (b ++ 44 ∷ (c ++ 44 ∷ (d ++ 44 ∷ (e ++ 44 ∷ (f ++ [])))))) ++ 10 ∷ [] ≡ a ++ (44 ∷ (b ++ (44 ∷ (c ++ (44 ∷ (d ++ (44 ∷ (e ++ (44 ∷ (f ++ (10 ∷ [])))))))))))
-regroup a b c d e f = simp append_assoc refl
+header_plain : IsPlainRecord header
+header_plain = record { some = λ e. cc e; shown = λ e. cc e; plain = refl }
 
-plain_row : (a b c d e f : List ℕ) → IsPlain a → IsPlain b → IsPlain c → IsPlain d → IsPlain e → IsPlain f → row_text default_writer (a ∷ b ∷ c ∷ d ∷ e ∷ f ∷ []) ≡ a ++ (44 ∷ (b ++ (44 ∷ (c ++ (44 ∷ (d ++ (44 ∷ (e ++ (44 ∷ (f ++ (10 ∷ [])))))))))))
-unfolding is_blank fields_text
-plain_row a b c d e f ha hb hc hd he hf = rw (ha, hb, hc, hd, he, hf) (regroup a b c d e f)
+module _ (m : Problem) (p : Plan) (within : IsWithinLimits m) (fits : EachCell m (FitIn64 p)) where
+  all_plain : All IsPlainRecord (plan_records m p)
+  all_plain =
+      All-cons IsPlainRecord header _ header_plain
+      (all_lists IsPlainRecord (item_count m) (records_of_item m p) (λ i low high. all_to IsPlainRecord m.periods (record_of m p i) (λ t t_low t_high. record_plain m p i t (plain_name (item_at m i).name (within.each_item i low high).name) (omega (arith, t_high, within.periods)) (fits i t low high t_low t_high))))
 
-record_text : (m : Problem) (p : Plan) (i t : ℕ) → IsPlain (item_at m i).name → t ≤ 10 ^ 9 → FitIn64 p i t → row_text default_writer (record_of m p i t) ≡ plan_record m p i t
-record_text m p i t name small fits =
-    plain_row (item_at m i).name (decimal t) (decimal (p.make i t)) (decimal (p.setup i t)) (decimal (p.stock i t)) (decimal (p.backlog i t)) name (plain_number t (omega (arith, small))) (plain_number (p.make i t) (omega (arith, fits.make))) (plain_number (p.setup i t) (omega (arith, fits.setup))) (plain_number (p.stock i t) (omega (arith, fits.stock))) (plain_number (p.backlog i t) (omega (arith, fits.backlog)))
+  pub plan_written : records_text (plan_records m p) ≡ plan_text m p
+  plan_written = rows_are_lines (plan_records m p) all_plain ∙ lines_are m p
 
-header_text : row_text default_writer header ≡ plan_header
-unfolding is_blank fields_text
-header_text = refl
+  no_mark : strip_bom (plan_text m p) ≡ plan_text m p
+  unfolding strip_bom
+  no_mark = refl
 
-joined : (a b c d : List ℕ) → a ≡ c → b ≡ d → a ++ b ≡ c ++ d
-joined a b c d p q = ap (λ x. x ++ b) p ∙ ap (λ y. c ++ y) q
-
-pub plan_written : (m : Problem) (p : Plan) → ((i : ℕ) → 1 ≤ i → i ≤ item_count m → IsPlain (item_at m i).name) → m.periods ≤ 10 ^ 9 → EachCell m (FitIn64 p) → rows_text (plan_records m p) ≡ plan_text m p
-unfolding rows_text
-plan_written m p names small fits =
-    joined (row_text default_writer header) (rows_text (lists_to (item_count m) (records_of_item m p))) plan_header (join_to (item_count m) (item_records m p)) header_text
-    (rows_all (item_count m) (records_of_item m p) (item_records m p) (λ i low high. rows_to m.periods (record_of m p i) (plan_record m p i) (λ t t_low t_high. record_text m p i t (names i low high) (omega (arith, t_high, small)) (fits i t low high t_low t_high))))
-
--- ---- the records of the text
-back_to : (n : ℕ) (f : ℕ → Record) → ((k : ℕ) → read_back (f k) ≡ f k) → map read_back (list_to n f) ≡ list_to n f
-back_to zero f same = refl
-back_to (suc n) f same = map-append read_back (list_to n f) (f (suc n) ∷ []) ∙ rw (back_to n f same, same (suc n)) refl
-
-back_all : (n : ℕ) (f : ℕ → List Record) → ((k : ℕ) → map read_back (f k) ≡ f k) → map read_back (lists_to n f) ≡ lists_to n f
-back_all zero f same = refl
-back_all (suc n) f same = map-append read_back (lists_to n f) (f (suc n)) ∙ rw (back_all n f same, same (suc n)) refl
-
-back_records : (m : Problem) (p : Plan) → map read_back (plan_records m p) ≡ plan_records m p
-back_records m p = ap (λ rs. header ∷ rs) (back_all (item_count m) (records_of_item m p) (λ i. back_to m.periods (record_of m p i) (λ t. refl)))
-
-no_mark : (m : Problem) (p : Plan) → strip_bom (plan_text m p) ≡ plan_text m p
-unfolding strip_bom
-no_mark m p = refl
-
-pub records_written : (m : Problem) (p : Plan) → ((i : ℕ) → 1 ≤ i → i ≤ item_count m → IsPlain (item_at m i).name) → m.periods ≤ 10 ^ 9 → EachCell m (FitIn64 p) → records_of (plan_text m p) ≡ plan_records m p
-records_written m p names small fits =
-    ap (records default_config) (no_mark m p ∙ sym (plan_written m p names small fits)) ∙ records-written (plan_records m p) ∙ back_records m p
+  -- the text of a plan has its records
+  records_written : records_of (plan_text m p) ≡ plan_records m p
+  records_written =
+      ap records_of (sym plan_written) ∙ written_read (plan_records m p) (All-weaker IsPlainRecord (λ r. r ≢ []) (λ r plain. plain.some) (plan_records m p) all_plain) (ap strip_bom plan_written ∙ no_mark ∙ sym plan_written)
 
 -- ---- a record by its number
 list_size : {A : Type 0} (n : ℕ) (f : ℕ → A) → length (list_to n f) ≡ n
@@ -124,35 +124,17 @@ record_is m p i t low high t_low t_high =
     let e : number_of m i t ≡ suc (place m.periods i t) = omega arith in
     ap (record_at (plan_records m p)) e ∙ lists_at (item_count m) m.periods i t (record_of m p) [] low high t_low t_high
 
-same_byte : (x : ℕ) → (x == x) ≡ true
-same_byte x = grind arith
-
-same_bytes : (xs : List ℕ) → bytes_eq xs xs ≡ true
-same_bytes [] = refl
-same_bytes (x ∷ xs) = rw (same_byte x, same_bytes xs) refl
-
 row_good : (m : Problem) (p : Plan) (i t : ℕ) → is_row m i t (record_of m p i t) ≡ true
 unfolding field_at
-row_good m p i t = rw (same_bytes (item_at m i).name, same_bytes (decimal t)) refl
+row_good m p i t = rw ((bytes_eq-Decides (item_at m i).name (item_at m i).name).1 refl, (bytes_eq-Decides (decimal t) (decimal t)).1 refl) refl
 
 numbers_good : (m : Problem) (p : Plan) (i t : ℕ) → FitIn64 p i t → HasNumbers (record_of m p i t)
 unfolding field_at
-numbers_good m p i t fits c low high =
-    let r = record_of m p i t in
-    ⊎_elim
-    (λ e. subst (λ k. IsNumber (field r k)) (sym e) (number_read (p.make i t) fits.make))
-    (λ a. ⊎_elim
-    (λ e. subst (λ k. IsNumber (field r k)) (sym e) (number_read (p.setup i t) fits.setup))
-    (λ b. ⊎_elim
-    (λ e. subst (λ k. IsNumber (field r k)) (sym e) (number_read (p.stock i t) fits.stock))
-    (λ d. let e : c ≡ 6 = omega (arith, a, b, d, low, high) in subst (λ k. IsNumber (field r k)) (sym e) (number_read (p.backlog i t) fits.backlog))
-    (cases_eq c 5))
-    (cases_eq c 4))
-    (cases_eq c 3)
+numbers_good m p i t fits = four (record_of m p i t) (number_read (p.make i t) fits.make) (number_read (p.setup i t) fits.setup) (number_read (p.stock i t) fits.stock) (number_read (p.backlog i t) fits.backlog)
 
-pub written_read : (m : Problem) (p : Plan) → EachCell m (FitIn64 p) → IsPlanOf m (plan_records m p) p
+written_read_as : (m : Problem) (p : Plan) → EachCell m (FitIn64 p) → IsPlanOf m (plan_records m p) p
 unfolding field_at
-written_read m p fits = record {
+written_read_as m p fits = record {
   header = record { there = omega arith; header = refl };
   count = omega (arith, lists_size (item_count m) m.periods (records_of_item m p) (λ i. list_size m.periods (record_of m p i)));
   each = λ i t low high t_low t_high.
@@ -177,5 +159,4 @@ written_read m p fits = record {
 
 -- the text of a plan is read as the plan
 pub text_read : (m : Problem) (p : Plan) → IsWithinLimits m → EachCell m (FitIn64 p) → IsPlanOf m (records_of (plan_text m p)) p
-text_read m p within fits =
-    subst (λ rs. IsPlanOf m rs p) (sym (records_written m p (λ i low high. plain_name (item_at m i).name (within.each_item i low high).name) (omega (arith, within.periods)) fits)) (written_read m p fits)
+text_read m p within fits = subst (λ rs. IsPlanOf m rs p) (sym (records_written m p within fits)) (written_read_as m p fits)

@@ -3,7 +3,8 @@ use Rattle.std.specs.Prelude.{◌≡◌, ◌≢◌, ◌⊎◌, ℕ, ◌+◌, ◌
 use Rattle.lot_sizing.specs.Problem.{Problem, item_count}
 use Rattle.lot_sizing.specs.Plan.{EachCell}
 use Rattle.plan_rules.specs.Order.{IsFirst}
-use Rattle.plan_file.specs.Records.{HasHeader, IsGood, IsNumber, Record, field, field_number, is_row, number_of, record_at}
+use Rattle.csv_records.specs.Records.{IsNumber, Record, field, record_at}
+use Rattle.plan_file.specs.Records.{HasHeader, IsGood, field_number, is_row, number_of}
 use Rattle.plan_file.specs.declared.fault.NumberField.{NumberField}
 use Rattle.plan_file.specs.declared.fault.PlanFault.{PlanFault}
 use Rattle.plan_file.specs.declared.fault.PlanFault.TheVariants as fault

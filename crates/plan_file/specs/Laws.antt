@@ -4,7 +4,8 @@ use Rattle.lot_sizing.specs.Problem.{IsWithinLimits, Problem}
 use Rattle.lot_sizing.specs.Plan.{Plan, EachCell}
 use Rattle.lot_sizing.specs.Texts.{plan_text}
 use Rattle.plan_file.specs.declared.limits.TheConstants.{MAX_FILE}
-use Rattle.plan_file.specs.Records.{IsPlanOf, Record}
+use Rattle.csv_records.specs.Records.{Record}
+use Rattle.plan_file.specs.Records.{IsPlanOf}
 use Rattle.plan_file.specs.Faults.{IsPlanFault}
 use Rattle.plan_file.specs.Written.{FitIn64}
 use Rattle.plan_file.specs.declared.fault.PlanFault.{PlanFault}

@@ -4,7 +4,8 @@ use Rattle.std.specs.Str.Parse.{digits_value}
 use Rattle.lot_sizing.specs.Problem.{Problem, item_count}
 use Rattle.lot_sizing.specs.Plan.{Plan}
 use Rattle.plan_rules.specs.Order.{HoldsBefore}
-use Rattle.plan_file.specs.Records.{HasNumbers, IsRead, Record, field}
+use Rattle.csv_records.specs.Records.{Record, field}
+use Rattle.plan_file.specs.Records.{HasNumbers, IsRead}
 use Rattle.plan_file.specs.declared.reading.Numbers.{Numbers}
 
 -- these are the record's numbers

@@ -1,31 +1,14 @@
 -- What the records of a plan file mean.
-use Rattle.std.specs.Prelude.{◌≡◌, ℕ, ◌+◌, ◌-◌, ◌*◌, ◌^◌, ◌≤◌, ◌<◌, Bool, true, ◌&&◌, ◌==◌, IsTrue, List, [], ◌∷◌, length, slice_index_or, unwrap_or, codes, decimal}
+use Rattle.std.specs.Prelude.{◌≡◌, ℕ, ◌+◌, ◌*◌, ◌≤◌, ◌<◌, Bool, ◌&&◌, ◌==◌, IsTrue, List, [], ◌∷◌, length, codes, decimal}
 use Rattle.std.specs.Str.{bytes_eq}
 use Rattle.std.specs.Str.Parse.{digits_value}
-use Rattle.csv.specs.Reading.{default_config, records, strip_bom}
-use Rattle.csv.specs.Records.{field_at}
-use Rattle.whole_numbers.specs.Digits.{IsWholeText}
 use Rattle.lot_sizing.specs.Problem.{Problem, item_at, item_count}
 use Rattle.lot_sizing.specs.Plan.{EachCell, Plan}
 use Rattle.plan_rules.specs.Cells.{place}
+use Rattle.csv_records.specs.Records.{IsNumber, are_fields, field, record_at}
+pub use Rattle.csv_records.specs.Records.{Record, records_of}
 use Rattle.plan_file.specs.declared.fault.NumberField.{NumberField}
 use Rattle.plan_file.specs.declared.fault.NumberField.TheVariants as fields
-
--- a record as its fields
-abbrev pub Record : Type 0
-Record = List (List ℕ)
-
--- the records of a text, with no header row
-abbrev pub records_of : List ℕ → List Record
-records_of bytes = records default_config (strip_bom bytes)
-
--- a record by its number, and nothing where it is absent
-abbrev pub record_at : List Record → ℕ → Record
-record_at rs n = slice_index_or rs n []
-
--- a field by its number, counted from 1
-abbrev pub field : Record → ℕ → List ℕ
-field r c = unwrap_or (field_at r (c - 1)) []
 
 -- the number of a field that holds a number
 abbrev pub field_number : NumberField → ℕ
@@ -38,14 +21,9 @@ field_number fields.Backlog = 6
 abbrev pub header : Record
 header = codes "item" ∷ codes "period" ∷ codes "make" ∷ codes "setup" ∷ codes "stock" ∷ codes "backlog" ∷ []
 
--- from field c on the record has these texts
-abbrev pub has_texts : Record → ℕ → Record → Bool
-has_texts r c [] = true
-has_texts r c (text ∷ []) = bytes_eq (field r c) text
-has_texts r c (text ∷ texts) = bytes_eq (field r c) text && has_texts r (c + 1) texts
-
+-- whether a record is it, field by field
 abbrev pub is_header : Record → Bool
-is_header r = (length r == length header) && has_texts r 1 header
+is_header r = are_fields r header
 
 -- the first record is the header
 pub record HasHeader (rs : List Record) : Type 0 where
@@ -59,11 +37,6 @@ number_of m i t = place m.periods i t + 1
 -- six fields, the item's name and the period first
 abbrev pub is_row : Problem → ℕ → ℕ → Record → Bool
 is_row m i t r = (length r == 6) && (bytes_eq (field r 1) (item_at m i).name && bytes_eq (field r 2) (decimal t))
-
--- decimal digits of a number that fits
-pub record IsNumber (text : List ℕ) : Type 0 where
-  pub whole : IsWholeText text
-  pub fits : digits_value 10 text < 2 ^ 64
 
 -- the last four fields are numbers
 abbrev pub HasNumbers : Record → Type 0

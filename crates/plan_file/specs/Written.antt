@@ -2,7 +2,8 @@
 use Rattle.std.specs.Prelude.{ℕ, zero, suc, List, [], ◌∷◌, ◌++◌, ◌^◌, ◌<◌, decimal}
 use Rattle.lot_sizing.specs.Problem.{Problem, item_at, item_count}
 use Rattle.lot_sizing.specs.Plan.{Plan}
-use Rattle.plan_file.specs.Records.{Record, header}
+use Rattle.csv_records.specs.Records.{Record}
+use Rattle.plan_file.specs.Records.{header}
 
 -- f 1, .., f n
 abbrev pub list_to : {A : Type 0} → ℕ → (ℕ → A) → List A

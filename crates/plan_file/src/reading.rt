@@ -1,57 +1,21 @@
 // From the records of a text to a plan.
 ghost use Rattle.std.specs.Prelude.{◌≡◌, ◌≢◌, ◌⊎◌, ◌≤◌, ◌<◌, ◌+◌, ◌-◌, ℕ, IfOk, IfErr, IfSome, IfNone, OnOk, IsTrue, ◌↔◌, List, [], map, length, unwrap_or};
-ghost use Rattle.std.specs.Prelude.{decimal};
-ghost use Rattle.std.specs.Str.{bytes_eq};
-ghost use Rattle.std.specs.Str.Parse.{digits_value};
-ghost use Rattle.csv.specs.Records.{field_at, fields_of};
+ghost use Rattle.csv.specs.Records.{fields_of};
 ghost use Rattle.lot_sizing.specs.Problem.{item_count};
 ghost use Rattle.lot_sizing.specs.Plan.{EachCell};
 ghost use Rattle.plan_rules.specs.Held.{AllFit, plan_of};
-ghost use Rattle.plan_file.specs.Records.{AreNumbersOf, HasHeader, HasNumbers, IsNumber, IsPlanOf, IsRead, field, is_header, is_row, number_of, record_at, records_of};
+ghost use Rattle.csv_records.specs.Records.{IsNumber, field, record_at, records_of};
+ghost use Rattle.plan_file.specs.Records.{AreNumbersOf, HasHeader, HasNumbers, IsPlanOf, IsRead, is_header, is_row, number_of};
 ghost use Rattle.plan_file.specs.Faults.{IsFirstBad, IsPlanFault, IsRecordFault, IsCellFault};
 ghost use Rattle.plan_file.specs.Numbers.{ArePut, AreReadBefore, HasNumbersIn, IsPutFrom};
 
-use crate::records::first_records;
+use crate::header::header;
 use crate::{NumberField, PlanFault};
 use csv::ByteRecord;
+use csv_records::{field, first_records, is_number, number};
 use lot_model::Instance;
 use plan_rules::{Grid, Plan};
 use std::alloc::Global;
-use whole_numbers::read_whole;
-
-// A field of a record, counted from 1, and nothing where it is absent.
-fn field(row: &ByteRecord, number: usize) -> &[u8]
-    requires { 1 ≤ number }
-    ensures { result.now ≡ field (fields_of row.entry.now) number }
-{
-    match row.get(number - 1) {
-        Some(found) => found,
-        None => &[],
-    }
-}
-
-// Whether a record is the header.
-fn is_header(row: &ByteRecord) -> bool
-    ensures { result ≡ is_header (fields_of row.now) }
-{
-    row.len() == 6
-        && field(row, 1) == b"item".as_slice()
-        && field(row, 2) == b"period".as_slice()
-        && field(row, 3) == b"make".as_slice()
-        && field(row, 4) == b"setup".as_slice()
-        && field(row, 5) == b"stock".as_slice()
-        && field(row, 6) == b"backlog".as_slice()
-}
-
-// Whether a field is what is written of a period.
-fn is_period(text: &[u8], period: u32) -> bool
-    ensures { result ≡ bytes_eq text.now (decimal period) }
-{
-    match read_whole(text, u32::MAX as u128) {
-        Ok(number) => number == period as u128,
-        Err(_) => false,
-    }
-}
 
 // Whether a record is that of an item and a period.
 fn is_row(instance: &Instance, item: u32, period: u32, row: &ByteRecord) -> bool
@@ -61,18 +25,7 @@ fn is_row(instance: &Instance, item: u32, period: u32, row: &ByteRecord) -> bool
 {
     row.len() == 6
         && field(row, 1) == instance.item_name(item).as_bytes()
-        && is_period(field(row, 2), period)
-}
-
-// The number that a field holds.
-fn number(text: &[u8]) -> Option<u64>
-    ensures some { IfSome result (λ n. IsNumber text.now × (n ≡ digits_value 10 text.now)) }
-    ensures none { IfNone result (IsNumber text.now → ⊥) }
-{
-    match read_whole(text, u64::MAX as u128) {
-        Ok(n) => Some(n as u64),
-        Err(_) => None,
-    }
+        && is_number(field(row, 2), period as u64)
 }
 
 /// The four numbers of a record.
@@ -165,7 +118,8 @@ fn read_record(
     }
 }
 
-// Reads the records of an item into a plan into which those of all earlier items were read. It takes no memory.
+// Reads the records of an item into a plan into which those of all earlier items were read. It
+// takes no memory.
 fn read_item(
     instance: &Instance,
     rows: &[ByteRecord],
@@ -205,15 +159,13 @@ fn read_records(instance: &Instance, rows: &[ByteRecord], plan: &mut Plan) -> Re
 fn has_header(rows: &[ByteRecord]) -> bool
     ensures { IsTrue result ↔ HasHeader (map fields_of rows.now) }
 {
-    match rows.first() {
-        Some(row) => is_header(row),
-        None => false,
-    }
+    csv_records::has_header(rows, &header())
 }
 
 /// The plan whose records these bytes are, after a header, or the first fault in their order.
 ///
-/// It takes time in the length of the bytes, and memory for no more records than the plan has and two.
+/// It takes time in the length of the bytes, and memory for no more records than the plan has and
+/// two.
 pub fn read_plan(alloc: Global, instance: &Instance, bytes: &[u8]) -> Result<Plan, PlanFault>
     ensures fits { IfOk result (AllFit instance.now) }
     ensures plan { IfOk result (λ plan.

@@ -2,7 +2,7 @@ use Rattle.std.proofs.Common.{◌≡◌, ◌+◌, ◌*◌, ◌∙◌, ap, arith,
 use Rattle.std.proofs.lemmas.List.{length-map}
 use Rattle.csv.specs.Records.{fields_of}
 use Rattle.lot_sizing.specs.Problem.{item_count}
-use Rattle.plan_file.specs.Records.{records_of}
+use Rattle.csv_records.specs.Records.{records_of}
 use Rattle.lot_quantities.specs.Tables.{HasHeader}
 use Rattle.lot_quantities.specs.Faults.{IsQuantityFault}
 use Rattle.lot_quantities.proofs.Fronts.{more_fault, rows_fault, table_read}

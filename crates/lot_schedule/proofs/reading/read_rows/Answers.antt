@@ -1,9 +1,10 @@
 use Rattle.std.proofs.Common.{◌≡◌, ◌+◌, arith, map, subst, sym}
 use Rattle.std.proofs.lemmas.List.{length-map}
 use Rattle.csv.specs.Records.{fields_of}
-use Rattle.plan_file.specs.Records.{record_at}
+use Rattle.csv_records.specs.Records.{record_at}
 use Rattle.lot_schedule.specs.Records.{IsRow, IsRowOf}
-use Rattle.lot_schedule.proofs.Rowed.{AreReadTo, first_bad, read_all, read_more, record_is, some_record}
+use Rattle.csv_records.proofs.Rows.{record_is}
+use Rattle.lot_schedule.proofs.Rowed.{AreReadTo, first_bad, read_all, read_more}
 use Rattle.lot_schedule.proofs.reading.read_rows.Goals as goal
 
 pub loop-place-preserved : goal.loop-place-preserved
@@ -26,4 +27,4 @@ pub returns-clause-slots : goal.returns-clause-slots
 returns-clause-slots c =
     let m = c.args.instance.now in
     let rs = map fields_of c.args.rows.now in
-    read_all m rs c.loop-place.slots.items c.loop-place.place c.requires c.loop-place.invariant (omega (arith, length-map c.args.rows.now fields_of, some_record rs c.requires, c.loop-place-test.false, c.loop-place.auto.place-end))
+    read_all m rs c.loop-place.slots.items c.loop-place.place c.requires c.loop-place.invariant (omega (arith, length-map c.args.rows.now fields_of, c.requires.there, c.loop-place-test.false, c.loop-place.auto.place-end))

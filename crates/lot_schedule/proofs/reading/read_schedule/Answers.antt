@@ -1,6 +1,6 @@
 use Rattle.std.proofs.Common.{◌≡◌, ◌∙◌, ap, map, refl, rules, subst, sym}
 use Rattle.csv.specs.Records.{fields_of}
-use Rattle.plan_file.specs.Records.{records_of}
+use Rattle.csv_records.specs.Records.{records_of}
 use Rattle.lot_schedule.specs.Records.{AreRowsOf, HasHeader}
 use Rattle.lot_schedule.specs.Faults.{IsSlotFault}
 use Rattle.lot_schedule.proofs.reading.read_schedule.Goals as goal

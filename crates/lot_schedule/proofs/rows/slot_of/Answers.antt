@@ -21,12 +21,12 @@ returns-in_err-item-clause-none c =
 
 pub returns-in_err-start-clause-none : goal.returns-in_err-start-clause-none
 returns-in_err-start-clause-none c =
-    let why : IsRow c.args.instance.now (fields_of c.args.row.now) → ⊥ = no_start c.args.instance.now (fields_of c.args.row.now) c.field-4.result.now c.field-4.ensures c.in_err-start.ensures.none in
+    let why : IsRow c.args.instance.now (fields_of c.args.row.now) → ⊥ = no_start c.args.instance.now (fields_of c.args.row.now) c.field-4.result.now c.field-4.ensures c.in_err-start.ensures.unwritten in
     search (rules, why)
 
 pub returns-in_err-end-clause-none : goal.returns-in_err-end-clause-none
 returns-in_err-end-clause-none c =
-    let why : IsRow c.args.instance.now (fields_of c.args.row.now) → ⊥ = no_end c.args.instance.now (fields_of c.args.row.now) c.field-5.result.now c.field-5.ensures c.in_err-end.ensures.none in
+    let why : IsRow c.args.instance.now (fields_of c.args.row.now) → ⊥ = no_end c.args.instance.now (fields_of c.args.row.now) c.field-5.result.now c.field-5.ensures c.in_err-end.ensures.unwritten in
     search (rules, why)
 
 pub returns-clause-found : goal.returns-clause-found
@@ -41,14 +41,14 @@ returns-clause-found c =
         item_low = c.in_ok-item.ensures.found.0;
         item_high = c.in_ok-item.ensures.found.1;
       };
-      start = c.in_ok-start.ensures.found.0;
-      end = c.in_ok-end.ensures.found.0;
+      start = omega (arith, c.in_ok-start.ensures.some.0.fits, c.in_ok-start.ensures.some.1);
+      end = omega (arith, c.in_ok-end.ensures.some.0.fits, c.in_ok-end.ensures.some.1);
       row = row_is c.args.instance.now (record { resource = c.in_ok-resource.resource; period = c.in_ok-period.period; item = c.in_ok-item.item; start = c.in_ok-start.start; end = c.in_ok-end.end }) (fields_of c.args.row.now) (record {
         size = size;
         resource = sym c.field.ensures ∙ c.in_ok-resource.ensures.found.2;
         period = sym c.field-2.ensures ∙ c.in_ok-period.ensures.found.2;
         item = sym c.field-3.ensures ∙ c.in_ok-item.ensures.found.2;
-        start = sym c.field-4.ensures ∙ c.in_ok-start.ensures.found.1;
-        end = sym c.field-5.ensures ∙ c.in_ok-end.ensures.found.1;
+        start = sym c.field-4.ensures ∙ c.in_ok-start.ensures.written;
+        end = sym c.field-5.ensures ∙ c.in_ok-end.ensures.written;
       });
     }

@@ -3,7 +3,8 @@ use Rattle.std.proofs.lemmas.List.{length-map}
 use Rattle.csv.specs.Records.{fields_of}
 use Rattle.lot_sizing.specs.Problem.{item_count}
 use Rattle.plan_rules.specs.Held.{plan_of}
-use Rattle.plan_file.specs.Records.{HasHeader, records_of}
+use Rattle.csv_records.specs.Records.{records_of}
+use Rattle.plan_file.specs.Records.{HasHeader}
 use Rattle.plan_file.specs.Faults.{IsPlanFault}
 use Rattle.plan_file.proofs.Fronts.{more_fault, plan_read, rows_fault}
 use Rattle.plan_file.proofs.reading.read_plan.Goals as goal
