@@ -28,7 +28,8 @@ use Rattle.acceptance.specs.Parts.{AreParts, AreSmall, IsPart, rows_of, sum_of_c
 use Rattle.acceptance.specs.Says.{IsLinear}
 use Rattle.acceptance.specs.CutRows.{AreCutRows, HasEchelon, IsBlockCut, IsLsCut, IsPriceCut, IsRoundCut, echelon_at}
 use Rattle.acceptance.specs.Worked.{IsAcceptedHere, by_cuts, cuts, model, plan, rounded, total, weight, whole, zeros}
-use Rattle.acceptance.proofs.Cuts.{cut_columns, cuts_columns, summed_or_none, taken_or_none}
+use Rattle.acceptance.proofs.Rows.{summed_or_none, taken_or_none}
+use Rattle.acceptance.proofs.Cuts.{cut_columns, cuts_columns}
 use Rattle.acceptance.proofs.Examples.{columns, goes, one, small_columns, taken, two}
 use Rattle.acceptance.proofs.Leaves.{parts_columns}
 use Rattle.split_trees.specs.Ranges.{IsChoice, whole_ranges}

@@ -29,7 +29,7 @@ use Rattle.acceptance.specs.Named.{IsNamed, Named, names}
 use Rattle.acceptance.specs.Parts.{AreParts, AreSmall, IsPart, rows_of, sum_of_column, times_of}
 use Rattle.acceptance.specs.Says.{IsFarkas, IsLinear}
 use Rattle.acceptance.specs.Accepts.{Fits, GoesWith, IsAccepted, IsTrueOf}
-use Rattle.acceptance.proofs.Cuts.{taken_or_none}
+use Rattle.acceptance.proofs.Rows.{taken_or_none}
 use Rattle.acceptance.proofs.Leaves.{parts_columns}
 use Rattle.acceptance.specs.Worked.{IsAcceptedHere, IsKnownModel, by_branches, first, model, part, plan, rank, second, third, total, weight}
 use Rattle.cert_lines.specs.declared.parts.Claim.TheVariants.{Optimal}

@@ -36,6 +36,7 @@ use Rattle.acceptance.specs.Named.{IsNamed, Named, no_row, row_named}
 use Rattle.acceptance.specs.Parts.{AreParts, IsPart, rows_of, sum_of_column, sum_of_right, times_of}
 use Rattle.acceptance.specs.Lists.{all_parts}
 use Rattle.acceptance.specs.Says.{IsFarkas, IsLinear, IsPoint, IsReducedBound, IsReducedRefuted, IsSoOf, IsSumOf, Says, point_make, point_setup}
+use Rattle.acceptance.proofs.Rows.{bound_columns, columns_at, hold_at, parts_signed}
 
 -- what is known of a problem in which no item is its own component, and of its largest totals
 pub record IsKnown (m : Problem) (total : ℕ → ℕ) : Type 0 where
@@ -44,17 +45,6 @@ pub record IsKnown (m : Problem) (total : ℕ → ℕ) : Type 0 where
   pub ranks : IsRanking m rank
   pub totals : AreLargestTotals m total
 
--- what holds of each row of a list holds of the one at a place
-hold_at : (q : LinPoint) (rows : List LinRow) (k : ℕ) → k < length rows → AllHold q rows → HoldsAt q (slice_index_or rows k no_row)
-hold_at q [] k less hold = absurd (omega (arith, less))
-hold_at q (r ∷ rows) zero less hold = hold.0
-hold_at q (r ∷ rows) (suc k) less hold = hold_at q rows k (omega (arith, less)) hold.1
-
-columns_at : (m : Problem) (rows : List LinRow) (k : ℕ) → k < length rows → AreOfProblem m rows → All (λ a. IsColumn m a.column) (slice_index_or rows k no_row).terms
-columns_at m [] k less are = absurd (omega (arith, less))
-columns_at m (r ∷ rows) zero less are = are.0
-columns_at m (r ∷ rows) (suc k) less are = columns_at m rows k (omega (arith, less)) are.1
-
 -- the row of a bound that is met holds
 met_row : (b : Bool) (n x : ℕ) → IsWithinNumber b n x → (bound_right b n *ℤ pos 1) ≤ℤ (bound_times b *ℤ pos x +ℤ pos 0)
 met_row true n x met = omega (arith, linear, met, mul_one (neg_ℤ (pos n)), minus_one (pos x))
@@ -62,16 +52,6 @@ met_row false n x met = omega (arith, linear, met)
 
 bound_holds : (v : Values) (b : Bound) → IsMet v b → HoldsAt (whole_point v) (bound_row b)
 bound_holds v b met = met_row b.most b.number (v b.column) met
-
--- a quantity or a setup is a column
-choice_column : (m : Problem) (c : Column) → IsChoice m c → IsColumn m c
-choice_column m (X i t) is = is
-choice_column m (Y i t) is = is
-choice_column m (S i t) is = absurd is
-choice_column m (R i t) is = absurd is
-
-bound_columns : (m : Problem) (b : Bound) → IsChoice m b.column → All (λ a. IsColumn m a.column) (bound_row b).terms
-bound_columns m b is = All-cons (λ a. IsColumn m a.column) _ [] (choice_column m b.column is) (All-nil (λ a. IsColumn m a.column))
 
 -- what is known of the rows that can be named, at a plan
 pub record AreRowsAt (n : Named) (p : Plan) : Type 0 where
@@ -128,10 +108,6 @@ pub parts_columns : (n : Named) (parts : List Part) → AreColumnsOf n → ArePa
 parts_columns n [] are has = tt
 parts_columns n (a ∷ parts) are has =
     (named_columns n a.row are (All-head (IsPart n) a parts has).named, parts_columns n parts are (All-tail (IsPart n) a parts has))
-
-pub parts_signed : (n : Named) (parts : List Part) → AreParts n parts → AreSigned (rows_of n parts) (times_of parts)
-parts_signed n [] has = tt
-parts_signed n (a ∷ parts) has = ((All-head (IsPart n) a parts has).signed, parts_signed n parts (All-tail (IsPart n) a parts has))
 
 -- a denominator
 natural : (z : ℤ) → pos 1 ≤ℤ z → (k : ℕ) × (z ≡ pos k)

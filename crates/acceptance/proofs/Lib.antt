@@ -1,3 +1,5 @@
+pub mod Rows
+pub mod Columns
 mod Leaves
 mod Echelons
 mod Cuts

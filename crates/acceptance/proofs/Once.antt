@@ -33,7 +33,9 @@ use Rattle.acceptance.specs.Lists.{all_parts}
 use Rattle.acceptance.specs.Says.{IsLeastCost, IsReducedBound, IsReducedRefuted, IsRoundedUp, Says}
 use Rattle.acceptance.specs.CutRows.{AreCutRows, IsCutRow}
 use Rattle.acceptance.proofs.Leaves.{parts_columns}
-use Rattle.acceptance.proofs.Cuts.{cut_columns, of_push, rounded_columns}
+use Rattle.acceptance.proofs.Rows.{of_push, rounded_columns}
+use Rattle.acceptance.proofs.Columns.{IsSmall, column_small, one_place}
+use Rattle.acceptance.proofs.Cuts.{cut_columns}
 
 one_quotient : (den a : ℤ) (n k : ℕ) → IsRoundedUp den a n → IsRoundedUp den a k → n ≡ k
 one_quotient den a n k is also = omega (arith, is.least k also.above, also.least n is.above)
@@ -82,27 +84,6 @@ below_next q a z w some is also =
 
 pub one_ceiling : (q : ℕ) (a z w : ℤ) → 1 ≤ q → IsCeiling q a z → IsCeiling q a w → z ≡ w
 one_ceiling q a z w some is also = le_antisym z w (below_next q a z w some is also) (below_next q a w z some also is)
-
--- columns with small numbers have places of their own
-abbrev IsSmall : Column → Type 0
-IsSmall c = (item_of c < 2 ^ 32) × (period_of c < 2 ^ 32)
-
-order_is : (c : Column) → order_of c ≡ kind_of c * 2 ^ 64 + item_of c * 2 ^ 32 + period_of c
-order_is (X i t) = refl
-order_is (Y i t) = refl
-order_is (S i t) = refl
-order_is (R i t) = refl
-
-all_same : (k l i j t s : ℕ) → k ≡ l → i ≡ j → t ≡ s → ((k == l) && ((i == j) && (t == s))) ≡ true
-all_same k l i j t s a b c = grind (arith, a, b, c)
-
-one_order : (c d : Column) → IsSmall c → IsSmall d → order_of c ≡ order_of d → (kind_of c ≡ kind_of d) × (item_of c ≡ item_of d) × (period_of c ≡ period_of d)
-one_order c d a b same =
-    let e : kind_of c * 2 ^ 64 + item_of c * 2 ^ 32 + period_of c ≡ kind_of d * 2 ^ 64 + item_of d * 2 ^ 32 + period_of d = sym (order_is c) ∙ same ∙ order_is d in
-    (omega (arith, e, a.0, a.1, b.0, b.1), omega (arith, e, a.0, a.1, b.0, b.1), omega (arith, e, a.0, a.1, b.0, b.1))
-
-one_place : (c d : Column) → IsSmall c → IsSmall d → order_of c ≡ order_of d → c ≡ d
-one_place c d a b same = let (k, i, t) = one_order c d a b same in one_by_parts c d (all_same (kind_of c) (kind_of d) (item_of c) (item_of d) (period_of c) (period_of d) k i t)
 
 same_order : (c d : Column) → same_column c d ≡ true → order_of c ≡ order_of d
 same_order c d is = ap order_of (one_by_parts c d is)
@@ -155,12 +136,6 @@ one_list (a ∷ xs) (b ∷ ys) low hx hy sx sy same =
     (λ after. absurd (not_there b ys (a ∷ xs) low hy (later_none (a ∷ xs) (order_of a.column) b.column (omega arith, hx.1, hx.2) after) (λ c. sym (same c))))
     apart)
     (cases_order (order_of a.column) (order_of b.column))
-
-column_small : (m : Problem) (c : Column) → item_count m < 2 ^ 32 → m.periods < 2 ^ 32 → IsColumn m c → IsSmall c
-column_small m (X i t) items periods is = (omega (arith, is.1, items), omega (arith, is.3, periods))
-column_small m (Y i t) items periods is = (omega (arith, is.1, items), omega (arith, is.3, periods))
-column_small m (S i t) items periods is = (omega (arith, is.1, items), omega (arith, is.3, periods))
-column_small m (R i t) items periods is = let cell = is.0 in (omega (arith, cell.1, items), omega (arith, cell.3, periods))
 
 one_rounded : (m : Problem) (rows : List LinRow) (times : List ℤ) (q : ℕ) (r s : LinRow) → item_count m < 2 ^ 32 → m.periods < 2 ^ 32 → 1 ≤ q → AreOfProblem m rows → IsRounded rows times q r → IsRounded rows times q s → r ≡ s
 one_rounded m rows times q r s items periods some are is also =

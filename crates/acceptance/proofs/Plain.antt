@@ -52,7 +52,7 @@ pub record AreLaws : Type 0 where
 -- no groups lie apart: they have no shares, so that nothing is charged
 none_charged : AreLaws → (m : Problem) (rank : ℕ → ℕ) (known : Known) (price : Column → ℕ) → IsRanking m rank → AreCharged m known price []
 none_charged laws m rank known price ranks =
-    let share : Table = λ i t. share_in [] i in
+    let share : Table = share_in [] in
     let (charge, charges) = laws.charges m rank known.on_time share ranks in
     let no_share : EachCell m (λ i t. share i t ≡ 0) = λ i t low high t_low t_high. refl in
     let nothing : EachCell m (λ i t. charge i t ≡ 0) = laws.none m rank known.on_time share charge ranks no_share charges in
@@ -77,7 +77,7 @@ plain_sum laws n den parts ranked within =
         price = price;
         reduced = λ c has. natural_is (reduced_cost m (rows_of n parts) (times_of parts) den c) (omega (arith, linear, within c has));
         apart = none_apart laws m ranked.rank known price ranked.ranks;
-        within = All-nil (IsWithinWork m known.start price);
+        within = All-nil (IsWithinWork m known.start known.on_time price);
       };
       amounts = [];
       numbers = tt;

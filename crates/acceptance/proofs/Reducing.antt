@@ -113,7 +113,7 @@ reduced = columns (λ c. reduced_cost model (rows_of at_root parts) (times_of pa
 
 -- ---- the group
 here : IsGroupOf model (QuantityGroup 1)
-here = record { items = All-from_recursion (IsItem model) (1 ∷ []) ((omega arith, omega arith), tt); linked = tt }
+here = record { items = All-from_recursion (IsItem model) (1 ∷ []) ((omega arith, omega arith), tt); linked = tt; shared = tt }
 
 once : (i : ℕ) → times_in shapes i ≤ 1
 once i = at_most i
@@ -124,10 +124,10 @@ once i = at_most i
 abbrev nothing : Table
 nothing i t = 0
 
-no_charge : AreCharges model start (λ i t. share_in shapes i) nothing
+no_charge : AreCharges model start (share_in shapes) nothing
 no_charge = record {
   load = nothing;
-  loads = record { each = cells (λ j v. nothing j v ≡ share_in shapes j + sum_to (item_count model) (λ i. per_unit model i j * arriving_load model start nothing i v)) refl refl };
+  loads = record { each = cells (λ j v. nothing j v ≡ share_in shapes j v + sum_to (item_count model) (λ i. per_unit model i j * arriving_load model start nothing i v)) refl refl };
   each = cells (λ i v. nothing i v ≡ charge_of model start nothing i v) refl refl;
 }
 
@@ -137,7 +137,7 @@ lie_apart = record {
   charged = record { charge = nothing; charges = no_charge; within = λ j t is. absurd (no_back j (is.0).0 (is.0).1 is.2) };
 }
 
-within : IsWithinWork model start cost_of (QuantityGroup 1)
+within : IsWithinWork model start start cost_of (QuantityGroup 1)
 within = (
   two (λ t. (cost_of (Y 1 t) ≤ MAX_PRICE) × (cost_of (X 1 t) ≤ MAX_PRICE)) (omega arith, omega arith) (omega arith, omega arith),
   two (λ t. model.periods * (start 1 t + 1) ≤ MAX_ENTRIES) (omega arith) (omega arith),
@@ -150,7 +150,7 @@ groups = record {
   price = cost_of;
   reduced = reduced;
   apart = lie_apart;
-  within = All-from_recursion (IsWithinWork model start cost_of) shapes (within, tt);
+  within = All-from_recursion (IsWithinWork model start start cost_of) shapes (within, tt);
 }
 
 -- ---- its number

@@ -187,7 +187,16 @@ signed_long : (xs : List ℤ) → length xs ≤ length (signed_list_text xs)
 signed_long [] = omega arith
 signed_long (x ∷ xs) = omega (arith, length-append (signed_text x) (signed_list_text xs), length-append (codes " ") (signed_decimal x), signed_long xs)
 
--- ---- groups, with their items and prices
+-- ---- groups, with their items, shares and prices
+abbrev Shared : Type 0
+Shared = ℕ × List ℕ
+
+abbrev IsShared : Shared → Type 0
+IsShared x = Is32 x.0 × IsList x.1
+
+shared : Searched Shared IsShared
+shared = pairs ℕ (List ℕ) Is32 (λ _. IsList) (numbers bound_32) (λ _. some_lists)
+
 abbrev IsLink : ℕ × ℕ → Type 0
 IsLink x = Is32 x.0 × Is127 x.1
 
@@ -324,10 +333,21 @@ module _ (Good Bad : LineShape → Type 0) (either : (l : LineShape) → IsSmall
   item_found : Found ⊎ ((i : ℕ) → i < bound_32 → IfSmall (GroupLine (group.Item i)))
   item_found = one LineShape bound_32 (λ i. GroupLine (group.Item i)) Good IfSmall (λ i low. if_small (GroupLine (group.Item i)) (inl low))
 
-  late_found : Found ⊎ ((i share : ℕ) → i < bound_32 → share < bound_64 → IfSmall (GroupLine (group.Late i share)))
-  late_found =
-      two LineShape bound_32 bound_64 (λ i share. GroupLine (group.Late i share)) Good IfSmall
-      (λ i share low high. if_small (GroupLine (group.Late i share)) (inl (low, high)))
+  late_of : Shared → LineShape
+  late_of x = GroupLine (group.Late x.0 x.1)
+
+  late_found : Found ⊎ ((x : Shared) → IsShared x → IfSmall (late_of x))
+  unfolding late_of
+  late_found = made Shared LineShape IsShared shared late_of Good IfSmall (λ x is. if_small (late_of x) (inl (is.0, is.1.1)))
+
+  late_quantities_of : Shared → LineShape
+  late_quantities_of x = GroupLine (group.LateQuantities x.0 x.1)
+
+  late_quantities_found : Found ⊎ ((x : Shared) → IsShared x → IfSmall (late_quantities_of x))
+  unfolding late_quantities_of
+  late_quantities_found =
+      made Shared LineShape IsShared shared late_quantities_of Good IfSmall
+      (λ x is. if_small (late_quantities_of x) (inl (is.0, is.1.1)))
 
   quantities_found : Found ⊎ ((i : ℕ) → i < bound_32 → IfSmall (GroupLine (group.Quantities i)))
   quantities_found = one LineShape bound_32 (λ i. GroupLine (group.Quantities i)) Good IfSmall (λ i low. if_small (GroupLine (group.Quantities i)) (inl low))
@@ -352,14 +372,14 @@ module _ (Good Bad : LineShape → Type 0) (either : (l : LineShape) → IsSmall
   farkas_found = one LineShape (MAX_PARTS + 1) (λ k. FarkasLine k) Good IfSmall (λ k high. if_small (FarkasLine k) (inl (omega (arith, high))))
 
   pub all_lines : Found ⊎ ((l : LineShape) → HasForm l → Bad l)
-  unfolding ls_line price_of block_of part_of list_of_words pair_of triple_of link_of
+  unfolding ls_line price_of block_of part_of list_of_words late_of late_quantities_of pair_of triple_of link_of
   all_lines =
       ⊎_elim (λ found. inl found) (λ none. inr (each none.0 none.1.0 none.1.1))
       (both
       (both ls_found (both price_found (both block_found round_found)))
       (both
       (both part_found (both branch_found (both linear_found (both farkas_found (both (if_found PointLine tt) (if_found EndLine tt))))))
-      (both reduced_found (both list_found (both item_found (both late_found (both quantities_found (both pair_found triple_found))))))))
+      (both reduced_found (both list_found (both item_found (both late_found (both quantities_found (both late_quantities_found (both pair_found triple_found)))))))))
     where
       if_found : (l : LineShape) → IsSmallLine l → Found ⊎ Bad l
       if_found l small = ⊎_elim (λ good. inl (l, good)) (λ bad. inr bad) (either l small)
@@ -367,7 +387,7 @@ module _ (Good Bad : LineShape → Type 0) (either : (l : LineShape) → IsSmall
       each :
           ((x : Marked) → IsMarked x → IfSmall (ls_line x)) × (((x : Priced) → IsPriced x → IfSmall (price_of x)) × (((x : Priced × List ℕ) → IsStepped x → IfSmall (block_of x)) × ((q k : ℕ) → q < MAX_DIVISOR + 1 → k < MAX_ROUND_PARTS + 1 → IfSmall (RoundLine q k))))
           → ((x : RowName × ℤ) → IsSmallName x.0 × Is127 (unsigned_abs x.1) → IfSmall (part_of x)) × (((x : Column × ℕ) → IsSmallColumn x.0 × Is64 x.1 → IfSmall (BranchLine x.0 x.1)) × (((x : ℤ × ℕ) → Is127 (unsigned_abs x.0) × (x.1 < MAX_PARTS + 1) → IfSmall (LinearLine x.0 x.1)) × (((k : ℕ) → k < MAX_PARTS + 1 → IfSmall (FarkasLine k)) × (Bad PointLine × Bad EndLine))))
-          → ((x : Four) → IsReduced x → IfSmall (ReducedLine x.0.0 x.0.1 x.1.0 x.1.1)) × (((x : Listed) → IsListed x → IfSmall (list_of_words x)) × (((i : ℕ) → i < bound_32 → IfSmall (GroupLine (group.Item i))) × (((i share : ℕ) → i < bound_32 → share < bound_64 → IfSmall (GroupLine (group.Late i share))) × (((i : ℕ) → i < bound_32 → IfSmall (GroupLine (group.Quantities i))) × (((x : Paired) → ArePaired x → IfSmall (pair_of x)) × ((x : (ℕ × ℕ) × Paired) → IsLink x.0 × ArePaired x.1 → IfSmall (triple_of x)))))))
+          → ((x : Four) → IsReduced x → IfSmall (ReducedLine x.0.0 x.0.1 x.1.0 x.1.1)) × (((x : Listed) → IsListed x → IfSmall (list_of_words x)) × (((i : ℕ) → i < bound_32 → IfSmall (GroupLine (group.Item i))) × (((x : Shared) → IsShared x → IfSmall (late_of x)) × (((i : ℕ) → i < bound_32 → IfSmall (GroupLine (group.Quantities i))) × (((x : Shared) → IsShared x → IfSmall (late_quantities_of x)) × (((x : Paired) → ArePaired x → IfSmall (pair_of x)) × ((x : (ℕ × ℕ) × Paired) → IsLink x.0 × ArePaired x.1 → IfSmall (triple_of x))))))))
           → (l : LineShape) → HasForm l → Bad l
       each cuts others reduced (CutLine (LsCut item last chosen)) form =
           let small = form.small in
@@ -404,16 +424,21 @@ module _ (Good Bad : LineShape → Type 0) (either : (l : LineShape) → IsSmall
           let long = three_long (codes "parts ") (kind_text a.kind) (one_text a.index) (signed_list_text a.times) MAX_LINE form.short in
           reduced.1.0 (a.kind, (a.index, a.times)) (tt, (small.0, (omega (arith, long, signed_long a.times), small.1))) small
       each cuts others reduced (GroupLine (group.Item i)) form = reduced.1.1.0 i form.small form.small
-      each cuts others reduced (GroupLine (group.Late i share)) form =
+      each cuts others reduced (GroupLine (group.Late i shares)) form =
           let small = form.small in
-          reduced.1.1.1.0 i share small.0 small.1 small
+          let long = two_long (codes "late") (one_text i) (list_text shares) MAX_LINE form.short in
+          reduced.1.1.1.0 (i, shares) (small.0, (short shares long.1, small.1)) small
       each cuts others reduced (GroupLine (group.Quantities i)) form = reduced.1.1.1.1.0 i form.small form.small
+      each cuts others reduced (GroupLine (group.LateQuantities i shares)) form =
+          let small = form.small in
+          let long = two_long (codes "late_quantities") (one_text i) (list_text shares) MAX_LINE form.short in
+          reduced.1.1.1.1.1.0 (i, shares) (small.0, (short shares long.1, small.1)) small
       each cuts others reduced (GroupLine (group.Pair low top)) form =
           let small = form.small in
-          reduced.1.1.1.1.1.0 ((low.item, low.opening_price), (top.item, top.opening_price)) (small.0, small.1) small
+          reduced.1.1.1.1.1.1.0 ((low.item, low.opening_price), (top.item, top.opening_price)) (small.0, small.1) small
       each cuts others reduced (GroupLine (group.Triple low mid top)) form =
           let small = form.small in
-          reduced.1.1.1.1.1.1 ((low.item, low.opening_price), ((mid.item, mid.opening_price), (top.item, top.opening_price))) (small.0, (small.1, small.2)) small
+          reduced.1.1.1.1.1.1.1 ((low.item, low.opening_price), ((mid.item, mid.opening_price), (top.item, top.opening_price))) (small.0, (small.1, small.2)) small
       each cuts others reduced EndLine form = others.1.1.1.1.1
 
 -- ---- the first line of a text

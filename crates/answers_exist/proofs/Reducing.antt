@@ -198,7 +198,7 @@ module _
 
       -- ---- groups that lie apart, and whose shares are paid for by the backlogs
       module _ (known : Known) (are : AreKnown m a known) (apart : AreApart m known price shapes) where
-        past_fault : (k : ℕ) → IsPastFirst m known.start price shapes k → Fault
+        past_fault : (k : ℕ) → IsPastFirst m known.start known.on_time price shapes k → Fault
         past_fault k past =
             group_fault (line + 1 + length parts + length lists + k) why.Work
             (λ b totals.
@@ -218,7 +218,7 @@ module _
               ),
             ))
 
-        module _ (within : All (IsWithinWork m known.start price) shapes) where
+        module _ (within : All (IsWithinWork m known.start known.on_time price) shapes) where
           are_groups : AreGroupsFor m a rows times den shapes
           are_groups = record { known = known; is_known = are; price = price; reduced = is_reduced; apart = apart; within = within }
 
@@ -329,10 +329,10 @@ module _
               (by.numbers m known price groups)
 
         apart_out : Good ⊎ Fault
-        apart_out = ⊎_elim (λ within. numbers_out within) (λ past. inr (past_fault past.0 past.1)) (by.work m known.start price groups)
+        apart_out = ⊎_elim (λ within. numbers_out within) (λ past. inr (past_fault past.0 past.1)) (by.work m known.start known.on_time price groups)
 
       -- ---- groups that lie apart
-      module _ (lie : LieApart m shapes) (known : Known) (are : AreKnown m a known) (charge : Table) (charges : AreCharges m known.on_time (λ i t. share_in shapes i) charge) where
+      module _ (lie : LieApart m shapes) (known : Known) (are : AreKnown m a known) (charge : Table) (charges : AreCharges m known.on_time (share_in shapes) charge) where
         over_fault : (i t : ℕ) → IsFirstOver m price charge i t → Fault
         over_fault i t over =
             group_fault line (why.Column (R i t))
@@ -371,7 +371,7 @@ module _
           ⊎_elim
           (λ lie.
           let known = by.exists m rank a ranks totals_a in
-          let charged = by.charges m rank known.0.on_time (λ i t. share_in shapes i) ranks in
+          let charged = by.charges m rank known.0.on_time (share_in shapes) ranks in
           charged_out lie known.0 known.1 charged.0 charged.1)
           (λ other. inr (place_fault other.0 other.1))
           (by.judged m groups)

@@ -5,7 +5,8 @@ use Rattle.lot_sizing.specs.Plan as terms
 use Rattle.lot_sizing.specs.Totals.{IsRanking}
 use Rattle.plan_rules.specs.declared.plan.Plan.{Plan}
 use Rattle.plan_rules.specs.Held.{AllFit, plan_of}
-use Rattle.plan_file.specs.Records.{IsPlanOf, Record}
+use Rattle.csv_records.specs.Records.{Record}
+use Rattle.plan_file.specs.Records.{IsPlanOf}
 use Rattle.certificate.specs.declared.fault.CertTextFault.{CertTextFault}
 use Rattle.certificate.specs.declared.fault.CertTextFault.TheVariants.{Memory}
 use Rattle.certificate.specs.Shapes.{Shape}

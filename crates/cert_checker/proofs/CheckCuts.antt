@@ -18,6 +18,7 @@ use Rattle.split_trees.specs.Ranges.{WithTotals}
 use Rattle.acceptance.specs.Accepts.{IsSmallCut}
 use Rattle.acceptance.specs.CutRows.{IsCutRow}
 use Rattle.acceptance.specs.Laws.{CutRowsGoOn, HoldAtPlans, SmallCutsGoOn}
+use Rattle.acceptance.proofs.Rows.{hold_push, of_push}
 use Rattle.cert_checker.specs.declared.fault.CheckFault.{CheckFault}
 use Rattle.cert_checker.specs.declared.fault.Why.{Why}
 use Rattle.cert_checker.specs.Leaves.{IfRejected}
@@ -31,14 +32,6 @@ pub record AreMade (m : Problem) (cuts : List CutShape) (k : ℕ) (rows : List L
   pub hold : HoldAtPlans m rows
   pub columns_exist : AreOfProblem m rows
   pub after : line ≡ first_line + length (all_cut_values (take k cuts))
-
-hold_more : (q : LinPoint) (rows : List LinRow) (r : LinRow) → AllHold q rows → HoldsAt q r → AllHold q (rows ++ (r ∷ []))
-hold_more q [] r all is = (is, tt)
-hold_more q (s ∷ rows) r all is = (all.0, hold_more q rows r all.1 is)
-
-columns_more : (m : Problem) (rows : List LinRow) (r : LinRow) → AreOfProblem m rows → All (λ a. IsColumn m a.column) r.terms → AreOfProblem m (rows ++ (r ∷ []))
-columns_more m [] r are is = (is, tt)
-columns_more m (s ∷ rows) r are is = (are.0, columns_more m rows r are.1 is)
 
 lines_more : (cuts : List CutShape) (k : ℕ) → k < length cuts → length (all_cut_values (take (k + 1) cuts)) ≡ length (all_cut_values (take k cuts)) + length (cut_values (slice_index_or cuts k no_cut))
 lines_more cuts k less =
@@ -67,8 +60,8 @@ module _ (m : Problem) (cuts : List CutShape) (k : ℕ) (rows : List LinRow) (li
               small = small_go_on m total (take k cuts) rows cut row good.small (small total totals);
             } in
             subst (λ c. AreGoodCuts m total weight c new) (sym next) (subst (AreGoodCuts m total weight (take k cuts ++ (cut ∷ []))) (sym is_new) more);
-        hold = λ p feasible. subst (AllHold (whole_point (value_in p))) (sym is_new) (hold_more (whole_point (value_in p)) rows row (made.hold p feasible) (holds p feasible (made.hold p feasible)));
-        columns_exist = subst (AreOfProblem m) (sym is_new) (columns_more m rows row made.columns_exist exist);
+        hold = λ p feasible. subst (AllHold (whole_point (value_in p))) (sym is_new) (hold_push (whole_point (value_in p)) rows row (made.hold p feasible) (holds p feasible (made.hold p feasible)));
+        columns_exist = subst (AreOfProblem m) (sym is_new) (of_push m rows row made.columns_exist exist);
         after = omega (arith, made.after, lines_more cuts k less, ap (λ c. length (cut_values c)) is);
       }
 

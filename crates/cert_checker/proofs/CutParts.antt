@@ -28,23 +28,13 @@ use Rattle.cert_lines.specs.Shapes.{RoundCut}
 use Rattle.acceptance.specs.Named.{HasName, Named, names, no_row, row_named}
 use Rattle.acceptance.specs.Parts.{AreParts, AreSmall, IsPart, rows_of, times_of}
 use Rattle.acceptance.specs.CutRows.{IsCutRow}
+use Rattle.acceptance.proofs.Rows.{columns_at, hold_at, hold_push, of_push, parts_signed}
 use Rattle.cert_checker.specs.declared.fault.Why.{Why}
 use Rattle.cert_checker.specs.declared.fault.Why.TheVariants as why
 use Rattle.cert_checker.specs.Leaves.{IsFirstWrong, no_part}
 use Rattle.cert_checker.specs.Cuts.{AreRowsOf, IsRoundFault, IsRowNamed}
 
 -- ---- one row
--- what holds of each row of a list holds of the one at a place
-hold_at : (q : LinPoint) (rows : List LinRow) (k : ℕ) → k < length rows → AllHold q rows → HoldsAt q (slice_index_or rows k no_row)
-hold_at q [] k less hold = absurd (omega (arith, less))
-hold_at q (r ∷ rows) zero less hold = hold.0
-hold_at q (r ∷ rows) (suc k) less hold = hold_at q rows k (omega (arith, less)) hold.1
-
-columns_at : (m : Problem) (rows : List LinRow) (k : ℕ) → k < length rows → AreOfProblem m rows → All (λ a. IsColumn m a.column) (slice_index_or rows k no_row).terms
-columns_at m [] k less are = absurd (omega (arith, less))
-columns_at m (r ∷ rows) zero less are = are.0
-columns_at m (r ∷ rows) (suc k) less are = columns_at m rows k (omega (arith, less)) are.1
-
 -- the row of an earlier cut
 pub earlier_named : (m : Problem) (earlier : List LinRow) (k : ℕ) (row : LinRow) → AreOfProblem m earlier → HasName m (length earlier) 0 (Cut k) → row ≡ slice_index_or earlier (k - 1) no_row → IsRowNamed m earlier (Cut k) row
 earlier_named m earlier k row of has is =
@@ -88,14 +78,6 @@ base_named m earlier name row has one holds columns = record {
 }
 
 -- ---- rows of parts
-hold_more : (q : LinPoint) (rows : List LinRow) (r : LinRow) → AllHold q rows → HoldsAt q r → AllHold q (rows ++ (r ∷ []))
-hold_more q [] r hold is = (is, tt)
-hold_more q (a ∷ rows) r hold is = (hold.0, hold_more q rows r hold.1 is)
-
-columns_more : (m : Problem) (rows : List LinRow) (r : LinRow) → AreOfProblem m rows → All (λ a. IsColumn m a.column) r.terms → AreOfProblem m (rows ++ (r ∷ []))
-columns_more m [] r are is = (is, tt)
-columns_more m (a ∷ rows) r are is = (are.0, columns_more m rows r are.1 is)
-
 -- one part more
 pub rows_more : (m : Problem) (earlier : List LinRow) (parts : List Part) (k : ℕ) (rows : List LinRow) (row : LinRow) → k < length parts → AreRowsOf m earlier (take k parts) rows → IsRowNamed m earlier (slice_index_or parts k no_part).row row → AreRowsOf m earlier (take (k + 1) parts) (rows ++ (row ∷ []))
 rows_more m earlier parts k rows row less are is = record {
@@ -104,74 +86,17 @@ rows_more m earlier parts k rows row less are is = record {
       ap (λ rs. rs ++ (row ∷ [])) (are.one total totals)
       ∙ ap (λ r. rows_of n (take k parts) ++ (r ∷ [])) (is.one total totals)
       ∙ sym (map_more (λ part. row_named n part.row) parts k no_part less);
-  columns = columns_more m rows row are.columns is.columns;
-  hold = λ p f hold. hold_more (whole_point (value_in p)) rows row (are.hold p f hold) (is.holds p f hold);
+  columns = of_push m rows row are.columns is.columns;
+  hold = λ p f hold. hold_push (whole_point (value_in p)) rows row (are.hold p f hold) (is.holds p f hold);
 }
 
 -- parts that may be taken have names
 pub have_names : (m : Problem) (total : ℕ → ℕ) (cuts : List LinRow) (parts : List Part) → AreParts (names m total cuts []) parts → All (λ part. HasName m (length cuts) 0 part.row) parts
 have_names m total cuts parts are = All-weaker (IsPart (names m total cuts [])) (λ part. HasName m (length cuts) 0 part.row) (λ part is. is.named) parts are
 
--- their rows are taken only as often as they may
-signed : (n : Named) (parts : List Part) → AreParts n parts → AreSigned (rows_of n parts) (times_of parts)
-signed n [] are = tt
-signed n (a ∷ parts) are = ((All-head (IsPart n) a parts are).signed, signed n parts (All-tail (IsPart n) a parts are))
-
 as_many : (n : Named) (parts : List Part) → length (rows_of n parts) ≡ length (times_of parts)
 as_many n [] = refl
 as_many n (a ∷ parts) = ap suc (as_many n parts)
-
--- ---- the columns of a rounding row
--- a column that terms take is one of the problem
-taken_or_none : (m : Problem) (ts : List Term) (c : Column) → All (λ a. IsColumn m a.column) ts → IsColumn m c ⊎ (coefficient ts c ≡ pos 0)
-taken_or_none m [] c each = inr refl
-taken_or_none m (a ∷ ts) c each =
-    let P = λ (b : Term). IsColumn m b.column in
-    ⊎_elim
-    (λ same. inl (subst (IsColumn m) (one_by_parts a.column c same) (All-head P a ts each)))
-    (λ apart. ⊎_elim
-    (λ is. inl is)
-    (λ none. inr (ap (λ b. (if b then a.times else pos 0) +ℤ coefficient ts c) apart ∙ zero_add (coefficient ts c) ∙ none))
-    (taken_or_none m ts c (All-tail P a ts each)))
-    (cases_Bool (same_column a.column c))
-
--- and so is one that a sum of rows takes
-summed_or_none : (m : Problem) (rows : List LinRow) (times : List ℤ) (c : Column) → AreOfProblem m rows → IsColumn m c ⊎ (column_sum rows times c ≡ pos 0)
-summed_or_none m [] times c each = inr refl
-summed_or_none m (r ∷ rows) [] c each = inr refl
-summed_or_none m (r ∷ rows) (z ∷ times) c each =
-    ⊎_elim
-    (λ is. inl is)
-    (λ none. ⊎_elim
-    (λ is. inl is)
-    (λ rest. inr (ap (λ y. z *ℤ y +ℤ column_sum rows times c) none ∙ ap (λ y. y +ℤ column_sum rows times c) (mul_zero z) ∙ zero_add (column_sum rows times c) ∙ rest))
-    (summed_or_none m rows times c each.1))
-    (taken_or_none m r.terms c each.0)
-
--- nothing divided is nothing
-ceiling_none : (q : ℕ) (z : ℤ) → 1 ≤ q → IsCeiling q (pos 0) z → z ≡ pos 0
-ceiling_none q z some is =
-    let pos_q : pos 0 <ℤ pos q = omega (arith, linear, some) in
-    let low : pos 0 ≤ℤ z = cancel_le (pos q) (pos 0) z pos_q (omega (arith, linear, is.above, mul_zero (pos q))) in
-    let high : z <ℤ pos 1 = cancel_lt (pos q) z (pos 1) pos_q (omega (arith, linear, is.least, mul_one (pos q), zero_add (pos q))) in
-    le_antisym z (pos 0) (omega (arith, linear, high)) low
-
--- no term is 0 times its column
-times_some : (ts : List Term) (low k : ℕ) (d : Term) → AreTerms low ts → k < length ts → (slice_index_or ts k d).times ≢ pos 0
-times_some [] low k d are less = absurd (omega (arith, less))
-times_some (a ∷ ts) low zero d are less = are.1
-times_some (a ∷ ts) low (suc k) d are less = times_some ts (order_of a.column + 1) k d are.2 (omega (arith, less))
-
-pub rounded_columns : (m : Problem) (rows : List LinRow) (times : List ℤ) (q : ℕ) (r : LinRow) → 1 ≤ q → AreOfProblem m rows → IsRounded rows times q r → All (λ a. IsColumn m a.column) r.terms
-rounded_columns m rows times q r some are is k d less =
-    let a = slice_index_or r.terms k d in
-    let own : coefficient r.terms a.column ≡ a.times = own_coefficient r.terms 0 k a is.terms less (get_or_default r.terms k d a less) in
-    ⊎_elim
-    (λ has. has)
-    (λ rest.
-    let none : coefficient r.terms a.column ≡ pos 0 = ceiling_none q (coefficient r.terms a.column) some (subst (λ y. IsCeiling q y (coefficient r.terms a.column)) rest (is.columns a.column)) in
-    absurd (times_some r.terms 0 k d is.terms less (sym own ∙ none)))
-    (summed_or_none m rows times a.column are)
 
 -- ---- the rounding row of parts
 module _ (m : Problem) (total : ℕ → ℕ) (totals : AreLargestTotals m total) (earlier : List LinRow) (parts : List Part) (parts_are : AreParts (names m total earlier []) parts) (rows : List LinRow) (times : List ℤ) (are : AreRowsOf m earlier parts rows) (times_are : times ≡ times_of parts) where
@@ -184,7 +109,7 @@ module _ (m : Problem) (total : ℕ → ℕ) (totals : AreLargestTotals m total)
     from_parts is = subst (λ rs. P rs times) (sym (are.one total totals)) (subst (P (rows_of (names m total earlier []) parts)) (sym times_are) is)
 
   pub are_signed : AreSigned rows times
-  are_signed = from_parts AreSigned (signed (names m total earlier []) parts parts_are)
+  are_signed = from_parts AreSigned (parts_signed (names m total earlier []) parts parts_are)
 
   pub same_length : length rows ≡ length times
   same_length = from_parts (λ rs zs. length rs ≡ length zs) (as_many (names m total earlier []) parts)

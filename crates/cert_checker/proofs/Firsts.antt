@@ -8,22 +8,10 @@ use Rattle.lin_rows.specs.declared.column.Column.TheVariants.{X, Y, S, R}
 use Rattle.lin_rows.specs.Columns.{IsCell, IsColumn, order_of}
 use Rattle.lin_rows.specs.Sums.{Summed, item_of, kind_of, period_of}
 use Rattle.lin_rows.proofs.Below.{one_by_parts}
+use Rattle.acceptance.proofs.Columns.{one_column, order_is}
 use Rattle.cert_checker.specs.Named.{IsAny, IsFirstLarge, IsLarge, IsOfItem, IsOfKind, IsWithinCost, place_of}
 use Rattle.cert_checker.specs.declared.columns.Kind.{Kind}
 use Rattle.cert_checker.specs.declared.columns.Kind.TheVariants as kinds
-
-order_is : (c : Column) → order_of c ≡ kind_of c * 2 ^ 64 + item_of c * 2 ^ 32 + period_of c
-order_is (X i t) = refl
-order_is (Y i t) = refl
-order_is (S i t) = refl
-order_is (R i t) = refl
-
-all_same : (k l i j t s : ℕ) → k ≡ l → i ≡ j → t ≡ s → ((k == l) && ((i == j) && (t == s))) ≡ true
-all_same k l i j t s a b c = grind (arith, a, b, c)
-
--- a column has one kind, item and period
-one_column : (c d : Column) → kind_of c ≡ kind_of d → item_of c ≡ item_of d → period_of c ≡ period_of d → c ≡ d
-one_column c d k i t = one_by_parts c d (all_same (kind_of c) (kind_of d) (item_of c) (item_of d) (period_of c) (period_of d) k i t)
 
 column_cell : (m : Problem) (c : Column) → IsColumn m c → IsCell m (item_of c) (period_of c)
 column_cell m (X i t) is = is

@@ -13,7 +13,6 @@ mod SumNever
 mod SumOnce
 mod Listed
 mod Reduced
-mod GroupFaults
 mod ReducedNever
 mod ReducedOnce
 mod CheckNever

@@ -9,7 +9,7 @@ use Rattle.reduced_leaf.specs.declared.sums.ReducedFault.TheVariants as reduced
 use Rattle.reduced_leaf.specs.declared.sums.ReducedSum.{ReducedSum}
 use Rattle.reduced_leaf.specs.declared.sums.ReducedSum.TheVariants.{NoChoice, Sum}
 use Rattle.reduced_leaf.specs.Faults.{IsReducedFaultOf}
-use Rattle.reduced_leaf.specs.Laws.{ChoicesAreOne, FaultsExclude, SumsAreOne}
+use Rattle.reduced_leaf.specs.Laws.{ChoicesAreOne, FaultsAreOne, FaultsExclude, SumsAreOne}
 use Rattle.reduced_leaf.specs.Leaf.{AreGroupsFor, IsAnswerOf, IsSmallSum}
 use Rattle.cert_lines.specs.declared.parts.Part.{Part}
 use Rattle.cert_lines.specs.Shapes.{ListShape, ReducedLeaf}
@@ -24,7 +24,6 @@ use Rattle.acceptance.specs.Accepts.{IsSmallLeaf}
 use Rattle.acceptance.specs.Laws.{SaysAreOne}
 use Rattle.cert_checker.specs.declared.fault.Why.{Why}
 use Rattle.cert_checker.specs.Leaves.{AreWithinMost, IsGroupsFault, IsReducedFault, IsRefusedAs, IsShortReduced, linear_most}
-use Rattle.cert_checker.proofs.GroupFaults.{AreGroupLaws, FaultsAreOne, faults_are_one}
 use Rattle.cert_checker.proofs.Listed.{listed_lists, listed_parts, no_first_wrong_list}
 use Rattle.cert_checker.proofs.SumNever.{no_first_wrong, no_sum_fault}
 
@@ -36,8 +35,8 @@ pub record AreLeafLaws : Type 0 where
   pub exclude : FaultsExclude
   pub faults : FaultsAreOne
 
-pub leaf_laws : SaysAreOne → SumsAreOne → ChoicesAreOne → FaultsExclude → AreGroupLaws → AreLeafLaws
-leaf_laws says sums choices exclude groups = record { says = says; sums = sums; choices = choices; exclude = exclude; faults = faults_are_one groups }
+pub leaf_laws : SaysAreOne → SumsAreOne → ChoicesAreOne → FaultsExclude → FaultsAreOne → AreLeafLaws
+leaf_laws says sums choices exclude faults = record { says = says; sums = sums; choices = choices; exclude = exclude; faults = faults }
 
 -- a refusal isn't want of memory
 pub not_memory : (f : ReducedFault) (line first at : ℕ) (w : Why) → IsRefusedAs f line first at w → f ≢ reduced.Memory

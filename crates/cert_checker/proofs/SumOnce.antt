@@ -5,13 +5,13 @@ use Rattle.std.proofs.lemmas.Bool.{cases_order}
 use Rattle.std.proofs.lemmas.List.{get_or-take, length-take-le}
 use Rattle.std.proofs.lemmas.List.Elements.{All-get_or}
 use Rattle.algebra.proofs.Order.{linear}
-use Rattle.lot_sizing.specs.Problem.{IsWithinLimits, Problem}
+use Rattle.lot_sizing.specs.Problem.{IsWithinLimits, Problem, item_count}
 use Rattle.lin_rows.specs.declared.column.Column.{Column}
-use Rattle.lin_rows.specs.declared.column.Column.TheVariants.{X, Y, S, R}
-use Rattle.lin_rows.specs.Columns.{IsCell, IsColumn, order_of, order_at}
+use Rattle.lin_rows.specs.Columns.{IsColumn, order_of}
 use Rattle.cert_lines.specs.declared.parts.Part.{Part}
 use Rattle.acceptance.specs.Named.{Named}
 use Rattle.acceptance.specs.Parts.{AreParts, IsPart}
+use Rattle.acceptance.proofs.Columns.{column_small, one_place}
 use Rattle.cert_checker.specs.declared.fault.Why.{Why}
 use Rattle.cert_checker.specs.declared.fault.Why.TheVariants as why
 use Rattle.cert_checker.specs.Leaves.{IsFirstColumn, IsFirstWrong, IsSumFault, IsWrongPart, farkas_most, no_part}
@@ -19,36 +19,12 @@ use Rattle.cert_checker.specs.Laws.{IsSameFault}
 use Rattle.cert_checker.proofs.CheckKinds.{IsLargeColumn, IsLargeSum, IsShortFarkas, IsUnnamed, IsUnsigned, part_kind, sum_kind}
 use Rattle.cert_checker.proofs.SumNever.{no_first_wrong, no_sum_fault, no_wrong_part}
 
--- columns at one place are the same: items and periods have 32 bits
-by_numbers : (kind other i j t u : ℕ) → i < 2 ^ 32 → j < 2 ^ 32 → t < 2 ^ 32 → u < 2 ^ 32 → order_at kind i t ≡ order_at other j u → (kind ≡ other) × (i ≡ j) × (t ≡ u)
-by_numbers kind other i j t u a b c d same = (omega (arith, a, b, c, d, same), omega (arith, a, b, c, d, same), omega (arith, a, b, c, d, same))
-
-small_cell : (m : Problem) (i t : ℕ) → IsWithinLimits m → IsCell m i t → (i < 2 ^ 32) × (t < 2 ^ 32)
-small_cell m i t limits is = (omega (arith, limits.items, is.1), omega (arith, limits.periods, is.3))
-
-by_cells : (m : Problem) (kind other i j t u : ℕ) → IsWithinLimits m → IsCell m i t → IsCell m j u → order_at kind i t ≡ order_at other j u → (kind ≡ other) × (i ≡ j) × (t ≡ u)
-by_cells m kind other i j t u limits is also same =
-    let (a, c) = small_cell m i t limits is in
-    let (b, d) = small_cell m j u limits also in
-    by_numbers kind other i j t u a b c d same
-
+-- columns of a problem at one place are the same
 same_place : (m : Problem) (c d : Column) → IsWithinLimits m → IsColumn m c → IsColumn m d → order_of c ≡ order_of d → c ≡ d
-same_place m (X i t) (X j u) limits is also same = let (k, e, f) = by_cells m 0 0 i j t u limits is also same in rw (e, f) refl
-same_place m (X i t) (Y j u) limits is also same = let (k, e, f) = by_cells m 0 1 i j t u limits is also same in absurd (omega (arith, k))
-same_place m (X i t) (S j u) limits is also same = let (k, e, f) = by_cells m 0 2 i j t u limits is also same in absurd (omega (arith, k))
-same_place m (X i t) (R j u) limits is also same = let (k, e, f) = by_cells m 0 3 i j t u limits is also.0 same in absurd (omega (arith, k))
-same_place m (Y i t) (X j u) limits is also same = let (k, e, f) = by_cells m 1 0 i j t u limits is also same in absurd (omega (arith, k))
-same_place m (Y i t) (Y j u) limits is also same = let (k, e, f) = by_cells m 1 1 i j t u limits is also same in rw (e, f) refl
-same_place m (Y i t) (S j u) limits is also same = let (k, e, f) = by_cells m 1 2 i j t u limits is also same in absurd (omega (arith, k))
-same_place m (Y i t) (R j u) limits is also same = let (k, e, f) = by_cells m 1 3 i j t u limits is also.0 same in absurd (omega (arith, k))
-same_place m (S i t) (X j u) limits is also same = let (k, e, f) = by_cells m 2 0 i j t u limits is also same in absurd (omega (arith, k))
-same_place m (S i t) (Y j u) limits is also same = let (k, e, f) = by_cells m 2 1 i j t u limits is also same in absurd (omega (arith, k))
-same_place m (S i t) (S j u) limits is also same = let (k, e, f) = by_cells m 2 2 i j t u limits is also same in rw (e, f) refl
-same_place m (S i t) (R j u) limits is also same = let (k, e, f) = by_cells m 2 3 i j t u limits is also.0 same in absurd (omega (arith, k))
-same_place m (R i t) (X j u) limits is also same = let (k, e, f) = by_cells m 3 0 i j t u limits is.0 also same in absurd (omega (arith, k))
-same_place m (R i t) (Y j u) limits is also same = let (k, e, f) = by_cells m 3 1 i j t u limits is.0 also same in absurd (omega (arith, k))
-same_place m (R i t) (S j u) limits is also same = let (k, e, f) = by_cells m 3 2 i j t u limits is.0 also same in absurd (omega (arith, k))
-same_place m (R i t) (R j u) limits is also same = let (k, e, f) = by_cells m 3 3 i j t u limits is.0 also.0 same in rw (e, f) refl
+same_place m c d limits is also same =
+    let items : item_count m < 2 ^ 32 = omega (arith, limits.items) in
+    let periods : m.periods < 2 ^ 32 = omega (arith, limits.periods) in
+    one_place c d (column_small m c items periods is) (column_small m d items periods also) same
 
 one_column : (n : Named) (most : Column → ℤ) (parts : List Part) (c d : Column) → IsWithinLimits n.problem → IsFirstColumn n most parts c → IsFirstColumn n most parts d → c ≡ d
 one_column n most parts c d limits a b =

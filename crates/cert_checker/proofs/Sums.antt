@@ -123,18 +123,3 @@ adds_same old new row other times also a b adds = subst (AddsWithin old new othe
 
 pub passes_same : (old new : Summed) (row other : LinRow) (times also : ℤ) → old ≡ new → row ≡ other → times ≡ also → PassesWith old row times → PassesWith new other also
 passes_same old new row other times also a b e passes = subst (PassesWith new other) e (subst (λ r. PassesWith new r times) b (subst (λ s. PassesWith s row times) a passes))
-
-pub columns_at : (m : Problem) (rows : List LinRow) (k : ℕ) → k < length rows → AreOfProblem m rows → All (λ a. IsColumn m a.column) (slice_index_or rows k no_row).terms
-columns_at m [] k less are = absurd (omega (arith, less))
-columns_at m (r ∷ rows) zero less are = are.0
-columns_at m (r ∷ rows) (suc k) less are = columns_at m rows k (omega (arith, less)) are.1
-
--- a quantity or a setup is a column
-choice_column : (m : Problem) (c : Column) → IsChoice m c → IsColumn m c
-choice_column m (X i t) is = is
-choice_column m (Y i t) is = is
-choice_column m (S i t) is = absurd is
-choice_column m (R i t) is = absurd is
-
-pub bound_columns : (m : Problem) (b : Bound) → IsChoice m b.column → All (λ a. IsColumn m a.column) (bound_row b).terms
-bound_columns m b is = All-cons (λ a. IsColumn m a.column) _ [] (choice_column m b.column is) (All-nil (λ a. IsColumn m a.column))

@@ -19,11 +19,9 @@ use acceptance::{accepted_is_true, cut_rows_are_one, cut_rows_go_on, says_are_on
 use bill::totals_exist;
 use certificate::{Certificate, Cut, FIRST_CUT_LINE, cut_lines_count};
 use echelon::Explosion;
-use late_starts::charges_cover;
 use lin_rows::Row;
 use lot_model::{Instance, an_instance_breaks_no_rule};
 use plan_rules::{Plan, judgement_is_one};
-use reduced_groups::numbers_are_one;
 use reduced_leaf::reduced_sums_are_one;
 use split_trees::plans_are_within;
 use std::alloc::Global;
@@ -149,8 +147,6 @@ pub fn check(
     cut_rows_are_one();
     says_are_one();
     reduced_sums_are_one();
-    numbers_are_one();
-    charges_cover();
     an_instance_breaks_no_rule(instance);
     examine(alloc, instance, certificate, plan)
 }

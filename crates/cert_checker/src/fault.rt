@@ -17,9 +17,9 @@ pub enum Why {
     /// A row that isn't equal is taken a negative number of times.
     #[error("an inequality is taken a negative number of times")]
     Sign,
-    /// The sum of a column is too large, or what late groups charge on a backlog is more than the sum leaves of its
-    /// cost. It is the first such column.
-    #[error("the sum of column {0} is too large")]
+    /// The sum of a column is too large, or what late groups and late quantities charge on a backlog is more than the
+    /// sum leaves of its cost. It is the first such column.
+    #[error("the sum of column {0}, or what is charged on it, is too large")]
     Column(Column),
     /// A leaf says less than is claimed, in money; a sum that refutes nothing says 0.
     #[error("the leaf says {says}, which is less than is claimed")]

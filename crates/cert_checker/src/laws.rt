@@ -2,9 +2,7 @@
 ghost use Rattle.cert_checker.specs.Laws.{CertifiedIsNotRefused, ChecksAreOne, LinesAreBytes};
 
 use acceptance::{cut_rows_are_one, cut_rows_go_on, says_are_one};
-use late_starts::charges_cover;
 use plan_rules::judgement_is_one;
-use reduced_groups::numbers_are_one;
 use reduced_leaf::reduced_sums_are_one;
 
 /// The text of a certificate has no more lines than bytes. So one that was read has few enough for `check`.
@@ -22,8 +20,6 @@ pub fn checks_are_one()
     cut_rows_are_one();
     says_are_one();
     reduced_sums_are_one();
-    numbers_are_one();
-    charges_cover();
 }
 
 /// A certificate that is accepted, and whose sums stay below 2^127, has no refusal.
@@ -35,6 +31,4 @@ pub fn certified_is_not_refused()
     cut_rows_are_one();
     says_are_one();
     reduced_sums_are_one();
-    numbers_are_one();
-    charges_cover();
 }

@@ -66,7 +66,7 @@ fn leaf_says(
 /// | `Linear` | it sums parts, which are multiples of rows: where the sum takes no column more often than the denominator times its cost, each plan costs at least the right side over the denominator, rounded up, and at least 0 (linear duality) |
 /// | `Farkas` | where the sum of its parts takes no column a positive number of times and its right side is positive, there is no plan (Farkas' lemma) |
 /// | `Point` | where the path leaves each quantity and each setup one value, the least cost of a feasible plan that has them; or that none has them |
-/// | `Reduced` | it sums its parts and those of its lists, and each column has a reduced cost: the denominator times its cost, less how often the sum takes it. Where none is below 0, a group of items has a number that its setups and quantities never cost less than, at their reduced costs. A late group is an item that may fall short of what is on time of it, that is, started in time for nothing to be late; each unit short pays the group's share for each period, and the shares of all late groups are charged on the backlogs that let items fall short. The right side and the numbers of groups that lie apart, and charge no backlog above its reduced cost, over the denominator, bound each plan as the right side does in `Linear`; with a denominator of 0 they refute where they are positive, and a group without any choice refutes with every one |
+/// | `Reduced` | it sums its parts and those of its lists, and each column has a reduced cost: the denominator times its cost, less how often the sum takes it. Where none is below 0, a group of items has a number that its setups and quantities never cost less than, at their reduced costs. The item of a late group, and that of late quantities, may fall short of what is on time of it, that is, started in time for nothing to be late; each unit short by the end of a period pays the group's share of that period, and the shares of all groups are charged on the backlogs that let items fall short. The right side and the numbers of groups that lie apart, and charge no backlog above its reduced cost, over the denominator, bound each plan as the right side does in `Linear`; with a denominator of 0 they refute where they are positive, and a group without any choice refutes with every one |
 ///
 /// The rows are those of the instance, of the cuts and of the path's bounds, by their names; cuts and bounds are
 /// counted from 1. `line` is the first line of the leaf in the text of its certificate, and its parts are on the lines
@@ -80,9 +80,9 @@ fn leaf_says(
 /// | `Range`, `Sign` | the list's | the first of its rows that may not be taken: it doesn't exist, or it is an inequality and is taken a negative number of times |
 /// | `TooLarge` | the leaf's | the absolute values of what is added up of one column, or of the right sides, reach 2^127 |
 /// | `Column` | the leaf's | the sum takes a column more often than it may: the first one by kind, then by item, then by period |
-/// | `Range` | the group's | an item of it doesn't exist, or doesn't go into the next one of its chain or may be late |
+/// | `Range` | the group's | an item of it doesn't exist, or doesn't go into the next one of its chain or may be late, or it hasn't a share for each period |
 /// | `Range` | the leaf's | an item is in two places of groups |
-/// | `Column` | the leaf's | what falls short at the shares of late groups charges more on a backlog than its reduced cost: the first by item, then by period |
+/// | `Column` | the leaf's | what falls short at the shares of late groups and late quantities charges more on a backlog than its reduced cost: the first by item, then by period |
 /// | `Work` | the group's | to find its number is too much work |
 /// | `TooLarge` | the leaf's | the numbers of groups, or what they and the right side add to, reach 2^127 |
 /// | `Short` | the leaf's | the sum of `Farkas`, or of `Reduced` with a denominator of 0, is 0 or less; it says 0 |

@@ -17,7 +17,7 @@ use Rattle.cert_lines.specs.declared.parts.ListKind.TheVariants as kind
 use Rattle.cert_lines.specs.declared.parts.Part.{Part}
 use Rattle.cert_lines.specs.declared.parts.PartList.{PartList}
 use Rattle.cert_lines.specs.Text.{Lines, bits_text, kind_text}
-use Rattle.cert_lines.specs.Limits.{Is32, IsSmallTimes}
+use Rattle.cert_lines.specs.Limits.{Is32, Is64, IsSmallTimes}
 use Rattle.cert_lines.specs.Line.{IsFirstName, IsKnown, IsLine, IsSmallColumn, IsSmallCut, IsSmallGroup, IsSmallLine, IsSmallLink, IsSmallName, later_line}
 use Rattle.cert_lines.specs.Words.{column_words, group_words, link_words, name_words, words_text}
 use Rattle.cert_lines.proofs.Numerals.{digit_read}
@@ -158,6 +158,7 @@ other_line c (ListLine l) e a b none = cut_apart c (codes "parts") _ (λ f. sear
 other_line c (GroupLine (group.Item i)) e a b none = cut_apart c (codes "item") _ (λ f. search (rules, f)) (λ f. search (rules, f)) (λ f. search (rules, f)) e a
 other_line c (GroupLine (group.Late i s)) e a b none = cut_apart c (codes "late") _ (λ f. search (rules, f)) (λ f. search (rules, f)) (λ f. search (rules, f)) e a
 other_line c (GroupLine (group.Quantities i)) e a b none = cut_apart c (codes "quantities") _ (λ f. search (rules, f)) (λ f. search (rules, f)) (λ f. search (rules, f)) e a
+other_line c (GroupLine (group.LateQuantities i s)) e a b none = cut_apart c (codes "late_quantities") _ (λ f. search (rules, f)) (λ f. search (rules, f)) (λ f. search (rules, f)) e a
 other_line c (GroupLine (group.Pair low top)) e a b none = cut_apart c (codes "pair") _ (λ f. search (rules, f)) (λ f. search (rules, f)) (λ f. search (rules, f)) e a
 other_line c (GroupLine (group.Triple low mid top)) e a b none = cut_apart c (codes "triple") _ (λ f. search (rules, f)) (λ f. search (rules, f)) (λ f. search (rules, f)) e a
 other_line c PointLine e a b none = cut_apart c (codes "point") _ (λ f. search (rules, f)) (λ f. search (rules, f)) (λ f. search (rules, f)) e a
@@ -197,11 +198,23 @@ same_link l m us vs a b e =
     link_of : ℕ → ℕ → ChainLink
     link_of i p = record { item = i; opening_price = p }
 
+same_shares : (xs ys : List ℕ) → All Is64 xs → All Is64 ys → map decimal xs ≡ map decimal ys → xs ≡ ys
+same_shares [] [] a b e = refl
+same_shares [] (y ∷ ys) a b e = cc e
+same_shares (x ∷ xs) [] a b e = cc e
+same_shares (x ∷ xs) (y ∷ ys) a b e =
+    let low = All-head Is64 x xs a in
+    let high = All-head Is64 y ys b in
+    let first = same_number x y (omega (arith, low)) (omega (arith, high)) (ap (λ ws. word ws 0) e) in
+    ap (λ z. z ∷ xs) first ∙ ap (λ zs. y ∷ zs) (same_shares xs ys (All-tail Is64 x xs a) (All-tail Is64 y ys b) (ap after_one e))
+
 same_group : (g h : Group) → group_words g ≡ group_words h → IsSmallGroup g → IsSmallGroup h → g ≡ h
 same_group (group.Item i) (group.Item j) e a b = ap group.Item (same_32 i j a b (ap (λ ws. word ws 1) e))
-same_group (group.Late i s) (group.Late j t) e a b =
-    cc (same_32 i j a.0 b.0 (ap (λ ws. word ws 1) e), same_number s t (omega (arith, a.1)) (omega (arith, b.1)) (ap (λ ws. word ws 2) e))
+same_group (group.Late i xs) (group.Late j ys) e a b =
+    cc (same_32 i j a.0 b.0 (ap (λ ws. word ws 1) e), same_shares xs ys a.1 b.1 (ap after_two e))
 same_group (group.Quantities i) (group.Quantities j) e a b = ap group.Quantities (same_32 i j a b (ap (λ ws. word ws 1) e))
+same_group (group.LateQuantities i xs) (group.LateQuantities j ys) e a b =
+    cc (same_32 i j a.0 b.0 (ap (λ ws. word ws 1) e), same_shares xs ys a.1 b.1 (ap after_two e))
 same_group (group.Pair low top) (group.Pair one other) e a b =
     let (first, rest) = same_link low one (link_words top) (link_words other) a.0 b.0 (ap after_one e) in
     cc (first, (same_link top other [] [] a.1 b.1 rest).0)
@@ -211,25 +224,26 @@ same_group (group.Triple low mid top) (group.Triple one two other) e a b =
     cc (first, second, (same_link top other [] [] a.2 b.2 end).0)
 same_group _ _ e a b = search (rules, ap (λ ws. word ws 0) e)
 
-group_apart : (g : Group) (w : List ℕ) (rest : Lines) → w ≢ codes "item" → w ≢ codes "late" → w ≢ codes "quantities" → w ≢ codes "pair" → w ≢ codes "triple" → group_words g ≡ w ∷ rest → ⊥
-group_apart (group.Item i) w rest item late quantities pair triple e = item (sym (ap (λ ws. word ws 0) e))
-group_apart (group.Late i s) w rest item late quantities pair triple e = late (sym (ap (λ ws. word ws 0) e))
-group_apart (group.Quantities i) w rest item late quantities pair triple e = quantities (sym (ap (λ ws. word ws 0) e))
-group_apart (group.Pair low top) w rest item late quantities pair triple e = pair (sym (ap (λ ws. word ws 0) e))
-group_apart (group.Triple low mid top) w rest item late quantities pair triple e = triple (sym (ap (λ ws. word ws 0) e))
+group_apart : (g : Group) (w : List ℕ) (rest : Lines) → w ≢ codes "item" → w ≢ codes "late" → w ≢ codes "quantities" → w ≢ codes "late_quantities" → w ≢ codes "pair" → w ≢ codes "triple" → group_words g ≡ w ∷ rest → ⊥
+group_apart (group.Item i) w rest item late quantities both pair triple e = item (sym (ap (λ ws. word ws 0) e))
+group_apart (group.Late i s) w rest item late quantities both pair triple e = late (sym (ap (λ ws. word ws 0) e))
+group_apart (group.Quantities i) w rest item late quantities both pair triple e = quantities (sym (ap (λ ws. word ws 0) e))
+group_apart (group.LateQuantities i s) w rest item late quantities both pair triple e = both (sym (ap (λ ws. word ws 0) e))
+group_apart (group.Pair low top) w rest item late quantities both pair triple e = pair (sym (ap (λ ws. word ws 0) e))
+group_apart (group.Triple low mid top) w rest item late quantities both pair triple e = triple (sym (ap (λ ws. word ws 0) e))
 
 other_group : (g : Group) (m : LineShape) → group_words g ≡ words_of m → IsSmallGroup g → IsSmallLine m → ((h : Group) → m ≢ GroupLine h) → ⊥
 other_group g (CutLine c) e a b none = other_line c (GroupLine g) (sym e) b a (λ d f. search (rules, f))
-other_group g (RoundLine divisor parts) e a b none = group_apart g (codes "round") _ (λ f. search (rules, f)) (λ f. search (rules, f)) (λ f. search (rules, f)) (λ f. search (rules, f)) (λ f. search (rules, f)) e
-other_group g (PartLine part) e a b none = group_apart g (codes "part") _ (λ f. search (rules, f)) (λ f. search (rules, f)) (λ f. search (rules, f)) (λ f. search (rules, f)) (λ f. search (rules, f)) e
-other_group g (BranchLine column at) e a b none = group_apart g (codes "branch") _ (λ f. search (rules, f)) (λ f. search (rules, f)) (λ f. search (rules, f)) (λ f. search (rules, f)) (λ f. search (rules, f)) e
-other_group g (LinearLine den parts) e a b none = group_apart g (codes "linear") _ (λ f. search (rules, f)) (λ f. search (rules, f)) (λ f. search (rules, f)) (λ f. search (rules, f)) (λ f. search (rules, f)) e
-other_group g (FarkasLine parts) e a b none = group_apart g (codes "farkas") _ (λ f. search (rules, f)) (λ f. search (rules, f)) (λ f. search (rules, f)) (λ f. search (rules, f)) (λ f. search (rules, f)) e
-other_group g PointLine e a b none = group_apart g (codes "point") _ (λ f. search (rules, f)) (λ f. search (rules, f)) (λ f. search (rules, f)) (λ f. search (rules, f)) (λ f. search (rules, f)) e
-other_group g (ReducedLine den parts lists groups) e a b none = group_apart g (codes "reduced") _ (λ f. search (rules, f)) (λ f. search (rules, f)) (λ f. search (rules, f)) (λ f. search (rules, f)) (λ f. search (rules, f)) e
-other_group g (ListLine l) e a b none = group_apart g (codes "parts") _ (λ f. search (rules, f)) (λ f. search (rules, f)) (λ f. search (rules, f)) (λ f. search (rules, f)) (λ f. search (rules, f)) e
+other_group g (RoundLine divisor parts) e a b none = group_apart g (codes "round") _ (λ f. search (rules, f)) (λ f. search (rules, f)) (λ f. search (rules, f)) (λ f. search (rules, f)) (λ f. search (rules, f)) (λ f. search (rules, f)) e
+other_group g (PartLine part) e a b none = group_apart g (codes "part") _ (λ f. search (rules, f)) (λ f. search (rules, f)) (λ f. search (rules, f)) (λ f. search (rules, f)) (λ f. search (rules, f)) (λ f. search (rules, f)) e
+other_group g (BranchLine column at) e a b none = group_apart g (codes "branch") _ (λ f. search (rules, f)) (λ f. search (rules, f)) (λ f. search (rules, f)) (λ f. search (rules, f)) (λ f. search (rules, f)) (λ f. search (rules, f)) e
+other_group g (LinearLine den parts) e a b none = group_apart g (codes "linear") _ (λ f. search (rules, f)) (λ f. search (rules, f)) (λ f. search (rules, f)) (λ f. search (rules, f)) (λ f. search (rules, f)) (λ f. search (rules, f)) e
+other_group g (FarkasLine parts) e a b none = group_apart g (codes "farkas") _ (λ f. search (rules, f)) (λ f. search (rules, f)) (λ f. search (rules, f)) (λ f. search (rules, f)) (λ f. search (rules, f)) (λ f. search (rules, f)) e
+other_group g PointLine e a b none = group_apart g (codes "point") _ (λ f. search (rules, f)) (λ f. search (rules, f)) (λ f. search (rules, f)) (λ f. search (rules, f)) (λ f. search (rules, f)) (λ f. search (rules, f)) e
+other_group g (ReducedLine den parts lists groups) e a b none = group_apart g (codes "reduced") _ (λ f. search (rules, f)) (λ f. search (rules, f)) (λ f. search (rules, f)) (λ f. search (rules, f)) (λ f. search (rules, f)) (λ f. search (rules, f)) e
+other_group g (ListLine l) e a b none = group_apart g (codes "parts") _ (λ f. search (rules, f)) (λ f. search (rules, f)) (λ f. search (rules, f)) (λ f. search (rules, f)) (λ f. search (rules, f)) (λ f. search (rules, f)) e
 other_group g (GroupLine h) e a b none = none h refl
-other_group g EndLine e a b none = group_apart g (codes "end") _ (λ f. search (rules, f)) (λ f. search (rules, f)) (λ f. search (rules, f)) (λ f. search (rules, f)) (λ f. search (rules, f)) e
+other_group g EndLine e a b none = group_apart g (codes "end") _ (λ f. search (rules, f)) (λ f. search (rules, f)) (λ f. search (rules, f)) (λ f. search (rules, f)) (λ f. search (rules, f)) (λ f. search (rules, f)) e
 
 -- lines with the same words
 same_values : (l m : LineShape) → words_of l ≡ words_of m → IsSmallLine l → IsSmallLine m → l ≡ m

@@ -31,6 +31,9 @@ pair_joined old a low top end = simp append_assoc refl
 pub triple_joined : (old a low mid top end : List ℕ) → ((((old ++ a) ++ low) ++ mid) ++ top) ++ end ≡ old ++ ((a ++ (low ++ (mid ++ top))) ++ end)
 triple_joined old a low mid top end = simp append_assoc refl
 
+pub word_joined : (old a rest end : List ℕ) → (old ++ a) ++ (rest ++ end) ≡ old ++ ((a ++ rest) ++ end)
+word_joined old a rest end = simp append_assoc refl
+
 -- how long the text is with one more element
 pub length_more : {A : Type 0} (f : A → List ℕ) (xs : List A) (k : ℕ) (d : A) → k < length xs → length (flat_map f (take (k + 1) xs)) ≡ length (flat_map f (take k xs)) + length (f (slice_index_or xs k d))
 length_more f xs k d less = ap length (joined_more f xs k d less) ∙ length-append (flat_map f (take k xs)) (f (slice_index_or xs k d))

@@ -5,7 +5,7 @@ use Rattle.std.specs.Prelude.{ℤ, Option, None, Some, IfSome, IsNone}
 use Rattle.std.specs.List.{All, flat_map}
 use Rattle.std.proofs.lemmas.List.{length-append, length-map, map-append, take_more}
 use Rattle.std.proofs.lemmas.List.Elements.{All-head, All-nil, All-push, All-tail}
-use Rattle.cert_lines.specs.Limits.{IsSmallTimes}
+use Rattle.cert_lines.specs.Limits.{Is64, IsSmallTimes}
 use Rattle.cert_lines.specs.Text.{Lines, bit_text, bits_text}
 use Rattle.cert_lines.specs.Words.{HasNoNumber, IsFour, IsListFrom, StandFrom, word_at}
 use Rattle.cert_lines.proofs.Splits.{no_word, not_empty, same_number, words_in}
@@ -102,6 +102,13 @@ same_from ws limit p (x ∷ xs) (y ∷ ys) wide a b =
       small = All-tail (λ n. n < limit) x xs a.small;
       end = subst (λ k. HasNoNumber ws limit k) (omega arith) a.end;
     }
+
+-- numbers that end the line are all read
+pub all_read : (words : List (Bor (List ℕ))) (from : ℕ) (xs ys : List ℕ) → length words ≡ from + length xs → All Is64 xs → StandFrom (words_in words) from (map decimal xs) → IsListFrom (words_in words) (2 ^ 64) from ys → xs ≡ ys
+all_read words from xs ys size small stand read = same_from (words_in words) (2 ^ 64) from xs ys (omega arith) ends read
+  where
+    ends : IsListFrom (words_in words) (2 ^ 64) from xs
+    ends = record { stand = stand; small = small; end = no_number words (2 ^ 64) (from + length xs) (omega arith) (omega (arith, size)) }
 
 pub given : {A : Type 0} (P : A → Type 0) (r : Option A) (x : A) → r ≡ Some x → IfSome r P → P x
 given P r x is h = subst (λ o. IfSome o P) is h

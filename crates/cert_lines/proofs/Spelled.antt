@@ -13,9 +13,10 @@ use Rattle.item_groups.specs.declared.group.Group.{Group}
 use Rattle.item_groups.specs.declared.group.Group.TheVariants as group
 use Rattle.cert_lines.specs.declared.parts.ListKind.{ListKind}
 use Rattle.cert_lines.specs.declared.parts.ListKind.TheVariants as kind
-use Rattle.cert_lines.specs.Text.{Lines, bits_text, group_line, kind_text, link_text, list_text, signed_list_text}
+use Rattle.cert_lines.specs.Text.{Lines, bits_text, group_line, kind_text, link_text, list_text, shares_text, signed_list_text}
+use Rattle.cert_lines.specs.Limits.{Is32, Is64}
 use Rattle.cert_lines.specs.Line.{IsSmallColumn, IsSmallCut, IsSmallGroup, IsSmallLine, IsSmallLink, IsSmallName, cut_line, later_line}
-use Rattle.cert_lines.specs.Words.{branch_words, column_words, farkas_words, group_words, linear_words, link_words, ls_words, name_words, one_words, part_words, parts_words, reduced_words, round_words, two_words, word_text, words_text}
+use Rattle.cert_lines.specs.Words.{branch_words, column_words, farkas_words, group_words, linear_words, link_words, ls_words, name_words, one_words, part_words, parts_words, reduced_words, round_words, shares_words, two_words, word_text, words_text}
 use Rattle.std.proofs.lemmas.Grind.{flat_map-append}
 use Rattle.cert_lines.proofs.Stands.{AreVisible, IsVisible, bits_visible, decimal_visible, list_last, list_part, list_words, numbers_visible, signed_numbers_visible, signed_visible, visible_append}
 use Rattle.cert_lines.specs.Shapes.{BlockCut, BranchLine, CutLine, CutShape, EndLine, FarkasLine, GroupLine, LineShape, LinearLine, ListLine, LsCut, PartLine, PointLine, PriceCut, ReducedLine, RoundCut, RoundLine}
@@ -109,10 +110,15 @@ link_spelled link rest = sym (append_assoc (one_text link.item) (one_text link.o
 last_spelled : (link : ChainLink) → words_text (link_words link) ≡ link_text link
 last_spelled link = ap (λ t. one_text link.item ++ t) (append-nil (one_text link.opening_price))
 
+-- an item and its shares after a word
+shares_spelled : (word : List ℕ) (item : ℕ) (shares : List ℕ) → words_text (shares_words word item shares) ≡ word_text word ++ shares_text item shares
+shares_spelled word item shares = ap (λ t. word_text word ++ t) (list_last (decimal item) shares)
+
 group_spelled : (g : Group) → words_text (group_words g) ≡ 32 ∷ group_line g
 group_spelled (group.Item item) = one_spelled (codes "item") item
-group_spelled (group.Late item share) = two_spelled (codes "late") item share
+group_spelled (group.Late item shares) = shares_spelled (codes "late") item shares
 group_spelled (group.Quantities item) = one_spelled (codes "quantities") item
+group_spelled (group.LateQuantities item shares) = shares_spelled (codes "late_quantities") item shares
 group_spelled (group.Pair low top) = ap (λ t. word_text (codes "pair") ++ t) (link_spelled low (link_words top) ∙ ap (λ t. link_text low ++ t) (last_spelled top))
 group_spelled (group.Triple low mid top) =
     ap (λ t. word_text (codes "triple") ++ t)
@@ -197,10 +203,14 @@ kind_visible kind.Late = search rules
 link_visible : (link : ChainLink) (rest : Lines) → IsSmallLink link → AreVisible rest → AreVisible (link_words link ++ rest)
 link_visible link rest small r = (decimal_visible link.item (omega (arith, small.0)), (decimal_visible link.opening_price (omega (arith, small.1)), r))
 
+shares_visible : (word : List ℕ) (item : ℕ) (shares : List ℕ) → IsVisible word → Is32 item → All Is64 shares → AreVisible (shares_words word item shares)
+shares_visible word item shares w small all = (w, (decimal_visible item (omega (arith, small)), numbers_visible shares (2 ^ 64) (omega arith) all))
+
 group_visible : (g : Group) → IsSmallGroup g → AreVisible (group_words g)
 group_visible (group.Item item) small = one_visible (codes "item") item (search rules) (omega (arith, small))
-group_visible (group.Late item share) small = two_visible (codes "late") item share (search rules) (omega (arith, small.0)) (omega (arith, small.1))
+group_visible (group.Late item shares) small = shares_visible (codes "late") item shares (search rules) small.0 small.1
 group_visible (group.Quantities item) small = one_visible (codes "quantities") item (search rules) (omega (arith, small))
+group_visible (group.LateQuantities item shares) small = shares_visible (codes "late_quantities") item shares (search rules) small.0 small.1
 group_visible (group.Pair low top) small = (search rules, link_visible low (link_words top) small.0 (link_visible top [] small.1 tt))
 group_visible (group.Triple low mid top) small = (search rules, link_visible low (link_words mid ++ link_words top) small.0 (link_visible mid (link_words top) small.1 (link_visible top [] small.2 tt)))
 

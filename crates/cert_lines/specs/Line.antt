@@ -77,10 +77,17 @@ IsSmallLink link = Is32 link.item × Is127 link.opening_price
 
 abbrev pub IsSmallGroup : Group → Type 0
 IsSmallGroup (group.Item item) = Is32 item
-IsSmallGroup (group.Late item share) = Is32 item × Is64 share
+IsSmallGroup (group.Late item shares) = Is32 item × All Is64 shares
 IsSmallGroup (group.Quantities item) = Is32 item
+IsSmallGroup (group.LateQuantities item shares) = Is32 item × All Is64 shares
 IsSmallGroup (group.Pair low top) = IsSmallLink low × IsSmallLink top
 IsSmallGroup (group.Triple low mid top) = IsSmallLink low × IsSmallLink mid × IsSmallLink top
+
+-- the items of a chain, which alone have numbers that are wider than their limits
+abbrev pub HasSmallLinks : Group → Type 0
+HasSmallLinks (group.Pair low top) = IsSmallLink low × IsSmallLink top
+HasSmallLinks (group.Triple low mid top) = IsSmallLink low × IsSmallLink mid × IsSmallLink top
+HasSmallLinks _ = ⊤
 
 -- the limits on numbers
 abbrev pub IsSmallLine : LineShape → Type 0

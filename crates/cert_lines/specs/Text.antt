@@ -91,10 +91,15 @@ list_line a = codes "parts " ++ (kind_text a.kind ++ (one_text a.index ++ signed
 abbrev pub link_text : ChainLink → List ℕ
 link_text link = one_text link.item ++ one_text link.opening_price
 
+-- an item and its shares
+abbrev pub shares_text : ℕ → List ℕ → List ℕ
+shares_text item shares = one_text item ++ list_text shares
+
 abbrev pub group_line : Group → List ℕ
 group_line (group.Item item) = codes "item" ++ one_text item
-group_line (group.Late item share) = codes "late" ++ (one_text item ++ one_text share)
+group_line (group.Late item shares) = codes "late" ++ shares_text item shares
 group_line (group.Quantities item) = codes "quantities" ++ one_text item
+group_line (group.LateQuantities item shares) = codes "late_quantities" ++ shares_text item shares
 group_line (group.Pair low top) = codes "pair" ++ (link_text low ++ link_text top)
 group_line (group.Triple low mid top) = codes "triple" ++ (link_text low ++ (link_text mid ++ link_text top))
 

@@ -97,10 +97,15 @@ reduced_words den parts lists groups = codes "reduced" ∷ decimal den ∷ decim
 abbrev pub link_words : ChainLink → Lines
 link_words link = decimal link.item ∷ decimal link.opening_price ∷ []
 
+-- a word, an item and its shares, to the end of the line
+abbrev pub shares_words : List ℕ → ℕ → List ℕ → Lines
+shares_words word item shares = word ∷ decimal item ∷ map decimal shares
+
 abbrev pub group_words : Group → Lines
 group_words (group.Item item) = one_words (codes "item") item
-group_words (group.Late item share) = codes "late" ∷ decimal item ∷ decimal share ∷ []
+group_words (group.Late item shares) = shares_words (codes "late") item shares
 group_words (group.Quantities item) = one_words (codes "quantities") item
+group_words (group.LateQuantities item shares) = shares_words (codes "late_quantities") item shares
 group_words (group.Pair low top) = codes "pair" ∷ (link_words low ++ link_words top)
 group_words (group.Triple low mid top) = codes "triple" ∷ (link_words low ++ (link_words mid ++ link_words top))
 

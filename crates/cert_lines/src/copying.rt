@@ -3,6 +3,7 @@ ghost use Rattle.std.specs.Prelude.{◌≡◌, IfOk, map};
 ghost use Rattle.cert_lines.specs.Shapes.{block_lists, cut_shape, leaf_shape, list_shape, price_lists};
 
 use crate::{Cut, Leaf, PartList};
+use item_groups::{Group, Shares};
 use lin_rows::{Potentials, Prices};
 use std::alloc::{AllocError, Global};
 
@@ -78,6 +79,51 @@ fn copy_lists(alloc: Global, lists: &[PartList]) -> Result<Vec<PartList>, AllocE
     Ok(copy)
 }
 
+// A copy of shares.
+fn copy_shares(alloc: Global, shares: &Shares) -> Result<Shares, AllocError>
+    ensures { IfOk result (λ copy. copy ≡ shares.now) }
+{
+    Ok(Shares::new(shares.as_slice().to_vec(alloc)?))
+}
+
+// A copy of a group.
+fn copy_group(alloc: Global, group: &Group) -> Result<Group, AllocError>
+    ensures { IfOk result (λ copy. copy ≡ group.now) }
+{
+    match group {
+        Group::Item { item } => Ok(Group::Item { item: *item }),
+        Group::Late { item, shares } => Ok(Group::Late {
+            item: *item,
+            shares: copy_shares(alloc, shares)?,
+        }),
+        Group::Quantities { item } => Ok(Group::Quantities { item: *item }),
+        Group::LateQuantities { item, shares } => Ok(Group::LateQuantities {
+            item: *item,
+            shares: copy_shares(alloc, shares)?,
+        }),
+        Group::Pair { low, top } => Ok(Group::Pair {
+            low: *low,
+            top: *top,
+        }),
+        Group::Triple { low, mid, top } => Ok(Group::Triple {
+            low: *low,
+            mid: *mid,
+            top: *top,
+        }),
+    }
+}
+
+// A copy of groups.
+fn copy_groups(alloc: Global, groups: &[Group]) -> Result<Vec<Group>, AllocError>
+    ensures { IfOk result (λ copy. copy.items ≡ groups.now) }
+{
+    let mut copy = Vec::new(alloc);
+    for group in groups {
+        copy.push(copy_group(alloc, group)?)?;
+    }
+    Ok(copy)
+}
+
 /// A copy of a leaf. The error is out of memory.
 pub fn copy_leaf(alloc: Global, leaf: &Leaf) -> Result<Leaf, AllocError>
     ensures { IfOk result (λ copy. leaf_shape copy ≡ leaf_shape leaf.now) }
@@ -100,7 +146,7 @@ pub fn copy_leaf(alloc: Global, leaf: &Leaf) -> Result<Leaf, AllocError>
             den: *den,
             parts: parts.to_vec(alloc)?,
             lists: copy_lists(alloc, lists)?,
-            groups: groups.to_vec(alloc)?,
+            groups: copy_groups(alloc, groups)?,
         }),
     }
 }

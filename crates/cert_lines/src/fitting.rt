@@ -1,7 +1,7 @@
 // Whether values are those of lines.
 ghost use Rattle.std.specs.Prelude.{◌≡◌, ◌↔◌, IsTrue, unsigned_abs, length};
 ghost use Rattle.cert_lines.specs.Limits.{IsSmallTimes};
-ghost use Rattle.cert_lines.specs.Line.{IsSmallGroup, IsSmallLink};
+ghost use Rattle.cert_lines.specs.Line.{HasSmallLinks, IsSmallLink};
 ghost use Rattle.std.specs.List.{All};
 ghost use Rattle.cert_lines.specs.declared.limits.TheConstants.{FIRST_CERT_VERSION};
 ghost use Rattle.cert_lines.specs.Shapes.{BlockCut, BranchLine, CutLine, FarkasLine, GroupLine, LinearLine, ListLine, LsCut, PartLine, PriceCut, ReducedLine, RoundLine, block_lists, cut_first, cut_shape, leaf_first, leaf_shape, list_shape, price_lists};
@@ -190,15 +190,16 @@ fn is_small_link(link: ChainLink) -> bool
     link.opening_price <= MOST_127
 }
 
-// Whether the numbers of a group are within the limits.
-fn is_small_group(group: Group) -> bool
-    ensures { IsTrue result ↔ IsSmallGroup group }
+// Whether the numbers of a chain are within the limits; those of one item are.
+fn has_small_links(group: &Group) -> bool
+    ensures { IsTrue result ↔ HasSmallLinks group.now }
 {
     match group {
-        Group::Item { .. } | Group::Late { .. } | Group::Quantities { .. } => true,
-        Group::Pair { low, top } => is_small_link(low) && is_small_link(top),
+        Group::Item { .. } | Group::Quantities { .. } => true,
+        Group::Late { .. } | Group::LateQuantities { .. } => true,
+        Group::Pair { low, top } => is_small_link(*low) && is_small_link(*top),
         Group::Triple { low, mid, top } => {
-            is_small_link(low) && is_small_link(mid) && is_small_link(top)
+            is_small_link(*low) && is_small_link(*mid) && is_small_link(*top)
         }
     }
 }
@@ -207,5 +208,5 @@ fn is_small_group(group: Group) -> bool
 pub fn is_group_line(group: &Group, version: u32) -> bool
     ensures { IsTrue result ↔ HasLine version (GroupLine group.now) }
 {
-    version >= REDUCED_CERT_VERSION && is_small_group(*group) && group_length(*group) <= LONGEST
+    version >= REDUCED_CERT_VERSION && has_small_links(group) && group_length(group) <= LONGEST
 }

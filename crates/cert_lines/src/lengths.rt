@@ -3,13 +3,13 @@ ghost use Rattle.std.specs.Prelude.{◌≡◌, ◌≤◌, ◌<◌, ◌*◌, ◌^
 ghost use Rattle.std.specs.Fmt.{signed_decimal};
 ghost use Rattle.lin_rows.specs.Texts.{column_text, name_text, one_text, two_text};
 ghost use Rattle.std.specs.List.{All};
-ghost use Rattle.cert_lines.specs.Text.{bits_text, block_line, branch_line, farkas_line, group_line, kind_text, linear_line, link_text, list_line, list_text, ls_line, part_line, price_line, reduced_line, round_line, signed_list_text};
+ghost use Rattle.cert_lines.specs.Text.{bits_text, block_line, branch_line, farkas_line, group_line, kind_text, linear_line, link_text, list_line, list_text, ls_line, part_line, price_line, reduced_line, round_line, shares_text, signed_list_text};
 ghost use Rattle.cert_lines.specs.Limits.{Is32, Is64};
-ghost use Rattle.cert_lines.specs.Line.{AreCosts, ArePriceLists, IsSmallColumn, IsSmallName};
+ghost use Rattle.cert_lines.specs.Line.{AreCosts, ArePriceLists, HasSmallLinks, IsSmallColumn, IsSmallGroup, IsSmallName};
 ghost use Rattle.cert_lines.specs.Shapes.{block_lists, list_shape, price_lists};
 
 use crate::{ListKind, Part, PartList};
-use item_groups::{ChainLink, Group};
+use item_groups::{ChainLink, Group, Shares};
 use lin_rows::{Column, Potentials, Prices, RowName};
 
 // How many digits a number has.
@@ -241,19 +241,28 @@ fn link_length(link: ChainLink) -> u128
     one_length(u128::from(link.item)) + one_length(link.opening_price)
 }
 
+// The length of an item with its shares.
+fn shares_length(item: u32, shares: &Shares) -> u128
+    ensures value { result ≡ length (shares_text item shares.now) }
+    ensures small { result < 2 ^ 100 }
+    ensures fits { All Is64 shares.now }
+{
+    one_length(u128::from(item)) + list_length(shares.as_slice())
+}
+
 /// The length of the line of a group.
-pub fn group_length(group: Group) -> u128
-    ensures { result ≡ length (group_line group) }
+pub fn group_length(group: &Group) -> u128
+    ensures value { result ≡ length (group_line group.now) }
+    ensures fits { HasSmallLinks group.now → IsSmallGroup group.now }
 {
     match group {
-        Group::Item { item } => 4 + one_length(u128::from(item)),
-        Group::Late { item, share } => {
-            4 + one_length(u128::from(item)) + one_length(u128::from(share))
-        }
-        Group::Quantities { item } => 10 + one_length(u128::from(item)),
-        Group::Pair { low, top } => 4 + link_length(low) + link_length(top),
+        Group::Item { item } => 4 + one_length(u128::from(*item)),
+        Group::Late { item, shares } => 4 + shares_length(*item, shares),
+        Group::Quantities { item } => 10 + one_length(u128::from(*item)),
+        Group::LateQuantities { item, shares } => 15 + shares_length(*item, shares),
+        Group::Pair { low, top } => 4 + link_length(*low) + link_length(*top),
         Group::Triple { low, mid, top } => {
-            6 + link_length(low) + link_length(mid) + link_length(top)
+            6 + link_length(*low) + link_length(*mid) + link_length(*top)
         }
     }
 }

@@ -136,7 +136,7 @@ fn read_reduced_words(alloc: Global, words: &[&[u8]]) -> Result<Option<CertLine>
     if let Some(list) = read_parts_list(alloc, words)? {
         return Ok(Some(CertLine::List(list)));
     }
-    match read_group(words) {
+    match read_group(alloc, words)? {
         Some(group) => Ok(Some(CertLine::Group(group))),
         None => Ok(None),
     }

@@ -31,7 +31,11 @@ pub(crate) fn read_bits(alloc: Global, word: &[u8]) -> Result<Option<Vec<bool>>,
 }
 
 // The numbers of 64 bits from a place on, as many as there are.
-fn numbers_from(alloc: Global, words: &[&[u8]], from: usize) -> Result<Vec<u64>, AllocError>
+pub(crate) fn numbers_from(
+    alloc: Global,
+    words: &[&[u8]],
+    from: usize,
+) -> Result<Vec<u64>, AllocError>
     requires { from ≤ length words.now }
     ensures list { IfOk result (λ list.
         IsListFrom (map (λ w. w.now) words.now) bound_64 from list.items) }

@@ -11,13 +11,14 @@ ghost use Rattle.cert_lines.specs.Limits.{Is32, Is64, IsSmallTimes};
 ghost use Rattle.cert_lines.specs.Line.{IsSmallGroup, IsSmallLink, IsSmallList};
 ghost use Rattle.cert_lines.specs.Shapes.{ListShape, list_shape};
 ghost use Rattle.cert_lines.specs.Text.{kind_text};
-ghost use Rattle.cert_lines.specs.Words.{HasWords, StandFrom, group_words, link_words, parts_words, reduced_words, word_at};
+ghost use Rattle.cert_lines.specs.Words.{HasWords, StandFrom, group_words, link_words, parts_words, reduced_words, shares_words, word_at};
 
 use crate::forms::one_after;
 use crate::limits::{MAX_GROUPS, MAX_LISTS, MAX_PARTS, MOST_32, MOST_64, MOST_127};
+use crate::lists::numbers_from;
 use crate::words::{integer_at, is_word, number_at};
 use crate::{ListKind, PartList};
-use item_groups::{ChainLink, Group};
+use item_groups::{ChainLink, Group, Shares};
 use std::alloc::{AllocError, Global};
 
 // A denominator, and how many parts, lists and groups follow.
@@ -165,24 +166,31 @@ fn read_single(words: &[&[u8]]) -> Option<Group>
     }
 }
 
-// An item that may fall short, and its share.
-fn read_late(words: &[&[u8]]) -> Option<(u32, u64)>
-    ensures some { IfSome result (λ p.
-        HasWords (map (λ w. w.now) words.now) (group_words (group.Late p.0 p.1))
-        × Is32 p.0 × Is64 p.1) }
-    ensures none { IsNone result → (item share : ℕ) → Is32 item → Is64 share
-        → HasWords (map (λ w. w.now) words.now) (group_words (group.Late item share)) → ⊥ }
+// The item after this word, and its shares to the end of the line.
+fn shares_after(
+    alloc: Global,
+    words: &[&[u8]],
+    word: &[u8],
+) -> Result<Option<(u32, Shares)>, AllocError>
+    requires { 0 < length word.now }
+    ensures some { IfOk result (λ read. IfSome read (λ p.
+        HasWords (map (λ w. w.now) words.now) (shares_words word.now p.0 p.1)
+        × Is32 p.0 × All Is64 p.1)) }
+    ensures none { IfOk result (λ read. IsNone read → (item : ℕ) (shares : List ℕ)
+        → Is32 item → All Is64 shares
+        → HasWords (map (λ w. w.now) words.now) (shares_words word.now item shares) → ⊥) }
 {
-    if words.len() != 3 || !is_word(words, 0, b"late") {
-        return None;
+    if words.len() < 2 || !is_word(words, 0, word) {
+        return Ok(None);
     }
     let Some(item) = number_at(words, 1, 0, MOST_32) else {
-        return None;
+        return Ok(None);
     };
-    match number_at(words, 2, 0, MOST_64) {
-        Some(share) => Some((item as u32, share as u64)),
-        None => None,
+    let shares = numbers_from(alloc, words, 2)?;
+    if 2 + shares.len() != words.len() {
+        return Ok(None);
     }
+    Ok(Some((item as u32, Shares::new(shares))))
 }
 
 // A chain of two items.
@@ -230,23 +238,26 @@ fn read_triple(words: &[&[u8]]) -> Option<(ChainLink, ChainLink, ChainLink)>
 }
 
 // A group.
-pub(crate) fn read_group(words: &[&[u8]]) -> Option<Group>
-    ensures some { IfSome result (λ g.
-        HasWords (map (λ w. w.now) words.now) (group_words g) × IsSmallGroup g) }
-    ensures none { IsNone result → (g : Group) → IsSmallGroup g
-        → HasWords (map (λ w. w.now) words.now) (group_words g) → ⊥ }
+pub(crate) fn read_group(alloc: Global, words: &[&[u8]]) -> Result<Option<Group>, AllocError>
+    ensures some { IfOk result (λ read. IfSome read (λ g.
+        HasWords (map (λ w. w.now) words.now) (group_words g) × IsSmallGroup g)) }
+    ensures none { IfOk result (λ read. IsNone read → (g : Group) → IsSmallGroup g
+        → HasWords (map (λ w. w.now) words.now) (group_words g) → ⊥) }
 {
     if let Some(group) = read_single(words) {
-        return Some(group);
+        return Ok(Some(group));
     }
-    if let Some((item, share)) = read_late(words) {
-        return Some(Group::Late { item, share });
+    if let Some((item, shares)) = shares_after(alloc, words, b"late")? {
+        return Ok(Some(Group::Late { item, shares }));
+    }
+    if let Some((item, shares)) = shares_after(alloc, words, b"late_quantities")? {
+        return Ok(Some(Group::LateQuantities { item, shares }));
     }
     if let Some((low, top)) = read_pair(words) {
-        return Some(Group::Pair { low, top });
+        return Ok(Some(Group::Pair { low, top }));
     }
     match read_triple(words) {
-        Some((low, mid, top)) => Some(Group::Triple { low, mid, top }),
-        None => None,
+        Some((low, mid, top)) => Ok(Some(Group::Triple { low, mid, top })),
+        None => Ok(None),
     }
 }

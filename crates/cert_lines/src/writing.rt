@@ -1,6 +1,6 @@
 // The lines of a certificate as texts.
 ghost use Rattle.std.specs.Prelude.{◌≡◌, ◌++◌, OnOk, string_bytes};
-ghost use Rattle.cert_lines.specs.Text.{bit_text, bits_text, block_head, block_line, branch_line, claim_line, count_line, kind_text, line_text, link_text, list_text, part_line, price_head, price_line, signed_list_text};
+ghost use Rattle.cert_lines.specs.Text.{bit_text, bits_text, block_head, block_line, branch_line, claim_line, count_line, kind_text, line_text, link_text, list_text, part_line, price_head, price_line, shares_text, signed_list_text};
 ghost use Rattle.cert_lines.specs.declared.head.HeadLine.TheVariants.{Mark};
 ghost use Rattle.cert_lines.specs.Head.{head_line};
 ghost use Rattle.cert_lines.specs.Line.{later_line};
@@ -8,7 +8,7 @@ ghost use Rattle.cert_lines.specs.Shapes.{GroupLine, ListLine, block_lists, cut_
 ghost use Rattle.item_groups.specs.declared.group.Group.TheVariants as group;
 
 use crate::{Claim, Cut, Leaf, ListKind, Part, PartList};
-use item_groups::{ChainLink, Group};
+use item_groups::{ChainLink, Group, Shares};
 use lin_rows::{Column, Potentials, Prices};
 use std::alloc::AllocError;
 
@@ -280,6 +280,17 @@ fn add_triple(
     Ok(())
 }
 
+// Adds an item with its shares, and the end of the line.
+fn add_shares(text: &mut String, item: u32, shares: &Shares) -> Result<(), AllocError>
+    ensures { OnOk result (string_bytes text.new
+        ≡ string_bytes text.old ++ line_text (shares_text item shares.now)) }
+{
+    write!(text, " {item}")?;
+    add_list(text, shares.as_slice())?;
+    write!(text, "\n")?;
+    Ok(())
+}
+
 /// Adds the line of a group.
 pub fn add_group_line(text: &mut String, group: &Group) -> Result<(), AllocError>
     ensures { OnOk result (string_bytes text.new
@@ -287,8 +298,15 @@ pub fn add_group_line(text: &mut String, group: &Group) -> Result<(), AllocError
 {
     match group {
         Group::Item { item } => write!(text, "item {item}\n")?,
-        Group::Late { item, share } => write!(text, "late {item} {share}\n")?,
+        Group::Late { item, shares } => {
+            write!(text, "late")?;
+            add_shares(text, *item, shares)?;
+        }
         Group::Quantities { item } => write!(text, "quantities {item}\n")?,
+        Group::LateQuantities { item, shares } => {
+            write!(text, "late_quantities")?;
+            add_shares(text, *item, shares)?;
+        }
         Group::Pair { low, top } => add_pair(text, *low, *top)?,
         Group::Triple { low, mid, top } => add_triple(text, *low, *mid, *top)?,
     }

@@ -5,7 +5,6 @@ use Rattle.std.specs.List.{flat_map}
 use Rattle.std.proofs.lemmas.Grind.{flat_map-append}
 use Rattle.lin_rows.specs.declared.base.RowName.TheVariants.{Balance}
 use Rattle.item_groups.specs.declared.group.Group.{Group}
-use Rattle.item_groups.specs.declared.group.Group.TheVariants as group
 use Rattle.cert_lines.specs.declared.parts.Part.{Part}
 use Rattle.cert_lines.specs.declared.parts.PartList.{PartList}
 use Rattle.cert_lines.specs.declared.parts.Cut.{Cut}
@@ -42,9 +41,6 @@ group_text g = line_text (group_line g)
 pub groups_text : (groups : List Group) → flat_map group_text groups ≡ values_text (group_values groups)
 groups_text [] = refl
 groups_text (g ∷ rest) = ap (λ t. group_text g ++ t) (groups_text rest)
-
-abbrev pub no_group : Group
-no_group = group.Item 0
 
 -- the text of a cut
 abbrev pub cut_text : Cut → List ℕ

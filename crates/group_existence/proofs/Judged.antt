@@ -1,7 +1,8 @@
 -- Whether groups lie apart, and whether their work is within the limits; and if not, where first.
-use Rattle.std.proofs.Common.{◌≤◌, ◌<◌, ◌+◌, ◌*◌, ◌⊎◌, ⊎_elim, inl, inr, ℕ, suc, arith, List, [], ◌∷◌, length, slice_index_or, take}
+use Rattle.std.proofs.Common.{◌≡◌, ◌≤◌, ◌<◌, ◌+◌, ◌*◌, ◌⊎◌, ⊎_elim, inl, inr, ℕ, suc, arith, List, [], ◌∷◌, length, slice_index_or, take}
 use Rattle.std.specs.Prelude.{map}
 use Rattle.std.specs.List.{All}
+use Rattle.std.proofs.lemmas.Bool.{cases_eq}
 use Rattle.std.proofs.lemmas.List.Elements.{All-cons, All-head, All-nil, All-tail}
 use Rattle.lot_sizing.specs.Problem.{Problem, item_at, item_count, per_unit}
 use Rattle.lot_sizing.specs.Plan.{Table}
@@ -15,8 +16,8 @@ use Rattle.item_groups.specs.declared.group.Group.{Group}
 use Rattle.item_groups.specs.declared.group.Group.TheVariants as group
 use Rattle.reduced_groups.specs.declared.apart.GroupFault.TheVariants as fault
 use Rattle.reduced_groups.specs.declared.floors.TheConstants.{MAX_HORIZON}
-use Rattle.reduced_groups.specs.Groups.{ChainGroup, GroupShape, ItemGroup, LateGroup, QuantityGroup, chain_levels}
-use Rattle.reduced_groups.specs.Apart.{AreLinked, IsGroupOf, IsItem, IsLinked, items_in, items_of, times_in}
+use Rattle.reduced_groups.specs.Groups.{ChainGroup, GroupShape, ItemGroup, LateGroup, LateQuantityGroup, QuantityGroup, chain_levels}
+use Rattle.reduced_groups.specs.Apart.{AreLinked, IsGroupOf, IsItem, IsLinked, IsShared, items_in, items_of, times_in}
 use Rattle.reduced_groups.specs.Floors.{AreOnceTo, HasFewEntries, HasFewPeriods, HasSmallPricesOf, HaveSmallPrices, IsFirstTwice, IsWithinWork, no_group, shape_of}
 use Rattle.reduced_groups.proofs.Placed.{all_shapes, lie_apart}
 use Rattle.existence.proofs.Deciding.{Decided, all_or_first, both_or_not, le_or_not, lt_or_not, none_or_not}
@@ -32,6 +33,9 @@ three_or_not a b c =
     b)
     (λ not_x. inr (λ all. not_x all.0))
     a
+
+same_or_not : (a b : ℕ) → Decided (a ≡ b)
+same_or_not a b = cases_eq a b
 
 -- ---- lists
 all_or_not : {A : Type 0} (P : A → Type 0) → ((a : A) → Decided (P a)) → (xs : List A) → Decided (All P xs)
@@ -69,22 +73,20 @@ linked_or_not m link [] = inl tt
 linked_or_not m link (next ∷ rest) =
     three_or_not (none_or_not (item_at m link.item).backlog_cost) (le_or_not 1 (per_unit m link.item next.item)) (linked_or_not m next rest)
 
-shape_or_not : (m : Problem) (s : GroupShape) → Decided (IsLinked m s) → Decided (IsGroupOf m s)
-shape_or_not m s linked =
+shape_or_not : (m : Problem) (s : GroupShape) → Decided (IsLinked m s) → Decided (IsShared m s) → Decided (IsGroupOf m s)
+shape_or_not m s linked shared =
     ⊎_elim
-    (λ items. ⊎_elim
-    (λ is. inl (record { items = items; linked = is }))
-    (λ no. inr (λ of. no of.linked))
-    linked)
-    (λ no. inr (λ of. no of.items))
-    (all_or_not (IsItem m) (item_or_not m) (items_in s))
+    (λ is. inl (record { items = is.0; linked = is.1; shared = is.2 }))
+    (λ no. inr (λ of. no (of.items, of.linked, of.shared)))
+    (three_or_not (all_or_not (IsItem m) (item_or_not m) (items_in s)) linked shared)
 
 group_or_not : (m : Problem) (g : Group) → Decided (IsGroupOf m (shape_of g))
-group_or_not m (group.Item i) = shape_or_not m (ItemGroup i) (inl tt)
-group_or_not m (group.Late i share) = shape_or_not m (LateGroup i share) (inl tt)
-group_or_not m (group.Quantities i) = shape_or_not m (QuantityGroup i) (inl tt)
-group_or_not m (group.Pair low top) = shape_or_not m (ChainGroup low (top ∷ [])) (linked_or_not m low (top ∷ []))
-group_or_not m (group.Triple low mid top) = shape_or_not m (ChainGroup low (mid ∷ (top ∷ []))) (linked_or_not m low (mid ∷ (top ∷ [])))
+group_or_not m (group.Item i) = shape_or_not m (ItemGroup i) (inl tt) (inl tt)
+group_or_not m (group.Late i shares) = shape_or_not m (shape_of (group.Late i shares)) (inl tt) (same_or_not (length shares) m.periods)
+group_or_not m (group.Quantities i) = shape_or_not m (QuantityGroup i) (inl tt) (inl tt)
+group_or_not m (group.LateQuantities i shares) = shape_or_not m (shape_of (group.LateQuantities i shares)) (inl tt) (same_or_not (length shares) m.periods)
+group_or_not m (group.Pair low top) = shape_or_not m (ChainGroup low (top ∷ [])) (linked_or_not m low (top ∷ [])) (inl tt)
+group_or_not m (group.Triple low mid top) = shape_or_not m (ChainGroup low (mid ∷ (top ∷ []))) (linked_or_not m low (mid ∷ (top ∷ []))) (inl tt)
 
 twice_or_not : (m : Problem) (shapes : List GroupShape) → AreOnceTo (item_count m) shapes ⊎ ((i : ℕ) × IsFirstTwice m shapes i)
 twice_or_not m shapes =
@@ -115,7 +117,7 @@ groups_judged m groups =
     (all_or_first_out (λ g. IsGroupOf m (shape_of g)) no_group (group_or_not m) groups)
 
 -- ---- work
-module _ (m : Problem) (start : Table) (price : Column → ℕ) where
+module _ (m : Problem) (start on_time : Table) (price : Column → ℕ) where
   prices_or_not : (i : ℕ) → Decided (HasSmallPricesOf m price i)
   prices_or_not i =
       each_or_not m.periods (λ t. (price (Y i t) ≤ MAX_PRICE) × (price (X i t) ≤ MAX_PRICE))
@@ -125,28 +127,29 @@ module _ (m : Problem) (start : Table) (price : Column → ℕ) where
   all_prices_or_not [] = inl tt
   all_prices_or_not (i ∷ items) = both_or_not (prices_or_not i) (all_prices_or_not items)
 
-  entries_or_not : (i : ℕ) → Decided (HasFewEntries m start i)
-  entries_or_not i = each_or_not m.periods (λ t. m.periods * (start i t + 1) ≤ MAX_ENTRIES) (λ t. le_or_not (m.periods * (start i t + 1)) MAX_ENTRIES)
+  entries_or_not : (asked : Table) (i : ℕ) → Decided (HasFewEntries m asked i)
+  entries_or_not asked i = each_or_not m.periods (λ t. m.periods * (asked i t + 1) ≤ MAX_ENTRIES) (λ t. le_or_not (m.periods * (asked i t + 1)) MAX_ENTRIES)
 
   periods_or_not : (rest : List ChainLink) → Decided (HasFewPeriods m rest)
   periods_or_not [] = inl tt
   periods_or_not (top ∷ []) = inl tt
   periods_or_not (mid ∷ (top ∷ rest)) = le_or_not (m.periods + (item_at m mid.item).lead) MAX_HORIZON
 
-  chain_or_not : (low : ChainLink) (rest : List ChainLink) → Decided (IsWithinWork m start price (ChainGroup low rest))
+  chain_or_not : (low : ChainLink) (rest : List ChainLink) → Decided (IsWithinWork m start on_time price (ChainGroup low rest))
   chain_or_not low rest =
       three_or_not (all_prices_or_not (low.item ∷ items_of rest)) (periods_or_not rest)
       (lt_or_not (opening_cost m.periods (chain_levels m start price low rest)) most)
 
-  work_or_not : (s : GroupShape) → Decided (IsWithinWork m start price s)
+  work_or_not : (s : GroupShape) → Decided (IsWithinWork m start on_time price s)
   work_or_not (ItemGroup i) = prices_or_not i
-  work_or_not (LateGroup i share) = prices_or_not i
-  work_or_not (QuantityGroup i) = both_or_not (prices_or_not i) (entries_or_not i)
+  work_or_not (LateGroup i shares) = prices_or_not i
+  work_or_not (QuantityGroup i) = both_or_not (prices_or_not i) (entries_or_not start i)
+  work_or_not (LateQuantityGroup i shares) = both_or_not (prices_or_not i) (entries_or_not on_time i)
   work_or_not (ChainGroup low rest) = chain_or_not low rest
 
 pub work_judged : WorkIsJudged
-work_judged m start price groups =
+work_judged m start on_time price groups =
     ⊎_elim
     (λ all. inl all)
     (λ found. inr (found.0, record { place = found.1; before = found.2; past = found.3 }))
-    (all_or_first_out (IsWithinWork m start price) (ItemGroup 0) (work_or_not m start price) (map shape_of groups))
+    (all_or_first_out (IsWithinWork m start on_time price) (ItemGroup 0) (work_or_not m start on_time price) (map shape_of groups))

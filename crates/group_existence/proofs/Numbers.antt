@@ -6,7 +6,7 @@ use Rattle.lin_rows.specs.declared.column.Column.{Column}
 use Rattle.item_groups.specs.declared.group.ChainLink.{ChainLink}
 use Rattle.item_groups.specs.declared.group.Group.{Group}
 use Rattle.item_groups.specs.declared.group.Group.TheVariants as group
-use Rattle.reduced_groups.specs.Groups.{Known, chain_levels, late_lots_in, lots_in, stocks_worth}
+use Rattle.reduced_groups.specs.Groups.{Known, chain_levels, late_lots_in, lots_in, short_lots_in, stocks_worth}
 use Rattle.reduced_groups.specs.Numbers.{AreNumbersOf, IsChainFloor, IsNumberOf, LacksChoice, SomeLacksChoice}
 use Rattle.reduced_groups.specs.Floors.{shape_of}
 use Rattle.group_existence.specs.Laws.{NumbersExist}
@@ -24,6 +24,7 @@ module _ (m : Problem) (known : Known) (price : Column → ℕ) where
   number_of (group.Item i) = inl (item_number m known.start price i)
   number_of (group.Late i share) = inl (late_number (late_lots_in m known price i share))
   number_of (group.Quantities i) = lots_number (lots_in m known price i)
+  number_of (group.LateQuantities i shares) = lots_number (short_lots_in m known price i shares)
   number_of (group.Pair low top) = inl (chain_floor low (top ∷ []))
   number_of (group.Triple low mid top) = inl (chain_floor low (mid ∷ (top ∷ [])))
 

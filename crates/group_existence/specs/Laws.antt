@@ -23,13 +23,13 @@ GroupsAreJudged =
     (m : Problem) (groups : List Group) → LieApart m (map shape_of groups) ⊎ ((fault : GroupFault) × IsGroupFaultOf m groups fault)
 
 -- the first group whose work is past the limits
-pub record IsPastFirst (m : Problem) (start : Table) (price : Column → ℕ) (shapes : List GroupShape) (k : ℕ) : Type 0 where
+pub record IsPastFirst (m : Problem) (start on_time : Table) (price : Column → ℕ) (shapes : List GroupShape) (k : ℕ) : Type 0 where
   pub place : k < length shapes
-  pub before : All (IsWithinWork m start price) (take k shapes)
-  pub past : IsWithinWork m start price (slice_index_or shapes k (ItemGroup 0)) → ⊥
+  pub before : All (IsWithinWork m start on_time price) (take k shapes)
+  pub past : IsWithinWork m start on_time price (slice_index_or shapes k (ItemGroup 0)) → ⊥
 
 -- the work of all groups is within the limits, or that of a first one isn't
 abbrev pub WorkIsJudged : Type 0
 WorkIsJudged =
-    (m : Problem) (start : Table) (price : Column → ℕ) (groups : List Group)
-    → All (IsWithinWork m start price) (map shape_of groups) ⊎ ((k : ℕ) × IsPastFirst m start price (map shape_of groups) k)
+    (m : Problem) (start on_time : Table) (price : Column → ℕ) (groups : List Group)
+    → All (IsWithinWork m start on_time price) (map shape_of groups) ⊎ ((k : ℕ) × IsPastFirst m start on_time price (map shape_of groups) k)

@@ -1,5 +1,7 @@
 // Groups of items whose reduced costs are bounded together.
 
+use crate::shares::Shares;
+
 /// An item of a chain.
 #[derive(Clone, Copy, Debug, PartialEq, Eq)]
 pub struct ChainLink {
@@ -10,7 +12,7 @@ pub struct ChainLink {
 }
 
 /// Items whose setups and quantities are bounded together, at their reduced costs.
-#[derive(Clone, Copy, Debug, PartialEq, Eq)]
+#[derive(Debug, Drop)]
 pub enum Group {
     /// An item by what must have been started of it.
     Item {
@@ -21,13 +23,21 @@ pub enum Group {
     Late {
         /// The item, counted from 1.
         item: u32,
-        /// What a unit that falls short costs for each period, which is charged on the backlogs that allow it.
-        share: u64,
+        /// What a unit that falls short costs by the end of each period, which is charged on the backlogs that allow it.
+        shares: Shares,
     },
     /// An item by what must have been started of it and its largest lots, in whole quantities.
     Quantities {
         /// The item, counted from 1.
         item: u32,
+    },
+    /// An item by what is on time of it and its largest lots, in whole quantities, that may fall short as far as
+    /// backlogs allow.
+    LateQuantities {
+        /// The item, counted from 1.
+        item: u32,
+        /// What a unit that falls short costs by the end of each period, which is charged on the backlogs that allow it.
+        shares: Shares,
     },
     /// An item that goes into another one.
     Pair {

@@ -4,10 +4,12 @@
 //! says what the number of each is.
 //!
 //! A `Group` is an item, an item that may fall short of what is on time at a share of the costs of backlogs, an item in
-//! whole quantities, or a chain of two or three items, each of which goes into the next one; a chain has a `ChainLink`
-//! for each.
+//! whole quantities, which may fall short too or not, or a chain of two or three items, each of which goes into the
+//! next one; a chain has a `ChainLink` for each, and what falls short has `Shares`, by period.
 #![tactic(auto)]
 
 mod group;
+mod shares;
 
 pub use group::{ChainLink, Group};
+pub use shares::Shares;

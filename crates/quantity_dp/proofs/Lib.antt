@@ -1,3 +1,4 @@
 pub mod Queues
 pub mod Entries
+pub mod Least
 pub mod Rows

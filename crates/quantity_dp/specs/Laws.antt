@@ -8,7 +8,7 @@ use Rattle.must_start.specs.MustStart.{AreMustStart}
 use Rattle.must_start.specs.Lots.{IsLargestLot}
 use Rattle.quantity_dp.specs.Lots.{IsChoice, Lots}
 
--- the lots of an item: what must have been started of it, and its largest lots, at any prices
+-- the lots of an item: what must have been started of it, and its largest lots, at any prices, whatever is asked
 pub record AreLotsOf (m : Problem) (start : Table) (total : ℕ → ℕ) (i : ℕ) (a : Lots) : Type 0 where
   pub periods : a.periods ≡ m.periods
   pub need : (t : ℕ) → 1 ≤ t → t ≤ m.periods → a.need t ≡ start i t

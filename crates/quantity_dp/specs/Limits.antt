@@ -1,5 +1,5 @@
 -- The limits of least prices, and the first that is past them.
-use Rattle.std.specs.Prelude.{ℕ, ◌+◌, ◌-◌, ◌*◌, ◌≤◌, ◌<◌, List, length}
+use Rattle.std.specs.Prelude.{ℕ, ◌+◌, ◌-◌, ◌*◌, ◌≤◌, ◌<◌, max, List, length}
 use Rattle.lot_sizing.specs.declared.limits.TheConstants.{MAX_PERIODS}
 use Rattle.quantity_dp.specs.declared.lots.LotPeriod.{LotPeriod}
 use Rattle.quantity_dp.specs.declared.limits.LotsFault.{LotsFault}
@@ -11,10 +11,11 @@ use Rattle.quantity_dp.specs.Lots.{lot_at}
 pub record IsPriced (lot : LotPeriod) : Type 0 where
   pub setup : lot.setup ≤ MAX_PRICE
   pub unit : lot.unit ≤ MAX_PRICE
+  pub share : lot.share ≤ MAX_PRICE
 
--- the table has few enough entries for what must have been started by the end of a period
+-- the table has few enough entries for what must have been started and what is asked by the end of a period
 abbrev pub IsSmall : ℕ → LotPeriod → Type 0
-IsSmall periods lot = periods * (lot.need + 1) ≤ MAX_ENTRIES
+IsSmall periods lot = periods * (max lot.need lot.asked + 1) ≤ MAX_ENTRIES
 
 -- both, of each of the first periods
 pub record AreWithinTo (lots : List LotPeriod) (n : ℕ) : Type 0 where
@@ -37,4 +38,4 @@ pub record IsFirstPast (lots : List LotPeriod) (t : ℕ) : Type 0 where
 abbrev pub IsFaultOf : List LotPeriod → LotsFault → Type 0
 IsFaultOf lots Periods = MAX_PERIODS < length lots
 IsFaultOf lots (Price t) = IsFirstPast lots t × (IsPriced (lot_at lots t) → ⊥)
-IsFaultOf lots (Need t) = IsFirstPast lots t × IsPriced (lot_at lots t) × (MAX_ENTRIES < length lots * ((lot_at lots t).need + 1))
+IsFaultOf lots (Need t) = IsFirstPast lots t × IsPriced (lot_at lots t) × (MAX_ENTRIES < length lots * (max (lot_at lots t).need (lot_at lots t).asked + 1))

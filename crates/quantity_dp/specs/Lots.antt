@@ -4,16 +4,18 @@ use Rattle.lot_sizing.specs.Sums.{sum_to}
 use Rattle.lot_sizing.specs.Single.{NetPlan}
 use Rattle.quantity_dp.specs.declared.lots.LotPeriod.{LotPeriod}
 
--- by period: what a setup and a unit cost, what must have been started by the end, and the largest lot
+-- by period: what a setup and a unit cost, what must have been started by the end, what is asked to have been, what a unit costs that falls short of that, and the largest lot
 pub record Lots : Type 0 where
   pub periods : ℕ
   pub setup : ℕ → ℕ
   pub unit : ℕ → ℕ
   pub need : ℕ → ℕ
+  pub asked : ℕ → ℕ
+  pub share : ℕ → ℕ
   pub largest : ℕ → ℕ
 
 abbrev pub no_lot : LotPeriod
-no_lot = record { setup = 0; unit = 0; need = 0; largest = 0 }
+no_lot = record { setup = 0; unit = 0; need = 0; asked = 0; share = 0; largest = 0 }
 
 -- the lots of a period, counted from 1
 abbrev pub lot_at : List LotPeriod → ℕ → LotPeriod
@@ -25,6 +27,8 @@ lots_of lots = record {
   setup = λ t. (lot_at lots t).setup;
   unit = λ t. (lot_at lots t).unit;
   need = λ t. (lot_at lots t).need;
+  asked = λ t. (lot_at lots t).asked;
+  share = λ t. (lot_at lots t).share;
   largest = λ t. (lot_at lots t).largest;
 }
 
@@ -34,8 +38,9 @@ pub record IsChoiceTo (a : Lots) (n : ℕ) (q : NetPlan) : Type 0 where
   pub lots : (t : ℕ) → 1 ≤ t → t ≤ n → q.make t ≤ a.largest t * q.setup t
   pub started : (t : ℕ) → 1 ≤ t → t ≤ n → a.need t ≤ sum_to t q.make
 
+-- a setup, the units that are made, and those that fall short of what is asked by the end of a period
 abbrev pub price_at : Lots → NetPlan → ℕ → ℕ
-price_at a q t = a.setup t * q.setup t + a.unit t * q.make t
+price_at a q t = a.setup t * q.setup t + a.unit t * q.make t + a.share t * (a.asked t - sum_to t q.make)
 
 abbrev pub price_to : Lots → ℕ → NetPlan → ℕ
 price_to a n q = sum_to n (price_at a q)

@@ -1,14 +1,14 @@
 -- The rows of the table: least prices by the quantity that has been started by the end of a period.
-use Rattle.std.specs.Prelude.{◌≡◌, ℕ, zero, suc, ◌+◌, ◌-◌, ◌*◌, ◌≤◌, ◌<◌, min, List, length, slice_index_or, Option, Some, None}
+use Rattle.std.specs.Prelude.{◌≡◌, ℕ, zero, suc, ◌+◌, ◌-◌, ◌*◌, ◌≤◌, ◌<◌, max, min, List, length, slice_index_or, Option, Some, None}
 use Rattle.lot_sizing.specs.Sums.{sum_to}
 use Rattle.lot_sizing.specs.Single.{NetPlan}
 use Rattle.quantity_dp.specs.declared.lots.LotPeriod.{LotPeriod}
 use Rattle.quantity_dp.specs.Lots.{IsChoiceTo, Lots, lot_at, price_to}
 
--- the greatest need of the first periods, and 0 where there are none
+-- the greatest that must have been started or is asked in the first periods, and 0 where there are none
 pub record IsGreatestTo (lots : List LotPeriod) (n most : ℕ) : Type 0 where
-  pub each : (t : ℕ) → 1 ≤ t → t ≤ n → (lot_at lots t).need ≤ most
-  pub some : 0 < most → (t : ℕ) × (1 ≤ t) × (t ≤ n) × ((lot_at lots t).need ≡ most)
+  pub each : (t : ℕ) → 1 ≤ t → t ≤ n → max (lot_at lots t).need (lot_at lots t).asked ≤ most
+  pub some : 0 < most → (t : ℕ) × (1 ≤ t) × (t ≤ n) × (max (lot_at lots t).need (lot_at lots t).asked ≡ most)
 
 abbrev pub IsGreatestNeed : List LotPeriod → ℕ → Type 0
 IsGreatestNeed lots most = IsGreatestTo lots (length lots) most
@@ -46,7 +46,7 @@ IsLesser None other o = o ≡ other
 IsLesser (Some c) None o = o ≡ Some c
 IsLesser (Some c) (Some d) o = o ≡ Some (min c d)
 
--- what a quantity costs: nothing where there is none, else a setup and its units
+-- what a lot costs: nothing where there is none, else a setup and its units
 abbrev pub lot_price : LotPeriod → ℕ → ℕ
 lot_price lot zero = 0
 lot_price lot (suc x) = lot.setup + lot.unit * suc x
@@ -55,6 +55,10 @@ lot_price lot (suc x) = lot.setup + lot.unit * suc x
 abbrev pub made_by : LotPeriod → List (Option ℕ) → ℕ → Option ℕ → Option ℕ
 made_by lot row to None = None
 made_by lot row to (Some v) = Some (v - lot.unit * (most_in row - to) + lot.setup)
+
+-- what a lot costs, and the units that fall short of what is asked after it
+abbrev pub step_price : LotPeriod → (x to : ℕ) → ℕ
+step_price lot x to = lot_price lot x + lot.share * (lot.asked - to)
 
 -- a lot of x brings what has been started from one quantity to another, where what goes past the most counts no more
 pub record IsStep (lot : LotPeriod) (most from x to : ℕ) : Type 0 where
@@ -70,11 +74,11 @@ pub record IsReached (lot : LotPeriod) (row : List (Option ℕ)) (to c : ℕ) : 
   pub sum : from + x ≡ to
   pub step : IsStep lot (most_in row) from x to
   pub before : price_in row from ≡ Some price
-  pub costs : price + lot_price lot x ≤ c
+  pub costs : price + step_price lot x to ≤ c
 
 pub record IsNextSome (lot : LotPeriod) (row : List (Option ℕ)) (to c : ℕ) : Type 0 where
   pub reached : IsReached lot row to c
-  pub least : (from x b : ℕ) → from < length row → IsStep lot (most_in row) from x to → price_in row from ≡ Some b → c ≤ b + lot_price lot x
+  pub least : (from x b : ℕ) → from < length row → IsStep lot (most_in row) from x to → price_in row from ≡ Some b → c ≤ b + step_price lot x to
 
 abbrev pub IsNextEntry : LotPeriod → List (Option ℕ) → ℕ → Option ℕ → Type 0
 IsNextEntry lot row to None = (from x b : ℕ) → from < length row → IsStep lot (most_in row) from x to → price_in row from ≡ Some b → ⊥

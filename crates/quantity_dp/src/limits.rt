@@ -6,11 +6,11 @@ ghost use Rattle.quantity_dp.specs.Limits.{IsFaultOf, IsPriced, IsSmall, IsWithi
 use crate::LotPeriod;
 use lot_sizing::limits::MAX_PERIODS;
 
-/// The largest price of a setup and of a unit. The least prices of forty items of `MAX_TOTAL` units each over
-/// `MAX_PERIODS` periods, at no more than this, add to less than 2^127.
+/// The largest price of a setup, of a unit, and of a unit that falls short. The least prices of forty items of
+/// `MAX_TOTAL` units each over `MAX_PERIODS` periods, at no more than this, add to less than 2^127.
 pub const MAX_PRICE: u128 = 1_000_000_000_000_000_000_000_000;
 
-/// Most entries of a table: the periods, times the units that must be started and one.
+/// Most entries of a table: the periods, times one more than the units that must be started or are asked.
 pub const MAX_ENTRIES: u64 = 10_000_000;
 
 /// What is past the limits.
@@ -20,8 +20,8 @@ pub enum LotsFault {
     Periods,
     /// A price of this period, the first past the limits, is above `MAX_PRICE`.
     Price(u32),
-    /// By what must have been started by the end of this period, the first past the limits, the table has more
-    /// entries than `MAX_ENTRIES`.
+    /// By what must have been started or is asked by the end of this period, the first past the limits, the table has
+    /// more entries than `MAX_ENTRIES`.
     Need(u32),
 }
 
@@ -29,15 +29,15 @@ pub enum LotsFault {
 fn is_priced(lot: &LotPeriod) -> bool
     ensures { IsTrue result ↔ IsPriced lot.now }
 {
-    lot.setup <= MAX_PRICE && lot.unit <= MAX_PRICE
+    lot.setup <= MAX_PRICE && lot.unit <= MAX_PRICE && lot.share <= MAX_PRICE
 }
 
-// Whether a table over so many periods has few enough entries for what is needed in one.
+// Whether a table over so many periods has few enough entries for what is needed or asked in one.
 fn is_small(periods: u32, lot: &LotPeriod) -> bool
     requires { periods ≤ MAX_PERIODS }
     ensures { IsTrue result ↔ IsSmall periods lot.now }
 {
-    u128::from(periods) * (u128::from(lot.need) + 1) <= u128::from(MAX_ENTRIES)
+    u128::from(periods) * (u128::from(lot.need.max(lot.asked)) + 1) <= u128::from(MAX_ENTRIES)
 }
 
 /// The first that is past the limits of `least_price`, and none exactly where all is within. It takes no memory.

@@ -3,22 +3,20 @@ ghost use Rattle.std.specs.Prelude.{◌≡◌, ◌≤◌, ◌<◌, ◌+◌, ◌-
 ghost use Rattle.quantity_dp.specs.Lots.{IsLeastOrNone, lots_of};
 ghost use Rattle.quantity_dp.specs.Limits.{IsPriced, IsWithinLimits};
 ghost use Rattle.quantity_dp.specs.Window.{IsLeastIn};
-ghost use Rattle.quantity_dp.specs.Table.{AreSmall, HasFirst, IsGreatestNeed, IsLesser, IsNextEntry, IsNextTo, brought, brought_in, made_by, most_in};
+ghost use Rattle.quantity_dp.specs.Table.{AreSmall, HasFirst, IsGreatestNeed, IsLesser, IsNextEntry, IsNextTo, brought, brought_in, made_by, most_in, price_in};
 
 use crate::LotPeriod;
 use crate::limits::{MAX_ENTRIES, MAX_PRICE};
 use crate::window::Window;
 use std::alloc::{AllocError, Global};
 
-// All that must be started.
+// All that must be started or is asked.
 fn greatest_need(lots: &[LotPeriod]) -> u64
     ensures { IsGreatestNeed lots.now result }
 {
     let mut most = 0;
     for lot in lots {
-        if lot.need > most {
-            most = lot.need;
-        }
+        most = most.max(lot.need.max(lot.asked));
     }
     most
 }
@@ -38,7 +36,7 @@ fn first_row(alloc: Global, most: u64) -> Result<Vec<Option<u128>>, AllocError>
 
 // The price of a quantity, and of the units that it lacks.
 fn brought_to(price: Option<u128>, unit: u128, lacks: u64) -> Option<u128>
-    requires price { IfSome price (λ c. c ≤ MAX_ENTRIES * MAX_PRICE) }
+    requires price { IfSome price (λ c. c ≤ 2 * (MAX_ENTRIES * MAX_PRICE)) }
     requires unit { unit ≤ MAX_PRICE }
     requires lacks { lacks < MAX_ENTRIES }
     ensures { result ≡ brought price (unit * lacks) }
@@ -82,7 +80,7 @@ fn made(
     }
 }
 
-// The least price of a quantity: it stays, or a setup makes it.
+// The least price of a quantity: it stays, or a setup makes it, and then what it lacks of what is asked is paid.
 fn entry(
     lot: &LotPeriod,
     before: &[Option<u128>],
@@ -92,6 +90,7 @@ fn entry(
     requires quantity { quantity < length before.now }
     requires size { length before.now ≤ MAX_ENTRIES }
     requires need { lot.now.need ≤ most_in before.now }
+    requires asked { lot.now.asked ≤ most_in before.now }
     requires priced { IsPriced lot.now }
     requires small { AreSmall (MAX_ENTRIES * MAX_PRICE) before.now }
     requires least { IsLeastIn (brought_in before.now lot.now.unit) (quantity - lot.now.largest)
@@ -102,7 +101,8 @@ fn entry(
         return None;
     }
     let made = made(lot, before, quantity, least);
-    lesser(before[quantity as usize], made)
+    let started = lesser(before[quantity as usize], made);
+    brought_to(started, lot.share, lot.asked.saturating_sub(quantity))
 }
 
 // The row of the next period.
@@ -114,6 +114,7 @@ fn next_row(
     requires some { 1 ≤ length before.now }
     requires size { length before.now ≤ MAX_ENTRIES }
     requires need { lot.now.need ≤ most_in before.now }
+    requires asked { lot.now.asked ≤ most_in before.now }
     requires priced { IsPriced lot.now }
     requires small { AreSmall (MAX_ENTRIES * MAX_PRICE) before.now }
     ensures { IfOk result (λ row. IsNextTo lot.now before.now (length before.now) row.items) }
@@ -130,11 +131,23 @@ fn next_row(
     Ok(row)
 }
 
+// The least price of a row, and none where it has none.
+fn least_of(row: &[Option<u128>]) -> Option<u128>
+    ensures { IsLeastIn (price_in row.now) 0 (length row.now) result }
+{
+    let mut least = None;
+    for price in row {
+        least = lesser(least, *price);
+    }
+    least
+}
+
 /// The least price of quantities and setups of an item that keep its largest lots and start what must have been
-/// started, and none exactly where no quantities do. The error is that memory ran out.
+/// started, with what is paid for the units that fall short of what is asked, and none exactly where no quantities do.
+/// The error is that memory ran out.
 ///
-/// It takes time in the number of periods times that of the units that must be started, and memory in that of the
-/// units.
+/// It takes time in the number of periods times that of the units that must be started or are asked, and memory in
+/// that of the units.
 pub fn least_price(alloc: Global, lots: &[LotPeriod]) -> Result<Option<u128>, AllocError>
     requires within { IsWithinLimits lots.now }
     ensures price { IfOk result (IsLeastOrNone (lots_of lots.now)) }
@@ -145,5 +158,5 @@ pub fn least_price(alloc: Global, lots: &[LotPeriod]) -> Result<Option<u128>, Al
     for lot in lots {
         row = next_row(alloc, lot, &row)?;
     }
-    Ok(row[most as usize])
+    Ok(least_of(&row))
 }

@@ -1,9 +1,9 @@
 -- Groups have the same numbers whichever starts, on time or not, and lots are taken of a problem.
 use Rattle.std.proofs.Common.{◌≡◌, ◌≤◌, ◌+◌, ◌-◌, ◌*◌, ◌∙◌, ⊎_elim, inl, inr, ℕ, zero, suc, refl, sym, ap, arith, List, [], ◌∷◌}
-use Rattle.std.specs.Prelude.{if◌then◌else◌, ◌==◌}
+use Rattle.std.specs.Prelude.{if◌then◌else◌, ◌==◌, nat_le}
 use Rattle.std.specs.List.{All}
 use Rattle.std.proofs.lemmas.List.Elements.{All-head, All-tail}
-use Rattle.lot_sizing.specs.Problem.{Problem, item_count, per_unit}
+use Rattle.lot_sizing.specs.Problem.{Problem, item_at, item_count, per_unit}
 use Rattle.lot_sizing.specs.Single.{NetPlan}
 use Rattle.lot_sizing.specs.Totals.{AreLargestTotals, IsRanking}
 use Rattle.lot_sizing.proofs.Ones.{one_total}
@@ -16,15 +16,15 @@ use Rattle.must_start.specs.Lots.{IsLargestLot}
 use Rattle.late_starts.specs.OnTime.{OnTimeIsOne}
 use Rattle.late_starts.specs.Charges.{ChargesAgree}
 use Rattle.late_starts.specs.Choices.{AreSameLots}
-use Rattle.quantity_dp.specs.Lots.{IsChoice}
 use Rattle.item_groups.specs.declared.group.ChainLink.{ChainLink}
-use Rattle.reduced_groups.specs.Groups.{AreKnown, ChainGroup, GroupShape, IsItemChoice, ItemGroup, Known, LateGroup, QuantityGroup, asked_besides, chain_levels, last_level, late_lots_in, lots_in, lower_level, made_cost}
+use Rattle.reduced_groups.specs.Groups.{AreKnown, ChainGroup, GroupShape, IsItemChoice, ItemGroup, Known, LateGroup, LateQuantityGroup, QuantityGroup, asked_besides, chain_levels, last_level, late_lots_in, lots_in, lower_level, made_cost, short_lots_in}
 use Rattle.reduced_groups.specs.Numbers.{AreNumbersOf, IsNumberOf, LacksChoice, SomeLacksChoice}
 use Rattle.reduced_groups.specs.Apart.{AreApart, IsGroupOf, IsItem, items_of, share_in}
 use Rattle.reduced_groups.specs.Laws.{AreAlike, AreSamePrices}
 use Rattle.reduced_groups.specs.Floors.{HasSmallPricesOf, HaveSmallPrices, IsWithinWork}
 use Rattle.reduced_groups.specs.Levels.{AreAlikeLevels, IsAlikeLevel}
 use Rattle.reduced_groups.proofs.AlikeLevels.{least_same, opening_same}
+use Rattle.reduced_groups.proofs.AlikeLots.{HaveSameChoices, HaveSamePrices, least_price_same, none_same}
 use Rattle.reduced_groups.proofs.LateLots.{least_late_same}
 
 -- lots that are the largest by totals that are the same
@@ -69,11 +69,20 @@ module _ (m : Problem) (a b : Known) (same : AreAlike m a b) where
     started = λ t low high. omega (arith, is.started t low high, same.start i item.0 item.1 t high);
   }
 
-  lots_same : (price other : Column → ℕ) (i : ℕ) (q : NetPlan) → IsItem m i → IsChoice (lots_in m a price i) q → IsChoice (lots_in m b other i) q
-  lots_same price other i q item is = record {
-    setup = is.setup;
-    lots = λ t low high. omega (arith, is.lots t low high, ap (λ k. k * q.setup t) (same.lot i t item.0 item.1 low high));
-    started = λ t low high. omega (arith, is.started t low high, same.start i item.0 item.1 t high);
+  lots_alike : (price other : Column → ℕ) (i : ℕ) → IsItem m i → HaveSameChoices (lots_in m a price i) (lots_in m b other i)
+  lots_alike price other i item = record {
+    periods = refl;
+    need = λ t low high. same.start i item.0 item.1 t high;
+    largest = λ t low high. same.lot i t item.0 item.1 low high;
+  }
+
+  short_alike : (price other : Column → ℕ) (i : ℕ) (shares : List ℕ) → IsItem m i → HaveSameChoices (short_lots_in m a price i shares) (short_lots_in m b other i shares)
+  short_alike price other i shares item = record {
+    periods = refl;
+    need = λ t low high.
+        ap (λ k. if nat_le (m.periods - (item_at m i).lead) t then k else a.start i t) (same.on_time i item.0 item.1 t high)
+        ∙ ap (λ k. if nat_le (m.periods - (item_at m i).lead) t then b.on_time i t else k) (same.start i item.0 item.1 t high);
+    largest = λ t low high. same.lot i t item.0 item.1 low high;
   }
 
   asked_same : (i next t : ℕ) → t ≤ m.periods → asked_besides m a.start i next t ≡ asked_besides m b.start i next t
@@ -89,7 +98,7 @@ module _ (m : Problem) (a b : Known) (same : AreAlike m a b) where
     lie = is.lie;
     charged = record {
       charge = is.charged.charge;
-      charges = agree m a.on_time b.on_time (λ i t. share_in shapes i) is.charged.charge (λ i t low high t_low t_high. same.on_time i low high t t_high) is.charged.charges;
+      charges = agree m a.on_time b.on_time (share_in shapes) is.charged.charge (λ i t low high t_low t_high. same.on_time i low high t t_high) is.charged.charges;
       within = λ j t has. omega (arith, is.charged.within j t has, prices j t has);
     };
   }
@@ -100,14 +109,30 @@ module _ (m : Problem) (a b : Known) (price other : Column → ℕ) (same : AreA
       sum_to-same m.periods (λ t. price (Y i t) * q.setup t + price (X i t) * q.make t) (λ t. other (Y i t) * q.setup t + other (X i t) * q.make t) (λ t low high.
       omega (arith, ap (λ k. k * q.setup t) (prices i t item.0 item.1 low high).1, ap (λ k. k * q.make t) (prices i t item.0 item.1 low high).0))
 
-  late_same : (i share : ℕ) → IsItem m i → AreSameLots (late_lots_in m a price i share) (late_lots_in m b other i share)
-  late_same i share item = record {
+  late_same : (i : ℕ) (shares : List ℕ) → IsItem m i → AreSameLots (late_lots_in m a price i shares) (late_lots_in m b other i shares)
+  late_same i shares item = record {
     periods = refl;
     settled = refl;
     setup = λ t low high. (prices i t item.0 item.1 low high).1;
     unit = λ t low high. (prices i t item.0 item.1 low high).0;
     share = λ t low high. refl;
     need = λ t low high. same.on_time i item.0 item.1 t high;
+  }
+
+  lots_priced : (i : ℕ) → IsItem m i → HaveSamePrices (lots_in m a price i) (lots_in m b other i)
+  lots_priced i item = record {
+    setup = λ t low high. (prices i t item.0 item.1 low high).1;
+    unit = λ t low high. (prices i t item.0 item.1 low high).0;
+    asked = λ t low high. refl;
+    share = λ t low high. refl;
+  }
+
+  short_priced : (i : ℕ) (shares : List ℕ) → IsItem m i → HaveSamePrices (short_lots_in m a price i shares) (short_lots_in m b other i shares)
+  short_priced i shares item = record {
+    setup = λ t low high. (prices i t item.0 item.1 low high).1;
+    unit = λ t low high. (prices i t item.0 item.1 low high).0;
+    asked = λ t low high. same.on_time i item.0 item.1 t high;
+    share = λ t low high. refl;
   }
 
   lower_same : (link : ChainLink) (next : ℕ) → IsItem m link.item → IsAlikeLevel m.periods (lower_level m a.start price link next) (lower_level m b.start other link next)
@@ -147,12 +172,15 @@ module _ (m : Problem) (a b : Known) (price other : Column → ℕ) (same : AreA
   all_small_same [] are small = tt
   all_small_same (i ∷ items) are small = (small_same i (All-head (IsItem m) i items are) small.0, all_small_same items (All-tail (IsItem m) i items are) small.1)
 
-  pub work_same : (s : GroupShape) → IsGroupOf m s → IsWithinWork m a.start price s → IsWithinWork m b.start other s
+  pub work_same : (s : GroupShape) → IsGroupOf m s → IsWithinWork m a.start a.on_time price s → IsWithinWork m b.start b.on_time other s
   work_same (ItemGroup i) here is = small_same i (All-head (IsItem m) i [] here.items) is
-  work_same (LateGroup i share) here is = small_same i (All-head (IsItem m) i [] here.items) is
+  work_same (LateGroup i shares) here is = small_same i (All-head (IsItem m) i [] here.items) is
   work_same (QuantityGroup i) here is =
       let item = All-head (IsItem m) i [] here.items in
       (small_same i item is.0, λ t low high. omega (arith, is.1 t low high, ap (λ n. m.periods * (n + 1)) (same.start i item.0 item.1 t high)))
+  work_same (LateQuantityGroup i shares) here is =
+      let item = All-head (IsItem m) i [] here.items in
+      (small_same i item is.0, λ t low high. omega (arith, is.1 t low high, ap (λ n. m.periods * (n + 1)) (same.on_time i item.0 item.1 t high)))
   work_same (ChainGroup low rest) here is = (
     all_small_same (low.item ∷ items_of rest) here.items is.0,
     is.1,
@@ -170,13 +198,13 @@ module _ (m : Problem) (a b : Known) (price other : Column → ℕ) (same : AreA
         some = let (q, choice, costs) = is.some in (q, item_same m a b same i q item choice, sym (cost_same m a b price other same prices i q item) ∙ costs);
         least = λ q choice. omega (arith, is.least q (item_same m b a back i q item choice), cost_same m a b price other same prices i q item);
       }
-  number_same (LateGroup i share) n here is = least_late_same (late_lots_in m a price i share) (late_lots_in m b other i share) (late_same m a b price other same prices i share (All-head (IsItem m) i [] here.items)) n is
+  number_same (LateGroup i shares) n here is = least_late_same (late_lots_in m a price i shares) (late_lots_in m b other i shares) (late_same m a b price other same prices i shares (All-head (IsItem m) i [] here.items)) n is
   number_same (QuantityGroup i) n here is =
       let item = All-head (IsItem m) i [] here.items in
-      record {
-        some = let (q, choice, costs) = is.some in (q, lots_same m a b same price other i q item choice, sym (cost_same m a b price other same prices i q item) ∙ costs);
-        least = λ q choice. omega (arith, is.least q (lots_same m b a back other price i q item choice), cost_same m a b price other same prices i q item);
-      }
+      least_price_same (lots_in m a price i) (lots_in m b other i) n (lots_alike m a b same price other i item) (lots_priced m a b price other same prices i item) is
+  number_same (LateQuantityGroup i shares) n here is =
+      let item = All-head (IsItem m) i [] here.items in
+      least_price_same (short_lots_in m a price i shares) (short_lots_in m b other i shares) n (short_alike m a b same price other i shares item) (short_priced m a b price other same prices i shares item) is
   number_same (ChainGroup low rest) n here is = record {
     cost = is.cost;
     least = least_same m.periods (chain_levels m a.start price low rest) (chain_levels m b.start other low rest) is.cost (levels_same m a b price other same prices low rest here.items) is.least;
@@ -192,8 +220,9 @@ module _ (m : Problem) (a b : Known) (price other : Column → ℕ) (same : AreA
 module _ (m : Problem) (a b : Known) (price other : Column → ℕ) (same : AreAlike m a b) where
   lacks_same : (s : GroupShape) → IsGroupOf m s → LacksChoice m a price s → LacksChoice m b other s
   lacks_same (ItemGroup i) here lacks = lacks
-  lacks_same (LateGroup i share) here lacks = lacks
-  lacks_same (QuantityGroup i) here lacks = λ q choice. lacks q (lots_same m b a (alike_turned m a b same) other price i q (All-head (IsItem m) i [] here.items) choice)
+  lacks_same (LateGroup i shares) here lacks = lacks
+  lacks_same (QuantityGroup i) here lacks = none_same (lots_in m a price i) (lots_in m b other i) (lots_alike m a b same price other i (All-head (IsItem m) i [] here.items)) lacks
+  lacks_same (LateQuantityGroup i shares) here lacks = none_same (short_lots_in m a price i shares) (short_lots_in m b other i shares) (short_alike m a b same price other i shares (All-head (IsItem m) i [] here.items)) lacks
   lacks_same (ChainGroup low rest) here lacks = lacks
 
   pub some_lacks_same : (shapes : List GroupShape) → All (IsGroupOf m) shapes → SomeLacksChoice m a price shapes → SomeLacksChoice m b other shapes

@@ -1,5 +1,5 @@
 -- Chains of levels that are the same in each period have the same least cost.
-use Rattle.std.proofs.Common.{◌≡◌, ◌≤◌, ◌+◌, ◌-◌, ◌*◌, ◌∙◌, ℕ, refl, sym, ap, arith, List, [], ◌∷◌}
+use Rattle.std.proofs.Common.{◌≡◌, ◌+◌, ◌-◌, ◌*◌, ◌∙◌, ℕ, refl, sym, ap, arith, List, [], ◌∷◌}
 use Rattle.lot_sizing.specs.Sums.{sum_to}
 use Rattle.lot_sizing.proofs.Sums.{sum_to-same}
 use Rattle.chain_dp.specs.Chains.{IsChainMade, IsLeastChainCost, IsMade, Level, Lots, chain_cost, lots_cost, made, opening_cost, used_by_next}

@@ -1,23 +1,23 @@
 -- A feasible plan makes the lots of a chain.
-use Rattle.std.proofs.Common.{◌≡◌, ◌≢◌, ◌≤◌, ◌<◌, ◌+◌, ◌-◌, ◌*◌, ◌∙◌, ◌⊎◌, ⊎_elim, inl, inr, ℕ, zero, suc, refl, sym, ap, arith, Bool, true, false, List, [], ◌∷◌}
+use Rattle.std.proofs.Common.{◌≡◌, ◌≤◌, ◌<◌, ◌+◌, ◌-◌, ◌*◌, ⊎_elim, ℕ, zero, suc, refl, sym, ap, arith, Bool, true, false, List, [], ◌∷◌}
 use Rattle.std.specs.Prelude.{if◌then◌else◌, ◌==◌, ◌&&◌, nat_lt, is_some, Option, Some, None, IsNone}
 use Rattle.std.specs.List.{All}
-use Rattle.std.proofs.lemmas.Bool.{cases_eq, cases_lt}
+use Rattle.std.proofs.lemmas.Bool.{cases_eq}
 use Rattle.std.proofs.lemmas.List.Elements.{All-head, All-tail}
 use Rattle.std.proofs.Math.Nat.{mul-le-mul_left}
 use Rattle.lot_sizing.specs.Sums.{sum_to}
 use Rattle.lot_sizing.specs.Problem.{Problem, demand, item_at, item_count, per_unit}
 use Rattle.lot_sizing.specs.Bill.{one_if_same}
-use Rattle.lot_sizing.specs.Net.{asked_of, asked_to, choice}
+use Rattle.lot_sizing.specs.Net.{choice}
 use Rattle.lot_sizing.specs.Plan.{Plan, IsFeasible, Table}
 use Rattle.lot_sizing.proofs.Sums.{sum_to-add, sum_to-front, sum_to-le, sum_to-same, sum_to-zero}
 use Rattle.lin_rows.specs.declared.column.Column.{Column}
 use Rattle.lin_rows.specs.declared.column.Column.TheVariants.{X, Y}
-use Rattle.must_start.specs.MustStart.{AllHaveStarted, AreMustStart, may_be_late, must_arrive, taken_by_others, with_made}
+use Rattle.must_start.specs.MustStart.{AreMustStart, may_be_late, must_arrive, taken_by_others, with_made}
 use Rattle.must_start.proofs.Starts.{end_later}
-use Rattle.chain_dp.specs.Chains.{IsChainMade, IsMade, Level, Lots, chain_cost, lots_cost, made, used_by_next}
+use Rattle.chain_dp.specs.Chains.{IsChainMade, Lots, chain_cost, made, used_by_next}
 use Rattle.item_groups.specs.declared.group.ChainLink.{ChainLink}
-use Rattle.reduced_groups.specs.Groups.{asked_besides, chain_levels, last_level, lower_level, made_cost, stocks_worth}
+use Rattle.reduced_groups.specs.Groups.{asked_besides, chain_levels, lower_level, made_cost, stocks_worth}
 use Rattle.reduced_groups.specs.Apart.{AreLinked, IsItem, items_of}
 use Rattle.reduced_groups.proofs.Items.{one_term, over}
 

@@ -1,42 +1,31 @@
 -- The numbers that the recursions find.
-use Rattle.std.proofs.Common.{◌≡◌, ◌≤◌, ◌<◌, ◌+◌, ◌-◌, ◌*◌, ◌∙◌, ⊎_elim, ℕ, zero, suc, refl, sym, ap, subst, arith, List, [], ◌∷◌, ◌++◌}
-use Rattle.std.specs.Prelude.{length, min, Option, Some, None}
+use Rattle.std.proofs.Common.{◌≡◌, ◌≤◌, ◌+◌, ◌-◌, ◌*◌, ◌∙◌, ⊎_elim, ℕ, zero, suc, refl, sym, ap, subst, arith, List, [], ◌∷◌}
+use Rattle.std.specs.Prelude.{min}
 use Rattle.std.proofs.lemmas.Bool.{cases_lt}
 use Rattle.std.proofs.lemmas.List.Elements.{All-cons, All-nil}
-use Rattle.std.proofs.lemmas.List.{length_push, get_or_append_left, get_or_push}
 use Rattle.std.proofs.lemmas.Nat.{mul-le}
 use Rattle.lot_sizing.specs.Sums.{sum_to}
 use Rattle.lot_sizing.specs.Problem.{Problem, item_count}
 use Rattle.lot_sizing.specs.Plan.{Table}
 use Rattle.lot_sizing.specs.Single.{NetPlan}
 use Rattle.lot_sizing.specs.Totals.{IsRanking}
-use Rattle.lot_sizing.specs.declared.limits.TheConstants.{MAX_PERIODS, MAX_TOTAL}
-use Rattle.lot_sizing.proofs.Sums.{sum_to-same}
+use Rattle.lot_sizing.specs.declared.limits.TheConstants.{MAX_TOTAL}
 use Rattle.lin_rows.specs.declared.column.Column.{Column}
 use Rattle.lin_rows.specs.declared.column.Column.TheVariants.{X, Y}
 use Rattle.must_start.specs.MustStart.{AreMustStart, MustStartIsOne, MustStartRises}
-use Rattle.must_start.specs.Lots.{IsLargestLotOf, LotsAreOne}
-use Rattle.must_start.specs.Rows.{IsMustStartOf, row_in, start_in}
+use Rattle.must_start.specs.Rows.{IsMustStartOf, start_in}
 use Rattle.quantity_dp.specs.declared.limits.TheConstants.{MAX_PRICE}
-use Rattle.quantity_dp.specs.declared.lots.LotPeriod.{LotPeriod}
-use Rattle.quantity_dp.specs.declared.limits.LotsFault.{LotsFault}
-use Rattle.quantity_dp.specs.declared.limits.LotsFault.TheVariants.{Need, Periods, Price}
-use Rattle.quantity_dp.specs.Limits.{IsFaultOf}
-use Rattle.quantity_dp.specs.Lots.{IsChoice, IsLeastOrNone, lot_at, lots_of, no_lot, price_at}
 use Rattle.chain_dp.specs.declared.error.ChainError.{ChainError}
 use Rattle.chain_dp.specs.declared.error.ChainError.TheVariants.{Memory, TooDear}
 use Rattle.chain_dp.specs.Chains.{IsChainMade, IsLeastChainCost, Level, Lots, chain_cost, made, opening_cost}
 use Rattle.chain_dp.specs.Numbers.{IsCapped, most}
 use Rattle.chain_dp.specs.Stocks.{NoStocks, StocksAreUnused}
 use Rattle.item_groups.specs.declared.group.ChainLink.{ChainLink}
-use Rattle.reduced_groups.specs.declared.floors.Floor.{Floor}
-use Rattle.reduced_groups.specs.declared.floors.Floor.TheVariants.{Least, NoChoice}
-use Rattle.reduced_groups.specs.Groups.{AreKnown, ChainGroup, GroupShape, IsItemChoice, ItemGroup, Known, QuantityGroup, chain_levels, last_level, lots_in, made_cost, stocks_worth}
-use Rattle.reduced_groups.specs.Numbers.{IsChainFloor, IsLeastItem, IsNumberOf, LacksChoice}
+use Rattle.reduced_groups.specs.Groups.{AreKnown, ChainGroup, IsItemChoice, ItemGroup, Known, chain_levels, last_level, made_cost, stocks_worth}
+use Rattle.reduced_groups.specs.Numbers.{IsChainFloor, IsLeastItem, IsNumberOf}
 use Rattle.reduced_groups.specs.Apart.{IsGroupOf, IsItem}
 use Rattle.reduced_groups.specs.Laws.{AreAlike}
-use Rattle.reduced_groups.specs.Prices.{AreSmall, ArePricesFor, PriceLists, price_in}
-use Rattle.reduced_groups.specs.Floors.{AreLotsFor, HasManyEntries, IsFloorFrom, IsFloorOf, WhateverIsKnown}
+use Rattle.reduced_groups.specs.Floors.{WhateverIsKnown}
 use Rattle.reduced_groups.specs.Levels.{AreAlikeLevels, IsAlikeLevel}
 use Rattle.reduced_groups.proofs.AlikeLevels.{least_same, opening_same}
 use Rattle.reduced_groups.proofs.Alike.{number_same}
@@ -119,84 +108,10 @@ module _ (m : Problem) (rank : ℕ → ℕ) (start : Table) (price : Column → 
       same i low high (suc t) t_high = one m rank start known.start ranks are is.start i (suc t) low high (omega arith) t_high
 
   pub item_known : (i a : ℕ) → IsItem m i → IsLeastItem m start price i a → WhateverIsKnown m (λ known. IsNumberOf m known price (ItemGroup i) a)
-  item_known i a item least = λ total known totals is. number_same m (with_start known) known price price (alike total known is) (λ j t low high t_low t_high. (refl, refl)) (ItemGroup i) a (record { items = All-cons (IsItem m) i [] item (All-nil (IsItem m)); linked = tt }) least
+  item_known i a item least = λ total known totals is. number_same m (with_start known) known price price (alike total known is) (λ j t low high t_low t_high. (refl, refl)) (ItemGroup i) a (record { items = All-cons (IsItem m) i [] item (All-nil (IsItem m)); linked = tt; shared = tt }) least
 
   pub chain_known : (low : ChainLink) (rest : List ChainLink) (a : ℕ) → IsGroupOf m (ChainGroup low rest) → IsChainFloor m start price low rest a → WhateverIsKnown m (λ known. IsNumberOf m known price (ChainGroup low rest) a)
   chain_known low rest a group floor = λ total known totals is. number_same m (with_start known) known price price (alike total known is) (λ j t j_low j_high t_low t_high. (refl, refl)) (ChainGroup low rest) a group floor
-
--- what is found, whatever is known
-abbrev pub IsFloorIn : Problem → Known → (Column → ℕ) → GroupShape → Floor → Type 0
-IsFloorIn m known price s (Least amount) = IsNumberOf m known price s amount
-IsFloorIn m known price s NoChoice = LacksChoice m known price s
-
-known_floor : (m : Problem) (prices : PriceLists) (s : GroupShape) (floor : Floor) → WhateverIsKnown m (λ known. IsFloorIn m known (price_in prices) s floor) → IsFloorOf m prices s floor
-known_floor m prices s (Least amount) all = all
-known_floor m prices s NoChoice all = all
-
--- WHOLE QUANTITIES
-
--- lots that are those of an item, whatever is known
-pub record AreSameLots (m : Problem) (known : Known) (price : Column → ℕ) (i : ℕ) (lots : List LotPeriod) : Type 0 where
-  pub size : length lots ≡ m.periods
-  pub setup : (t : ℕ) → 1 ≤ t → t ≤ m.periods → (lot_at lots t).setup ≡ price (Y i t)
-  pub unit : (t : ℕ) → 1 ≤ t → t ≤ m.periods → (lot_at lots t).unit ≡ price (X i t)
-  pub need : (t : ℕ) → 1 ≤ t → t ≤ m.periods → (lot_at lots t).need ≡ known.start i t
-  pub largest : (t : ℕ) → 1 ≤ t → t ≤ m.periods → (lot_at lots t).largest ≡ known.lot i t
-
--- the lots that a recursion is given are those of the item
-lots_choice : (m : Problem) (known : Known) (price : Column → ℕ) (i : ℕ) (lots : List LotPeriod) → AreSameLots m known price i lots → (q : NetPlan) → IsChoice (lots_of lots) q → IsChoice (lots_in m known price i) q
-lots_choice m known price i lots same q is = record {
-  setup = λ t low high. is.setup t low (omega (arith, high, same.size));
-  lots = λ t low high. omega (arith, is.lots t low (omega (arith, high, same.size)), ap (λ k. k * q.setup t) (same.largest t low high));
-  started = λ t low high. omega (arith, is.started t low (omega (arith, high, same.size)), same.need t low high);
-}
-
-choice_lots : (m : Problem) (known : Known) (price : Column → ℕ) (i : ℕ) (lots : List LotPeriod) → AreSameLots m known price i lots → (q : NetPlan) → IsChoice (lots_in m known price i) q → IsChoice (lots_of lots) q
-choice_lots m known price i lots same q is = record {
-  setup = λ t low high. is.setup t low (omega (arith, high, same.size));
-  lots = λ t low high. let h : t ≤ m.periods = omega (arith, high, same.size) in omega (arith, is.lots t low h, ap (λ k. k * q.setup t) (same.largest t low h));
-  started = λ t low high. let h : t ≤ m.periods = omega (arith, high, same.size) in omega (arith, is.started t low h, same.need t low h);
-}
-
-lots_price : (m : Problem) (known : Known) (price : Column → ℕ) (i : ℕ) (lots : List LotPeriod) → AreSameLots m known price i lots → (q : NetPlan) → sum_to (length lots) (price_at (lots_of lots) q) ≡ made_cost m price i q
-lots_price m known price i lots same q =
-    ap (λ n. sum_to n (price_at (lots_of lots) q)) same.size
-    ∙ sum_to-same m.periods (price_at (lots_of lots) q) (λ t. price (Y i t) * q.setup t + price (X i t) * q.make t) (λ t low high. omega (arith, ap (λ k. k * q.setup t) (same.setup t low high), ap (λ k. k * q.make t) (same.unit t low high)))
-
-lots_known : (m : Problem) (known : Known) (price : Column → ℕ) (i : ℕ) (lots : List LotPeriod) (least : Option ℕ) (floor : Floor) → AreSameLots m known price i lots → IsLeastOrNone (lots_of lots) least → IsFloorFrom least floor → IsFloorIn m known price (QuantityGroup i) floor
-lots_known m known price i lots None floor same none from = subst (IsFloorIn m known price (QuantityGroup i)) (sym from) (λ q choice. none q (choice_lots m known price i lots same q choice))
-lots_known m known price i lots (Some a) floor same least from =
-    subst (IsFloorIn m known price (QuantityGroup i)) (sym from)
-    (record {
-      some = let (q, choice, costs) = least.some in (q, lots_choice m known price i lots same q choice, sym (lots_price m known price i lots same q) ∙ costs);
-      least = λ q choice. omega (arith, least.least q (choice_lots m known price i lots same q choice), lots_price m known price i lots same q);
-    })
-
-pub quantities_known : (m : Problem) (rank : ℕ → ℕ) (start : Table) (prices : PriceLists) (i : ℕ) (lots : List LotPeriod) (least : Option ℕ) (floor : Floor) → MustStartIsOne → LotsAreOne → IsRanking m rank → AreMustStart m start → IsItem m i → AreLotsFor m start (price_in prices) i m.periods lots → IsLeastOrNone (lots_of lots) least → IsFloorFrom least floor → IsFloorOf m prices (QuantityGroup i) floor
-quantities_known m rank start prices i lots least floor one lot_one ranks are item lots_are is from =
-    known_floor m prices (QuantityGroup i) floor (λ total known totals known_are.
-    lots_known m known (price_in prices) i lots least floor
-    (record {
-      size = lots_are.size;
-      setup = lots_are.setup;
-      unit = lots_are.unit;
-      need = λ t low high. lots_are.need t low high ∙ one m rank start known.start ranks are known_are.start i t item.0 item.1 low high;
-      largest = λ t low high. lot_one m total i t (lot_at lots t).largest (known.lot i t) (lots_are.largest t low high total totals) (known_are.lot i t item.0 item.1 low high);
-    })
-    is from)
-
--- past the limits there are too many entries
-pub entries_fault : (m : Problem) (start : Table) (prices : PriceLists) (i : ℕ) (lots : List LotPeriod) (fault : LotsFault) → m.periods ≤ MAX_PERIODS → IsItem m i → ArePricesFor m prices → AreSmall (row_in prices.setups i) → AreSmall (row_in prices.units i) → AreLotsFor m start (price_in prices) i m.periods lots → IsFaultOf lots fault → HasManyEntries m start (QuantityGroup i)
-entries_fault m start prices i lots Periods few item sizes setups units are is = absurd (omega (arith, few, is, are.size))
-entries_fault m start prices i lots (Price t) few item sizes setups units are is =
-    let high : t ≤ m.periods = omega (arith, (is.0).high, are.size) in
-    absurd (is.1 (record {
-      setup = omega (arith, are.setup t (is.0).low high, setups t (is.0).low (omega (arith, high, (sizes.rows i item.0 item.1).0)));
-      unit = omega (arith, are.unit t (is.0).low high, units t (is.0).low (omega (arith, high, (sizes.rows i item.0 item.1).1)));
-    }))
-entries_fault m start prices i lots (Need t) few item sizes setups units are is =
-    let high : t ≤ m.periods = omega (arith, (is.0).high, are.size) in
-    (t, (is.0).low, high, omega (arith, is.2, ap (λ n. n * ((lot_at lots t).need + 1)) are.size, ap (λ n. m.periods * (n + 1)) (are.need t (is.0).low high)))
 
 -- CHAINS
 
@@ -253,37 +168,6 @@ item_found m rows price link k n cost size rises unused are item dear same least
     let start = start_in rows in
     item_least m start price link (are.starts.none link.item item.0 item.1) (λ t t_low t_high. rises m start are.starts link.item t item.0 item.1 t_low t_high) unused dear cost
     (least_same m.periods (k ∷ []) (last_level m start price link ∷ []) cost (same, tt) (subst (λ j. IsLeastChainCost j (k ∷ []) cost) size least))
-
--- LISTS OF LOTS
-
--- the lots of the next period
-pub lots_next : (m : Problem) (start : Table) (price : Column → ℕ) (i n k : ℕ) (x : LotPeriod) (xs : List LotPeriod) → k ≡ n + 1 → AreLotsFor m start price i n xs → x.setup ≡ price (Y i k) → x.unit ≡ price (X i k) → x.need ≡ start i k → IsLargestLotOf m i k x.largest → AreLotsFor m start price i k (xs ++ x ∷ [])
-lots_next m start price i n k x xs next has setup unit need largest =
-    let old = λ (t : ℕ) (low : 1 ≤ t) (before : t < k). get_or_append_left xs (x ∷ []) no_lot (t - 1) (omega (arith, before, low, has.size, next)) in
-    let new = λ (t : ℕ) (low : 1 ≤ t) (e : t ≡ k). get_or_push xs x no_lot (t - 1) (omega (arith, e, low, has.size, next)) in
-    let last = λ (t : ℕ) (high : t ≤ k) (after : k ≤ t). omega_same t k high after in
-    record {
-      size = omega (arith, length_push xs x, has.size, next);
-      setup = λ t low high. ⊎_elim
-          (λ before. ap (λ l. l.setup) (old t low before) ∙ has.setup t low (omega (arith, before, next)))
-          (λ after. ap (λ l. l.setup) (new t low (last t high after)) ∙ setup ∙ ap (λ u. price (Y i u)) (sym (last t high after)))
-          (cases_lt t k);
-      unit = λ t low high. ⊎_elim
-          (λ before. ap (λ l. l.unit) (old t low before) ∙ has.unit t low (omega (arith, before, next)))
-          (λ after. ap (λ l. l.unit) (new t low (last t high after)) ∙ unit ∙ ap (λ u. price (X i u)) (sym (last t high after)))
-          (cases_lt t k);
-      need = λ t low high. ⊎_elim
-          (λ before. ap (λ l. l.need) (old t low before) ∙ has.need t low (omega (arith, before, next)))
-          (λ after. ap (λ l. l.need) (new t low (last t high after)) ∙ need ∙ ap (start i) (sym (last t high after)))
-          (cases_lt t k);
-      largest = λ t low high. ⊎_elim
-          (λ before. subst (IsLargestLotOf m i t) (sym (ap (λ l. l.largest) (old t low before))) (has.largest t low (omega (arith, before, next))))
-          (λ after. subst (IsLargestLotOf m i t) (sym (ap (λ l. l.largest) (new t low (last t high after)))) (subst (λ u. IsLargestLotOf m i u x.largest) (sym (last t high after)) largest))
-          (cases_lt t k);
-    }
-  where
-    omega_same : (t k : ℕ) → t ≤ k → k ≤ t → t ≡ k
-    omega_same t k high after = omega (arith, high, after)
 
 -- levels that are the same are too dear together
 pub too_dear_same : (periods n : ℕ) (ks ls : List Level) → n ≡ periods → AreAlikeLevels periods ks ls → most ≤ opening_cost n ks → most ≤ opening_cost periods ls

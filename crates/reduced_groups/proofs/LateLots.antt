@@ -96,19 +96,19 @@ lot_same x y setup unit share need =
     ∙ ap (λ k. lot y.setup y.unit y.share k) need
 
 -- the late lots of the next period
-pub late_lots_next : (start : Table) (price : Column → ℕ) (i share n k : ℕ) (x : LateLot) (xs : List LateLot) → k ≡ n + 1 → AreLateLotsFor start price i share n xs → x ≡ late_lot start price i share k → AreLateLotsFor start price i share k (xs ++ x ∷ [])
-late_lots_next start price i share n k x xs next has is = record {
+pub late_lots_next : (start : Table) (price : Column → ℕ) (i : ℕ) (shares : List ℕ) (n k : ℕ) (x : LateLot) (xs : List LateLot) → k ≡ n + 1 → AreLateLotsFor start price i shares n xs → x ≡ late_lot start price i shares k → AreLateLotsFor start price i shares k (xs ++ x ∷ [])
+late_lots_next start price i shares n k x xs next has is = record {
   size = omega (arith, length_push xs x, has.size, next);
   each = λ t low high. ⊎_elim
       (λ before. get_or_append_left xs (x ∷ []) no_lot (t - 1) (omega (arith, before, low, has.size, next)) ∙ has.each t low (omega (arith, before, next)))
-      (λ last. let e : t ≡ k = omega (arith, last, high) in get_or_push xs x no_lot (t - 1) (omega (arith, e, low, has.size, next)) ∙ is ∙ ap (late_lot start price i share) (sym e))
+      (λ last. let e : t ≡ k = omega (arith, last, high) in get_or_push xs x no_lot (t - 1) (omega (arith, e, low, has.size, next)) ∙ is ∙ ap (late_lot start price i shares) (sym e))
       (cases_lt t k);
 }
 
-pub late_lots_none : (start : Table) (price : Column → ℕ) (i share : ℕ) (xs : List LateLot) → xs ≡ [] → AreLateLotsFor start price i share 0 xs
-late_lots_none start price i share xs none = record { size = ap length none; each = λ t low high. absurd (omega (arith, low, high)) }
+pub late_lots_none : (start : Table) (price : Column → ℕ) (i : ℕ) (shares : List ℕ) (xs : List LateLot) → xs ≡ [] → AreLateLotsFor start price i shares 0 xs
+late_lots_none start price i shares xs none = record { size = ap length none; each = λ t low high. absurd (omega (arith, low, high)) }
 
-module _ (m : Problem) (rank : ℕ → ℕ) (ranks : IsRanking m rank) (rows : List (List ℕ)) (is : IsOnTimeOf m rows) (price : Column → ℕ) (i share : ℕ) (item : IsItem m i) (lots : List LateLot) (are : AreLateLotsFor (start_in rows) price i share m.periods lots) where
+module _ (m : Problem) (rank : ℕ → ℕ) (ranks : IsRanking m rank) (rows : List (List ℕ)) (is : IsOnTimeOf m rows) (price : Column → ℕ) (i : ℕ) (shares : List ℕ) (item : IsItem m i) (lots : List LateLot) (are : AreLateLotsFor (start_in rows) price i shares m.periods lots) where
   need_is : (t : ℕ) → 1 ≤ t → t ≤ m.periods → (lot_at lots t).need ≡ start_in rows i t
   need_is t low high = ap (λ x. x.need) (are.each t low high)
 
@@ -123,9 +123,9 @@ module _ (m : Problem) (rank : ℕ → ℕ) (ranks : IsRanking m rank) (rows : L
       )
 
   -- whatever is known of the problem, what is on time is one number
-  pub late_known : (until c : ℕ) → m.periods ≤ MAX_PERIODS → OnTimeIsOne → HasSmallPricesOf m price i → until ≡ m.periods - (item_at m i).lead → IsLeastUpTo (late_lots_of lots until) (2 ^ 128 - 1) c → WhateverIsKnown m (λ known. IsNumberOf m known price (LateGroup i share) c)
+  pub late_known : (until c : ℕ) → m.periods ≤ MAX_PERIODS → OnTimeIsOne → HasSmallPricesOf m price i → until ≡ m.periods - (item_at m i).lead → IsLeastUpTo (late_lots_of lots until) (2 ^ 128 - 1) c → WhateverIsKnown m (λ known. IsNumberOf m known price (LateGroup i shares) c)
   late_known until c few one small settled least = λ total known totals known_are.
-      least_late_same (late_lots_of lots until) (late_lots_in m known price i share)
+      least_late_same (late_lots_of lots until) (late_lots_in m known price i shares)
       (record {
         periods = are.size;
         settled = settled;

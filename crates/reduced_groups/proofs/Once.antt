@@ -1,8 +1,8 @@
 -- A group has one number.
-use Rattle.std.proofs.Common.{◌≡◌, ◌≤◌, ◌-◌, ◌∙◌, ⊎_elim, ℕ, refl, sym, ap, arith, List, [], ◌∷◌}
+use Rattle.std.proofs.Common.{◌≡◌, ◌-◌, ◌∙◌, ⊎_elim, ℕ, refl, sym, ap, arith, List, [], ◌∷◌}
 use Rattle.lot_sizing.specs.Problem.{Problem}
 use Rattle.lin_rows.specs.declared.column.Column.{Column}
-use Rattle.reduced_groups.specs.Groups.{ChainGroup, GroupShape, ItemGroup, Known, LateGroup, QuantityGroup, chain_levels, stocks_worth}
+use Rattle.reduced_groups.specs.Groups.{ChainGroup, GroupShape, ItemGroup, Known, LateGroup, LateQuantityGroup, QuantityGroup, chain_levels, stocks_worth}
 use Rattle.reduced_groups.specs.Numbers.{AreNumbersOf, IsNumberOf, LacksChoice, SomeLacksChoice}
 use Rattle.reduced_groups.proofs.AlikeLevels.{one_least}
 
@@ -12,11 +12,15 @@ module _ (m : Problem) (known : Known) (price : Column → ℕ) where
       let (qa, choice_a, cost_a) = is_a.some in
       let (qb, choice_b, cost_b) = is_b.some in
       omega (arith, is_a.least qb choice_b, cost_b, is_b.least qa choice_a, cost_a)
-  one_number (LateGroup i share) a b is_a is_b =
+  one_number (LateGroup i shares) a b is_a is_b =
       let (qa, short_a, choice_a, cost_a) = is_a.some in
       let (qb, short_b, choice_b, cost_b) = is_b.some in
       omega (arith, is_a.least qb short_b choice_b, cost_b, is_b.least qa short_a choice_a, cost_a)
   one_number (QuantityGroup i) a b is_a is_b =
+      let (qa, choice_a, cost_a) = is_a.some in
+      let (qb, choice_b, cost_b) = is_b.some in
+      omega (arith, is_a.least qb choice_b, cost_b, is_b.least qa choice_a, cost_a)
+  one_number (LateQuantityGroup i shares) a b is_a is_b =
       let (qa, choice_a, cost_a) = is_a.some in
       let (qb, choice_b, cost_b) = is_b.some in
       omega (arith, is_a.least qb choice_b, cost_b, is_b.least qa choice_a, cost_a)
@@ -33,8 +37,9 @@ module _ (m : Problem) (known : Known) (price : Column → ℕ) where
 
   number_lacks : (s : GroupShape) (a : ℕ) → IsNumberOf m known price s a → LacksChoice m known price s → ⊥
   number_lacks (ItemGroup i) a is lacks = lacks
-  number_lacks (LateGroup i share) a is lacks = lacks
+  number_lacks (LateGroup i shares) a is lacks = lacks
   number_lacks (QuantityGroup i) a is lacks = let (q, choice, costs) = is.some in lacks q choice
+  number_lacks (LateQuantityGroup i shares) a is lacks = let (q, choice, costs) = is.some in lacks q choice
   number_lacks (ChainGroup low rest) a is lacks = lacks
 
   pub numbers_lack : (shapes : List GroupShape) (amounts : List ℕ) → AreNumbersOf m known price shapes amounts → SomeLacksChoice m known price shapes → ⊥

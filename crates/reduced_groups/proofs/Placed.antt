@@ -6,11 +6,10 @@ use Rattle.std.proofs.lemmas.Bool.{cases_lt}
 use Rattle.std.proofs.lemmas.List.{get_or_default, take_more}
 use Rattle.std.proofs.lemmas.List.Elements.{All-append, All-cons, All-head, All-nil, All-tail}
 use Rattle.lot_sizing.specs.Problem.{Problem, item_count}
-use Rattle.item_groups.specs.declared.group.ChainLink.{ChainLink}
 use Rattle.item_groups.specs.declared.group.Group.{Group}
-use Rattle.reduced_groups.specs.Groups.{ChainGroup, GroupShape, ItemGroup, LateGroup, QuantityGroup}
+use Rattle.reduced_groups.specs.Groups.{GroupShape}
 use Rattle.reduced_groups.specs.Apart.{IsGroupOf, IsItem, LieApart, items_in, times_in, times_of}
-use Rattle.reduced_groups.specs.Floors.{AreGroupsOf, AreOnceTo, GoesInto, no_group, shape_of}
+use Rattle.reduced_groups.specs.Floors.{AreGroupsOf, AreOnceTo, no_group, shape_of}
 use Rattle.reduced_groups.proofs.Items.{other_none}
 
 -- an item that the problem hasn't is in no place
@@ -34,28 +33,6 @@ lie_apart m shapes are once = record {
       (cases_lt (item_count m) i))
       (λ none. omega (arith, none_in m shapes i are (λ item. omega (arith, item.0, none))))
       (cases_lt 0 i);
-}
-
--- a group of one item, late or not, of a pair and of three
-pub one_group : (m : Problem) (i : ℕ) → IsItem m i → IsGroupOf m (ItemGroup i)
-one_group m i item = record { items = All-cons (IsItem m) i [] item (All-nil (IsItem m)); linked = tt }
-
-pub late_group : (m : Problem) (i share : ℕ) → IsItem m i → IsGroupOf m (LateGroup i share)
-late_group m i share item = record { items = All-cons (IsItem m) i [] item (All-nil (IsItem m)); linked = tt }
-
-pub quantity_group : (m : Problem) (i : ℕ) → IsItem m i → IsGroupOf m (QuantityGroup i)
-quantity_group m i item = record { items = All-cons (IsItem m) i [] item (All-nil (IsItem m)); linked = tt }
-
-pub pair_group : (m : Problem) (low top : ChainLink) → IsItem m low.item → IsItem m top.item → GoesInto m low.item top.item → IsGroupOf m (ChainGroup low (top ∷ []))
-pair_group m low top here next goes = record {
-  items = All-cons (IsItem m) low.item (top.item ∷ []) here (All-cons (IsItem m) top.item [] next (All-nil (IsItem m)));
-  linked = (goes.0, goes.1, tt);
-}
-
-pub triple_group : (m : Problem) (low mid top : ChainLink) → IsItem m low.item → IsItem m mid.item → IsItem m top.item → GoesInto m low.item mid.item → GoesInto m mid.item top.item → IsGroupOf m (ChainGroup low (mid ∷ (top ∷ [])))
-triple_group m low mid top here next last goes on = record {
-  items = All-cons (IsItem m) low.item (mid.item ∷ (top.item ∷ [])) here (All-cons (IsItem m) mid.item (top.item ∷ []) next (All-cons (IsItem m) top.item [] last (All-nil (IsItem m))));
-  linked = (goes.0, goes.1, (on.0, on.1, tt));
 }
 
 pub first_item : (m : Problem) (i : ℕ) (rest : List ℕ) → All (IsItem m) (i ∷ rest) → IsItem m i

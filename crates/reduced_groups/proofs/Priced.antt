@@ -1,5 +1,5 @@
 -- All columns of a plan at their reduced costs, as one more row.
-use Rattle.std.proofs.Common.{◌≡◌, ◌≢◌, ◌≤◌, ◌<◌, ◌+◌, ◌*◌, ◌∙◌, ◌⊎◌, ⊎_elim, inl, inr, ℕ, zero, suc, refl, sym, ap, subst, arith, Bool, true, false, List, [], ◌∷◌}
+use Rattle.std.proofs.Common.{◌≡◌, ◌≢◌, ◌≤◌, ◌<◌, ◌*◌, ◌∙◌, ◌⊎◌, ⊎_elim, inl, inr, ℕ, zero, suc, refl, sym, ap, subst, arith, Bool, true, false, List, [], ◌∷◌}
 use Rattle.std.specs.Prelude.{if◌then◌else◌, ◌&&◌, is_some, nat_le, nat_lt, ℤ, pos, ◌+ℤ◌, ◌*ℤ◌, ◌≤ℤ◌}
 use Rattle.std.specs.List.{All}
 use Rattle.std.proofs.lemmas.Bool.{cases_eq, cases_lt}
@@ -15,7 +15,7 @@ use Rattle.lin_rows.specs.declared.row.Term.{Term}
 use Rattle.lin_rows.specs.Base.{is_owing, owing_terms, term, terms_to}
 use Rattle.lin_rows.specs.Columns.{IsCell, IsColumn, value_in}
 use Rattle.lin_rows.specs.Combining.{AllHold, AreOfProblem, AreSigned, SumsBoundPlans, right_sum}
-use Rattle.lin_rows.specs.Rows.{LinRow, Values, sum_at, whole_point}
+use Rattle.lin_rows.specs.Rows.{LinRow, sum_at, whole_point}
 use Rattle.lin_rows.specs.Sums.{coefficient, item_of, kind_of, period_of, same_column}
 use Rattle.lin_rows.proofs.Below.{coefficient_append, one_by_parts}
 use Rattle.lin_rows.proofs.Cells.{same_parts, true_or_false}

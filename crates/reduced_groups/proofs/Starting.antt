@@ -1,17 +1,16 @@
 -- What must have been started, as a table: sums over it fit, and lists of differences.
-use Rattle.std.proofs.Common.{◌≡◌, ◌≤◌, ◌<◌, ◌+◌, ◌-◌, ◌*◌, ◌∙◌, ⊎_elim, ℕ, zero, suc, refl, sym, ap, subst, arith, Bool, true, false, List, [], ◌∷◌, ◌++◌, length, slice_index_or}
+use Rattle.std.proofs.Common.{◌≡◌, ◌≤◌, ◌+◌, ◌-◌, ◌*◌, ◌∙◌, ⊎_elim, ℕ, zero, suc, sym, ap, arith, Bool, true, false, List, [], ◌∷◌, ◌++◌, length}
 use Rattle.std.specs.Prelude.{if◌then◌else◌, ◌==◌}
 use Rattle.std.proofs.lemmas.Bool.{cases_lt}
 use Rattle.std.proofs.lemmas.List.{length_push, get_or_push, get_or_append_left}
 use Rattle.std.proofs.Math.Nat.{mul-le-mul_left}
 use Rattle.lot_sizing.specs.Sums.{sum_to}
-use Rattle.lot_sizing.specs.Problem.{Problem, demand, entry, item_at, item_count, per_unit}
-use Rattle.lot_sizing.specs.Net.{asked_of, asked_to}
+use Rattle.lot_sizing.specs.Problem.{Problem, demand, item_count, per_unit}
 use Rattle.lot_sizing.specs.Totals.{AreLargestTotals}
 use Rattle.lot_sizing.specs.declared.limits.TheConstants.{MAX_AMOUNT, MAX_TOTAL}
 use Rattle.lot_sizing.proofs.Sums.{sum_to-le, sum_to_at}
 use Rattle.lot_model.specs.Views.{IsInstance}
-use Rattle.must_start.specs.MustStart.{StartIsWithinTotals, taken_by_others}
+use Rattle.must_start.specs.MustStart.{StartIsWithinTotals}
 use Rattle.must_start.specs.Rows.{IsMustStartOf, start_in}
 use Rattle.must_start.specs.Steps.{IsTable}
 use Rattle.must_start.proofs.Tables.{arrivals_small, taken_small}

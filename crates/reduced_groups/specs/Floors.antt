@@ -1,5 +1,5 @@
 -- What is found of a group.
-use Rattle.std.specs.Prelude.{◌≡◌, ◌≢◌, ◌⊎◌, ℕ, ◌+◌, ◌-◌, ◌*◌, ◌≤◌, ◌<◌, IsNone, List, [], ◌∷◌, length, map, slice_index_or, take, Option, Some, None, ⊤}
+use Rattle.std.specs.Prelude.{◌≡◌, ◌≢◌, ◌⊎◌, ℕ, ◌+◌, ◌-◌, ◌*◌, ◌≤◌, ◌<◌, IsNone, List, [], ◌∷◌, length, map, slice_index_or, take, if◌then◌else◌, nat_le, ⊤}
 use Rattle.std.specs.List.{All}
 use Rattle.lot_sizing.specs.Problem.{Problem, entry, item_at, item_count, per_unit}
 use Rattle.lot_sizing.specs.Plan.{Table}
@@ -11,7 +11,9 @@ use Rattle.must_start.specs.Rows.{row_in}
 use Rattle.late_starts.specs.declared.lots.LateLot.{LateLot}
 use Rattle.late_starts.specs.Pricing as late
 use Rattle.quantity_dp.specs.declared.lots.LotPeriod.{LotPeriod}
-use Rattle.quantity_dp.specs.Lots.{lot_at}
+use Rattle.quantity_dp.specs.Lots.{HasNoChoice, IsLeastPrice, lot_at, lots_of}
+use Rattle.quantity_dp.specs.Limits.{IsFaultOf}
+use Rattle.quantity_dp.specs.declared.limits.LotsFault.{LotsFault}
 use Rattle.quantity_dp.specs.declared.limits.TheConstants.{MAX_ENTRIES, MAX_PRICE}
 use Rattle.chain_dp.specs.declared.error.ChainError.{ChainError}
 use Rattle.chain_dp.specs.declared.error.ChainError.TheVariants as error
@@ -27,7 +29,7 @@ use Rattle.reduced_groups.specs.declared.floors.Floor.TheVariants.{Least, NoChoi
 use Rattle.reduced_groups.specs.declared.floors.FloorFault.{FloorFault}
 use Rattle.reduced_groups.specs.declared.floors.FloorFault.TheVariants.{Entries, Horizon, Memory, Price, TooDear}
 use Rattle.reduced_groups.specs.declared.floors.TheConstants.{MAX_HORIZON}
-use Rattle.reduced_groups.specs.Groups.{AreKnown, ChainGroup, GroupShape, ItemGroup, Known, LateGroup, QuantityGroup, chain_levels}
+use Rattle.reduced_groups.specs.Groups.{AreKnown, ChainGroup, GroupShape, ItemGroup, Known, LateGroup, LateQuantityGroup, QuantityGroup, chain_levels}
 use Rattle.reduced_groups.specs.Numbers.{IsNumberOf, LacksChoice}
 use Rattle.reduced_groups.specs.Apart.{IsGroupOf, items_in, items_of, times_in, times_of}
 use Rattle.reduced_groups.specs.Prices.{AreSmall, PriceLists, price_in}
@@ -35,8 +37,9 @@ use Rattle.reduced_groups.specs.Prices.{AreSmall, PriceLists, price_in}
 -- the group that is meant
 abbrev pub shape_of : Group → GroupShape
 shape_of (group.Item i) = ItemGroup i
-shape_of (group.Late i share) = LateGroup i share
+shape_of (group.Late i shares) = LateGroup i shares
 shape_of (group.Quantities i) = QuantityGroup i
+shape_of (group.LateQuantities i shares) = LateQuantityGroup i shares
 shape_of (group.Pair low top) = ChainGroup low (top ∷ [])
 shape_of (group.Triple low mid top) = ChainGroup low (mid ∷ (top ∷ []))
 
@@ -62,9 +65,9 @@ abbrev pub HaveSmallPrices : Problem → (Column → ℕ) → List ℕ → Type 
 HaveSmallPrices m price [] = ⊤
 HaveSmallPrices m price (i ∷ items) = HasSmallPricesOf m price i × HaveSmallPrices m price items
 
--- the table of whole quantities of an item is small enough
+-- the table of whole quantities of an item is small enough for what is asked of it
 abbrev pub HasFewEntries : Problem → Table → ℕ → Type 0
-HasFewEntries m start i = (t : ℕ) → 1 ≤ t → t ≤ m.periods → m.periods * (start i t + 1) ≤ MAX_ENTRIES
+HasFewEntries m asked i = (t : ℕ) → 1 ≤ t → t ≤ m.periods → m.periods * (asked i t + 1) ≤ MAX_ENTRIES
 
 -- of three items or more, with the lead time of the second there are few enough periods; these are the items after the lowest
 abbrev pub HasFewPeriods : Problem → List ChainLink → Type 0
@@ -72,12 +75,13 @@ HasFewPeriods m [] = ⊤
 HasFewPeriods m (top ∷ []) = ⊤
 HasFewPeriods m (mid ∷ (top ∷ rest)) = m.periods + (item_at m mid.item).lead ≤ MAX_HORIZON
 
--- the work of finding the number of a group, and the numbers in it, stay within the limits
-abbrev pub IsWithinWork : Problem → Table → (Column → ℕ) → GroupShape → Type 0
-IsWithinWork m start price (ItemGroup i) = HasSmallPricesOf m price i
-IsWithinWork m start price (LateGroup i share) = HasSmallPricesOf m price i
-IsWithinWork m start price (QuantityGroup i) = HasSmallPricesOf m price i × HasFewEntries m start i
-IsWithinWork m start price (ChainGroup low rest) = HaveSmallPrices m price (low.item ∷ items_of rest) × HasFewPeriods m rest × (opening_cost m.periods (chain_levels m start price low rest) < most)
+-- the work of finding the number of a group, and the numbers in it, stay within the limits, by what must have been started and what is on time
+abbrev pub IsWithinWork : Problem → (start on_time : Table) → (Column → ℕ) → GroupShape → Type 0
+IsWithinWork m start on_time price (ItemGroup i) = HasSmallPricesOf m price i
+IsWithinWork m start on_time price (LateGroup i shares) = HasSmallPricesOf m price i
+IsWithinWork m start on_time price (QuantityGroup i) = HasSmallPricesOf m price i × HasFewEntries m start i
+IsWithinWork m start on_time price (LateQuantityGroup i shares) = HasSmallPricesOf m price i × HasFewEntries m on_time i
+IsWithinWork m start on_time price (ChainGroup low rest) = HaveSmallPrices m price (low.item ∷ items_of rest) × HasFewPeriods m rest × (opening_cost m.periods (chain_levels m start price low rest) < most)
 
 -- a price of the item is
 abbrev pub HasLargePrice : Problem → PriceLists → ℕ → ℕ → Type 0
@@ -92,17 +96,22 @@ HasLargePriceAs m prices i TooDear = ⊥
 HasLargePriceAs m prices i Memory = ⊥
 
 -- the table of whole quantities is too large
-abbrev pub HasManyEntries : Problem → Table → GroupShape → Type 0
-HasManyEntries m start (ItemGroup i) = ⊥
-HasManyEntries m start (LateGroup i share) = ⊥
-HasManyEntries m start (QuantityGroup i) = (t : ℕ) × (1 ≤ t) × (t ≤ m.periods) × (MAX_ENTRIES < m.periods * (start i t + 1))
-HasManyEntries m start (ChainGroup low rest) = ⊥
+abbrev pub HasManyEntriesOf : Problem → Table → ℕ → Type 0
+HasManyEntriesOf m asked i = (t : ℕ) × (1 ≤ t) × (t ≤ m.periods) × (MAX_ENTRIES < m.periods * (asked i t + 1))
+
+abbrev pub HasManyEntries : Problem → (start on_time : Table) → GroupShape → Type 0
+HasManyEntries m start on_time (ItemGroup i) = ⊥
+HasManyEntries m start on_time (LateGroup i shares) = ⊥
+HasManyEntries m start on_time (QuantityGroup i) = HasManyEntriesOf m start i
+HasManyEntries m start on_time (LateQuantityGroup i shares) = HasManyEntriesOf m on_time i
+HasManyEntries m start on_time (ChainGroup low rest) = ⊥
 
 -- the second of three items comes so late that there are too many periods
 abbrev pub IsTooLong : Problem → GroupShape → Type 0
 IsTooLong m (ItemGroup i) = ⊥
-IsTooLong m (LateGroup i share) = ⊥
+IsTooLong m (LateGroup i shares) = ⊥
 IsTooLong m (QuantityGroup i) = ⊥
+IsTooLong m (LateQuantityGroup i shares) = ⊥
 IsTooLong m (ChainGroup low []) = ⊥
 IsTooLong m (ChainGroup low (top ∷ [])) = ⊥
 IsTooLong m (ChainGroup low (mid ∷ (top ∷ rest))) = MAX_HORIZON < m.periods + (item_at m mid.item).lead
@@ -110,48 +119,68 @@ IsTooLong m (ChainGroup low (mid ∷ (top ∷ rest))) = MAX_HORIZON < m.periods 
 -- it costs too much to buy all that is asked of a chain before the first period
 abbrev pub IsTooDear : Problem → Table → PriceLists → GroupShape → Type 0
 IsTooDear m start prices (ItemGroup i) = ⊥
-IsTooDear m start prices (LateGroup i share) = ⊥
+IsTooDear m start prices (LateGroup i shares) = ⊥
 IsTooDear m start prices (QuantityGroup i) = ⊥
+IsTooDear m start prices (LateQuantityGroup i shares) = ⊥
 IsTooDear m start prices (ChainGroup low rest) = most ≤ opening_cost m.periods (chain_levels m start (price_in prices) low rest)
 
 -- why nothing is found of a group: an item of it has a price above the limit, its table or its periods are too many, or its opening stocks are too dear. Memory may always run out
-abbrev pub IsFloorFaultOf : Problem → Table → PriceLists → GroupShape → FloorFault → Type 0
-IsFloorFaultOf m start prices s (Price i t) = (1 ≤ times_of (items_in s) i) × HasLargePrice m prices i t
-IsFloorFaultOf m start prices s Entries = HasManyEntries m start s
-IsFloorFaultOf m start prices s Horizon = IsTooLong m s
-IsFloorFaultOf m start prices s TooDear = IsTooDear m start prices s
-IsFloorFaultOf m start prices s Memory = ⊤
+abbrev pub IsFloorFaultOf : Problem → (start on_time : Table) → PriceLists → GroupShape → FloorFault → Type 0
+IsFloorFaultOf m start on_time prices s (Price i t) = (1 ≤ times_of (items_in s) i) × HasLargePrice m prices i t
+IsFloorFaultOf m start on_time prices s Entries = HasManyEntries m start on_time s
+IsFloorFaultOf m start on_time prices s Horizon = IsTooLong m s
+IsFloorFaultOf m start on_time prices s TooDear = IsTooDear m start prices s
+IsFloorFaultOf m start on_time prices s Memory = ⊤
 
 -- then the group is past the limits, but where memory ran out
-abbrev pub IsPastLimits : Problem → Table → PriceLists → GroupShape → FloorFault → Type 0
-IsPastLimits m start prices s fault = fault ≢ Memory → IsWithinWork m start (price_in prices) s → ⊥
+abbrev pub IsPastLimits : Problem → (start on_time : Table) → PriceLists → GroupShape → FloorFault → Type 0
+IsPastLimits m start on_time prices s fault = fault ≢ Memory → IsWithinWork m start on_time (price_in prices) s → ⊥
 
 -- the same fault
 abbrev pub IsFaultFrom : ChainError → FloorFault → Type 0
 IsFaultFrom error.TooDear fault = fault ≡ TooDear
 IsFaultFrom error.Memory fault = fault ≡ Memory
 
--- the same answer
-abbrev pub IsFloorFrom : Option ℕ → Floor → Type 0
-IsFloorFrom None floor = floor ≡ NoChoice
-IsFloorFrom (Some price) floor = floor ≡ Least price
+-- what is found of lots: their least price, or that they have no choice
+abbrev pub IsFoundOf : List LotPeriod → Floor → Type 0
+IsFoundOf lots (Least amount) = IsLeastPrice (lots_of lots) amount
+IsFoundOf lots NoChoice = HasNoChoice (lots_of lots)
+
+-- why nothing is: they are past the limits. Memory may always run out
+abbrev pub IsLotsFault : List LotPeriod → FloorFault → Type 0
+IsLotsFault lots (Price i t) = ⊥
+IsLotsFault lots Entries = (fault : LotsFault) × IsFaultOf lots fault
+IsLotsFault lots Horizon = ⊥
+IsLotsFault lots TooDear = ⊥
+IsLotsFault lots Memory = ⊤
+
+-- what must have been started of an item that may fall short: what is on time, where its lots arrive in the last period or later
+abbrev pub settled_start : Problem → (start on_time : Table) → Table
+settled_start m start on_time i t = if nat_le (m.periods - (item_at m i).lead) t then on_time i t else start i t
+
+-- the lot of an item in a period, by what must have been started of it by the end, what is on time, and what a unit costs that falls short of it, which is no price above the limit
+pub record IsLotFor (m : Problem) (start on_time cost : ℕ) (price : Column → ℕ) (i t : ℕ) (lot : LotPeriod) : Type 0 where
+  pub setup : lot.setup ≡ price (Y i t)
+  pub unit : lot.unit ≡ price (X i t)
+  pub need : lot.need ≡ start
+  pub asked : lot.asked ≡ on_time
+  pub share : lot.share ≡ cost
+  pub small : lot.share ≤ MAX_PRICE
+  pub largest : IsLargestLotOf m i t lot.largest
 
 -- the lots of the first periods of an item
-pub record AreLotsFor (m : Problem) (start : Table) (price : Column → ℕ) (i n : ℕ) (lots : List LotPeriod) : Type 0 where
+pub record AreLotsFor (m : Problem) (start on_time cost : ℕ → ℕ) (price : Column → ℕ) (i n : ℕ) (lots : List LotPeriod) : Type 0 where
   pub size : length lots ≡ n
-  pub setup : (t : ℕ) → 1 ≤ t → t ≤ n → (lot_at lots t).setup ≡ price (Y i t)
-  pub unit : (t : ℕ) → 1 ≤ t → t ≤ n → (lot_at lots t).unit ≡ price (X i t)
-  pub need : (t : ℕ) → 1 ≤ t → t ≤ n → (lot_at lots t).need ≡ start i t
-  pub largest : (t : ℕ) → 1 ≤ t → t ≤ n → IsLargestLotOf m i t (lot_at lots t).largest
+  pub each : (t : ℕ) → 1 ≤ t → t ≤ n → IsLotFor m (start t) (on_time t) (cost t) price i t (lot_at lots t)
 
 -- the late lot of an item in a period: its prices, what a unit that falls short costs, and what is on time by its end
-abbrev pub late_lot : Table → (Column → ℕ) → (item share : ℕ) → ℕ → LateLot
-late_lot start price i share t = record { setup = price (Y i t); unit = price (X i t); share = share; need = start i t }
+abbrev pub late_lot : Table → (Column → ℕ) → (item : ℕ) → (shares : List ℕ) → ℕ → LateLot
+late_lot start price i shares t = record { setup = price (Y i t); unit = price (X i t); share = entry shares t; need = start i t }
 
 -- the late lots of the first periods of an item
-pub record AreLateLotsFor (start : Table) (price : Column → ℕ) (i share n : ℕ) (lots : List LateLot) : Type 0 where
+pub record AreLateLotsFor (start : Table) (price : Column → ℕ) (i : ℕ) (shares : List ℕ) (n : ℕ) (lots : List LateLot) : Type 0 where
   pub size : length lots ≡ n
-  pub each : (t : ℕ) → 1 ≤ t → t ≤ n → late.lot_at lots t ≡ late_lot start price i share t
+  pub each : (t : ℕ) → 1 ≤ t → t ≤ n → late.lot_at lots t ≡ late_lot start price i shares t
 
 -- an item of a chain is never late and goes into the next one
 abbrev pub GoesInto : Problem → ℕ → ℕ → Type 0

@@ -1,7 +1,7 @@
 -- Groups of items whose reduced costs are bounded together, and what the setups and quantities of each may be.
-use Rattle.std.specs.Prelude.{◌≡◌, ℕ, ◌+◌, ◌-◌, ◌*◌, ◌≤◌, ◌<◌, List, [], ◌∷◌, if◌then◌else◌, ◌==◌}
+use Rattle.std.specs.Prelude.{◌≡◌, ℕ, ◌+◌, ◌-◌, ◌*◌, ◌≤◌, ◌<◌, List, [], ◌∷◌, if◌then◌else◌, ◌==◌, nat_le}
 use Rattle.lot_sizing.specs.Sums.{sum_to}
-use Rattle.lot_sizing.specs.Problem.{Problem, item_at, item_count, per_unit}
+use Rattle.lot_sizing.specs.Problem.{Problem, entry, item_at, item_count, per_unit}
 use Rattle.lot_sizing.specs.Net.{asked_of, asked_to}
 use Rattle.lot_sizing.specs.Plan.{EachCell, Table}
 use Rattle.lot_sizing.specs.Single.{NetPlan}
@@ -15,11 +15,12 @@ use Rattle.quantity_dp.specs.Lots.{Lots}
 use Rattle.chain_dp.specs.Chains.{Level}
 use Rattle.item_groups.specs.declared.group.ChainLink.{ChainLink}
 
--- an item by what must have been started of it; an item by what is on time of it, with what a unit that falls short costs for each period; an item by what must have been started and its largest lots, in whole quantities; and a chain of items, the lowest first, each of which goes into the next one
+-- an item by what must have been started of it; an item by what is on time of it, with what a unit that falls short costs by the end of each period; an item by what must have been started and its largest lots, in whole quantities; the same by what is on time too, with what a unit that falls short costs; and a chain of items, the lowest first, each of which goes into the next one
 pub data GroupShape : Type 0 where
   ItemGroup : (item : ℕ) → GroupShape
-  LateGroup : (item : ℕ) → (share : ℕ) → GroupShape
+  LateGroup : (item : ℕ) → (shares : List ℕ) → GroupShape
   QuantityGroup : (item : ℕ) → GroupShape
+  LateQuantityGroup : (item : ℕ) → (shares : List ℕ) → GroupShape
   ChainGroup : (low : ChainLink) → (rest : List ChainLink) → GroupShape
 
 -- what is known of a problem: what must have been started of each item by the end of each period, what has been started if nothing is late, and its largest lots
@@ -44,9 +45,9 @@ pub record IsItemChoice (m : Problem) (start : Table) (i : ℕ) (q : NetPlan) : 
   pub made : (t : ℕ) → 1 ≤ t → t ≤ m.periods → 0 < q.make t → q.setup t ≡ 1
   pub started : (t : ℕ) → 1 ≤ t → t ≤ m.periods → start i t ≤ sum_to t q.make
 
--- the late lots of an item: its prices, what is on time, and what a unit that falls short costs for each period
-abbrev pub late_lots_in : Problem → Known → (Column → ℕ) → (item share : ℕ) → LateLots
-late_lots_in m known price i share = late_lots m known.on_time (λ k t. price (Y k t)) (λ k t. price (X k t)) (λ k t. share) i
+-- the late lots of an item: its prices, what is on time, and what a unit that falls short costs by the end of each period
+abbrev pub late_lots_in : Problem → Known → (Column → ℕ) → (item : ℕ) → (shares : List ℕ) → LateLots
+late_lots_in m known price i shares = late_lots m known.on_time (λ k t. price (Y k t)) (λ k t. price (X k t)) (λ k. entry shares) i
 
 -- the lots of an item: its prices, what must have been started, and its largest lots
 abbrev pub lots_in : Problem → Known → (Column → ℕ) → ℕ → Lots
@@ -55,6 +56,20 @@ lots_in m known price i = record {
   setup = λ t. price (Y i t);
   unit = λ t. price (X i t);
   need = known.start i;
+  asked = λ t. 0;
+  share = λ t. 0;
+  largest = known.lot i;
+}
+
+-- the same where what is on time is asked, and a unit that falls short has a price; lots that arrive in the last period or later may not fall short
+abbrev pub short_lots_in : Problem → Known → (Column → ℕ) → (item : ℕ) → (shares : List ℕ) → Lots
+short_lots_in m known price i shares = record {
+  periods = m.periods;
+  setup = λ t. price (Y i t);
+  unit = λ t. price (X i t);
+  need = λ t. if nat_le (m.periods - (item_at m i).lead) t then known.on_time i t else known.start i t;
+  asked = known.on_time i;
+  share = entry shares;
   largest = known.lot i;
 }
 

@@ -105,4 +105,4 @@ abbrev pub WorkByBoth : Type 0
 WorkByBoth =
     (m : Problem) (a b : Known) (price other : Column → ℕ) (s : GroupShape)
     → AreAlike m a b → AreSamePrices m price other → IsGroupOf m s
-    → IsWithinWork m a.start price s → IsWithinWork m b.start other s
+    → IsWithinWork m a.start a.on_time price s → IsWithinWork m b.start b.on_time other s

@@ -8,7 +8,7 @@ use Rattle.quantity_dp.specs.Lots.{HasNoChoice, IsLeastPrice}
 use Rattle.chain_dp.specs.Chains.{IsLeastChainCost}
 use Rattle.late_starts.specs.Choices.{IsLateChoice, IsLateFloor, LateLots, late_price}
 use Rattle.item_groups.specs.declared.group.ChainLink.{ChainLink}
-use Rattle.reduced_groups.specs.Groups.{ChainGroup, GroupShape, IsItemChoice, ItemGroup, Known, LateGroup, QuantityGroup, chain_levels, late_lots_in, lots_in, made_cost, stocks_worth}
+use Rattle.reduced_groups.specs.Groups.{ChainGroup, GroupShape, IsItemChoice, ItemGroup, Known, LateGroup, LateQuantityGroup, QuantityGroup, chain_levels, late_lots_in, lots_in, made_cost, short_lots_in, stocks_worth}
 
 -- some setups and quantities of the item cost this, and none cost less
 pub record IsLeastItem (m : Problem) (start : Table) (price : Column → ℕ) (i amount : ℕ) : Type 0 where
@@ -29,15 +29,17 @@ pub record IsChainFloor (m : Problem) (start : Table) (price : Column → ℕ) (
 -- the number of a group at the prices of columns
 abbrev pub IsNumberOf : Problem → Known → (Column → ℕ) → GroupShape → ℕ → Type 0
 IsNumberOf m known price (ItemGroup i) amount = IsLeastItem m known.start price i amount
-IsNumberOf m known price (LateGroup i share) amount = IsLeastLate (late_lots_in m known price i share) amount
+IsNumberOf m known price (LateGroup i shares) amount = IsLeastLate (late_lots_in m known price i shares) amount
 IsNumberOf m known price (QuantityGroup i) amount = IsLeastPrice (lots_in m known price i) amount
+IsNumberOf m known price (LateQuantityGroup i shares) amount = IsLeastPrice (short_lots_in m known price i shares) amount
 IsNumberOf m known price (ChainGroup low rest) amount = IsChainFloor m known.start price low rest amount
 
 -- the group has no choice: its largest lots are too small for what must have been started. Groups without bounds on lots always have one
 abbrev pub LacksChoice : Problem → Known → (Column → ℕ) → GroupShape → Type 0
 LacksChoice m known price (ItemGroup i) = ⊥
-LacksChoice m known price (LateGroup i share) = ⊥
+LacksChoice m known price (LateGroup i shares) = ⊥
 LacksChoice m known price (QuantityGroup i) = HasNoChoice (lots_in m known price i)
+LacksChoice m known price (LateQuantityGroup i shares) = HasNoChoice (short_lots_in m known price i shares)
 LacksChoice m known price (ChainGroup low rest) = ⊥
 
 -- a number of each group

@@ -1,18 +1,18 @@
 // Whether groups lie apart.
-ghost use Rattle.std.specs.Prelude.{◌≡◌, ◌↔◌, ◌≤◌, IsTrue, MatchOption, map};
+ghost use Rattle.std.specs.Prelude.{◌≡◌, ◌↔◌, ◌≤◌, IsTrue, MatchOption, length, map};
 ghost use Rattle.lot_sizing.specs.Problem.{item_count};
 ghost use Rattle.lot_sizing.specs.Bill.{one_if_same};
 ghost use Rattle.reduced_groups.specs.Apart.{IsGroupOf, IsItem, LieApart, items_in, times_in, times_of};
 ghost use Rattle.reduced_groups.specs.Floors.{AreGroupsOf, AreOnceTo, GoesInto, IsFirstOther, IsFirstTwice, IsGroupFaultOf, shape_of};
 
-use item_groups::{ChainLink, Group};
+use item_groups::{ChainLink, Group, Shares};
 use lot_model::Instance;
 
 /// What is wrong with a list of groups.
 #[derive(Clone, Copy, Debug, PartialEq, Eq)]
 pub enum GroupFault {
-    /// The group at this place, counted from 0, is the first with an item that the model hasn't, or with one in a chain
-    /// that doesn't go into the next one.
+    /// The group at this place, counted from 0, is the first with an item that the model hasn't, with one in a chain
+    /// that doesn't go into the next one, or whose shares are not one for each period.
     Group(usize),
     /// This item is the first that is in more than one place of the groups.
     Twice(u32),
@@ -45,14 +45,24 @@ fn is_pair(instance: &Instance, low: &ChainLink, next: &ChainLink) -> bool
     goes_into(instance, low.item, next.item)
 }
 
-/// Whether a group has items of the model, of which those in a chain are never late and go into the next one.
+// Whether an item is in the model, and there is a share for each period.
+fn is_shared(instance: &Instance, item: u32, shares: &Shares) -> bool
+    ensures { IsTrue result ↔ (IsItem instance.now item
+        × (length shares.now ≡ instance.now.periods)) }
+{
+    is_item(instance, item) && shares.len() == instance.periods() as usize
+}
+
+/// Whether a group has items of the model, of which those in a chain are never late and go into the next one, and a
+/// share for each period where its item may fall short.
 pub fn is_group(instance: &Instance, group: &Group) -> bool
     ensures { IsTrue result ↔ IsGroupOf instance.now (shape_of group.now) }
 {
     match group {
         Group::Item { item } => is_item(instance, *item),
-        Group::Late { item, .. } => is_item(instance, *item),
+        Group::Late { item, shares } => is_shared(instance, *item, shares),
         Group::Quantities { item } => is_item(instance, *item),
+        Group::LateQuantities { item, shares } => is_shared(instance, *item, shares),
         Group::Pair { low, top } => is_pair(instance, low, top),
         Group::Triple { low, mid, top } => {
             is_pair(instance, low, mid) && is_pair(instance, mid, top)
@@ -76,6 +86,7 @@ fn times_in_group(group: &Group, item: u32) -> u128
         Group::Item { item: own } => one_if_same(*own, item),
         Group::Late { item: own, .. } => one_if_same(*own, item),
         Group::Quantities { item: own } => one_if_same(*own, item),
+        Group::LateQuantities { item: own, .. } => one_if_same(*own, item),
         Group::Pair { low, top } => one_if_same(low.item, item) + one_if_same(top.item, item),
         Group::Triple { low, mid, top } => {
             one_if_same(low.item, item) + one_if_same(mid.item, item) + one_if_same(top.item, item)
@@ -94,7 +105,8 @@ fn times_in(groups: &[Group], item: u32) -> u128
     times
 }
 
-// The first group with an item that the model hasn't, or whose items don't go into each other.
+// The first group with an item that the model hasn't, whose items don't go into each other, or whose shares are not
+// one for each period.
 fn first_other(instance: &Instance, groups: &[Group]) -> Option<usize>
     ensures { MatchOption result (AreGroupsOf instance.now groups.now)
         (IsFirstOther instance.now groups.now) }
@@ -121,8 +133,8 @@ fn first_twice(instance: &Instance, groups: &[Group]) -> Option<u32>
 }
 
 /// What is wrong with a list of groups, and none exactly where each has items of the model, those of a chain go into
-/// each other, and no item is in two places. Groups come before items. It takes no memory, and time in the number of
-/// items times that of groups.
+/// each other, those that may fall short have a share for each period, and no item is in two places. Groups come before
+/// items. It takes no memory, and time in the number of items times that of groups.
 pub fn find_group_fault(instance: &Instance, groups: &[Group]) -> Option<GroupFault>
     ensures { MatchOption result (LieApart instance.now (map shape_of groups.now))
         (IsGroupFaultOf instance.now groups.now) }

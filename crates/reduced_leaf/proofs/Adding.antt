@@ -82,21 +82,21 @@ floors_next m prices groups k g one other result less is sum own both = λ total
     subst (λ shapes. IsSumIn m known (price_in prices) shapes result) (sym (shapes_next groups k g less is))
     (sum_next m known (price_in prices) (map shape_of (take k groups)) (shape_of g) one other result (sum total known totals are) (floor_is m prices (shape_of g) other own total known totals are) both)
 
-pub within_next : (m : Problem) (start : Table) (price : Column → ℕ) (groups : List Group) (k : ℕ) (g : Group) → k < length groups → g ≡ slice_index_or groups k g → All (IsWithinWork m start price) (map shape_of (take k groups)) → IsWithinWork m start price (shape_of g) → All (IsWithinWork m start price) (map shape_of (take (k + 1) groups))
-within_next m start price groups k g less is before own =
-    subst (All (IsWithinWork m start price)) (sym (shapes_next groups k g less is)) (All-push (IsWithinWork m start price) (map shape_of (take k groups)) (shape_of g) before own)
+pub within_next : (m : Problem) (start on_time : Table) (price : Column → ℕ) (groups : List Group) (k : ℕ) (g : Group) → k < length groups → g ≡ slice_index_or groups k g → All (IsWithinWork m start on_time price) (map shape_of (take k groups)) → IsWithinWork m start on_time price (shape_of g) → All (IsWithinWork m start on_time price) (map shape_of (take (k + 1) groups))
+within_next m start on_time price groups k g less is before own =
+    subst (All (IsWithinWork m start on_time price)) (sym (shapes_next groups k g less is)) (All-push (IsWithinWork m start on_time price) (map shape_of (take k groups)) (shape_of g) before own)
 
 -- the fault of the next group
-first_past : (m : Problem) (start : Table) (prices : PriceLists) (groups : List Group) (k : ℕ) (g : Group) → k < length groups → g ≡ slice_index_or groups k no_group → All (IsWithinWork m start (price_in prices)) (map shape_of (take k groups)) → (IsWithinWork m start (price_in prices) (shape_of g) → ⊥) → IsFirstPastAt m start (price_in prices) (map shape_of groups) k
-first_past m start prices groups k g less is before past = record {
+first_past : (m : Problem) (start on_time : Table) (prices : PriceLists) (groups : List Group) (k : ℕ) (g : Group) → k < length groups → g ≡ slice_index_or groups k no_group → All (IsWithinWork m start on_time (price_in prices)) (map shape_of (take k groups)) → (IsWithinWork m start on_time (price_in prices) (shape_of g) → ⊥) → IsFirstPastAt m start on_time (price_in prices) (map shape_of groups) k
+first_past m start on_time prices groups k g less is before past = record {
   place = omega (arith, less, length_shapes groups);
-  before = subst (All (IsWithinWork m start (price_in prices))) (sym (take_shapes k groups)) before;
-  past = λ within. past (subst (IsWithinWork m start (price_in prices)) (at_shapes groups k ∙ ap shape_of (sym is)) within);
+  before = subst (All (IsWithinWork m start on_time (price_in prices))) (sym (take_shapes k groups)) before;
+  past = λ within. past (subst (IsWithinWork m start on_time (price_in prices)) (at_shapes groups k ∙ ap shape_of (sym is)) within);
 }
 
-pub stops : (m : Problem) (start : Table) (prices : PriceLists) (groups : List Group) (k : ℕ) (g : Group) (e : FloorFault) (result : ReducedFault) → k < length groups → g ≡ slice_index_or groups k no_group → All (IsWithinWork m start (price_in prices)) (map shape_of (take k groups)) → IsPastLimits m start prices (shape_of g) e → IsWorkFault k e result → StopsAt m start (price_in prices) (map shape_of groups) result
-stops m start prices groups k g floor.Memory result less is before past told = subst (StopsAt m start (price_in prices) (map shape_of groups)) (sym told) tt
-stops m start prices groups k g (floor.Price i t) result less is before past told = subst (StopsAt m start (price_in prices) (map shape_of groups)) (sym told) (first_past m start prices groups k g less is before (past (λ e. cc e)))
-stops m start prices groups k g floor.Entries result less is before past told = subst (StopsAt m start (price_in prices) (map shape_of groups)) (sym told) (first_past m start prices groups k g less is before (past (λ e. cc e)))
-stops m start prices groups k g floor.Horizon result less is before past told = subst (StopsAt m start (price_in prices) (map shape_of groups)) (sym told) (first_past m start prices groups k g less is before (past (λ e. cc e)))
-stops m start prices groups k g floor.TooDear result less is before past told = subst (StopsAt m start (price_in prices) (map shape_of groups)) (sym told) (first_past m start prices groups k g less is before (past (λ e. cc e)))
+pub stops : (m : Problem) (start on_time : Table) (prices : PriceLists) (groups : List Group) (k : ℕ) (g : Group) (e : FloorFault) (result : ReducedFault) → k < length groups → g ≡ slice_index_or groups k no_group → All (IsWithinWork m start on_time (price_in prices)) (map shape_of (take k groups)) → IsPastLimits m start on_time prices (shape_of g) e → IsWorkFault k e result → StopsAt m start on_time (price_in prices) (map shape_of groups) result
+stops m start on_time prices groups k g floor.Memory result less is before past told = subst (StopsAt m start on_time (price_in prices) (map shape_of groups)) (sym told) tt
+stops m start on_time prices groups k g (floor.Price i t) result less is before past told = subst (StopsAt m start on_time (price_in prices) (map shape_of groups)) (sym told) (first_past m start on_time prices groups k g less is before (past (λ e. cc e)))
+stops m start on_time prices groups k g floor.Entries result less is before past told = subst (StopsAt m start on_time (price_in prices) (map shape_of groups)) (sym told) (first_past m start on_time prices groups k g less is before (past (λ e. cc e)))
+stops m start on_time prices groups k g floor.Horizon result less is before past told = subst (StopsAt m start on_time (price_in prices) (map shape_of groups)) (sym told) (first_past m start on_time prices groups k g less is before (past (λ e. cc e)))
+stops m start on_time prices groups k g floor.TooDear result less is before past told = subst (StopsAt m start on_time (price_in prices) (map shape_of groups)) (sym told) (first_past m start on_time prices groups k g less is before (past (λ e. cc e)))

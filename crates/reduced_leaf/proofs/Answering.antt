@@ -14,6 +14,7 @@ use Rattle.lin_rows.specs.Combining.{right_sum}
 use Rattle.lin_rows.specs.Rows.{LinRow}
 use Rattle.lin_rows.specs.Sums.{Summed, total_of}
 use Rattle.must_start.specs.MustStart.{AreMustStart}
+use Rattle.late_starts.specs.OnTime.{AreOnTime}
 use Rattle.item_groups.specs.declared.group.Group.{Group}
 use Rattle.reduced_groups.specs.declared.floors.Floor.{Floor}
 use Rattle.reduced_groups.specs.declared.floors.Floor.TheVariants.{Least, NoChoice}
@@ -55,32 +56,32 @@ floors_priced m price other groups (Least a) both none lie same is = λ total kn
 floors_priced m price other groups NoChoice both none lie same is = λ total known totals are.
     none m known known price other (map shape_of groups) (alike_itself m known) lie.groups (is total known totals are)
 
-module _ (m : Problem) (rank : ℕ → ℕ) (start : Table) (price other : Column → ℕ) (groups : List Group) (known_one : KnownAreAlike) (work : WorkByBoth) (ranks : IsRanking m rank) (starts : AreMustStart m start) (lie : LieApart m (map shape_of groups)) (same : AreSamePrices m price other) where
-  -- the same with these starts
-  abbrev pub with_start : Known → Known
-  with_start known = record { start = start; on_time = known.on_time; lot = known.lot }
+module _ (m : Problem) (rank : ℕ → ℕ) (start on_time : Table) (price other : Column → ℕ) (groups : List Group) (known_one : KnownAreAlike) (work : WorkByBoth) (ranks : IsRanking m rank) (starts : AreMustStart m start) (timed : AreOnTime m on_time) (lie : LieApart m (map shape_of groups)) (same : AreSamePrices m price other) where
+  -- the same lots with these starts
+  abbrev pub with_starts : Known → Known
+  with_starts known = record { start = start; on_time = on_time; lot = known.lot }
 
-  alike : (total : ℕ → ℕ) (known : Known) → AreLargestTotals m total → AreKnown m total known → AreAlike m (with_start known) known
-  alike total known totals are = known_one m rank total total (with_start known) known ranks totals totals (record { start = starts; on_time = are.on_time; lot = are.lot }) are
+  alike : (total : ℕ → ℕ) (known : Known) → AreLargestTotals m total → AreKnown m total known → AreAlike m (with_starts known) known
+  alike total known totals are = known_one m rank total total (with_starts known) known ranks totals totals (record { start = starts; on_time = timed; lot = are.lot }) are
 
-  back : (total : ℕ → ℕ) (known : Known) → AreLargestTotals m total → AreKnown m total known → AreAlike m known (with_start known)
-  back total known totals are = known_one m rank total total known (with_start known) ranks totals totals are (record { start = starts; on_time = are.on_time; lot = are.lot })
+  back : (total : ℕ → ℕ) (known : Known) → AreLargestTotals m total → AreKnown m total known → AreAlike m known (with_starts known)
+  back total known totals are = known_one m rank total total known (with_starts known) ranks totals totals are (record { start = starts; on_time = timed; lot = are.lot })
 
   turned : AreSamePrices m other price
   turned = λ i t low high t_low t_high. let e = same i t low high t_low t_high in (sym e.0, sym e.1)
 
-  pub within_known : All (IsWithinWork m start price) (map shape_of groups) → WhateverIsKnown m (λ known. All (IsWithinWork m known.start other) (map shape_of groups))
+  pub within_known : All (IsWithinWork m start on_time price) (map shape_of groups) → WhateverIsKnown m (λ known. All (IsWithinWork m known.start known.on_time other) (map shape_of groups))
   within_known within = λ total known totals are. λ k d less.
-      work m (with_start known) known price other (slice_index_or (map shape_of groups) k d) (alike total known totals are) same (lie.groups k d less) (within k d less)
+      work m (with_starts known) known price other (slice_index_or (map shape_of groups) k d) (alike total known totals are) same (lie.groups k d less) (within k d less)
 
-  first_known : (k : ℕ) → IsFirstPastAt m start price (map shape_of groups) k → WhateverIsKnown m (λ known. IsFirstPastAt m known.start other (map shape_of groups) k)
+  first_known : (k : ℕ) → IsFirstPastAt m start on_time price (map shape_of groups) k → WhateverIsKnown m (λ known. IsFirstPastAt m known.start known.on_time other (map shape_of groups) k)
   first_known k is = λ total known totals are. record {
     place = is.place;
-    before = λ j d less. work m (with_start known) known price other (slice_index_or (take k (map shape_of groups)) j d) (alike total known totals are) same (All-take (IsGroupOf m) k (map shape_of groups) lie.groups j d less) (is.before j d less);
-    past = λ within. is.past (work m known (with_start known) other price (shape_at (map shape_of groups) k) (back total known totals are) turned (lie.groups k (shape_of no_group) is.place) within);
+    before = λ j d less. work m (with_starts known) known price other (slice_index_or (take k (map shape_of groups)) j d) (alike total known totals are) same (All-take (IsGroupOf m) k (map shape_of groups) lie.groups j d less) (is.before j d less);
+    past = λ within. is.past (work m known (with_starts known) other price (shape_at (map shape_of groups) k) (back total known totals are) turned (lie.groups k (shape_of no_group) is.place) within);
   }
 
-  pub stops_known : (result : ReducedFault) → WhateverIsKnown m (λ known. AreCharged m known other (map shape_of groups)) → StopsAt m start price (map shape_of groups) result → WhateverIsKnown m (StopsBy m other (map shape_of groups) result)
+  pub stops_known : (result : ReducedFault) → WhateverIsKnown m (λ known. AreCharged m known other (map shape_of groups)) → StopsAt m start on_time price (map shape_of groups) result → WhateverIsKnown m (StopsBy m other (map shape_of groups) result)
   stops_known (fault.Group k) charged is = absurd is
   stops_known (fault.Twice i) charged is = absurd is
   stops_known (fault.Charge i t) charged is = absurd is
@@ -107,7 +108,7 @@ module _ (m : Problem) (rank : ℕ → ℕ) (summed : Summed) (den : ℕ) (group
       ∙ abs_up left (omega (arith, linear, costs c has))
 
   module _ (total : ℕ → ℕ) (rows : List LinRow) (times : List ℤ) (totals : AreLargestTotals m total) (are : AreSumsOf m summed rows times) (known : Known) (is_known : AreKnown m total known) (charged : AreCharged m known price shapes) where
-    abbrev groups_for : All (IsWithinWork m known.start price) shapes → AreGroupsFor m total rows times den shapes
+    abbrev groups_for : All (IsWithinWork m known.start known.on_time price) shapes → AreGroupsFor m total rows times den shapes
     groups_for within = record {
       known = known;
       is_known = is_known;
@@ -117,7 +118,7 @@ module _ (m : Problem) (rank : ℕ → ℕ) (summed : Summed) (den : ℕ) (group
       within = within;
     }
 
-    answered : (within : All (IsWithinWork m known.start price) shapes) (floor : Floor) (answer : ReducedSum) → IsSumIn m known price shapes floor → IsAnswerFrom summed.right.sum floor (Ok answer) → IsAnswerOf m total rows times den shapes answer
+    answered : (within : All (IsWithinWork m known.start known.on_time price) shapes) (floor : Floor) (answer : ReducedSum) → IsSumIn m known price shapes floor → IsAnswerFrom summed.right.sum floor (Ok answer) → IsAnswerOf m total rows times den shapes answer
     answered within NoChoice answer is from = subst (IsAnswerOf m total rows times den shapes) (chosen answer from) (record { groups = groups_for within; lacks = is })
       where
         chosen : (a : ReducedSum) → IsAnswerFrom summed.right.sum NoChoice (Ok a) → found.NoChoice ≡ a
@@ -134,7 +135,7 @@ module _ (m : Problem) (rank : ℕ → ℕ) (summed : Summed) (den : ℕ) (group
           record { added = omega (arith, linear, from.sum_is, from.added, are.right); small = from.small },
         )
 
-    passed : (within : All (IsWithinWork m known.start price) shapes) (floor : Floor) (e : ReducedFault) → IsSumIn m known price shapes floor → IsAnswerFrom summed.right.sum floor (Err e) → IsReducedFaultOf m total rows times den groups e
+    passed : (within : All (IsWithinWork m known.start known.on_time price) shapes) (floor : Floor) (e : ReducedFault) → IsSumIn m known price shapes floor → IsAnswerFrom summed.right.sum floor (Err e) → IsReducedFaultOf m total rows times den groups e
     passed within NoChoice e is from = absurd (never e from)
       where
         never : (f : ReducedFault) → IsAnswerFrom summed.right.sum NoChoice (Err f) → ⊥
@@ -148,21 +149,21 @@ module _ (m : Problem) (rank : ℕ → ℕ) (summed : Summed) (den : ℕ) (group
           from.1,
     )
 
-  answer_known : (floor : Floor) (answer : ReducedSum) → IsSumOfFloors m price shapes floor → WhateverIsKnown m (λ known. All (IsWithinWork m known.start price) shapes) → WhateverIsKnown m (λ known. AreCharged m known price shapes) → IsAnswerFrom summed.right.sum floor (Ok answer) → OfSums m summed (λ total rows times. IsAnswerOf m total rows times den shapes answer)
+  answer_known : (floor : Floor) (answer : ReducedSum) → IsSumOfFloors m price shapes floor → WhateverIsKnown m (λ known. All (IsWithinWork m known.start known.on_time price) shapes) → WhateverIsKnown m (λ known. AreCharged m known price shapes) → IsAnswerFrom summed.right.sum floor (Ok answer) → OfSums m summed (λ total rows times. IsAnswerOf m total rows times den shapes answer)
   answer_known floor answer floors within charged from = λ total rows times totals are.
       let (known, is_known) = exists m rank total ranks totals in
       answered total rows times totals are known is_known (charged total known totals is_known) (within total known totals is_known) floor answer (floors total known totals is_known) from
 
-  fault_known : (floor : Floor) (e : ReducedFault) → IsSumOfFloors m price shapes floor → WhateverIsKnown m (λ known. All (IsWithinWork m known.start price) shapes) → WhateverIsKnown m (λ known. AreCharged m known price shapes) → IsAnswerFrom summed.right.sum floor (Err e) → OfSums m summed (λ total rows times. IsReducedFaultOf m total rows times den groups e)
+  fault_known : (floor : Floor) (e : ReducedFault) → IsSumOfFloors m price shapes floor → WhateverIsKnown m (λ known. All (IsWithinWork m known.start known.on_time price) shapes) → WhateverIsKnown m (λ known. AreCharged m known price shapes) → IsAnswerFrom summed.right.sum floor (Err e) → OfSums m summed (λ total rows times. IsReducedFaultOf m total rows times den groups e)
   fault_known floor e floors within charged from = λ total rows times totals are.
       let (known, is_known) = exists m rank total ranks totals in
       passed total rows times totals are known is_known (charged total known totals is_known) (within total known totals is_known) floor e (floors total known totals is_known) from
 
-  pub answer_found : (floor : Floor) (result : Result ReducedSum ReducedFault) → IsSumOfFloors m price shapes floor → WhateverIsKnown m (λ known. All (IsWithinWork m known.start price) shapes) → WhateverIsKnown m (λ known. AreCharged m known price shapes) → IsAnswerFrom summed.right.sum floor result → IfOk result (λ answer. OfSums m summed (λ total rows times. IsAnswerOf m total rows times den shapes answer))
+  pub answer_found : (floor : Floor) (result : Result ReducedSum ReducedFault) → IsSumOfFloors m price shapes floor → WhateverIsKnown m (λ known. All (IsWithinWork m known.start known.on_time price) shapes) → WhateverIsKnown m (λ known. AreCharged m known price shapes) → IsAnswerFrom summed.right.sum floor result → IfOk result (λ answer. OfSums m summed (λ total rows times. IsAnswerOf m total rows times den shapes answer))
   answer_found floor (Ok answer) floors within charged from = answer_known floor answer floors within charged from
   answer_found floor (Err e) floors within charged from = tt
 
-  pub fault_found : (floor : Floor) (result : Result ReducedSum ReducedFault) → IsSumOfFloors m price shapes floor → WhateverIsKnown m (λ known. All (IsWithinWork m known.start price) shapes) → WhateverIsKnown m (λ known. AreCharged m known price shapes) → IsAnswerFrom summed.right.sum floor result → IfErr result (λ e. OfSums m summed (λ total rows times. IsReducedFaultOf m total rows times den groups e))
+  pub fault_found : (floor : Floor) (result : Result ReducedSum ReducedFault) → IsSumOfFloors m price shapes floor → WhateverIsKnown m (λ known. All (IsWithinWork m known.start known.on_time price) shapes) → WhateverIsKnown m (λ known. AreCharged m known price shapes) → IsAnswerFrom summed.right.sum floor result → IfErr result (λ e. OfSums m summed (λ total rows times. IsReducedFaultOf m total rows times den groups e))
   fault_found floor (Ok answer) floors within charged from = tt
   fault_found floor (Err e) floors within charged from = fault_known floor e floors within charged from
 

@@ -1,15 +1,19 @@
 -- Where there is a fault, rows and groups have no answer.
-use Rattle.std.proofs.Common.{◌≡◌, ◌≢◌, ℕ, zero, suc, refl, subst, arith, List, [], ◌∷◌}
+use Rattle.std.proofs.Common.{◌≡◌, ◌≢◌, ◌≤◌, ◌<◌, ℕ, zero, suc, refl, subst, arith, List, [], ◌∷◌}
 use Rattle.std.specs.Prelude.{ℤ, length, map, slice_index_or}
 use Rattle.lot_sizing.specs.Problem.{Problem}
+use Rattle.lot_sizing.specs.Plan.{Table}
 use Rattle.lot_sizing.specs.Totals.{AreLargestTotals, IsRanking}
+use Rattle.lin_rows.specs.declared.column.Column.{Column}
 use Rattle.lin_rows.specs.declared.column.Column.TheVariants.{R}
+use Rattle.lin_rows.specs.Columns.{IsColumn}
 use Rattle.lin_rows.specs.Rows.{LinRow}
-use Rattle.late_starts.specs.Charges.{ChargesAgree, ChargesAreOne}
+use Rattle.late_starts.specs.Charges.{AreCharges, ChargesAgree, ChargesAreOne}
 use Rattle.item_groups.specs.declared.group.Group.{Group}
-use Rattle.reduced_groups.specs.Groups.{GroupShape}
-use Rattle.reduced_groups.specs.Apart.{IsGroupOf, share_in}
-use Rattle.reduced_groups.specs.Floors.{no_group, shape_of}
+use Rattle.reduced_groups.specs.Groups.{AreKnown, GroupShape, Known}
+use Rattle.reduced_groups.specs.Apart.{AreApart, IsGroupOf, share_in}
+use Rattle.reduced_groups.specs.Rows.{AreReduced}
+use Rattle.reduced_groups.specs.Floors.{IsWithinWork, no_group, shape_of}
 use Rattle.reduced_groups.specs.Laws.{KnownAreAlike, NumbersAreChoices, NumbersAreOne, NumbersByBoth, WorkByBoth}
 use Rattle.reduced_leaf.specs.declared.sums.ReducedSum.{ReducedSum}
 use Rattle.reduced_leaf.specs.declared.sums.ReducedSum.TheVariants.{NoChoice, Sum}
@@ -56,15 +60,33 @@ module _ (m : Problem) (rank total : ℕ → ℕ) (rows : List LinRow) (times : 
       let (other, has, past) = large in
       choices_one m rank total total rows times den shapes ranks totals totals by.alike by.both by.choices other has is
 
-  -- the backlog that is charged too much is, whatever is known of the problem
-  overcharged : (i t : ℕ) → IsOvercharged m total rows times den shapes i t → AreGroupsFor m total rows times den shapes → ⊥
-  overcharged i t is own =
-      let cell = is.first.column in
-      let backs = own.apart.charged in
-      let alike = by.alike m rank total total own.known is.known ranks totals totals own.is_known is.is_known in
-      let charged = by.agree m own.known.on_time is.known.on_time (λ j u. share_in shapes j) backs.charge (λ j u low high u_low u_high. alike.on_time j low high u u_high) backs.charges in
-      let same = by.charges m rank is.known.on_time (λ j u. share_in shapes j) backs.charge is.charge ranks charged is.charges i t (cell.0).0 (cell.0).1 (cell.0).2 (cell.0).3 in
-      omega (arith, same, backs.within i t cell, is.first.above, price_one m rows times den own.price is.price own.reduced is.reduced (R i t) cell)
+  -- the work of a group is within the limits by all that is known
+  pub within_by : (a b : Known) (price other : Column → ℕ) (k : ℕ) → AreKnown m total a → AreKnown m total b → AreReduced m rows times den price → AreReduced m rows times den other → AreApart m a price shapes → k < length shapes → IsWithinWork m a.start a.on_time price (shape_at shapes k) → IsWithinWork m b.start b.on_time other (shape_at shapes k)
+  within_by a b price other k is also reduced to apart less within =
+      by.work m a b price other (shape_at shapes k)
+      (by.alike m rank total total a b ranks totals totals is also)
+      (prices_one m rows times den price other reduced to)
+      (apart.lie.groups k (shape_of no_group) less) within
+
+  -- and so are the charges of the same shares
+  charge_by : (a b : Known) (charge other : Table) → AreKnown m total a → AreKnown m total b → AreCharges m a.on_time (share_in shapes) charge → AreCharges m b.on_time (share_in shapes) other → (i t : ℕ) → IsColumn m (R i t) → charge i t ≡ other i t
+  charge_by a b charge other is also from to i t has =
+      let same = by.alike m rank total total a b ranks totals totals is also in
+      let charged = by.agree m a.on_time b.on_time (share_in shapes) charge (λ j u low high u_low u_high. same.on_time j low high u u_high) from in
+      by.charges m rank b.on_time (share_in shapes) charge other ranks charged to i t (has.0).0 (has.0).1 (has.0).2 (has.0).3
+
+  -- a backlog that is charged more than its price is so by all of them
+  pub no_charge_within : (i t : ℕ) → (a : IsOvercharged m total rows times den shapes i t) → (b : Known) (other : Column → ℕ) (charge : Table) → AreKnown m total b → AreReduced m rows times den other → AreCharges m b.on_time (share_in shapes) charge → charge i t ≤ other (R i t) → ⊥
+  no_charge_within i t a b other charge also to from within =
+      let has = a.first.column in
+      let same : a.price (R i t) ≡ other (R i t) = price_one m rows times den a.price other a.reduced to (R i t) has in
+      let charged : a.charge i t ≡ charge i t = charge_by a.known b a.charge charge a.is_known also a.charges from i t has in
+      omega (arith, a.first.above, same, charged, within)
+
+  pub no_charge_apart : (i t : ℕ) → IsOvercharged m total rows times den shapes i t → (b : Known) (other : Column → ℕ) → AreKnown m total b → AreReduced m rows times den other → AreApart m b other shapes → ⊥
+  no_charge_apart i t a b other also to apart =
+      let charged = apart.charged in
+      no_charge_within i t a b other charged.charge also to charged.charges (charged.within i t a.first.column)
 
   excluded : (e : ReducedFault) → e ≢ fault.Memory → IsReducedFaultOf m total rows times den groups e → (answer : ReducedSum) → IsAnswerOf m total rows times den shapes answer → ⊥
   excluded (fault.Group k) told is answer has =
@@ -72,14 +94,12 @@ module _ (m : Problem) (rank total : ℕ → ℕ) (rows : List LinRow) (times : 
       let here = own.apart.lie.groups k (shape_of no_group) (omega (arith, is.place, length_shapes groups)) in
       is.other (subst (IsGroupOf m) (at_shapes groups k) here)
   excluded (fault.Twice i) told is answer has = omega (arith, (groups_in answer has).apart.lie.once i, (is.1).twice)
-  excluded (fault.Charge i t) told is answer has = overcharged i t is (groups_in answer has)
+  excluded (fault.Charge i t) told is answer has =
+      let own = groups_in answer has in
+      no_charge_apart i t is own.known own.price own.is_known own.reduced own.apart
   excluded (fault.Work k) told is answer has =
       let own = groups_in answer has in
-      is.first.past (by.work m own.known is.known own.price is.price (shape_at shapes k)
-      (by.alike m rank total total own.known is.known ranks totals totals own.is_known is.is_known)
-      (prices_one m rows times den own.price is.price own.reduced is.reduced)
-      (own.apart.lie.groups k (shape_of no_group) is.first.place)
-      (own.within k (shape_of no_group) is.first.place))
+      is.first.past (within_by own.known is.known own.price is.price k own.is_known is.is_known own.reduced is.reduced own.apart is.first.place (own.within k (shape_of no_group) is.first.place))
   excluded fault.TooLarge told is answer has = too_large answer is has
   excluded fault.Memory told is answer has = told refl
 

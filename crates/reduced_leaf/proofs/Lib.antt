@@ -5,3 +5,4 @@ mod Adding
 mod Pricing
 mod Answering
 mod Charging
+mod OneFault

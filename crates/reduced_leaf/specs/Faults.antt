@@ -24,11 +24,11 @@ use Rattle.reduced_leaf.specs.Leaf.{IsReducedSum, IsSmallSum}
 abbrev pub shape_at : List GroupShape → ℕ → GroupShape
 shape_at shapes k = slice_index_or shapes k (ItemGroup 0)
 
--- the first group past the limits of work, at these starts and prices
-pub record IsFirstPastAt (m : Problem) (start : Table) (price : Column → ℕ) (shapes : List GroupShape) (k : ℕ) : Type 0 where
+-- the first group past the limits of work, by what must have been started and what is on time, at these prices
+pub record IsFirstPastAt (m : Problem) (start on_time : Table) (price : Column → ℕ) (shapes : List GroupShape) (k : ℕ) : Type 0 where
   pub place : k < length shapes
-  pub before : All (IsWithinWork m start price) (take k shapes)
-  pub past : IsWithinWork m start price (shape_at shapes k) → ⊥
+  pub before : All (IsWithinWork m start on_time price) (take k shapes)
+  pub past : IsWithinWork m start on_time price (shape_at shapes k) → ⊥
 
 -- at what is known of the problem and the reduced costs, of which none is below 0; and groups lie apart
 pub record IsFirstPast (m : Problem) (total : ℕ → ℕ) (rows : List LinRow) (times : List ℤ) (den : ℕ) (shapes : List GroupShape) (k : ℕ) : Type 0 where
@@ -37,7 +37,7 @@ pub record IsFirstPast (m : Problem) (total : ℕ → ℕ) (rows : List LinRow) 
   pub price : Column → ℕ
   pub reduced : AreReduced m rows times den price
   pub apart : AreApart m known price shapes
-  pub first : IsFirstPastAt m known.start price shapes k
+  pub first : IsFirstPastAt m known.start known.on_time price shapes k
 
 -- an item and a period come before others, by item and then by period
 abbrev pub ComesBefore : (j t item period : ℕ) → Type 0
@@ -57,7 +57,7 @@ pub record IsOvercharged (m : Problem) (total : ℕ → ℕ) (rows : List LinRow
   pub reduced : AreReduced m rows times den price
   pub lie : LieApart m shapes
   pub charge : Table
-  pub charges : AreCharges m known.on_time (λ i t. share_in shapes i) charge
+  pub charges : AreCharges m known.on_time (share_in shapes) charge
   pub first : IsFirstOver m price charge item period
 
 -- there is a sum, but it isn't small

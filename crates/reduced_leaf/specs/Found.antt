@@ -15,7 +15,7 @@ use Rattle.reduced_groups.specs.declared.floors.FloorFault.{FloorFault}
 use Rattle.reduced_groups.specs.declared.floors.FloorFault.TheVariants as floor
 use Rattle.reduced_groups.specs.Groups.{GroupShape, Known}
 use Rattle.reduced_groups.specs.Numbers.{AreNumbersOf, SomeLacksChoice, sum_of}
-use Rattle.reduced_groups.specs.Apart.{AreCharged, share_in}
+use Rattle.reduced_groups.specs.Apart.{AreCharged, items_in, share_in, share_of, times_of}
 use Rattle.reduced_groups.specs.Levels.{HasSeries}
 use Rattle.reduced_groups.specs.Floors.{WhateverIsKnown}
 use Rattle.reduced_leaf.specs.declared.prices.Kind.{Kind}
@@ -65,6 +65,11 @@ IsWorkFault k floor.Entries result = result ≡ fault.Work k
 IsWorkFault k floor.Horizon result = result ≡ fault.Work k
 IsWorkFault k floor.TooDear result = result ≡ fault.Work k
 
+-- a group has these shares of an item
+pub record HasShares (s : GroupShape) (i : ℕ) (shares : List ℕ) : Type 0 where
+  pub has : 1 ≤ times_of (items_in s) i
+  pub each : (t : ℕ) → share_of s i t ≡ entry shares t
+
 -- a charge on a backlog is no more than its reduced cost, which stays below the greatest number of 128 bits
 pub record IsPaid (m : Problem) (summed : Summed) (den i t charge : ℕ) : Type 0 where
   pub within : charge ≤ left_price m summed den (R i t)
@@ -109,24 +114,24 @@ IsOverAs m summed den rows fault.Memory = ⊥
 -- the shares of groups charge more than its price on this backlog first
 pub record IsChargedOver (m : Problem) (known : Known) (price : Column → ℕ) (shapes : List GroupShape) (item period : ℕ) : Type 0 where
   pub charge : Table
-  pub charges : AreCharges m known.on_time (λ i t. share_in shapes i) charge
+  pub charges : AreCharges m known.on_time (share_in shapes) charge
   pub first : IsFirstOver m price charge item period
 
 -- why no sum of floors is found
-abbrev pub StopsAt : Problem → Table → (Column → ℕ) → List GroupShape → ReducedFault → Type 0
-StopsAt m start price shapes (fault.Group k) = ⊥
-StopsAt m start price shapes (fault.Twice i) = ⊥
-StopsAt m start price shapes (fault.Charge i t) = ⊥
-StopsAt m start price shapes (fault.Work k) = IsFirstPastAt m start price shapes k
-StopsAt m start price shapes fault.TooLarge = ⊥
-StopsAt m start price shapes fault.Memory = ⊤
+abbrev pub StopsAt : Problem → (start on_time : Table) → (Column → ℕ) → List GroupShape → ReducedFault → Type 0
+StopsAt m start on_time price shapes (fault.Group k) = ⊥
+StopsAt m start on_time price shapes (fault.Twice i) = ⊥
+StopsAt m start on_time price shapes (fault.Charge i t) = ⊥
+StopsAt m start on_time price shapes (fault.Work k) = IsFirstPastAt m start on_time price shapes k
+StopsAt m start on_time price shapes fault.TooLarge = ⊥
+StopsAt m start on_time price shapes fault.Memory = ⊤
 
 -- why there is no sum of groups that lie apart: shares that charge too much, or, where they don't, a group past the limits
 abbrev pub StopsBy : Problem → (Column → ℕ) → List GroupShape → ReducedFault → Known → Type 0
 StopsBy m price shapes (fault.Group k) known = ⊥
 StopsBy m price shapes (fault.Twice i) known = ⊥
 StopsBy m price shapes (fault.Charge i t) known = IsChargedOver m known price shapes i t
-StopsBy m price shapes (fault.Work k) known = AreCharged m known price shapes × IsFirstPastAt m known.start price shapes k
+StopsBy m price shapes (fault.Work k) known = AreCharged m known price shapes × IsFirstPastAt m known.start known.on_time price shapes k
 StopsBy m price shapes fault.TooLarge known = ⊥
 StopsBy m price shapes fault.Memory known = ⊤
 

@@ -61,6 +61,13 @@ FaultsExclude =
     → fault ≢ Memory → IsReducedFaultOf m total rows times den groups fault
     → IsAnswerOf m total rows times den (map shape_of groups) answer → ⊥
 
+-- they have one fault, but where memory ran out
+abbrev pub FaultsAreOne : Type 0
+FaultsAreOne =
+    (m : Problem) (rank total : ℕ → ℕ) (rows : List LinRow) (times : List ℤ) (den : ℕ) (groups : List Group) (a b : ReducedFault)
+    → IsRanking m rank → AreLargestTotals m total → a ≢ Memory → b ≢ Memory
+    → IsReducedFaultOf m total rows times den groups a → IsReducedFaultOf m total rows times den groups b → a ≡ b
+
 -- the sum by some largest totals is that by all
 abbrev pub SumByBoth : Type 0
 SumByBoth =

@@ -20,7 +20,7 @@ pub record AreGroupsFor (m : Problem) (total : ℕ → ℕ) (rows : List LinRow)
   pub price : Column → ℕ
   pub reduced : AreReduced m rows times den price
   pub apart : AreApart m known price shapes
-  pub within : All (IsWithinWork m known.start price) shapes
+  pub within : All (IsWithinWork m known.start known.on_time price) shapes
 
 -- the right sides and the numbers of the groups add to this
 pub record IsReducedSum (m : Problem) (total : ℕ → ℕ) (rows : List LinRow) (times : List ℤ) (den : ℕ) (shapes : List GroupShape) (sum : ℤ) : Type 0 where

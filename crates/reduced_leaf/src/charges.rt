@@ -1,50 +1,64 @@
-// What the shares of late groups charge on backlogs, and whether the reduced costs of the backlogs pay for it.
-ghost use Rattle.std.specs.Prelude.{◌≡◌, ℕ, ◌≤◌, ◌<◌, ◌^◌, IfErr, IfOk, IsTrue, MatchOption, length, map};
-ghost use Rattle.lot_sizing.specs.Problem.{item_count};
+// What the shares of late groups and late quantities charge on backlogs, and whether the reduced costs of the backlogs
+// pay for it.
+ghost use Rattle.std.specs.Prelude.{◌≡◌, ℕ, ◌≤◌, IfErr, IfOk, IsTrue, MatchOption, length, map};
+ghost use Rattle.lot_sizing.specs.Problem.{entry, item_count};
 ghost use Rattle.late_starts.specs.Rows.{HaveCells, IsOnTimeOf, rows_of};
-ghost use Rattle.reduced_groups.specs.Apart.{AreCharged, share_in, share_of};
+ghost use Rattle.reduced_groups.specs.Apart.{AreCharged, LieApart, share_in, share_of, times_in};
 ghost use Rattle.reduced_groups.specs.Levels.{HasSeries};
 ghost use Rattle.reduced_groups.specs.Floors.{WhateverIsKnown, shape_of};
 ghost use Rattle.reduced_leaf.specs.Faults.{AreSumsWithin};
-ghost use Rattle.reduced_leaf.specs.Found.{ArePaidOf, ArePaidTo, HaveSeries, IsFirstOverOf, IsOverAs, StopsBy, left_price};
+ghost use Rattle.reduced_leaf.specs.Found.{ArePaidOf, ArePaidTo, HasShares, HaveSeries, IsFirstOverOf, IsOverAs, StopsBy, left_price};
 
 use crate::prices::price_of;
 use crate::sums::ReducedFault;
-use item_groups::Group;
+use item_groups::{Group, Shares};
 use late_starts::{OnTime, charges, charges_cover, on_time_is_one};
 use lin_rows::{Column, Sums};
 use lot_model::{Instance, an_instance_breaks_no_rule};
 use std::alloc::{AllocError, Global};
 
-// What a unit of an item that falls short costs for each period in a group.
-fn share_of(group: &Group, item: u32) -> u128
-    ensures value { result ≡ share_of (shape_of group.now) item }
-    ensures small { result < 2 ^ 64 }
+// What units of an item that fall short cost in a group, where it has shares of the item.
+fn shares_of(group: &Group, item: u32) -> Option<&Shares>
+    ensures { MatchOption result ((t : ℕ) → share_of (shape_of group.now) item t ≡ 0)
+        (λ shares. HasShares (shape_of group.now) item shares.now) }
 {
     match group {
-        Group::Late { item: own, share } => { if *own == item { u128::from(*share) } else { 0 } }
+        Group::Late { item: own, shares } | Group::LateQuantities { item: own, shares } => {
+            if *own == item { Some(shares) } else { None }
+        }
         Group::Item { .. } | Group::Quantities { .. } | Group::Pair { .. } | Group::Triple { .. } =>
-            0,
+            None,
     }
 }
 
-// And in all groups.
-fn share_in(groups: &[Group], item: u32) -> u128
-    ensures { result ≡ share_in (map shape_of groups.now) item }
+// And in groups of which one at most has the item.
+fn find_shares(groups: &[Group], item: u32) -> Option<&Shares>
+    requires once { times_in (map shape_of groups.now) item ≤ 1 }
+    ensures { MatchOption result ((t : ℕ) → share_in (map shape_of groups.now) item t ≡ 0)
+        (λ shares. (t : ℕ) → share_in (map shape_of groups.now) item t
+        ≡ entry shares.now t) }
 {
-    let mut share = 0;
     for group in groups {
-        share += share_of(group, item);
+        if let Some(shares) = shares_of(group, item) {
+            return Some(shares);
+        }
     }
-    share
+    None
+}
+
+// Whether no share is more than 0.
+fn are_zero(shares: &Shares) -> bool
+    ensures { IsTrue result → (t : ℕ) → entry shares.now t ≡ 0 }
+{
+    shares.as_slice().iter().all(|share| *share == 0)
 }
 
 // Whether a group has no share that is more than 0.
 fn is_free(group: &Group) -> bool
-    ensures { IsTrue result → (i : ℕ) → share_of (shape_of group.now) i ≡ 0 }
+    ensures { IsTrue result → (i t : ℕ) → share_of (shape_of group.now) i t ≡ 0 }
 {
     match group {
-        Group::Late { share, .. } => *share == 0,
+        Group::Late { shares, .. } | Group::LateQuantities { shares, .. } => are_zero(shares),
         Group::Item { .. } | Group::Quantities { .. } | Group::Pair { .. } | Group::Triple { .. } =>
             true,
     }
@@ -52,7 +66,7 @@ fn is_free(group: &Group) -> bool
 
 // And whether none of all groups has.
 fn are_free(groups: &[Group]) -> bool
-    ensures { IsTrue result → (i : ℕ) → share_in (map shape_of groups.now) i ≡ 0 }
+    ensures { IsTrue result → (i t : ℕ) → share_in (map shape_of groups.now) i t ≡ 0 }
 {
     for group in groups {
         if !is_free(group) {
@@ -62,27 +76,57 @@ fn are_free(groups: &[Group]) -> bool
     true
 }
 
-// The same number for each period.
-fn same_row(alloc: Global, instance: &Instance, number: u128) -> Result<Vec<u128>, AllocError>
-    ensures { IfOk result (λ row. HasSeries instance.now.periods (λ t. number) row.items) }
+// These shares, one for each period.
+fn row_of(alloc: Global, instance: &Instance, shares: &Shares) -> Result<Vec<u128>, AllocError>
+    ensures { IfOk result
+        (λ row. HasSeries instance.now.periods (entry shares.now) row.items) }
 {
-    vec![in alloc; number; instance.periods() as usize]
+    an_instance_breaks_no_rule(instance);
+    let mut row = Vec::with_capacity(alloc, instance.periods() as usize)?;
+    for period in 1..instance.periods() + 1 {
+        row.push(u128::from(shares.of(period)))?;
+    }
+    Ok(row)
 }
 
-// The shares of all items, the same in each period.
-fn shares_of(
+// Nothing for each period.
+fn free_row(alloc: Global, instance: &Instance) -> Result<Vec<u128>, AllocError>
+    ensures { IfOk result (λ row. HasSeries instance.now.periods (λ t. 0) row.items) }
+{
+    vec![in alloc; 0u128; instance.periods() as usize]
+}
+
+// The shares of an item in groups of which one at most has it, one for each period.
+fn row_in(
+    alloc: Global,
+    instance: &Instance,
+    groups: &[Group],
+    item: u32,
+) -> Result<Vec<u128>, AllocError>
+    requires once { times_in (map shape_of groups.now) item ≤ 1 }
+    ensures { IfOk result (λ row. HasSeries instance.now.periods
+        (share_in (map shape_of groups.now) item) row.items) }
+{
+    match find_shares(groups, item) {
+        Some(shares) => row_of(alloc, instance, shares),
+        None => free_row(alloc, instance),
+    }
+}
+
+// The shares of all items, in groups that lie apart.
+fn rows_in(
     alloc: Global,
     instance: &Instance,
     groups: &[Group],
 ) -> Result<Vec<Vec<u128>>, AllocError>
+    requires apart { LieApart instance.now (map shape_of groups.now) }
     ensures { IfOk result (λ rows. HaveSeries (item_count instance.now) instance.now.periods
-        (λ i t. share_in (map shape_of groups.now) i) (map (λ v. v.items) rows.items)) }
+        (share_in (map shape_of groups.now)) (map (λ v. v.items) rows.items)) }
 {
     an_instance_breaks_no_rule(instance);
     let mut rows = Vec::with_capacity(alloc, instance.items() as usize)?;
     for item in 1..instance.items() + 1 {
-        let share = share_in(groups, item);
-        rows.push(same_row(alloc, instance, share)?)?;
+        rows.push(row_in(alloc, instance, groups, item)?)?;
     }
     Ok(rows)
 }
@@ -125,8 +169,9 @@ fn pay(instance: &Instance, sums: &Sums, den: u64, rows: &[Vec<u128>]) -> Result
     Ok(())
 }
 
-/// Whether what falls short at the shares of groups charges no more on any backlog than its reduced cost. The errors
-/// are the first backlog on which it does, and that memory ran out. Where no share is more than 0 nothing is computed.
+/// Whether what falls short at the shares of groups that lie apart charges no more on any backlog than its reduced cost.
+/// The errors are the first backlog on which it does, and that memory ran out. Where no share is more than 0 nothing is
+/// computed.
 pub(crate) fn pay_shares(
     alloc: Global,
     instance: &Instance,
@@ -137,6 +182,7 @@ pub(crate) fn pay_shares(
 ) -> Result<(), ReducedFault>
     requires costs { AreSumsWithin instance.now sums.now den }
     requires on_time { IsOnTimeOf instance.now on_time.now }
+    requires apart { LieApart instance.now (map shape_of groups.now) }
     ensures charged { IfOk result (λ _. WhateverIsKnown instance.now (λ known.
         AreCharged instance.now known (left_price instance.now sums.now den)
         (map shape_of groups.now))) }
@@ -150,7 +196,7 @@ pub(crate) fn pay_shares(
     if are_free(groups) {
         return Ok(());
     }
-    let shares = shares_of(alloc, instance, groups)?;
+    let shares = rows_in(alloc, instance, groups)?;
     let rows = charges(alloc, instance, on_time, &shares)?;
     pay(instance, sums, den, &rows)
 }

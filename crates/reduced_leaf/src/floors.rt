@@ -59,11 +59,11 @@ pub(crate) fn floors_of(
     ensures floor { IfOk result
         (IsSumOfFloors instance.now (price_in prices.now) (map shape_of groups.now)) }
     ensures within { IfOk result (λ _.
-        All (IsWithinWork instance.now (start_in started.now) (price_in prices.now))
-        (map shape_of groups.now)) }
+        All (IsWithinWork instance.now (start_in started.now) (start_in on_time.now)
+        (price_in prices.now)) (map shape_of groups.now)) }
     ensures fault { IfErr result
-        (StopsAt instance.now (start_in started.now) (price_in prices.now)
-        (map shape_of groups.now)) }
+        (StopsAt instance.now (start_in started.now) (start_in on_time.now)
+        (price_in prices.now) (map shape_of groups.now)) }
 {
     let mut tables = ChainTables::new(alloc);
     let mut floor = Floor::Least(0);

@@ -1,5 +1,5 @@
 // Laws, each the contract of a function that does nothing.
-ghost use Rattle.reduced_leaf.specs.Laws.{ChoicesAreOne, FaultsExclude, KnownExists, LacksByBoth, ReducedSumBounds, ReducedSumRefutes, SumByBoth, SumsAreOne};
+ghost use Rattle.reduced_leaf.specs.Laws.{ChoicesAreOne, FaultsAreOne, FaultsExclude, KnownExists, LacksByBoth, ReducedSumBounds, ReducedSumRefutes, SumByBoth, SumsAreOne};
 
 use late_starts::{charges_cover, on_time_is_one};
 use lot_sizing::totals_are_one;
@@ -25,11 +25,13 @@ pub fn reduced_sum_bounds()
 }
 
 /// Rows and groups have one sum (`one`), and none where a group has no choice (`choices`). Where there is a fault, there
-/// is neither a sum that is small nor a group without a choice (`faults`).
+/// is neither a sum that is small nor a group without a choice (`faults`), nor another fault but that memory ran out
+/// (`told`).
 pub fn reduced_sums_are_one()
     ensures one { SumsAreOne }
     ensures choices { ChoicesAreOne }
     ensures faults { FaultsExclude }
+    ensures told { FaultsAreOne }
 {
     numbers_are_one();
     charges_cover();

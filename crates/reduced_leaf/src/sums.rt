@@ -38,8 +38,8 @@ pub enum ReducedFault {
     /// This item is the first in more than one place of the groups.
     #[error("item {0} is in more than one group")]
     Twice(u32),
-    /// What falls short at the shares of late groups charges more on the backlog of this item at the end of this period
-    /// than its reduced cost. It is the first one by item and then by period.
+    /// What falls short at the shares of late groups and late quantities charges more on the backlog of this item at the
+    /// end of this period than its reduced cost. It is the first one by item and then by period.
     #[error("more is charged on the backlog of item {item} in period {period} than it costs")]
     Charge {
         /// The item, counted from 1.
@@ -117,8 +117,8 @@ fn floors_at(
         (IsSumOfFloors instance.now (left_price instance.now sums.now den)
         (map shape_of groups.now)) }
     ensures within { IfOk result (λ _. WhateverIsKnown instance.now (λ known.
-        All (IsWithinWork instance.now known.start (left_price instance.now sums.now den))
-        (map shape_of groups.now))) }
+        All (IsWithinWork instance.now known.start known.on_time
+        (left_price instance.now sums.now den)) (map shape_of groups.now))) }
     ensures charged { IfOk result (λ _. WhateverIsKnown instance.now (λ known.
         AreCharged instance.now known (left_price instance.now sums.now den)
         (map shape_of groups.now))) }
@@ -166,13 +166,13 @@ fn sum_apart(
 /// which takes a column more often than `den` times its cost. `den` times the cost of each feasible plan at which the
 /// rows hold is at least as much (`reduced_sum_bounds`), in the unit of the columns' costs.
 ///
-/// The errors are, in this order: the first group that is none of the model, the first item in two places, shares of late
-/// groups that charge more on a backlog than its reduced cost, the first group whose work is past the limits, and a sum
-/// that is too large; and that memory ran out. A group without a choice counts only where no group is refused.
+/// The errors are, in this order: the first group that is none of the model, the first item in two places, shares that
+/// charge more on a backlog than its reduced cost, the first group whose work is past the limits, and a sum that is too
+/// large; and that memory ran out. A group without a choice counts only where no group is refused.
 ///
 /// Without groups it takes no time; with them, time in the number of periods times lines of components, and that of
-/// `group_floor` for each group; where shares of late groups are more than 0, also in the number of periods times pairs
-/// of items.
+/// `group_floor` for each group; where shares are more than 0, also in the number of periods times pairs of items, and
+/// in that of items times groups.
 pub fn reduced_sum(
     alloc: Global,
     instance: &Instance,

@@ -37,8 +37,9 @@ const CUTS: &str = "lotcert 1\nclaim infeasible\ncuts 4\nls 1 2 01\nround 10 2\n
 
 // Leaves over reduced costs, with lists and groups of each kind, and with nothing.
 const REDUCED: &str = "lotcert 3\nclaim optimal 23\ncuts 1\nls 1 1 1\nbranch y 1 1 0\n\
-    reduced 4 2 2 5\npart cut 1 -3\npart late 1 2 5\nparts balance 1 -1 0 7\n\
-    parts capacity 2\nitem 1\nlate 2 3\nquantities 2\npair 1 0 2 15\ntriple 3 1 2 2 1 3\n\
+    reduced 4 2 2 7\npart cut 1 -3\npart late 1 2 5\nparts balance 1 -1 0 7\n\
+    parts capacity 2\nitem 1\nlate 2 3 0 4\nlate 1\nquantities 2\nlate_quantities 2 1 0 5\n\
+    pair 1 0 2 15\ntriple 3 1 2 2 1 3\n\
     reduced 0 0 0 0\nend\n";
 
 // A bound by a leaf without parts.

@@ -5,7 +5,6 @@ use Rattle.acceptance.specs.Accepts.{IsTrueOf}
 use Rattle.cert_checker.specs.Checks.{HasFault, IsGoodCertificate, IsNeverRefused, plan_given}
 use Rattle.cert_checker.proofs.CheckNever.{never}
 use Rattle.cert_checker.proofs.CheckWhole.{true_of}
-use Rattle.cert_checker.proofs.GroupFaults.{AreGroupLaws}
 use Rattle.cert_checker.proofs.ReducedNever.{leaf_laws}
 use Rattle.cert_checker.proofs.checking.check.Goals as goal
 
@@ -23,7 +22,6 @@ returns-clause-never c =
     let m = c.args.instance.now in
     let s = shape_of c.args.certificate.now in
     let given = option_copied c.args.plan in
-    let laws : AreGroupLaws = record { alike = c.numbers_are_one.ensures.known; work = c.numbers_are_one.ensures.work; agree = c.charges_cover.ensures.agree; one = c.charges_cover.ensures.one } in
     IfErr-weaker c.examine.result (HasFault m s given) (IsNeverRefused m s given)
-    (λ f faulty. never m s given f c.judgement_is_one.ensures c.cut_rows_go_on.ensures.places c.cut_rows_are_one.ensures (leaf_laws c.says_are_one.ensures c.reduced_sums_are_one.ensures.one c.reduced_sums_are_one.ensures.choices c.reduced_sums_are_one.ensures.faults laws) c.an_instance_breaks_no_rule.ensures.limits faulty)
+    (λ f faulty. never m s given f c.judgement_is_one.ensures c.cut_rows_go_on.ensures.places c.cut_rows_are_one.ensures (leaf_laws c.says_are_one.ensures c.reduced_sums_are_one.ensures.one c.reduced_sums_are_one.ensures.choices c.reduced_sums_are_one.ensures.faults c.reduced_sums_are_one.ensures.told) c.an_instance_breaks_no_rule.ensures.limits faulty)
     c.examine.ensures.fault

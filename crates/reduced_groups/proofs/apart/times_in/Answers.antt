@@ -1,16 +1,9 @@
-use Rattle.std.proofs.Common.{◌≡◌, ◌≤◌, ◌+◌, ◌*◌, arith, slice_index_or}
-use Rattle.std.proofs.lemmas.List.{get_or_default}
-use Rattle.reduced_groups.specs.Floors.{no_group}
+use Rattle.std.proofs.Common.{arith}
 use Rattle.reduced_groups.proofs.Placed.{times_next}
 use Rattle.reduced_groups.proofs.apart.times_in.Goals as goal
 
 pub loop-group-preserved : goal.loop-group-preserved
-loop-group-preserved c =
-    let groups = c.args.groups.now in
-    let k = c.loop-group.group-index in
-    let g = slice_index_or groups k no_group in
-    let less = c.loop-group-test.true in
-    record {
-      times = omega (arith, c.loop-group.invariant.times, c.times_in_group-times.ensures.value, times_next groups k g c.args.item less (get_or_default groups k no_group g less));
-      small = omega (arith, c.loop-group.invariant.small, c.times_in_group-times.ensures.small);
-    }
+loop-group-preserved c = record {
+  times = omega (arith, c.loop-group.invariant.times, c.times_in_group-times.ensures.value, times_next c.args.groups.now c.loop-group.group-index c.group-item.result c.args.item c.loop-group-test.true c.group-item.is);
+  small = omega (arith, c.loop-group.invariant.small, c.times_in_group-times.ensures.small);
+}

@@ -7,4 +7,4 @@ use Rattle.reduced_groups.proofs.floors.pair_group.Goals as goal
 pub returns-in-Ok-clause-floor : goal.returns-in-Ok-clause-floor
 returns-in-Ok-clause-floor c =
     let (rank, ranks) = c.an_instance_breaks_no_rule.ensures.ranked in
-    chain_known c.args.instance.now rank (start_in c.args.started.now) (price_in c.args.prices.now) c.must_start_holds.ensures.one ranks c.requires.started.starts c.args.low.now (c.args.top.now ∷ []) c.in-Ok.cost c.requires.group c.in-Ok.ensures.floor
+    chain_known c.args.given.instance.now rank (start_in c.args.given.started.now) (price_in c.args.given.prices.now) c.must_start_holds.ensures.one ranks c.requires.started.starts c.args.low.now (c.args.top.now ∷ []) c.in-Ok.cost c.requires.group c.in-Ok.ensures.floor

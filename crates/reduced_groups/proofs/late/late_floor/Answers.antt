@@ -13,7 +13,7 @@ least_late_price-requires-clause-rising c =
     let m = c.args.instance.now in
     let (rank, ranks) = c.an_instance_breaks_no_rule.ensures.ranked in
     subst (λ xs. IsRising (late_lots_of xs 0)) (sym c.deref.ensures.value)
-    (late_rises m rank ranks c.args.on_time.now c.requires.on_time (price_in c.args.prices.now) c.args.item c.args.share (c.requires.low, c.requires.high) c.in_ok-lots.lots.items c.in_ok-lots.ensures c.on_time_is_one.ensures.rises)
+    (late_rises m rank ranks c.args.on_time.now c.requires.on_time (price_in c.args.prices.now) c.args.item c.args.shares.now (c.requires.low, c.requires.high) c.in_ok-lots.lots.items c.in_ok-lots.ensures c.on_time_is_one.ensures.rises)
 
 pub returns : goal.returns
 returns c =
@@ -23,5 +23,5 @@ returns c =
     let small = small_of m c.args.prices.now c.args.item c.requires.prices (c.requires.low, c.requires.high) (c.requires.setups, c.requires.units) in
     MatchResult-weaker c.least_late_price.result
     (subst (λ xs. IfOk c.least_late_price.result (IsLeastUpTo (late_lots_of xs c.settled_from.result) (2 ^ 128 - 1))) c.deref.ensures.value c.least_late_price.ensures)
-    (λ cost least. late_known m rank ranks c.args.on_time.now c.requires.on_time price c.args.item c.args.share (c.requires.low, c.requires.high) c.in_ok-lots.lots.items c.in_ok-lots.ensures c.settled_from.result cost c.an_instance_breaks_no_rule.ensures.limits.periods c.on_time_is_one.ensures.one small c.settled_from.ensures.value least)
+    (λ cost least. late_known m rank ranks c.args.on_time.now c.requires.on_time price c.args.item c.args.shares.now (c.requires.low, c.requires.high) c.in_ok-lots.lots.items c.in_ok-lots.ensures c.settled_from.result cost c.an_instance_breaks_no_rule.ensures.limits.periods c.on_time_is_one.ensures.one small c.settled_from.ensures.value least)
     (λ e h. h)

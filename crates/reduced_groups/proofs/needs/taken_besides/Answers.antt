@@ -1,4 +1,4 @@
-use Rattle.std.proofs.Common.{◌≡◌, ◌≤◌, ◌*◌, arith}
+use Rattle.std.proofs.Common.{◌≤◌, ◌*◌, arith}
 use Rattle.std.specs.Prelude.{if◌then◌else◌, ◌==◌}
 use Rattle.lot_sizing.specs.Problem.{item_count, per_unit}
 use Rattle.lot_sizing.proofs.Sums.{sum_to_at, sum_to_more}

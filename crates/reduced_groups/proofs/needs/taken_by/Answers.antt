@@ -1,6 +1,5 @@
-use Rattle.std.proofs.Common.{◌≡◌, ◌≤◌, ◌*◌, ◌∙◌, ap, arith}
+use Rattle.std.proofs.Common.{◌*◌, ap, arith}
 use Rattle.lot_sizing.specs.Problem.{per_unit}
-use Rattle.must_start.specs.Rows.{start_in}
 use Rattle.reduced_groups.proofs.Starting.{product_small}
 use Rattle.reduced_groups.proofs.needs.taken_by.Goals as goal
 

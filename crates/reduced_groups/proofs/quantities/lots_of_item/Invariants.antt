@@ -5,4 +5,4 @@ use Rattle.reduced_groups.specs.Floors.{AreLotsFor}
 use Rattle.reduced_groups.proofs.quantities.lots_of_item.Given as goal
 
 abbrev pub invariant-loop-period : goal.invariant-loop-period
-invariant-loop-period l = AreLotsFor l.instance (start_in l.started) (price_in l.prices) l.item (l.period - 1) l.lots.items
+invariant-loop-period l = AreLotsFor l.given.instance.now (start_in l.given.started.now l.item) (λ t. 0) (λ t. 0) (price_in l.given.prices.now) l.item (l.period - 1) l.lots.items

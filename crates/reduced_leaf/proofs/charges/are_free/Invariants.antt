@@ -5,4 +5,4 @@ use Rattle.reduced_groups.specs.Floors.{shape_of}
 use Rattle.reduced_leaf.proofs.charges.are_free.Given as goal
 
 abbrev pub invariant-loop-group : goal.invariant-loop-group
-invariant-loop-group l = (i : ℕ) → share_in (map shape_of (take l.group-index l.groups)) i ≡ 0
+invariant-loop-group l = (i t : ℕ) → share_in (map shape_of (take l.group-index l.groups)) i t ≡ 0

@@ -1,4 +1,4 @@
-use Rattle.std.proofs.Common.{arith, refl, slice_index_or, subst}
+use Rattle.std.proofs.Common.{◌∙◌, arith, subst}
 use Rattle.std.specs.Prelude.{map}
 use Rattle.std.specs.List.{All}
 use Rattle.std.proofs.lemmas.List.{get_or_default, take_all}
@@ -13,20 +13,21 @@ pub returns-in-Err-clause-fault : goal.returns-in-Err-clause-fault
 returns-in-Err-clause-fault c =
     let groups = c.args.groups.now in
     let k = c.loop-place.place in
-    stops c.args.instance.now (start_in c.args.started.now) c.args.prices.now groups k (slice_index_or groups k no_group) c.in-Err.fault c.fault_at.result
-    c.loop-place-test.true refl c.loop-place.invariant.within c.in-Err.ensures.past c.fault_at.ensures
+    let g = c.index-groups-place.result in
+    let less = c.loop-place-test.true in
+    stops c.args.instance.now (start_in c.args.started.now) (start_in c.args.on_time.now) c.args.prices.now groups k g c.in-Err.fault c.fault_at.result
+    less (c.index-groups-place.is ∙ get_or_default groups k g no_group less) c.loop-place.invariant.within c.in-Err.ensures.past c.fault_at.ensures
 
 pub loop-place-preserved : goal.loop-place-preserved
 loop-place-preserved c =
     let m = c.args.instance.now in
     let groups = c.args.groups.now in
     let k = c.loop-place.place in
-    let g = slice_index_or groups k no_group in
+    let g = c.index-groups-place.result in
     let less = c.loop-place-test.true in
-    let is = get_or_default groups k no_group g less in
     record {
-      floor = floors_next m c.args.prices.now groups k g c.loop-place.floor c.in-Ok.own c.both-floor.result less is c.loop-place.invariant.floor c.in-Ok.ensures.floor c.both-floor.ensures;
-      within = within_next m (start_in c.args.started.now) (price_in c.args.prices.now) groups k g less is c.loop-place.invariant.within c.in-Ok.ensures.within;
+      floor = floors_next m c.args.prices.now groups k g c.loop-place.floor c.in-Ok.own c.both-floor.result less c.index-groups-place.is c.loop-place.invariant.floor c.in-Ok.ensures.floor c.both-floor.ensures;
+      within = within_next m (start_in c.args.started.now) (start_in c.args.on_time.now) (price_in c.args.prices.now) groups k g less c.index-groups-place.is c.loop-place.invariant.within c.in-Ok.ensures.within;
     }
 
 pub returns-clause-floor : goal.returns-clause-floor
@@ -37,4 +38,4 @@ returns-clause-floor c =
 pub returns-clause-within : goal.returns-clause-within
 returns-clause-within c =
     let all = take_all c.loop-place.place c.args.groups.now (omega (arith, c.loop-place-test.false)) in
-    subst (λ groups. All (IsWithinWork c.args.instance.now (start_in c.args.started.now) (price_in c.args.prices.now)) (map shape_of groups)) all c.loop-place.invariant.within
+    subst (λ groups. All (IsWithinWork c.args.instance.now (start_in c.args.started.now) (start_in c.args.on_time.now) (price_in c.args.prices.now)) (map shape_of groups)) all c.loop-place.invariant.within

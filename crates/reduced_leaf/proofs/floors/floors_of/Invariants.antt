@@ -9,5 +9,5 @@ use Rattle.reduced_leaf.proofs.floors.floors_of.Given as goal
 abbrev pub invariant-loop-place : goal.invariant-loop-place
 invariant-loop-place l = record {
   floor : IsSumOfFloors l.instance (price_in l.prices) (map shape_of (take l.place l.groups)) l.floor;
-  within : All (IsWithinWork l.instance (start_in l.started) (price_in l.prices)) (map shape_of (take l.place l.groups));
+  within : All (IsWithinWork l.instance (start_in l.started) (start_in l.on_time) (price_in l.prices)) (map shape_of (take l.place l.groups));
 }

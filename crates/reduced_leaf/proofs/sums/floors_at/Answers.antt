@@ -34,7 +34,7 @@ returns-clause-within c =
     let (rank, ranks) = c.an_instance_breaks_no_rule.ensures.ranked in
     let price = left_price m c.args.sums.now c.args.den in
     let laws = c.numbers_are_one.ensures in
-    MatchResult-weaker c.floors_of.result c.floors_of.ensures.within (λ floor is. within_known m rank (start_in c.in_ok-started.started) (price_in c.in_ok-prices.prices) price c.args.groups.now laws.known laws.work ranks c.in_ok-started.ensures.starts.starts c.requires.apart c.in_ok-prices.ensures.same is) (λ e h. h)
+    MatchResult-weaker c.floors_of.result c.floors_of.ensures.within (λ floor is. within_known m rank (start_in c.in_ok-started.started) (start_in c.in_ok-on_time.on_time) (price_in c.in_ok-prices.prices) price c.args.groups.now laws.known laws.work ranks c.in_ok-started.ensures.starts.starts c.in_ok-on_time.ensures.starts.starts c.requires.apart c.in_ok-prices.ensures.same is) (λ e h. h)
 
 pub returns-clause-fault : goal.returns-clause-fault
 returns-clause-fault c =
@@ -42,4 +42,4 @@ returns-clause-fault c =
     let (rank, ranks) = c.an_instance_breaks_no_rule.ensures.ranked in
     let price = left_price m c.args.sums.now c.args.den in
     let laws = c.numbers_are_one.ensures in
-    MatchResult-weaker c.floors_of.result c.floors_of.ensures.fault (λ floor h. h) (λ e is. stops_known m rank (start_in c.in_ok-started.started) (price_in c.in_ok-prices.prices) price c.args.groups.now laws.known laws.work ranks c.in_ok-started.ensures.starts.starts c.requires.apart c.in_ok-prices.ensures.same e c.in_ok-pay_shares.ensures.charged is)
+    MatchResult-weaker c.floors_of.result c.floors_of.ensures.fault (λ floor h. h) (λ e is. stops_known m rank (start_in c.in_ok-started.started) (start_in c.in_ok-on_time.on_time) (price_in c.in_ok-prices.prices) price c.args.groups.now laws.known laws.work ranks c.in_ok-started.ensures.starts.starts c.in_ok-on_time.ensures.starts.starts c.requires.apart c.in_ok-prices.ensures.same e c.in_ok-pay_shares.ensures.charged is)

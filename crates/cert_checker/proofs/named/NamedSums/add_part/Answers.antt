@@ -10,7 +10,8 @@ use Rattle.lin_rows.specs.Base.{row_of}
 use Rattle.split_trees.specs.Ranges.{WithTotals}
 use Rattle.acceptance.specs.Named.{HasName, names, no_row, row_named}
 use Rattle.cert_checker.specs.Named.{AddsPart, AddsWithin}
-use Rattle.cert_checker.proofs.Sums.{adds_same, base_named, columns_at, if_ok, passes_same}
+use Rattle.acceptance.proofs.Rows.{columns_at}
+use Rattle.cert_checker.proofs.Sums.{adds_same, base_named, if_ok, passes_same}
 use Rattle.cert_checker.proofs.named.NamedSums.add_part.Goals as goal
 
 pub add_row-requires-clause-columns : goal.add_row-requires-clause-columns
