@@ -10,6 +10,7 @@ use Rattle.lot_sizing.specs.Totals.{AreLargestTotals}
 use Rattle.plan_rules.specs.declared.plan.Plan.{Plan}
 use Rattle.plan_rules.specs.declared.plan.Planned.{Planned}
 use Rattle.plan_rules.specs.Held.{AllFit, plan_of}
+use Rattle.cert_lines.specs.declared.limits.TheConstants.{LOTS_CERT_VERSION}
 use Rattle.cert_lines.specs.declared.parts.Claim.{Claim}
 use Rattle.cert_lines.specs.declared.parts.Claim.TheVariants.{Optimal, Infeasible, Bound as BoundOf}
 use Rattle.certificate.specs.Shapes.{shape_of}
@@ -29,6 +30,7 @@ use Rattle.branch_and_bound.specs.declared.node.Range.{Range}
 use Rattle.branch_and_bound.specs.declared.sought.Searched.{Searched}
 use Rattle.branch_and_cut.specs.declared.guiding.Model.{Model}
 use Rattle.branch_and_cut.specs.declared.knowing.Known.{Known}
+use Rattle.branch_and_cut.specs.declared.wanted.Wanted.{Wanted}
 use Rattle.branch_and_cut.specs.Answer.{IsAnswer, IsAnswerWithin, IsRootOf}
 use Rattle.branch_and_cut.specs.Beginning.{AreApart}
 use Rattle.branch_and_cut.specs.Finishing.{IsFinished, IsSearched}
@@ -85,8 +87,8 @@ first_least m None given good least = tt
 first_least m (Some p) given good least = least (plan_of p) good.feasible
 
 -- ---- without coupling
-pub alone_answer : (m : Problem) (budget : ℕ) (limits : Limits) (stopping : Bool) (first : Option Plan) (found : Found) (r : Root) (a : Apart) → 1 ≤ budget → IfSome first (IsGoodPlan m) → IsRootOf m r → r.says ≡ root.Uncoupled → AreApart m a → ApartIsOne → IsProved m found → IsDecidedAlone found → IsAnswer m budget limits stopping first found
-alone_answer m budget limits stopping first found r a some good is says apart one proved alone =
+pub alone_answer : (m : Problem) (w : Wanted) (stopping : Bool) (found : Found) (r : Root) (a : Apart) → 1 ≤ w.budget → LOTS_CERT_VERSION ≤ w.newest → IfSome w.first (IsGoodPlan m) → IsRootOf m r → r.says ≡ root.Uncoupled → AreApart m a → ApartIsOne → IsProved m found → IsDecidedAlone found → IsAnswer m w stopping found
+alone_answer m w stopping found r a some oldest good is says apart one proved alone =
     let (total, weight, totals, weights) = is.figures in
     let claim = found.certificate.claim in
     let given = found.plan in
@@ -98,26 +100,26 @@ alone_answer m budget limits stopping first found r a some good is says apart on
       proved = proved;
       plan = alone_plan m claim given alone.decided comes;
       within = omega (arith, alone.alone, some);
-      kept = first_least m first given good least;
+      kept = first_least m w.first given good least;
       own = λ q own feasible. least q feasible;
       goes = alone_goes m claim given alone.decided;
-      cause = no_bound claim (λ amount. shown.WithRows m found (shown.IsUndecided m budget limits stopping found)) decided;
+      cause = no_bound claim (λ amount. shown.WithRows m found (shown.IsUndecided m w.budget w.limits stopping found)) decided;
       evidence = no_bound claim (λ amount. shown.WithRows m found (shown.HasEvidence m found amount)) decided;
       root = (r, is.means, says ∙ sym alone.root);
       uncoupled = (λ e. apart_of, λ free. alone.root);
       uses = subst (UsesRoot found) (sym alone.root) (record { alone = alone.alone; decided = decided });
       apart = λ amount at. alone_floor m claim given amount alone.decided comes (subst (IsFloor m) (one m a.amount amount apart.amount at) apart.floor);
       complete = λ none still total totals enough. decided;
-      version = usual_is m (shape_of found.certificate) (record { plain = λ plain. alone.version; other = λ not. absurd (not apart_of.plain) }) proved.writable;
+      version = usual_is m w.newest (shape_of found.certificate) (record { plain = λ plain. alone.version; other = λ not. absurd (not apart_of.plain) }) (omega (arith, alone.version, oldest)) proved.writable;
     }
 
 both_of : (m : Problem) (ranges : Ranges) (plan : Option Plan) → IfSome plan (IsGoodPlan m) → IfSome plan (λ p. IsWithin m ranges (plan_of p)) → IfSome plan (IsGoodWithin m ranges)
 both_of m ranges None good within = tt
 both_of m ranges (Some p) good within = record { good = good; within = within }
 
-pub alone_within : (m : Problem) (ranges : Ranges) (budget : ℕ) (limits : Limits) (stopping : Bool) (first : Option Plan) (found : Found) (r : Root) (a : Apart) → 1 ≤ budget → IfSome first (IsGoodWithin m ranges) → IsRootOf m r → r.says ≡ root.Uncoupled → AreApart m a → ApartIsOne → IsProved m found → IsDecidedAlone found → IfSome found.plan (λ p. IsWithin m ranges (plan_of p)) → IsAnswerWithin m ranges budget limits stopping first found
-alone_within m ranges budget limits stopping first found r a some good is says apart one proved alone within =
-    let answer = alone_answer m budget limits stopping first found r a some (good_first m ranges first good) is says apart one proved alone in
+pub alone_within : (m : Problem) (ranges : Ranges) (w : Wanted) (stopping : Bool) (found : Found) (r : Root) (a : Apart) → 1 ≤ w.budget → LOTS_CERT_VERSION ≤ w.newest → IfSome w.first (IsGoodWithin m ranges) → IsRootOf m r → r.says ≡ root.Uncoupled → AreApart m a → ApartIsOne → IsProved m found → IsDecidedAlone found → IfSome found.plan (λ p. IsWithin m ranges (plan_of p)) → IsAnswerWithin m ranges w stopping found
+alone_within m ranges w stopping found r a some oldest good is says apart one proved alone within =
+    let answer = alone_answer m w stopping found r a some oldest (good_first m ranges w.first good) is says apart one proved alone in
     let claim = found.certificate.claim in
     let decided = alone_decided claim found.plan alone.decided in
     record {
@@ -126,7 +128,7 @@ alone_within m ranges budget limits stopping first found r a some good is says a
       within = answer.within;
       kept = answer.kept;
       goes = answer.goes;
-      cause = no_bound claim (λ amount. shown.WithRows m found (IsUndecidedWithin m ranges budget limits stopping found)) decided;
+      cause = no_bound claim (λ amount. shown.WithRows m found (IsUndecidedWithin m ranges w.budget w.limits stopping found)) decided;
       evidence = no_bound claim (λ amount. shown.WithRows m found (HasEvidenceWithin m ranges found amount)) decided;
       root = answer.root;
       uncoupled = answer.uncoupled;
@@ -151,8 +153,8 @@ all_alone m ranges (Some p) all good = all (plan_of p) good.feasible
 none_least : (m : Problem) (given : Option Plan) → IsImpossible m → (q : terms.Plan) → terms.IsFeasible m q → CostsAtMost m given (terms.cost m q)
 none_least m given none q feasible = absurd (none q feasible)
 
-pub none_answer : (m : Problem) (budget : ℕ) (limits : Limits) (stopping : Bool) (first : Option Plan) (found : Found) (r : Root) → 1 ≤ budget → IfSome first (IsGoodPlan m) → IsRootOf m r → r.says ≡ root.Empty → IsVersionOf m (shape_of found.certificate) → IsProved m found → found.plan ≡ None → found.root ≡ r.says → IsImpossibleByOne found → IsAnswer m budget limits stopping first found
-none_answer m budget limits stopping first found r some good is says version proved without root_is by =
+pub none_answer : (m : Problem) (w : Wanted) (stopping : Bool) (found : Found) (r : Root) → 1 ≤ w.budget → IfSome w.first (IsGoodPlan m) → IsRootOf m r → r.says ≡ root.Empty → IsVersionOf m w.newest (shape_of found.certificate) → IsProved m found → found.plan ≡ None → found.root ≡ r.says → IsImpossibleByOne found → IsAnswer m w stopping found
+none_answer m w stopping found r some good is says version proved without root_is by =
     let impossible : IsImpossible m = subst (BoundsPlans m) says is.bounds in
     let root_empty : found.root ≡ root.Empty = root_is ∙ says in
     let claim_is = by.none in
@@ -162,10 +164,10 @@ none_answer m budget limits stopping first found r some good is says version pro
       proved = proved;
       plan = subst (λ p. IfSome p (IsGoodPlan m)) (sym without) tt;
       within = omega (arith, by.alone, some);
-      kept = first_least m first found.plan good least;
+      kept = first_least m w.first found.plan good least;
       own = λ q own feasible. least q feasible;
       goes = subst (λ c. GoesTogether m c found.plan) (sym claim_is) (subst (λ p. IsNone p) (sym without) refl);
-      cause = no_bound found.certificate.claim (λ amount. shown.WithRows m found (shown.IsUndecided m budget limits stopping found)) decided;
+      cause = no_bound found.certificate.claim (λ amount. shown.WithRows m found (shown.IsUndecided m w.budget w.limits stopping found)) decided;
       evidence = no_bound found.certificate.claim (λ amount. shown.WithRows m found (shown.HasEvidence m found amount)) decided;
       root = (r, is.means, sym root_is);
       uncoupled = (λ e. is.uncoupled.0 (sym root_is ∙ e), λ free. root_is ∙ is.uncoupled.1 free);
@@ -175,8 +177,8 @@ none_answer m budget limits stopping first found r some good is says version pro
       version = version;
     }
 
-pub none_within : (m : Problem) (ranges : Ranges) (budget : ℕ) (limits : Limits) (stopping : Bool) (first : Option Plan) (found : Found) (r : Root) → 1 ≤ budget → IfSome first (IsGoodWithin m ranges) → IsRootOf m r → r.says ≡ root.Empty → IsVersionOf m (shape_of found.certificate) → WholeIsProved m → IsProvedWithin m ranges found → found.plan ≡ None → found.root ≡ r.says → IsImpossibleByOne found → IsAnswerWithin m ranges budget limits stopping first found
-none_within m ranges budget limits stopping first found r some good is says version whole proved without root_is by =
+pub none_within : (m : Problem) (ranges : Ranges) (w : Wanted) (stopping : Bool) (found : Found) (r : Root) → 1 ≤ w.budget → IfSome w.first (IsGoodWithin m ranges) → IsRootOf m r → r.says ≡ root.Empty → IsVersionOf m w.newest (shape_of found.certificate) → WholeIsProved m → IsProvedWithin m ranges found → found.plan ≡ None → found.root ≡ r.says → IsImpossibleByOne found → IsAnswerWithin m ranges w stopping found
+none_within m ranges w stopping found r some good is says version whole proved without root_is by =
     let impossible : IsImpossible m = subst (BoundsPlans m) says is.bounds in
     let claim_is = by.none in
     let decided : IsDecided found.certificate.claim = subst IsDecided (sym claim_is) tt in
@@ -184,15 +186,15 @@ none_within m ranges budget limits stopping first found r some good is says vers
       proved = proved;
       plan = subst (λ p. IfSome p (IsGoodWithin m ranges)) (sym without) tt;
       within = omega (arith, by.alone, some);
-      kept = first_least m first found.plan (good_first m ranges first good) (none_least m found.plan impossible);
+      kept = first_least m w.first found.plan (good_first m ranges w.first good) (none_least m found.plan impossible);
       goes = subst (λ c. GoesTogether m c found.plan) (sym claim_is) (subst (λ p. IsNone p) (sym without) refl);
-      cause = no_bound found.certificate.claim (λ amount. shown.WithRows m found (IsUndecidedWithin m ranges budget limits stopping found)) decided;
+      cause = no_bound found.certificate.claim (λ amount. shown.WithRows m found (IsUndecidedWithin m ranges w.budget w.limits stopping found)) decided;
       evidence = no_bound found.certificate.claim (λ amount. shown.WithRows m found (HasEvidenceWithin m ranges found amount)) decided;
       root = (r, is.means, sym root_is);
       uncoupled = (λ e. is.uncoupled.0 (sym root_is ∙ e), λ free. root_is ∙ is.uncoupled.1 free);
       apart = λ amount at. subst (IsClaimedAtLeast amount) (sym claim_is) tt;
       version = version;
-      whole = λ all. none_answer m budget limits stopping first found r some (good_first m ranges first good) is says version (whole ranges all found proved) without root_is by;
+      whole = λ all. none_answer m w stopping found r some (good_first m ranges w.first good) is says version (whole ranges all found proved) without root_is by;
     }
 
 -- ---- by a search
@@ -209,14 +211,14 @@ uses_of found root.Empty coupled some closed = absurd (some refl)
 uses_of found (root.Stopped round) coupled some closed = tt
 uses_of found (root.Passed round at) coupled some closed = tt
 
-pub searched_within : (g : Model) (k : Known) (budget : ℕ) (limits : Limits) (stopping : Bool) (first : Option Plan) (found : Found) (r : Root) (a : Apart) (best : Option Planned) → IsRootOf g.instance.now r → (IsWhole g.instance.now (ranges_in g) → r.says ≡ root.Uncoupled → ⊥) → (r.says ≡ root.Empty → ⊥) → AreApart g.instance.now a → ApartIsOne → LieInWhole g.instance.now → WholeIsProved g.instance.now → IsProvedWithin g.instance.now (ranges_in g) found → IsFinished g k budget limits stopping found → found.plan ≡ plan_kept k.best → found.root ≡ r.says → IsVersionOf g.instance.now (shape_of found.certificate) → a.amount ≤ g.least → ((c : ℕ) → r.says ≡ root.Closed c → c ≤ g.least) → IfSome k.best (IsMadeWithin g.instance.now (ranges_in g)) → IsNoWorse k.best best → KeepsGiven g.instance.now first best → (AllLieWithin g.instance.now (ranges_in g) → KeepsOwnMade g.instance.now best) → IsAnswerWithin g.instance.now (ranges_in g) budget limits stopping first found
-searched_within g k budget limits stopping first found r a best is coupled some apart one lie whole proved ends plan_is root_is version apart_least closed_least made less kept own =
+pub searched_within : (g : Model) (k : Known) (w : Wanted) (stopping : Bool) (found : Found) (r : Root) (a : Apart) (best : Option Planned) → IsRootOf g.instance.now r → (IsWhole g.instance.now (ranges_in g) → r.says ≡ root.Uncoupled → ⊥) → (r.says ≡ root.Empty → ⊥) → AreApart g.instance.now a → ApartIsOne → LieInWhole g.instance.now → WholeIsProved g.instance.now → IsProvedWithin g.instance.now (ranges_in g) found → IsFinished g k w.budget w.limits stopping found → found.plan ≡ plan_kept k.best → found.root ≡ r.says → IsVersionOf g.instance.now w.newest (shape_of found.certificate) → a.amount ≤ g.least → ((c : ℕ) → r.says ≡ root.Closed c → c ≤ g.least) → IfSome k.best (IsMadeWithin g.instance.now (ranges_in g)) → IsNoWorse k.best best → KeepsGiven g.instance.now w.first best → (AllLieWithin g.instance.now (ranges_in g) → KeepsOwnMade g.instance.now best) → IsAnswerWithin g.instance.now (ranges_in g) w stopping found
+searched_within g k w stopping found r a best is coupled some apart one lie whole proved ends plan_is root_is version apart_least closed_least made less kept own =
     let m = g.instance.now in
     let ranges = ranges_in g in
     let claim = found.certificate.claim in
     let made_is = made_of m ranges k.best made in
     let good : IfSome found.plan (IsGoodWithin m ranges) = subst (λ p. IfSome p (IsGoodWithin m ranges)) (sym plan_is) (good_kept m ranges k.best made) in
-    let keeps : KeepsFirst m first found.plan = subst (KeepsFirst m first) (sym plan_is) (first_kept m first k.best made_is (given_on m first best k.best less kept)) in
+    let keeps : KeepsFirst m w.first found.plan = subst (KeepsFirst m w.first) (sym plan_is) (first_kept m w.first k.best made_is (given_on m w.first best k.best less kept)) in
     let said : IsSaidAtRoot m found.root = (r, is.means, sym root_is) in
     let free : found.root ≡ root.Uncoupled ↔ IsUncoupled m = (λ e. is.uncoupled.0 (sym root_is ∙ e), λ f. root_is ∙ is.uncoupled.1 f) in
     let least : IsNoLessThanApart m claim = λ amount at. claimed_on claim amount g.least (omega (arith, one m amount a.amount at apart.amount, apart_least)) ends.least in
@@ -239,7 +241,7 @@ searched_within g k budget limits stopping first found r a best is coupled some 
         kept = keeps;
         own = subst (KeepsOwn m) (sym plan_is) (own_kept m k.best made_is (λ q is_own feasible. at_most_on (cost_kept k.best) (cost_kept best) (Some (terms.cost m q)) less (own (lie ranges all) q is_own feasible)));
         goes = ends.goes;
-        cause = cause_whole m ranges budget limits stopping found all ends.cause;
+        cause = cause_whole m ranges w.budget w.limits stopping found all ends.cause;
         evidence = shows_whole m ranges found all ends.evidence;
         root = said;
         uncoupled = free;
@@ -251,10 +253,10 @@ searched_within g k budget limits stopping first found r a best is coupled some 
     }
 
 -- ---- if memory was there
-pub searched_ok : (g : Model) (k : Known) (budget : ℕ) (limits : Limits) (stopping : Bool) (first : Option Plan) (result : Result Found AllocError) (r : Root) (a : Apart) (best : Option Planned) → g.root ≡ r.says → IsRootOf g.instance.now r → (IsWhole g.instance.now (ranges_in g) → r.says ≡ root.Uncoupled → ⊥) → (r.says ≡ root.Empty → ⊥) → AreApart g.instance.now a → ApartIsOne → LieInWhole g.instance.now → WholeIsProved g.instance.now → IfOk result (IsProvedWithin g.instance.now (ranges_in g)) → IfOk result (IsFinished g k budget limits stopping) → IfOk result (λ found. found.plan ≡ plan_kept k.best) → IfOk result (λ found. found.root ≡ g.root) → IfOk result (λ found. IsVersionOf g.instance.now (shape_of found.certificate)) → a.amount ≤ g.least → ((c : ℕ) → r.says ≡ root.Closed c → c ≤ g.least) → IfSome k.best (IsMadeWithin g.instance.now (ranges_in g)) → IsNoWorse k.best best → KeepsGiven g.instance.now first best → (AllLieWithin g.instance.now (ranges_in g) → KeepsOwnMade g.instance.now best) → IfOk result (IsAnswerWithin g.instance.now (ranges_in g) budget limits stopping first)
-searched_ok g k budget limits stopping first (Ok found) r a best root_same is coupled some apart one lie whole proved ends plan_is root_is version apart_least closed_least made less kept own =
-    searched_within g k budget limits stopping first found r a best is coupled some apart one lie whole proved ends plan_is (root_is ∙ root_same) version apart_least closed_least made less kept own
-searched_ok g k budget limits stopping first (Err e) r a best root_same is coupled some apart one lie whole proved ends plan_is root_is version apart_least closed_least made less kept own = tt
+pub searched_ok : (g : Model) (k : Known) (w : Wanted) (stopping : Bool) (result : Result Found AllocError) (r : Root) (a : Apart) (best : Option Planned) → g.root ≡ r.says → IsRootOf g.instance.now r → (IsWhole g.instance.now (ranges_in g) → r.says ≡ root.Uncoupled → ⊥) → (r.says ≡ root.Empty → ⊥) → AreApart g.instance.now a → ApartIsOne → LieInWhole g.instance.now → WholeIsProved g.instance.now → IfOk result (IsProvedWithin g.instance.now (ranges_in g)) → IfOk result (IsFinished g k w.budget w.limits stopping) → IfOk result (λ found. found.plan ≡ plan_kept k.best) → IfOk result (λ found. found.root ≡ g.root) → IfOk result (λ found. IsVersionOf g.instance.now w.newest (shape_of found.certificate)) → a.amount ≤ g.least → ((c : ℕ) → r.says ≡ root.Closed c → c ≤ g.least) → IfSome k.best (IsMadeWithin g.instance.now (ranges_in g)) → IsNoWorse k.best best → KeepsGiven g.instance.now w.first best → (AllLieWithin g.instance.now (ranges_in g) → KeepsOwnMade g.instance.now best) → IfOk result (IsAnswerWithin g.instance.now (ranges_in g) w stopping)
+searched_ok g k w stopping (Ok found) r a best root_same is coupled some apart one lie whole proved ends plan_is root_is version apart_least closed_least made less kept own =
+    searched_within g k w stopping found r a best is coupled some apart one lie whole proved ends plan_is (root_is ∙ root_same) version apart_least closed_least made less kept own
+searched_ok g k w stopping (Err e) r a best root_same is coupled some apart one lie whole proved ends plan_is root_is version apart_least closed_least made less kept own = tt
 
 pub ended_on : (g : Model) (k : Known) (budget : ℕ) (limits : Limits) (stopping : Bool) (rs : List Range) (s : Searched) (result : Result Found AllocError) → IsSearched g k budget limits stopping rs s → IfOk result (λ found. (n : ℕ) (l : Limits) (stop : Bool) (list : List Range) → IsSearched g k n l stop list s → IsFinished g k n l stop found) → IfOk result (IsFinished g k budget limits stopping)
 ended_on g k budget limits stopping rs s (Ok found) is all = all budget limits stopping rs is

@@ -1,9 +1,8 @@
 -- All that holds of what a search finds.
-use Rattle.std.specs.Prelude.{◌≡◌, ◌↔◌, ℕ, ◌≤◌, Bool, Option, IfSome}
+use Rattle.std.specs.Prelude.{◌≡◌, ◌↔◌, ◌≤◌, Bool, IfSome}
 use Rattle.lot_sizing.specs.Problem.{IsUncoupled, Problem}
-use Rattle.plan_rules.specs.declared.plan.Plan.{Plan}
+use Rattle.cert_lines.specs.declared.limits.TheConstants.{LOTS_CERT_VERSION, MAX_CERT_VERSION}
 use Rattle.certificate.specs.Shapes.{shape_of}
-use Rattle.branch_and_bound.specs.declared.limits.Limits.{Limits}
 use Rattle.branching.specs.declared.found.Found.{Found}
 use Rattle.branching.specs.declared.found.RootSays.TheVariants.{Uncoupled}
 use Rattle.branching.specs.Found.{IsProved}
@@ -13,7 +12,9 @@ use Rattle.root_rounds.specs.Root.{AreWritable, BoundsPlans, HasFigures, RootMea
 use Rattle.branch_and_cut.specs.Search.{DecidesSmall, GoesTogether, HasEvidence, IfBound, IsNoLessThanApart, IsSaidAtRoot, IsUndecided, IsVersionOf, KeepsFirst, KeepsOwn, UsesRoot, WithRows}
 use Rattle.incumbent.specs.Good.{IsGoodPlan, IsGoodWithin}
 use Rattle.branch_and_cut.specs.SearchWithin.{HasEvidenceWithin, IsProvedWithin, IsUndecidedWithin}
-use Rattle.search_ranges.specs.declared.within.Ranges.{Ranges as Given}
+use Rattle.branch_and_cut.specs.Beginning.{AreApart}
+use Rattle.branch_and_cut.specs.declared.wanted.Start.{Start}
+use Rattle.branch_and_cut.specs.declared.wanted.Wanted.{Wanted}
 use Rattle.search_ranges.specs.Within.{AreGiven, IsWhole, given_ranges}
 
 -- what the root promises
@@ -24,41 +25,44 @@ pub record IsRootOf (m : Problem) (r : Root) : Type 0 where
   pub bounds : BoundsPlans m r.says
   pub figures : HasFigures m
 
--- a search is asked within ranges of the problem: with room for a node, with a plan within the ranges to begin with, if one was given, and after what was said at the root
-pub record StartsWell (m : Problem) (r : Given) (budget : ℕ) (first : Option Plan) (said : Root) : Type 0 where
-  pub room : 1 ≤ budget
-  pub given : AreGiven m r
-  pub good : IfSome first (IsGoodWithin m (given_ranges r))
-  pub root : IsRootOf m said
+-- a search is asked within ranges of the problem: with room for a node, with a version of certificates that names each problem's rows, with a plan within the ranges to begin with, if one was given, after what was said at the root and what the items cost apart
+pub record StartsWell (s : Start) (w : Wanted) : Type 0 where
+  pub room : 1 ≤ w.budget
+  pub oldest : LOTS_CERT_VERSION ≤ w.newest
+  pub latest : w.newest ≤ MAX_CERT_VERSION
+  pub given : AreGiven s.instance.now s.ranges.now
+  pub good : IfSome w.first (IsGoodWithin s.instance.now (given_ranges s.ranges.now))
+  pub root : IsRootOf s.instance.now s.said
+  pub apart : AreApart s.instance.now s.apart
 
 -- over all ranges
-pub record IsAnswer (m : Problem) (budget : ℕ) (limits : Limits) (stopping : Bool) (first : Option Plan) (found : Found) : Type 0 where
+pub record IsAnswer (m : Problem) (w : Wanted) (stopping : Bool) (found : Found) : Type 0 where
   pub proved : IsProved m found
   pub plan : IfSome found.plan (IsGoodPlan m)
-  pub within : found.nodes ≤ budget
-  pub kept : KeepsFirst m first found.plan
+  pub within : found.nodes ≤ w.budget
+  pub kept : KeepsFirst m w.first found.plan
   pub own : KeepsOwn m found.plan
   pub goes : GoesTogether m found.certificate.claim found.plan
-  pub cause : IfBound found.certificate.claim (λ amount. WithRows m found (IsUndecided m budget limits stopping found))
+  pub cause : IfBound found.certificate.claim (λ amount. WithRows m found (IsUndecided m w.budget w.limits stopping found))
   pub evidence : IfBound found.certificate.claim (λ amount. WithRows m found (HasEvidence m found amount))
   pub root : IsSaidAtRoot m found.root
   pub uncoupled : found.root ≡ Uncoupled ↔ IsUncoupled m
   pub uses : UsesRoot found found.root
   pub apart : IsNoLessThanApart m found.certificate.claim
-  pub complete : DecidesSmall m budget limits stopping found.certificate.claim
-  pub version : IsVersionOf m (shape_of found.certificate)
+  pub complete : DecidesSmall m w.budget w.limits stopping found.certificate.claim
+  pub version : IsVersionOf m w.newest (shape_of found.certificate)
 
 -- over ranges that were given; and all of the above where they are the whole ones
-pub record IsAnswerWithin (m : Problem) (ranges : Ranges) (budget : ℕ) (limits : Limits) (stopping : Bool) (first : Option Plan) (found : Found) : Type 0 where
+pub record IsAnswerWithin (m : Problem) (ranges : Ranges) (w : Wanted) (stopping : Bool) (found : Found) : Type 0 where
   pub proved : IsProvedWithin m ranges found
   pub plan : IfSome found.plan (IsGoodWithin m ranges)
-  pub within : found.nodes ≤ budget
-  pub kept : KeepsFirst m first found.plan
+  pub within : found.nodes ≤ w.budget
+  pub kept : KeepsFirst m w.first found.plan
   pub goes : GoesTogether m found.certificate.claim found.plan
-  pub cause : IfBound found.certificate.claim (λ amount. WithRows m found (IsUndecidedWithin m ranges budget limits stopping found))
+  pub cause : IfBound found.certificate.claim (λ amount. WithRows m found (IsUndecidedWithin m ranges w.budget w.limits stopping found))
   pub evidence : IfBound found.certificate.claim (λ amount. WithRows m found (HasEvidenceWithin m ranges found amount))
   pub root : IsSaidAtRoot m found.root
   pub uncoupled : found.root ≡ Uncoupled ↔ IsUncoupled m
   pub apart : IsNoLessThanApart m found.certificate.claim
-  pub version : IsVersionOf m (shape_of found.certificate)
-  pub whole : IsWhole m ranges → IsAnswer m budget limits stopping first found
+  pub version : IsVersionOf m w.newest (shape_of found.certificate)
+  pub whole : IsWhole m ranges → IsAnswer m w stopping found

@@ -190,10 +190,11 @@ pub record IsUsualVersion (m : Problem) (version : ℕ) : Type 0 where
 abbrev pub in_version : ℕ → Shape → Shape
 in_version version s = record { version = version; claim = s.claim; cuts = s.cuts; tree = s.tree }
 
--- the version of a certificate is the least, from the usual one on, in which it has a text
-pub record IsVersionOf (m : Problem) (s : Shape) : Type 0 where
+-- the version of a certificate is the least, from the usual one on, in which it has a text, and none above the newest that was asked for
+pub record IsVersionOf (m : Problem) (newest : ℕ) (s : Shape) : Type 0 where
   pub usual : ℕ
   pub is_usual : IsUsualVersion m usual
   pub from : usual ≤ s.version
+  pub at_most : s.version ≤ newest
   pub written : IsWritable s
   pub least : (version : ℕ) → usual ≤ version → version < s.version → IsWritable (in_version version s) → ⊥

@@ -1,6 +1,6 @@
 // What is found, with its certificate.
-ghost use Rattle.std.specs.Prelude.{◌≡◌, ℕ, Bool, List, IfOk};
-ghost use Rattle.cert_lines.specs.declared.limits.TheConstants.{MAX_CERT_VERSION};
+ghost use Rattle.std.specs.Prelude.{◌≡◌, ◌≤◌, ℕ, Bool, List, IfOk};
+ghost use Rattle.cert_lines.specs.declared.limits.TheConstants.{LOTS_CERT_VERSION};
 ghost use Rattle.certificate.specs.Shapes.{shape_of};
 ghost use Rattle.root_rounds.specs.Root.{HasFigures};
 ghost use Rattle.branch_and_bound.specs.declared.limits.Limits.{Limits};
@@ -24,8 +24,8 @@ use lot_model::an_instance_breaks_no_rule;
 use lot_sizing::totals_are_one;
 use std::alloc::{AllocError, Global};
 
-/// What a search has found, with the certificate of it: the search takes the lines of the latest version, and the text is of
-/// the least one that has those that were taken.
+/// What a search has found, with the certificate of it: the search takes the lines of the newest version that the text may have,
+/// and the text is of the least one that has those that were taken.
 pub(crate) fn finish(
     alloc: Global,
     model: &Model,
@@ -33,14 +33,14 @@ pub(crate) fn finish(
     searched: Searched,
 ) -> Result<Found, AllocError>
     requires figures { HasFigures model.now.instance.now }
-    requires latest { model.now.version ≡ MAX_CERT_VERSION }
+    requires oldest { LOTS_CERT_VERSION ≤ model.now.version }
     requires searched { (budget : ℕ) × (limits : Limits) × (stopping : Bool) × (rs : List Range)
         × IsSearched model.now known budget limits stopping rs searched }
     ensures proved { IfOk result (IsProvedWithin model.now.instance.now (ranges_in model.now)) }
     ensures plan { IfOk result (λ found. found.plan ≡ plan_kept known.best) }
     ensures root { IfOk result (λ found. found.root ≡ model.now.root) }
     ensures version { IfOk result (λ found.
-        IsVersionOf model.now.instance.now (shape_of found.certificate)) }
+        IsVersionOf model.now.instance.now model.now.version (shape_of found.certificate)) }
     ensures shown { IfOk result (λ found.
         (budget : ℕ) (limits : Limits) (stopping : Bool) (rs : List Range)
         → IsSearched model.now known budget limits stopping rs searched

@@ -34,7 +34,7 @@ pub(crate) struct Model<'a> {
     pub(crate) ranges: &'a Ranges,
     /// The units of each item in each other.
     pub(crate) explosion: Explosion,
-    /// The version of the certificate's text.
+    /// The newest version that the certificate's text may have, whose lines leaves may take.
     pub(crate) version: u32,
     /// What was said at the root.
     pub(crate) root: RootSays,

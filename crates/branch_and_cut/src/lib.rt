@@ -1,9 +1,10 @@
 //! The search of every model: branching on quantities and setups, with cuts, and a certificate of what is found.
 //!
 //! `search_all` searches the plans of a model, and `search` those within `Ranges` that are given. Each gives a `Found`: a plan,
-//! if there is one, and a certificate of what is claimed. Both are given what proposes leaves, branches and plans, and what is
-//! told of the search and may end it (`search_plugins`); what they promise holds for any. `Limits` say where a search may end
-//! though its plan isn't shown to be best.
+//! if there is one, and a certificate of what is claimed. Both are given what proposes leaves, branches and plans (`Plugins`), and
+//! what is told of the search and may end it (`search_plugins`); what they promise holds for any. `Wanted` has the budget, a plan to
+//! begin with, the newest version that the certificate may have, and the `Limits`, which say where a search may end though its plan
+//! isn't shown to be best.
 //!
 //! Family: search. It stands on `branch_and_bound` for the tree, on `search_ranges` for the ranges, on `root_rounds`, `apart` and
 //! `path_relaxation` for cuts and leaves, on `incumbent` for the best plan, on `search_plugins` for what is plugged in, on
@@ -25,9 +26,12 @@ mod pricing;
 mod searching;
 mod splitting;
 mod versions;
+mod wanted;
 mod whole;
 
 pub use branch_and_bound::Limits;
 pub use branching::{Found, PassedAt, RootSays};
+pub use plugged::Plugins;
 pub use search_ranges::Ranges;
 pub use searching::{search, search_all};
+pub use wanted::Wanted;

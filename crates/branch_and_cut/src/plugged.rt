@@ -2,6 +2,15 @@
 use crate::guiding::Model;
 use crate::knowing::Known;
 
+/// What is plugged into a search.
+#[derive(Drop)]
+pub struct Plugins<'a, P, H> {
+    /// What proposes leaves and branches.
+    pub proposer: &'a P,
+    /// What proposes plans.
+    pub heuristic: &'a H,
+}
+
 /// What is known of a model before any branch, with what proposes leaves and plans.
 #[derive(Drop)]
 pub(crate) struct Guided<'a, P, H> {

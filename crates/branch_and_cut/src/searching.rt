@@ -1,12 +1,11 @@
 // The search of a model.
 ghost use Rattle.std.specs.Prelude.{◌≡◌, ◌≤◌, ◌↔◌, Bool, IfOk, IfSome};
+ghost use Rattle.cert_lines.specs.declared.limits.TheConstants.{LOTS_CERT_VERSION, MAX_CERT_VERSION};
 ghost use Rattle.lot_sizing.specs.Problem.{IsUncoupled};
-ghost use Rattle.branch_and_bound.specs.declared.limits.Limits.{Limits};
 ghost use Rattle.branching.specs.Found.{IsProved};
 ghost use Rattle.branching.specs.declared.found.RootSays.TheVariants.{Empty, Uncoupled};
 ghost use Rattle.certificate.specs.Shapes.{shape_of};
 ghost use Rattle.branch_and_cut.specs.Answer.{IsAnswer, IsAnswerWithin, StartsWell};
-ghost use Rattle.branch_and_cut.specs.Beginning.{AreApart};
 ghost use Rattle.branch_and_cut.specs.Search.{DecidesSmall, GoesTogether, HasEvidence, IfBound, IsNoLessThanApart, IsSaidAtRoot, IsUndecided, IsVersionOf, KeepsFirst, KeepsOwn, UsesRoot, WithRows};
 ghost use Rattle.incumbent.specs.Good.{IsGoodPlan, IsGoodWithin};
 ghost use Rattle.incumbent.specs.Kept.{IsFirstBest, IsFirstWithin};
@@ -18,20 +17,19 @@ use crate::finishing::finish;
 use crate::guiding::Model;
 use crate::impossible::none_found;
 use crate::knowing::Known;
-use crate::plugged::{Guided, State, Watched};
+use crate::plugged::{Guided, Plugins, State, Watched};
 use crate::versions::usual_version;
+use crate::wanted::{Start, Wanted};
 use crate::whole::whole_is_proved;
-use apart::{Apart, apart, apart_is_one};
+use apart::{apart, apart_is_one};
 use branch_and_bound as engine;
-use branch_and_bound::Limits;
 use branching::{Found, RootSays, plan_uncoupled};
 use cert_checker::NamedSums;
-use certificate::MAX_CERT_VERSION;
 use echelon::Explosion;
 use incumbent::best_to_begin;
 use lot_model::Instance;
 use plan_rules::{Plan, Planned};
-use root_rounds::{Root, root};
+use root_rounds::root;
 use search_plugins::{Heuristic, Proposer, Watch};
 use search_ranges::{Ranges, lie_in_whole, lies_within, listed};
 use std::alloc::{AllocError, Global};
@@ -56,25 +54,32 @@ fn best_at_start<T, H: Heuristic<T>>(
 // What a search within the ranges finds.
 fn searched<P: Proposer, H: Heuristic<P::Hint>, W: Watch + Drop>(
     alloc: Global,
-    proposer: &P,
-    heuristic: &H,
+    plugins: &Plugins<'_, P, H>,
     watch: W,
-    instance: &Instance,
-    ranges: &Ranges,
-    budget: u64,
-    first: Option<Plan>,
-    limits: Limits,
-    said: Root,
-    apart: Apart,
+    start: Start<'_>,
+    wanted: Wanted,
 ) -> Result<Found, AllocError>
-    requires start { StartsWell instance.now ranges.now budget first said }
-    requires coupled { IsWhole instance.now (given_ranges ranges.now) → said.says ≡ Uncoupled → ⊥ }
-    requires some { said.says ≡ Empty → ⊥ }
-    requires apart { AreApart instance.now apart }
+    requires start { StartsWell start wanted }
+    requires coupled { IsWhole start.instance.now (given_ranges start.ranges.now)
+        → start.said.says ≡ Uncoupled → ⊥ }
+    requires some { start.said.says ≡ Empty → ⊥ }
     ensures { IfOk result
-        (IsAnswerWithin instance.now (given_ranges ranges.now) budget limits (W.may_stop watch)
-        first) }
+        (IsAnswerWithin start.entry.instance.now (given_ranges start.entry.ranges.now) wanted
+        (W.may_stop watch)) }
 {
+    let Start {
+        instance,
+        ranges,
+        said,
+        apart,
+    } = start;
+    let Wanted {
+        budget,
+        first,
+        limits,
+        newest,
+    } = wanted;
+    let (proposer, heuristic) = (plugins.proposer, plugins.heuristic);
     apart_is_one();
     lie_in_whole(instance);
     whole_is_proved(instance);
@@ -88,7 +93,7 @@ fn searched<P: Proposer, H: Heuristic<P::Hint>, W: Watch + Drop>(
         instance,
         ranges,
         explosion,
-        version: MAX_CERT_VERSION,
+        version: newest,
         root: says,
         least: begun.least,
         first: begun.first,
@@ -123,91 +128,67 @@ fn searched<P: Proposer, H: Heuristic<P::Hint>, W: Watch + Drop>(
 // otherwise what a search finds.
 fn alone<P: Proposer, H: Heuristic<P::Hint>, W: Watch + Drop>(
     alloc: Global,
-    proposer: &P,
-    heuristic: &H,
+    plugins: &Plugins<'_, P, H>,
     watch: W,
-    instance: &Instance,
-    ranges: &Ranges,
-    budget: u64,
-    first: Option<Plan>,
-    limits: Limits,
-    said: Root,
-    apart: Apart,
+    start: Start<'_>,
+    wanted: Wanted,
 ) -> Result<Found, AllocError>
-    requires start { StartsWell instance.now ranges.now budget first said }
-    requires uncoupled { said.says ≡ Uncoupled }
-    requires apart { AreApart instance.now apart }
+    requires start { StartsWell start wanted }
+    requires uncoupled { start.said.says ≡ Uncoupled }
     ensures { IfOk result
-        (IsAnswerWithin instance.now (given_ranges ranges.now) budget limits (W.may_stop watch)
-        first) }
+        (IsAnswerWithin start.entry.instance.now (given_ranges start.entry.ranges.now) wanted
+        (W.may_stop watch)) }
 {
+    let (instance, ranges) = (start.instance, start.ranges);
     apart_is_one();
     lie_in_whole(instance);
     let found = plan_uncoupled(alloc, instance)?;
     if lies_within(instance, ranges, &found.plan) {
         return Ok(found);
     }
-    searched(
-        alloc, proposer, heuristic, watch, instance, ranges, budget, first, limits, said, apart,
-    )
+    searched(alloc, plugins, watch, start, wanted)
 }
 
 // What is found of a model of which the root says that its relaxation has no point.
-fn impossible(
-    instance: &Instance,
-    ranges: &Ranges,
-    budget: u64,
-    first: Option<Plan>,
-    said: Root,
-) -> Found
-    requires start { StartsWell instance.now ranges.now budget first said }
-    requires none { said.says ≡ Empty }
-    ensures { (limits : Limits) (stopping : Bool)
-        → IsAnswerWithin instance.now (given_ranges ranges.now) budget limits stopping first
-        result }
+fn impossible(start: Start<'_>, wanted: Wanted) -> Found
+    requires start { StartsWell start wanted }
+    requires none { start.said.says ≡ Empty }
+    ensures { (stopping : Bool)
+        → IsAnswerWithin start.entry.instance.now (given_ranges start.entry.ranges.now) wanted
+        stopping result }
 {
+    let (instance, ranges) = (start.instance, start.ranges);
     whole_is_proved(instance);
     let version = usual_version(instance);
-    none_found(instance, ranges, version, said)
+    none_found(instance, ranges, version, start.said)
 }
 
 // What is found, by what is said at the root.
 fn answer<P: Proposer, H: Heuristic<P::Hint>, W: Watch + Drop>(
     alloc: Global,
-    proposer: &P,
-    heuristic: &H,
+    plugins: &Plugins<'_, P, H>,
     watch: W,
-    instance: &Instance,
-    ranges: &Ranges,
-    budget: u64,
-    first: Option<Plan>,
-    limits: Limits,
-    said: Root,
-    apart: Apart,
+    start: Start<'_>,
+    wanted: Wanted,
 ) -> Result<Found, AllocError>
-    requires start { StartsWell instance.now ranges.now budget first said }
-    requires apart { AreApart instance.now apart }
+    requires start { StartsWell start wanted }
     ensures { IfOk result
-        (IsAnswerWithin instance.now (given_ranges ranges.now) budget limits (W.may_stop watch)
-        first) }
+        (IsAnswerWithin start.entry.instance.now (given_ranges start.entry.ranges.now) wanted
+        (W.may_stop watch)) }
 {
-    match said.says {
-        RootSays::Uncoupled => alone(
-            alloc, proposer, heuristic, watch, instance, ranges, budget, first, limits, said, apart,
-        ),
-        RootSays::Empty => Ok(impossible(instance, ranges, budget, first, said)),
-        _ => searched(
-            alloc, proposer, heuristic, watch, instance, ranges, budget, first, limits, said, apart,
-        ),
+    match start.said.says {
+        RootSays::Uncoupled => alone(alloc, plugins, watch, start, wanted),
+        RootSays::Empty => Ok(impossible(start, wanted)),
+        _ => searched(alloc, plugins, watch, start, wanted),
     }
 }
 
 /// Searches a best plan of a model within ranges of its quantities and setups, and proves what is found of the plans that
 /// lie in them: the certificate is accepted over the ranges, with the plan.
 ///
-/// `ranges` have the instance's shape, lie within `Ranges::all` and have no low number above its high number. `budget` is
-/// the most nodes that the certificate's tree may have, branches and leaves. `first` is a plan within the ranges to begin
-/// with: there is one in the answer then, which costs no more. A plan in the answer lies within the ranges.
+/// `ranges` have the instance's shape, lie within `Ranges::all` and have no low number above its high number. Of what is
+/// `wanted`, `budget` is the most nodes that the certificate's tree may have, branches and leaves. `first` is a plan within the
+/// ranges to begin with: there is one in the answer then, which costs no more. A plan in the answer lies within the ranges.
 ///
 /// | Claim | Where |
 /// |---|---|
@@ -217,10 +198,10 @@ fn answer<P: Proposer, H: Heuristic<P::Hint>, W: Watch + Drop>(
 ///
 /// A bound is claimed only for one of these causes. Two more nodes would pass the budget. Or all leaves that are left open have
 /// the `MAX_BRANCHES` branches above them that a path may have. Or there is a plan, and its cost lies no more than the gap of
-/// `limits` above the amount, in hundredths of a percent of that cost. Or the watcher may end the search (`may_stop`).
+/// the limits above the amount, in hundredths of a percent of that cost. Or the watcher may end the search (`may_stop`).
 ///
 /// The text of the certificate is of the least version that has its lines, from the usual one on: the first where the model is
-/// plain, and else `LOTS_CERT_VERSION`.
+/// plain, and else `LOTS_CERT_VERSION`. It is of none above `newest`: leaves with lines of later versions are not taken.
 ///
 /// No amount is below what the items cost apart. A bound is said by some leaf; at each leaf that says it, some point of the
 /// relaxation without cuts on the path to it costs no more, or that relaxation wasn't found, for the exact cause that
@@ -238,29 +219,28 @@ fn answer<P: Proposer, H: Heuristic<P::Hint>, W: Watch + Drop>(
 /// tree of more than `MAX_NODES` nodes, 2^45, is given up with the same error.
 pub fn search<P: Proposer, H: Heuristic<P::Hint>, W: Watch + Drop>(
     alloc: Global,
-    proposer: &P,
-    heuristic: &H,
+    plugins: &Plugins<'_, P, H>,
     watch: W,
     instance: &Instance,
     ranges: Ranges,
-    budget: u64,
-    first: Option<Plan>,
-    limits: Limits,
+    wanted: Wanted,
 ) -> Result<Found, AllocError>
-    requires budget { 1 ≤ budget }
+    requires budget { 1 ≤ wanted.budget }
+    requires oldest { LOTS_CERT_VERSION ≤ wanted.newest }
+    requires latest { wanted.newest ≤ MAX_CERT_VERSION }
     requires ranges { AreGiven instance.now ranges }
-    requires first { IfSome first (IsGoodWithin instance.now (given_ranges ranges)) }
+    requires first { IfSome wanted.first (IsGoodWithin instance.now (given_ranges ranges)) }
     ensures proved { IfOk result (IsProvedWithin instance.now (given_ranges ranges)) }
     ensures plan { IfOk result (λ found.
         IfSome found.plan (IsGoodWithin instance.now (given_ranges ranges))) }
-    ensures within { IfOk result (λ found. found.nodes ≤ budget) }
-    ensures kept { IfOk result (λ found. KeepsFirst instance.now first found.plan) }
+    ensures within { IfOk result (λ found. found.nodes ≤ wanted.budget) }
+    ensures kept { IfOk result (λ found. KeepsFirst instance.now wanted.first found.plan) }
     ensures goes { IfOk result (λ found.
         GoesTogether instance.now found.certificate.claim found.plan) }
     ensures cause { IfOk result (λ found. IfBound found.certificate.claim (λ amount.
         WithRows instance.now found
-        (IsUndecidedWithin instance.now (given_ranges ranges) budget limits (W.may_stop watch)
-        found))) }
+        (IsUndecidedWithin instance.now (given_ranges ranges) wanted.budget wanted.limits
+        (W.may_stop watch) found))) }
     ensures evidence { IfOk result (λ found.
         IfBound found.certificate.claim
         (λ amount. WithRows instance.now found
@@ -268,22 +248,27 @@ pub fn search<P: Proposer, H: Heuristic<P::Hint>, W: Watch + Drop>(
     ensures root { IfOk result (λ found. IsSaidAtRoot instance.now found.root) }
     ensures uncoupled { IfOk result (λ found. found.root ≡ Uncoupled ↔ IsUncoupled instance.now) }
     ensures apart { IfOk result (λ found. IsNoLessThanApart instance.now found.certificate.claim) }
-    ensures version { IfOk result (λ found. IsVersionOf instance.now (shape_of found.certificate)) }
+    ensures version { IfOk result (λ found.
+        IsVersionOf instance.now wanted.newest (shape_of found.certificate)) }
     ensures whole { IfOk result (λ found. IsWhole instance.now (given_ranges ranges)
-        → IsAnswer instance.now budget limits (W.may_stop watch) first found) }
+        → IsAnswer instance.now wanted (W.may_stop watch) found) }
 {
     let said = root(alloc, instance)?;
     let apart = apart(alloc, instance)?;
-    let found = answer(
-        alloc, proposer, heuristic, watch, instance, &ranges, budget, first, limits, said, apart,
-    )?;
+    let start = Start {
+        instance,
+        ranges: &ranges,
+        said,
+        apart,
+    };
+    let found = answer(alloc, plugins, watch, start, wanted)?;
     Ok(found)
 }
 
 /// Searches a best plan of a model, over all ranges, and proves what is found: the certificate is accepted with the plan.
 ///
-/// `budget` is the most nodes that the certificate's tree may have, branches and leaves. `first` is a plan to begin
-/// with: there is one in the answer then, which costs no more. Where the own-period plan is feasible there is one too,
+/// Of what is `wanted`, `budget` is the most nodes that the certificate's tree may have, branches and leaves. `first` is a plan to
+/// begin with: there is one in the answer then, which costs no more. Where the own-period plan is feasible there is one too,
 /// which costs no more than that.
 ///
 /// | Claim | Where |
@@ -294,10 +279,10 @@ pub fn search<P: Proposer, H: Heuristic<P::Hint>, W: Watch + Drop>(
 ///
 /// A bound is claimed only for one of these causes. Two more nodes would pass the budget. Or all leaves that are left open have
 /// the `MAX_BRANCHES` branches above them that a path may have. Or there is a plan, and its cost lies no more than the gap of
-/// `limits` above the amount, in hundredths of a percent of that cost. Or the watcher may end the search (`may_stop`).
+/// the limits above the amount, in hundredths of a percent of that cost. Or the watcher may end the search (`may_stop`).
 ///
 /// The text of the certificate is of the least version that has its lines, from the usual one on: the first where the model is
-/// plain, and else `LOTS_CERT_VERSION`.
+/// plain, and else `LOTS_CERT_VERSION`. It is of none above `newest`: leaves with lines of later versions are not taken.
 ///
 /// No amount is below what the items cost apart or what the root closes to. A bound is said by some leaf; at each leaf
 /// that says it, some point of the relaxation without cuts on the path to it costs no more, or that relaxation wasn't
@@ -318,26 +303,25 @@ pub fn search<P: Proposer, H: Heuristic<P::Hint>, W: Watch + Drop>(
 /// tree of more than `MAX_NODES` nodes, 2^45, is given up with the same error.
 pub fn search_all<P: Proposer, H: Heuristic<P::Hint>, W: Watch + Drop>(
     alloc: Global,
-    proposer: &P,
-    heuristic: &H,
+    plugins: &Plugins<'_, P, H>,
     watch: W,
     instance: &Instance,
-    budget: u64,
-    first: Option<Plan>,
-    limits: Limits,
+    wanted: Wanted,
 ) -> Result<Found, AllocError>
-    requires budget { 1 ≤ budget }
-    requires first { IfSome first (IsGoodPlan instance.now) }
+    requires budget { 1 ≤ wanted.budget }
+    requires oldest { LOTS_CERT_VERSION ≤ wanted.newest }
+    requires latest { wanted.newest ≤ MAX_CERT_VERSION }
+    requires first { IfSome wanted.first (IsGoodPlan instance.now) }
     ensures proved { IfOk result (IsProved instance.now) }
     ensures plan { IfOk result (λ found. IfSome found.plan (IsGoodPlan instance.now)) }
-    ensures within { IfOk result (λ found. found.nodes ≤ budget) }
-    ensures kept { IfOk result (λ found. KeepsFirst instance.now first found.plan) }
+    ensures within { IfOk result (λ found. found.nodes ≤ wanted.budget) }
+    ensures kept { IfOk result (λ found. KeepsFirst instance.now wanted.first found.plan) }
     ensures own { IfOk result (λ found. KeepsOwn instance.now found.plan) }
     ensures goes { IfOk result (λ found.
         GoesTogether instance.now found.certificate.claim found.plan) }
     ensures cause { IfOk result (λ found. IfBound found.certificate.claim (λ amount.
         WithRows instance.now found
-        (IsUndecided instance.now budget limits (W.may_stop watch) found))) }
+        (IsUndecided instance.now wanted.budget wanted.limits (W.may_stop watch) found))) }
     ensures evidence { IfOk result (λ found.
         IfBound found.certificate.claim
         (λ amount. WithRows instance.now found (HasEvidence instance.now found amount))) }
@@ -346,12 +330,12 @@ pub fn search_all<P: Proposer, H: Heuristic<P::Hint>, W: Watch + Drop>(
     ensures uses { IfOk result (λ found. UsesRoot found found.root) }
     ensures apart { IfOk result (λ found. IsNoLessThanApart instance.now found.certificate.claim) }
     ensures complete { IfOk result (λ found.
-        DecidesSmall instance.now budget limits (W.may_stop watch) found.certificate.claim) }
-    ensures version { IfOk result (λ found. IsVersionOf instance.now (shape_of found.certificate)) }
+        DecidesSmall instance.now wanted.budget wanted.limits (W.may_stop watch)
+        found.certificate.claim) }
+    ensures version { IfOk result (λ found.
+        IsVersionOf instance.now wanted.newest (shape_of found.certificate)) }
 {
     lie_in_whole(instance);
     let ranges = Ranges::all(alloc, instance)?;
-    search(
-        alloc, proposer, heuristic, watch, instance, ranges, budget, first, limits,
-    )
+    search(alloc, plugins, watch, instance, ranges, wanted)
 }

@@ -1,5 +1,6 @@
 // The version of a certificate's text.
 ghost use Rattle.std.specs.Prelude.{◌≡◌, ◌≤◌, ◌<◌, ℕ};
+ghost use Rattle.cert_lines.specs.declared.limits.TheConstants.{LOTS_CERT_VERSION};
 ghost use Rattle.certificate.specs.Limits.{IsWritable};
 ghost use Rattle.certificate.specs.Shapes.{shape_of};
 ghost use Rattle.leaf_growth.specs.Written.{HasVersion};
@@ -13,6 +14,7 @@ use lot_model::{Instance, is_plain};
 pub(crate) fn usual_version(instance: &Instance) -> u32
     ensures usual { IsUsualVersion instance.now result }
     ensures known { HasVersion instance.now result }
+    ensures at_most { result ≤ LOTS_CERT_VERSION }
 {
     if is_plain(instance) {
         FIRST_CERT_VERSION
@@ -29,6 +31,7 @@ pub(crate) fn in_least_version(mut certificate: Certificate, usual: u32) -> Cert
     ensures cuts { result.cuts ≡ certificate.cuts }
     ensures tree { result.tree ≡ certificate.tree }
     ensures from { usual ≤ result.version }
+    ensures at_most { result.version ≤ certificate.version }
     ensures written { IsWritable (shape_of certificate) → IsWritable (shape_of result) }
     ensures least { (version : ℕ) → usual ≤ version → version < result.version
         → IsWritable (in_version version (shape_of result)) → ⊥ }

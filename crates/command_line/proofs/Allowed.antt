@@ -10,8 +10,8 @@ use Rattle.command_line.specs.Grammar.{planner_app}
 use Rattle.command_line.specs.Laws.{CommandsAreAllowed}
 use Rattle.lot_sizing.specs.declared.limits.TheConstants.{MAX_ITEMS}
 use Rattle.instance_reader.specs.declared.versions.TheConstants.{FIRST_VERSION_PERIODS}
-use Rattle.command_line.specs.declared.requests.TheConstants.{LARGEST_BUDGET, LARGEST_GAP, LARGEST_SECONDS, USUAL_BUDGET}
-use Rattle.command_line.specs.Words.{AreApart, AreFiveApart, AreFourApart, Request, Search, IsAllowed, are_file_names, are_five_names, are_four_names, are_two_names, request_by_matches, request_if, request_in, bounding, bounding_from, budget_from, checking, checking_from, command_of, completing, completing_from, demonstrating, demonstrating_from, drawing, drawing_from, form_from, gap_from, generated, generating, generating_from, hundredths, is_budget, is_file_name, is_gap, is_number, is_percentage, is_seconds, is_seed, is_start, is_start_name, judging, judging_from, largest_seed, largest_start, pegging, pegging_from, planned, planning, planning_from, reported, reporting, reporting_from, replanned, replanning, replanning_from, schedule_checking, schedule_checking_from, scheduling, scheduling_from, search_from, search_with, seconds_from, unless_refused, upgrading, upgrading_from, version}
+use Rattle.command_line.specs.declared.requests.TheConstants.{LARGEST_BUDGET, LARGEST_GAP, LARGEST_SECONDS, NEWEST_CERTIFICATE, OLDEST_CERTIFICATE, USUAL_BUDGET}
+use Rattle.command_line.specs.Words.{AreApart, AreFiveApart, AreFourApart, Request, Search, IsAllowed, are_file_names, are_five_names, are_four_names, are_two_names, request_by_matches, request_if, request_in, bounding, bounding_from, budget_from, checking, checking_from, command_of, completing, completing_from, demonstrating, demonstrating_from, drawing, drawing_from, form_from, gap_from, generated, generating, generating_from, hundredths, is_budget, is_file_name, is_gap, is_number, is_percentage, is_seconds, is_seed, is_start, is_start_name, is_version, judging, judging_from, largest_seed, largest_start, newest_from, pegging, pegging_from, planned, planning, planning_from, reported, reporting, reporting_from, replanned, replanning, replanning_from, schedule_checking, schedule_checking_from, scheduling, scheduling_from, search_from, search_with, seconds_from, unless_refused, upgrading, upgrading_from, version}
 use Rattle.command_line.specs.declared.commands.ReportForm.{ReportForm}
 
 -- the parts of a test that came out true
@@ -136,24 +136,45 @@ seconds_in_range : (text : Option (List ℕ)) (s : Option ℕ) → seconds_from 
 seconds_in_range None s is = let same : None ≡ s = cc is in subst HasSeconds same tt
 seconds_in_range (Some text) s is = seconds_if (digits_value 10 text) s (is_seconds text) (number_in_range 1 LARGEST_SECONDS text) is
 
+newest_if : (n k : ℕ) (t : Bool) → (t ≡ true → (OLDEST_CERTIFICATE ≤ n) × (n ≤ NEWEST_CERTIFICATE)) → (if t then Some n else None) ≡ Some k → (OLDEST_CERTIFICATE ≤ k) × (k ≤ NEWEST_CERTIFICATE)
+newest_if n k true range is = let same : n ≡ k = cc is in subst (λ j. (OLDEST_CERTIFICATE ≤ j) × (j ≤ NEWEST_CERTIFICATE)) same (range refl)
+newest_if n k false range is = absurd (cc is)
+
+newest_in_range : (text : Option (List ℕ)) (k : ℕ) → newest_from text ≡ Some k → (OLDEST_CERTIFICATE ≤ k) × (k ≤ NEWEST_CERTIFICATE)
+newest_in_range None k is = let same : NEWEST_CERTIFICATE ≡ k = cc is in subst (λ j. (OLDEST_CERTIFICATE ≤ j) × (j ≤ NEWEST_CERTIFICATE)) same (omega arith, omega arith)
+newest_in_range (Some text) k is = newest_if (digits_value 10 text) k (is_version text) (number_in_range OLDEST_CERTIFICATE NEWEST_CERTIFICATE text) is
+
 -- the numbers of a search are in their limits
 record IsSearch (s : Search) : Type 0 where
   some : 1 ≤ s.budget
   limit : s.budget ≤ LARGEST_BUDGET
   gap : HasGap s.gap
   seconds : HasSeconds s.seconds
+  oldest : OLDEST_CERTIFICATE ≤ s.newest
+  newest : s.newest ≤ NEWEST_CERTIFICATE
 
-search_within : (budget : Option ℕ) (start : Option (List ℕ)) (gap seconds : Option (Option ℕ)) (s : Search) → ((k : ℕ) → budget ≡ Some k → (1 ≤ k) × (k ≤ LARGEST_BUDGET)) → ((g : Option ℕ) → gap ≡ Some g → HasGap g) → ((t : Option ℕ) → seconds ≡ Some t → HasSeconds t) → search_with budget start gap seconds ≡ Some s → IsSearch s
-search_within None start gap seconds s b g t is = absurd (cc is)
-search_within (Some budget) start None seconds s b g t is = absurd (cc is)
-search_within (Some budget) start (Some gap) None s b g t is = absurd (cc is)
-search_within (Some budget) start (Some gap) (Some seconds) s b g t is =
-    let made : Search = record { budget = budget; start = start; gap = gap; seconds = seconds } in
+-- the numbers of a search, where each is in its limits
+record AreInRange (budget : Option ℕ) (gap seconds : Option (Option ℕ)) (newest : Option ℕ) : Type 0 where
+  budgets : (k : ℕ) → budget ≡ Some k → (1 ≤ k) × (k ≤ LARGEST_BUDGET)
+  gaps : (g : Option ℕ) → gap ≡ Some g → HasGap g
+  times : (t : Option ℕ) → seconds ≡ Some t → HasSeconds t
+  versions : (n : ℕ) → newest ≡ Some n → (OLDEST_CERTIFICATE ≤ n) × (n ≤ NEWEST_CERTIFICATE)
+
+search_within : (budget : Option ℕ) (start : Option (List ℕ)) (gap seconds : Option (Option ℕ)) (newest : Option ℕ) (s : Search) → AreInRange budget gap seconds newest → search_with budget start gap seconds newest ≡ Some s → IsSearch s
+search_within None start gap seconds newest s r is = absurd (cc is)
+search_within (Some budget) start None seconds newest s r is = absurd (cc is)
+search_within (Some budget) start (Some gap) None newest s r is = absurd (cc is)
+search_within (Some budget) start (Some gap) (Some seconds) None s r is = absurd (cc is)
+search_within (Some budget) start (Some gap) (Some seconds) (Some newest) s r is =
+    let made : Search = record { budget = budget; start = start; gap = gap; seconds = seconds; newest = newest } in
     let same : made ≡ s = cc is in
-    subst IsSearch same (record { some = (b budget refl).0; limit = (b budget refl).1; gap = g gap refl; seconds = t seconds refl })
+    let b = r.budgets budget refl in
+    let v = r.versions newest refl in
+    subst IsSearch same (record { some = b.0; limit = b.1; gap = r.gaps gap refl; seconds = r.times seconds refl; oldest = v.0; newest = v.1 })
 
-search_in_range : (nodes start gap seconds : Option (List ℕ)) (s : Search) → search_from nodes start gap seconds ≡ Some s → IsSearch s
-search_in_range nodes start gap seconds s is = search_within (budget_from nodes) start (gap_from gap) (seconds_from seconds) s (budget_in_range nodes) (gap_in_range gap) (seconds_in_range seconds) is
+search_in_range : (nodes start gap seconds newest : Option (List ℕ)) (s : Search) → search_from nodes start gap seconds newest ≡ Some s → IsSearch s
+search_in_range nodes start gap seconds newest s is = search_within (budget_from nodes) start (gap_from gap) (seconds_from seconds) (newest_from newest) s
+    (record { budgets = budget_in_range nodes; gaps = gap_in_range gap; times = seconds_in_range seconds; versions = newest_in_range newest }) is
 
 start_apart : (m c : List ℕ) (start : Option (List ℕ)) → is_start_name m c start ≡ true → IfSome start (λ f. AreApart m f c)
 start_apart m c None is = tt
@@ -170,6 +191,8 @@ fine_planned m p c (Some s) range = fine_if (is_start_name m c s.start && are_fi
       start = start_apart m c s.start (first_true (is_start_name m c s.start) (are_file_names m p c) is);
       gap = r.gap;
       seconds = r.seconds;
+      oldest = r.oldest;
+      newest = r.newest;
     })
 
 fine_planning : (m p c : Option (List ℕ)) (search : Option Search) → ((s : Search) → search ≡ Some s → IsSearch s) → Fine (planning_from m p c search)
@@ -277,8 +300,8 @@ fine_replanning (Some m) (Some p) (Some f) (Some n) (Some q) (Some c) nodes = fi
 
 fine_in : (name : List ℕ) (rows : List Row) → Fine (request_in name rows)
 fine_in name rows =
-    fine_either (bytes_eq name (codes "plan")) _ _ (fine_planning (first_of (codes "M") rows) (first_of (codes "P") rows) (first_of (codes "C") rows) (search_from (first_of (codes "nodes") rows) (first_of (codes "start") rows) (first_of (codes "gap") rows) (first_of (codes "seconds") rows))
-    (search_in_range (first_of (codes "nodes") rows) (first_of (codes "start") rows) (first_of (codes "gap") rows) (first_of (codes "seconds") rows)))
+    fine_either (bytes_eq name (codes "plan")) _ _ (fine_planning (first_of (codes "M") rows) (first_of (codes "P") rows) (first_of (codes "C") rows) (search_from (first_of (codes "nodes") rows) (first_of (codes "start") rows) (first_of (codes "gap") rows) (first_of (codes "seconds") rows) (first_of (codes "certificate") rows))
+    (search_in_range (first_of (codes "nodes") rows) (first_of (codes "start") rows) (first_of (codes "gap") rows) (first_of (codes "seconds") rows) (first_of (codes "certificate") rows)))
     (fine_either (bytes_eq name (codes "judge")) _ _ (fine_judging (first_of (codes "M") rows) (first_of (codes "P") rows))
     (fine_either (bytes_eq name (codes "check")) _ _ (fine_checking (first_of (codes "M") rows) (first_of (codes "P") rows) (first_of (codes "C") rows))
     (fine_either (bytes_eq name (codes "report")) _ _ (fine_reporting (first_of (codes "M") rows) (first_of (codes "P") rows) (first_of (codes "full") rows) (first_of (codes "table") rows))

@@ -83,12 +83,12 @@ nodes_subcommand : (a b d n : Text) → subcommand_of planner_app (codes "plan" 
 unfolding clap_on_literals
 nodes_subcommand a b d n = refl
 
-nodes_asks : (a b d n : Text) → request_in (codes "plan") (finished (leaf (codes "plan")).rules (number_held n (names_held a b d))) ≡ planned a b d (search_from (Some n) None None None)
+nodes_asks : (a b d n : Text) → request_in (codes "plan") (finished (leaf (codes "plan")).rules (number_held n (names_held a b d))) ≡ planned a b d (search_from (Some n) None None None None)
 unfolding clap_on_literals
 nodes_asks a b d n = refl
 
 pub nodes_words : (a b d n : Text) → is_file_name a ≡ true → is_file_name b ≡ true → is_file_name d ≡ true → is_file_name n ≡ true
-    → command_of (codes "plan" ∷ a ∷ b ∷ d ∷ codes "--nodes" ∷ n ∷ []) ≡ planned a b d (search_from (Some n) None None None)
+    → command_of (codes "plan" ∷ a ∷ b ∷ d ∷ codes "--nodes" ∷ n ∷ []) ≡ planned a b d (search_from (Some n) None None None None)
 nodes_words a b d n p q r is =
     let placed = plan_placed a b d p q r in
     let last = last_two a b d n is in

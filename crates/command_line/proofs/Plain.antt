@@ -8,7 +8,7 @@ use Rattle.command_line.specs.Laws.{PlainWordsKeepTheirMeaning}
 use Rattle.lot_sizing.specs.declared.limits.TheConstants.{MAX_ITEMS}
 use Rattle.instance_reader.specs.declared.versions.TheConstants.{FIRST_VERSION_PERIODS}
 use Rattle.command_line.specs.declared.commands.ReportForm.TheVariants.{Summary}
-use Rattle.command_line.specs.declared.requests.TheConstants.{LARGEST_BUDGET, USUAL_BUDGET}
+use Rattle.command_line.specs.declared.requests.TheConstants.{LARGEST_BUDGET, NEWEST_CERTIFICATE, USUAL_BUDGET}
 use Rattle.command_line.specs.Words.{Request, are_file_names, are_two_names, request_if, bounding, checking, command_of, demonstrating, generating, is_budget, is_file_name, is_number, is_seed, judging, plain_search, planned, planning, reporting, search_with, upgrading, version}
 use Rattle.command_line.proofs.Allowed.{first_true, rest_true}
 use Rattle.command_line.proofs.Budgets.{nodes_words}
@@ -74,7 +74,7 @@ with_nodes w m p c o n is =
     let names = are_names m p c named in
     ap (λ x. command_of (x ∷ m ∷ p ∷ c ∷ o ∷ n ∷ [])) word ∙ ap (λ x. command_of (codes "plan" ∷ m ∷ p ∷ c ∷ x ∷ n ∷ [])) flag
     ∙ nodes_words m p c n names.first names.second names.third (number_begins 1 LARGEST_BUDGET n (omega arith) number)
-    ∙ ap (λ t. planned m p c (search_with (if t then Some (digits_value 10 n) else None) None (Some None) (Some None))) number
+    ∙ ap (λ t. planned m p c (search_with (if t then Some (digits_value 10 n) else None) None (Some None) (Some None) (Some NEWEST_CERTIFICATE))) number
     ∙ ap (λ t. request_if t (planning m p c (plain_search (digits_value 10 n)))) named
 
 -- a model that is drawn

@@ -32,9 +32,9 @@ subcommand name ids options = fold (λ a o. with_rule a (choice o)) (placed name
 abbrev pub search_options : List (Text × Bool)
 search_options = (codes "nodes", true) ∷ (codes "progress", false) ∷ []
 
--- and those of a plan, which may start from a plan and may end early
+-- and those of a plan, which may start from a plan, may end early, and may keep to an older version of certificates
 abbrev pub plan_options : List (Text × Bool)
-plan_options = (codes "nodes", true) ∷ (codes "progress", false) ∷ (codes "start", true) ∷ (codes "gap", true) ∷ (codes "seconds", true) ∷ []
+plan_options = (codes "nodes", true) ∷ (codes "progress", false) ∷ (codes "start", true) ∷ (codes "gap", true) ∷ (codes "seconds", true) ∷ (codes "certificate", true) ∷ []
 
 -- the options of a report
 abbrev pub report_options : List (Text × Bool)

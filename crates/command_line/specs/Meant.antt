@@ -9,7 +9,7 @@ use Rattle.command_line.specs.declared.commands.Reading.TheVariants as reading
 
 -- how a plan is searched
 abbrev pub search_by : HeldSearch → Search
-search_by s = record { budget = s.budget; start = option_map (λ f. f.now) s.start; gap = s.gap; seconds = s.seconds }
+search_by s = record { budget = s.budget; start = option_map (λ f. f.now) s.start; gap = s.gap; seconds = s.seconds; newest = s.newest }
 
 -- what a command asks for
 abbrev pub request_by : Command → Request

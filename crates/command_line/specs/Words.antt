@@ -7,7 +7,7 @@ use Rattle.std.specs.Str.Parse.{digits_value}
 use Rattle.clap.specs.Words.{Kinds, Row, fault_of, first_of, subcommand_of}
 use Rattle.lot_sizing.specs.declared.limits.TheConstants.{MAX_ITEMS}
 use Rattle.instance_reader.specs.declared.versions.TheConstants.{FIRST_VERSION_PERIODS}
-use Rattle.command_line.specs.declared.requests.TheConstants.{LARGEST_BUDGET, LARGEST_GAP, LARGEST_SECONDS, USUAL_BUDGET}
+use Rattle.command_line.specs.declared.requests.TheConstants.{LARGEST_BUDGET, LARGEST_GAP, LARGEST_SECONDS, NEWEST_CERTIFICATE, OLDEST_CERTIFICATE, USUAL_BUDGET}
 use Rattle.command_line.specs.declared.commands.ReportForm.{ReportForm}
 use Rattle.command_line.specs.declared.commands.ReportForm.TheVariants.{Summary, Full, Tables}
 use Rattle.command_line.specs.Grammar.{planner_app}
@@ -22,10 +22,12 @@ pub record Search : Type 0 where
   pub gap : Option ℕ
   -- the seconds after which it may end, if they are given
   pub seconds : Option ℕ
+  -- the newest version that the certificate may have
+  pub newest : ℕ
 
 -- with a budget alone
 abbrev pub plain_search : ℕ → Search
-plain_search budget = record { budget = budget; start = None; gap = None; seconds = None }
+plain_search budget = record { budget = budget; start = None; gap = None; seconds = None; newest = NEWEST_CERTIFICATE }
 
 pub data Request : Type 0 where
   -- the program's name
@@ -107,6 +109,10 @@ is_seed = is_number 0 largest_seed
 abbrev pub is_seconds : List ℕ → Bool
 is_seconds = is_number 1 LARGEST_SECONDS
 
+-- a version that a certificate may be asked to keep to
+abbrev pub is_version : List ℕ → Bool
+is_version = is_number OLDEST_CERTIFICATE NEWEST_CERTIFICATE
+
 -- ---- percentages with at most two decimals, as `1`, `0.5` and `2.25`
 
 abbrev pub is_point : ℕ → Bool
@@ -167,15 +173,21 @@ abbrev pub seconds_from : Option (List ℕ) → Option (Option ℕ)
 seconds_from None = Some None
 seconds_from (Some n) = if is_seconds n then Some (Some (digits_value 10 n)) else None
 
--- how a plan is searched, where each number that is given is in order
-abbrev pub search_with : Option ℕ → Option (List ℕ) → Option (Option ℕ) → Option (Option ℕ) → Option Search
-search_with None start gap seconds = None
-search_with (Some budget) start None seconds = None
-search_with (Some budget) start (Some gap) None = None
-search_with (Some budget) start (Some gap) (Some seconds) = Some (record { budget = budget; start = start; gap = gap; seconds = seconds })
+-- the newest version that a text gives, and where there is none the newest one of all
+abbrev pub newest_from : Option (List ℕ) → Option ℕ
+newest_from None = Some NEWEST_CERTIFICATE
+newest_from (Some n) = if is_version n then Some (digits_value 10 n) else None
 
-abbrev pub search_from : Option (List ℕ) → Option (List ℕ) → Option (List ℕ) → Option (List ℕ) → Option Search
-search_from nodes start gap seconds = search_with (budget_from nodes) start (gap_from gap) (seconds_from seconds)
+-- how a plan is searched, where each number that is given is in order
+abbrev pub search_with : Option ℕ → Option (List ℕ) → Option (Option ℕ) → Option (Option ℕ) → Option ℕ → Option Search
+search_with None start gap seconds newest = None
+search_with (Some budget) start None seconds newest = None
+search_with (Some budget) start (Some gap) None newest = None
+search_with (Some budget) start (Some gap) (Some seconds) None = None
+search_with (Some budget) start (Some gap) (Some seconds) (Some newest) = Some (record { budget = budget; start = start; gap = gap; seconds = seconds; newest = newest })
+
+abbrev pub search_from : Option (List ℕ) → Option (List ℕ) → Option (List ℕ) → Option (List ℕ) → Option (List ℕ) → Option Search
+search_from nodes start gap seconds newest = search_with (budget_from nodes) start (gap_from gap) (seconds_from seconds) (newest_from newest)
 
 abbrev pub planned : List ℕ → List ℕ → List ℕ → Option Search → Option Request
 planned m p c None = None
@@ -267,7 +279,7 @@ replanning_from _ _ _ _ _ _ _ = None
 abbrev pub request_in : List ℕ → List Row → Option Request
 request_in name rows =
     if bytes_eq name (codes "plan") then planning_from (first_of (codes "M") rows) (first_of (codes "P") rows) (first_of (codes "C") rows)
-    (search_from (first_of (codes "nodes") rows) (first_of (codes "start") rows) (first_of (codes "gap") rows) (first_of (codes "seconds") rows))
+    (search_from (first_of (codes "nodes") rows) (first_of (codes "start") rows) (first_of (codes "gap") rows) (first_of (codes "seconds") rows) (first_of (codes "certificate") rows))
     else if bytes_eq name (codes "judge") then judging_from (first_of (codes "M") rows) (first_of (codes "P") rows)
     else if bytes_eq name (codes "check") then checking_from (first_of (codes "M") rows) (first_of (codes "P") rows) (first_of (codes "C") rows)
     else if bytes_eq name (codes "report") then reporting_from (first_of (codes "M") rows) (first_of (codes "P") rows) (first_of (codes "full") rows) (first_of (codes "table") rows)
@@ -318,7 +330,7 @@ pub record AreApart (model_file plan_file certificate_file : List ℕ) : Type 0 
   pub certificate : model_file ≢ certificate_file
   pub written : plan_file ≢ certificate_file
 
--- the names of a plan are three, no two of them the same; its budget has at least one node; a file to start from is neither the model file nor the certificate file; and a gap and seconds are in their limits
+-- the names of a plan are three, no two of them the same; its budget has at least one node; a file to start from is neither the model file nor the certificate file; a gap and seconds are in their limits; and the certificate's version may be one of those that can be asked for
 pub record IsPlanned (m p c : List ℕ) (search : Search) : Type 0 where
   pub apart : AreApart m p c
   pub some : 1 ≤ search.budget
@@ -326,6 +338,8 @@ pub record IsPlanned (m p c : List ℕ) (search : Search) : Type 0 where
   pub start : IfSome search.start (λ start. AreApart m start c)
   pub gap : IfSome search.gap (λ gap. gap ≤ LARGEST_GAP)
   pub seconds : IfSome search.seconds (λ seconds. (1 ≤ seconds) × (seconds ≤ LARGEST_SECONDS))
+  pub oldest : OLDEST_CERTIFICATE ≤ search.newest
+  pub newest : search.newest ≤ NEWEST_CERTIFICATE
 
 -- no two of four names are the same
 pub record AreFourApart (m p h c : List ℕ) : Type 0 where

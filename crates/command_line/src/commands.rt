@@ -79,6 +79,8 @@ pub struct Search<'a> {
     pub gap: Option<u32>,
     /// The seconds after which the search may end, from 1 to `LARGEST_SECONDS`.
     pub seconds: Option<u32>,
+    /// The newest version that the certificate's text may have, from `OLDEST_CERTIFICATE` to `NEWEST_CERTIFICATE`.
+    pub newest: u32,
 }
 
 /// What a report tells of a plan, and as which text.

@@ -22,4 +22,7 @@ pub use commands::{
 };
 pub use laws::{commands_are_allowed, plain_words_keep_their_meaning};
 pub use reader::{read_words, seconds_asked};
-pub use requests::{LARGEST_BUDGET, LARGEST_GAP, LARGEST_SECONDS, USUAL_BUDGET};
+pub use requests::{
+    LARGEST_BUDGET, LARGEST_GAP, LARGEST_SECONDS, NEWEST_CERTIFICATE, OLDEST_CERTIFICATE,
+    USUAL_BUDGET,
+};

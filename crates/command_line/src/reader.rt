@@ -19,7 +19,8 @@ use std::alloc::{AllocError, Global};
 /// digits with no sign and no 0 before others: a seed is below 2^64, items are 1 to `MAX_ITEMS`, periods 1
 /// to `FIRST_VERSION_PERIODS`, the periods that stay below 2^32, and the nodes of `--nodes` 1 to `LARGEST_BUDGET`;
 /// without that option they are `USUAL_BUDGET`. The gap of `--gap` is a percentage from 0 to 100 with at most two decimals behind
-/// a point, and the seconds of `--seconds` are 1 to `LARGEST_SECONDS`. `--progress` changes no command, and of `--full` and
+/// a point, and the seconds of `--seconds` are 1 to `LARGEST_SECONDS`. The version of `--certificate` is `OLDEST_CERTIFICATE` to
+/// `NEWEST_CERTIFICATE`; without that option it is the latter. `--progress` changes no command, and of `--full` and
 /// `--table` only one is there. The text of help, of the version and of words that `clap` refuses is
 /// its own; words that it takes, and whose names or numbers aren't in order, are refused by `refused words` and a
 /// line feed.
@@ -93,6 +94,7 @@ fn request_in<'a>(name: &str, given: &ArgMatches<'a>) -> Option<Command<'a>>
             start: text_of(given, "start"),
             gap: text_of(given, "gap"),
             seconds: text_of(given, "seconds"),
+            version: text_of(given, "certificate"),
         }),
         "judge" => requests::judge(text_of(given, "M"), text_of(given, "P")),
         "check" => requests::check(

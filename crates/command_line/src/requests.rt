@@ -1,7 +1,7 @@
 // The commands that the texts of arguments give, where the names and numbers are in order.
 ghost use Rattle.std.specs.Prelude.{◌≡◌, option_map};
 ghost use Rattle.command_line.specs.Meant.{request_by, search_by};
-ghost use Rattle.command_line.specs.Words.{bounding_from, budget_from, checking_from, completing_from, demonstrating_from, drawing_from, form_from, gap_from, generated, generating_from, is_set, judging_from, pegging_from, planned, planning_from, replanned, replanning_from, reporting_from, schedule_checking_from, scheduling_from, search_from, seconds_from, upgrading_from};
+ghost use Rattle.command_line.specs.Words.{bounding_from, budget_from, checking_from, completing_from, demonstrating_from, drawing_from, form_from, gap_from, generated, generating_from, is_set, judging_from, newest_from, pegging_from, planned, planning_from, replanned, replanning_from, reporting_from, schedule_checking_from, scheduling_from, search_from, seconds_from, upgrading_from};
 
 use crate::commands::{
     Command, CompleteNames, DrawNames, Names, PegNames, ReplanNames, ReportForm, ScheduleNames,
@@ -25,6 +25,13 @@ pub const LARGEST_GAP: u32 = 10_000;
 
 /// The most seconds that may be asked for.
 pub const LARGEST_SECONDS: u64 = 1_000_000;
+
+/// The oldest version that a certificate's text may be asked to keep to: the first in which a part may name a least lot or a late
+/// one, so that each model has certificates of it.
+pub const OLDEST_CERTIFICATE: u32 = 2;
+
+/// The newest version of certificates' texts, to which they keep where none is given.
+pub const NEWEST_CERTIFICATE: u32 = 3;
 
 // The nodes that a plan may use.
 fn budget_of(nodes: Option<&str>) -> Option<u64>
@@ -62,6 +69,23 @@ fn seconds_of(seconds: Option<&str>) -> Option<Option<u32>>
     }
 }
 
+// The newest version that the certificate may have.
+fn newest_of(certificate: Option<&str>) -> Option<u32>
+    ensures { result ≡ newest_from (option_map (λ s. s.now) certificate.entry) }
+{
+    match certificate {
+        Some(text) => match read_number(
+            text,
+            u64::from(OLDEST_CERTIFICATE),
+            u64::from(NEWEST_CERTIFICATE),
+        ) {
+            Some(number) => Some(number as u32),
+            None => None,
+        },
+        None => Some(NEWEST_CERTIFICATE),
+    }
+}
+
 // The texts of the arguments of a plan, where they are given.
 #[derive(Clone, Copy)]
 pub(crate) struct PlanTexts<'a> {
@@ -72,6 +96,7 @@ pub(crate) struct PlanTexts<'a> {
     pub(crate) start: Option<&'a str>,
     pub(crate) gap: Option<&'a str>,
     pub(crate) seconds: Option<&'a str>,
+    pub(crate) version: Option<&'a str>,
 }
 
 // How a plan is searched, where the numbers are in order.
@@ -79,16 +104,19 @@ fn search_of<'a>(given: PlanTexts<'a>) -> Option<Search<'a>>
     ensures { option_map search_by result
         ≡ search_from (option_map (λ s. s.now) given.entry.nodes)
         (option_map (λ s. s.now) given.entry.start) (option_map (λ s. s.now) given.entry.gap)
-        (option_map (λ s. s.now) given.entry.seconds) }
+        (option_map (λ s. s.now) given.entry.seconds)
+        (option_map (λ s. s.now) given.entry.version) }
 {
     let budget = budget_of(given.nodes)?;
     let gap = gap_of(given.gap)?;
     let seconds = seconds_of(given.seconds)?;
+    let newest = newest_of(given.version)?;
     Some(Search {
         budget,
         start: given.start,
         gap,
         seconds,
+        newest,
     })
 }
 
@@ -113,7 +141,8 @@ pub(crate) fn plan<'a>(given: PlanTexts<'a>) -> Option<Command<'a>>
         (option_map (λ s. s.now) given.entry.plan) (option_map (λ s. s.now) given.entry.certificate)
         (search_from (option_map (λ s. s.now) given.entry.nodes)
         (option_map (λ s. s.now) given.entry.start) (option_map (λ s. s.now) given.entry.gap)
-        (option_map (λ s. s.now) given.entry.seconds)) }
+        (option_map (λ s. s.now) given.entry.seconds)
+        (option_map (λ s. s.now) given.entry.version)) }
 {
     let (Some(model), Some(plan), Some(certificate)) = (given.model, given.plan, given.certificate)
     else {

@@ -145,8 +145,9 @@ const SEARCH_OPTIONS: [Choice; 2] = [
     },
 ];
 
-// The options of a plan: those of a search, a plan to start from, and where the search may end early.
-const PLAN_OPTIONS: [Choice; 5] = [
+// The options of a plan: those of a search, a plan to start from, where the search may end early, and the newest version that the
+// certificate may have.
+const PLAN_OPTIONS: [Choice; 6] = [
     Choice {
         id: "nodes",
         text: Some("N"),
@@ -165,12 +166,17 @@ const PLAN_OPTIONS: [Choice; 5] = [
     Choice {
         id: "gap",
         text: Some("PERCENT"),
-        help: "Lets the search end where the bound is so close to the cost, 0 to 100, as 0.5",
+        help: "Lets the search end where the bound is so near the cost, 0 to 100, as 0.5",
     },
     Choice {
         id: "seconds",
         text: Some("S"),
         help: "Lets the search end after so many seconds, 1 to 1000000",
+    },
+    Choice {
+        id: "certificate",
+        text: Some("N"),
+        help: "The newest version that the certificate may have, 2 or 3 [usually 3]",
     },
 ];
 
@@ -204,7 +210,8 @@ pub(crate) const COMMANDS: [Row; 14] = [
 `undecided B`, where B is a bound of the cost of every plan and N the cost of the plan that was
 written. Ends with 0 where it is optimal, with 1 where there is no plan, and with 2 where it is
 undecided. With `--start` the plan file P0 is judged first: where it is no plan or breaks a rule it
-prints what `judge` prints, and ends with 3. P0 may be P. `lotplan --help` has the other statuses.
+prints what `judge` prints, and ends with 3. P0 may be P. With `--certificate 2` the certificate is
+of version 2 or below, for checkers that read no other. `lotplan --help` has the other statuses.
 
 Example: lotplan plan model.toml plan.csv plan.cert --start old.csv --gap 0.5 --seconds 60",
         arguments: &[MODEL_READ, PLAN_WRITTEN, CERTIFICATE_WRITTEN],

@@ -1,6 +1,6 @@
 // Words on a command line that was refused by `refused words`.
 
-use command_line::{LARGEST_BUDGET, LARGEST_SECONDS};
+use command_line::{LARGEST_BUDGET, LARGEST_SECONDS, NEWEST_CERTIFICATE, OLDEST_CERTIFICATE};
 use explain_lookup::plain;
 use instance_reader::FIRST_VERSION_PERIODS;
 use lot_sizing::limits::MAX_ITEMS;
@@ -24,6 +24,12 @@ const SECONDS: Bounds = Bounds {
     what: "The number behind `--seconds`",
     least: 1,
     most: LARGEST_SECONDS,
+};
+
+const CERTIFICATE: Bounds = Bounds {
+    what: "The number behind `--certificate`",
+    least: OLDEST_CERTIFICATE as u64,
+    most: NEWEST_CERTIFICATE as u64,
 };
 
 // The whole part of a percentage.
@@ -117,6 +123,7 @@ fn form_of(name: &str) -> Option<Form> {
     match name {
         "--nodes" => Some(Form::Whole(NODES)),
         "--seconds" => Some(Form::Whole(SECONDS)),
+        "--certificate" => Some(Form::Whole(CERTIFICATE)),
         "--gap" => Some(Form::Percent),
         _ => None,
     }

@@ -2,6 +2,7 @@
 use Rattle.std.specs.Prelude.{◌≡◌, ◌↔◌, ◌≤◌, ℕ, false, Option, Some, None, IfSome, ⊤}
 use Rattle.lot_sizing.specs.Problem.{IsUncoupled, Problem}
 use Rattle.plan_rules.specs.declared.plan.Plan.{Plan}
+use Rattle.cert_lines.specs.declared.limits.TheConstants.{MAX_CERT_VERSION}
 use Rattle.certificate.specs.Shapes.{shape_of}
 use Rattle.branching.specs.Found.{IsProved}
 use Rattle.branching.specs.declared.found.Found.{Found}
@@ -10,9 +11,9 @@ use Rattle.branch_and_bound.specs.declared.limits.Limits.{Limits}
 use Rattle.branch_and_cut.specs.Search.{CostsAtMost, DecidesSmall, GoesTogether, HasEvidence, IfBound, IsGoodPlan, IsNoLessThanApart, IsSaidAtRoot, IsUndecided, IsVersionOf, KeepsOwn, UsesRoot, WithRows, cost_of}
 use Rattle.lotplan.specs.declared.sought.Sought.{Sought}
 
--- a search with a budget alone
+-- a search with a budget alone, whose certificate may have any version
 abbrev pub only : ℕ → Sought
-only budget = record { budget = budget; begins = None; gap = None; may_stop = false }
+only budget = record { budget = budget; begins = None; gap = None; may_stop = false; newest = MAX_CERT_VERSION }
 
 -- where the search starts from a plan of this cost, there is a plan that costs no more
 abbrev pub IsKept : Problem → Option ℕ → Option Plan → Type 0
@@ -24,9 +25,9 @@ limits_of sought = record { gap = sought.gap }
 
 -- what holds of what is found
 pub record IsFound (problem : Problem) (sought : Sought) (found : Found) : Type 0 where
-  -- the certificate has a text, of the least version from the usual one on that has its lines; it is accepted, and its claim is true; its tree has the nodes that are told, no more than the budget
+  -- the certificate has a text, of the least version from the usual one on that has its lines, and of none above the newest that is asked for; it is accepted, and its claim is true; its tree has the nodes that are told, no more than the budget
   pub proved : IsProved problem found
-  pub version : IsVersionOf problem (shape_of found.certificate)
+  pub version : IsVersionOf problem sought.newest (shape_of found.certificate)
   pub within : found.nodes ≤ sought.budget
   -- the plan is feasible, goes with the claim, and costs no more than the plan to start from and than a feasible own-period plan
   pub plan : IfSome found.plan (IsGoodPlan problem)

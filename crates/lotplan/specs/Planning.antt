@@ -218,7 +218,7 @@ WriteExplains problem sought p c old new (no_input why) = ⊥
 -- ---- what the words give to the search
 -- of these words, from a plan of this cost or from none
 abbrev pub sought_by : Search → Option ℕ → Sought
-sought_by search begins = record { budget = search.budget; begins = begins; gap = search.gap; may_stop = is_some search.seconds }
+sought_by search begins = record { budget = search.budget; begins = begins; gap = search.gap; may_stop = is_some search.seconds; newest = search.newest }
 
 -- something holds of the problem in the model file and of what its search is given; where a file to start from is named, that holds a feasible plan of the problem, and the search starts from it
 abbrev pub OfStart : Files → List ℕ → Search → Option (List ℕ) → (Problem → Sought → Type 0) → Type 0

@@ -4,6 +4,7 @@ ghost use Rattle.command_line.specs.Meant.{search_by};
 ghost use Rattle.lotplan.specs.Finding.{only};
 ghost use Rattle.lotplan.specs.Planning.{sought_by};
 
+use certificate::MAX_CERT_VERSION;
 use command_line::Search;
 
 /// What the search of a problem is given.
@@ -17,9 +18,11 @@ pub struct Sought {
     pub gap: Option<u32>,
     /// Whether it may be told to end.
     pub may_stop: bool,
+    /// The newest version that the certificate's text may have.
+    pub newest: u32,
 }
 
-/// A search with a budget alone.
+/// A search with a budget alone, whose certificate may have any version.
 pub fn only(budget: u64) -> Sought
     ensures { result ≡ only budget }
 {
@@ -28,6 +31,7 @@ pub fn only(budget: u64) -> Sought
         begins: None,
         gap: None,
         may_stop: false,
+        newest: MAX_CERT_VERSION,
     }
 }
 
@@ -40,5 +44,6 @@ pub fn sought_by(search: Search<'_>, begins: Option<u128>) -> Sought
         begins,
         gap: search.gap,
         may_stop: search.seconds.is_some(),
+        newest: search.newest,
     }
 }

@@ -4,6 +4,7 @@ ghost use Rattle.lot_sizing.specs.Problem.{IsUncoupled};
 ghost use Rattle.lot_draft.specs.declared.fault.ModelFault.{ModelFault};
 ghost use Rattle.plan_rules.specs.Held.{AllFit, plan_of};
 ghost use Rattle.frozen_start.specs.Starts.{NoneAgreesWith, StartStands};
+ghost use Rattle.cert_lines.specs.declared.limits.TheConstants.{MAX_CERT_VERSION};
 ghost use Rattle.certificate.specs.Shapes.{shape_of};
 ghost use Rattle.branching.specs.Found.{IsProved};
 ghost use Rattle.branching.specs.declared.found.RootSays.TheVariants.{Uncoupled};
@@ -14,9 +15,9 @@ ghost use Rattle.replan.specs.declared.fault.RestFault.TheVariants.{First, Lead,
 ghost use Rattle.replan.specs.declared.planned.Replanned.TheVariants.{NoStart};
 
 use crate::{Replanned, Rest, RestFault, rest};
-use branch_and_cut::{Limits, search_all};
+use branch_and_cut::{Limits, Plugins, Wanted, search_all};
 use branching::Found;
-use certificate::Claim;
+use certificate::{Claim, MAX_CERT_VERSION};
 use frozen_start::{joins_are_feasible, rests_decide};
 use lot_model::Instance;
 use plan_rules::Plan;
@@ -113,7 +114,7 @@ pub fn replan<P: Proposer, H: Heuristic<P::Hint>, W: Watch + Drop>(
     ensures complete { IfOk result (IfPlanned
         (λ rest found. DecidesSmall rest.instance budget no_limits false found.certificate.claim)) }
     ensures version { IfOk result (IfPlanned (λ rest found.
-        IsVersionOf rest.instance (shape_of found.certificate))) }
+        IsVersionOf rest.instance MAX_CERT_VERSION (shape_of found.certificate))) }
 {
     joins_are_feasible();
     rests_decide();
@@ -121,10 +122,17 @@ pub fn replan<P: Proposer, H: Heuristic<P::Hint>, W: Watch + Drop>(
         Ok(Some(rest)) => {
             let later = &rest.instance;
             let watch = Unstopped { told: watch };
-            let limits = Limits { gap: None };
-            let found = search_all(
-                alloc, proposer, heuristic, watch, later, budget, None, limits,
-            )?;
+            let plugins = Plugins {
+                proposer,
+                heuristic,
+            };
+            let wanted = Wanted {
+                budget,
+                first: None,
+                limits: Limits { gap: None },
+                newest: MAX_CERT_VERSION,
+            };
+            let found = search_all(alloc, &plugins, watch, later, wanted)?;
             Ok(Replanned::Planned { rest, found })
         }
         Ok(None) => Ok(Replanned::NoStart),

@@ -1,6 +1,7 @@
 // `plan`: plans the model in a file, and writes the plan that was found and the certificate of what is claimed to two
 // others.
 ghost use Rattle.std.specs.Prelude.{◌≡◌, ◌≢◌, ◌≤◌, ◌+◌, ◌*◌, length, string_bytes, Some, None, IfOk, IfSome, OnErr, option_map};
+ghost use Rattle.cert_lines.specs.declared.limits.TheConstants.{LOTS_CERT_VERSION, MAX_CERT_VERSION};
 ghost use Rattle.lot_io.specs.Outside.{OnlyReads, piece_size};
 ghost use Rattle.branch_and_cut.specs.Search.{IsGoodPlan, cost_of};
 ghost use Rattle.command_line.specs.Meant.{search_by};
@@ -15,7 +16,7 @@ use crate::said::Said;
 use crate::sought::{Sought, sought_by};
 use crate::status::Status;
 use crate::writing::{Output, unwritten_line, write_all};
-use branch_and_cut::{Limits, search_all};
+use branch_and_cut::{Limits, Plugins, Wanted, search_all};
 use branching::{Found, RootSays};
 use certificate::{Claim, write_certificate};
 use command_line::{Names, Search};
@@ -288,25 +289,27 @@ pub fn found_of<P: Proposer, H: Heuristic<P::Hint>, W: Watch>(
     first: Option<Plan>,
 ) -> Result<Found, AllocError>
     requires budget { 1 ≤ sought.budget }
+    requires oldest { LOTS_CERT_VERSION ≤ sought.newest }
+    requires latest { sought.newest ≤ MAX_CERT_VERSION }
     requires first { IfSome first (IsGoodPlan instance.now) }
     requires begins { sought.begins ≡ option_map (cost_of instance.now) first }
     ensures { IfOk result (IsFound instance.now sought) }
 {
-    let limits = Limits { gap: sought.gap };
+    let plugins = Plugins {
+        proposer,
+        heuristic,
+    };
     let watch = Limited {
         told: watch,
         is_limited: sought.may_stop,
     };
-    let found = search_all(
-        alloc,
-        proposer,
-        heuristic,
-        watch,
-        instance,
-        sought.budget,
+    let wanted = Wanted {
+        budget: sought.budget,
         first,
-        limits,
-    )?;
+        limits: Limits { gap: sought.gap },
+        newest: sought.newest,
+    };
+    let found = search_all(alloc, &plugins, watch, instance, wanted)?;
     Ok(found)
 }
 
@@ -323,6 +326,8 @@ fn plan_instance<S: Shelf, P: Proposer, H: Heuristic<P::Hint>, W: Watch>(
     shelf: &mut S,
 ) -> Result<Said, AllocError>
     requires budget { 1 ≤ sought.budget }
+    requires oldest { LOTS_CERT_VERSION ≤ sought.newest }
+    requires latest { sought.newest ≤ MAX_CERT_VERSION }
     requires first { IfSome first (IsGoodPlan instance.now) }
     requires begins { sought.begins ≡ option_map (cost_of instance.now) first }
     requires apart { names.plan.now ≢ names.certificate.now }
@@ -354,6 +359,8 @@ fn plan_model<S: Shelf, P: Proposer, H: Heuristic<P::Hint>, W: Watch>(
     shelf: &mut S,
 ) -> Result<Said, AllocError>
     requires budget { 1 ≤ search.budget }
+    requires oldest { LOTS_CERT_VERSION ≤ search.newest }
+    requires latest { search.newest ≤ MAX_CERT_VERSION }
     requires start { search.start ≡ None }
     requires apart { names.plan.now ≢ names.certificate.now }
     ensures said { IfOk result (PlanSays names.entry.model.now names.entry.plan.now
@@ -392,6 +399,8 @@ fn plan_from<S: Shelf, P: Proposer, H: Heuristic<P::Hint>, W: Watch>(
     shelf: &mut S,
 ) -> Result<Said, AllocError>
     requires budget { 1 ≤ search.budget }
+    requires oldest { LOTS_CERT_VERSION ≤ search.newest }
+    requires latest { search.newest ≤ MAX_CERT_VERSION }
     requires start { option_map (λ f. f.now) search.start ≡ Some start.now }
     requires apart { names.plan.now ≢ names.certificate.now }
     ensures said { IfOk result (PlanSays names.entry.model.now names.entry.plan.now
@@ -434,6 +443,8 @@ pub fn plan_files<S: Shelf, P: Proposer, H: Heuristic<P::Hint>, W: Watch>(
     shelf: &mut S,
 ) -> Result<Said, AllocError>
     requires budget { 1 ≤ search.budget }
+    requires oldest { LOTS_CERT_VERSION ≤ search.newest }
+    requires latest { search.newest ≤ MAX_CERT_VERSION }
     requires apart { names.plan.now ≢ names.certificate.now }
     ensures said { IfOk result (PlanSays names.entry.model.now names.entry.plan.now
         names.entry.certificate.now (search_by search.entry) (S.shown shelf.old)

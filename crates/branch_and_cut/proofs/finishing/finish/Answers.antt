@@ -8,7 +8,7 @@ use Rattle.branch_and_cut.proofs.LeastVersion.{same_lines}
 use Rattle.branch_and_cut.proofs.finishing.finish.Goals as goal
 
 pub in_least_version-requires : goal.in_least_version-requires
-in_least_version-requires c = omega (arith, c.usual_version-usual.ensures.known.exists.1, c.requires.latest)
+in_least_version-requires c = omega (arith, c.usual_version-usual.ensures.at_most, c.requires.oldest)
 
 pub returns-clause-proved : goal.returns-clause-proved
 returns-clause-proved c =
@@ -39,6 +39,7 @@ returns-clause-version c =
       usual = c.usual_version-usual.result;
       is_usual = c.usual_version-usual.ensures.usual;
       from = c.in_least_version.ensures.from;
+      at_most = c.in_least_version.ensures.at_most;
       written = found.writable;
       least = c.in_least_version.ensures.least;
     }

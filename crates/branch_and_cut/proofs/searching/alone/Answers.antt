@@ -7,19 +7,19 @@ plan_uncoupled-requires ghosts c = c.requires.start.root.uncoupled.0 c.requires.
 
 pub lies_within-requires-clause-plan : goal.lies_within-requires-clause-plan
 lies_within-requires-clause-plan ghosts c =
-    let m = c.args.instance.now in
+    let m = c.args.start.instance.now in
     let found = c.in_ok-found.found in
     let (total, weight, totals, weights) = c.requires.start.root.figures in
     fits_alone m found.plan (plan_alone m total weight found totals weights c.in_ok-found.ensures.proved c.in_ok-found.ensures.decided)
 
 pub returns-then-lies_within : goal.returns-then-lies_within
 returns-then-lies_within ghosts c =
-    alone_within c.args.instance.now (given_ranges c.args.ranges.now) c.args.budget c.args.limits (ghosts.W.Watch.may_stop c.args.watch) c.args.first c.in_ok-found.found c.args.said c.args.apart c.requires.start.room c.requires.start.good c.requires.start.root c.requires.uncoupled c.requires.apart c.apart_is_one.ensures c.in_ok-found.ensures.proved c.in_ok-found.ensures.decided (c.lies_within.ensures.0 c.if-lies_within.true)
+    alone_within c.args.start.instance.now (given_ranges c.args.start.ranges.now) c.args.wanted (ghosts.W.Watch.may_stop c.args.watch) c.in_ok-found.found c.args.start.said c.args.start.apart c.requires.start.room c.requires.start.oldest c.requires.start.good c.requires.start.root c.requires.uncoupled c.requires.start.apart c.apart_is_one.ensures c.in_ok-found.ensures.proved c.in_ok-found.ensures.decided (c.lies_within.ensures.0 c.if-lies_within.true)
 
 pub searched-requires-clause-coupled : goal.searched-requires-clause-coupled
 searched-requires-clause-coupled ghosts c = λ all same.
-    let m = c.args.instance.now in
-    let ranges = given_ranges c.args.ranges.now in
+    let m = c.args.start.instance.now in
+    let ranges = given_ranges c.args.start.ranges.now in
     let found = c.in_ok-found.found in
     let (total, weight, totals, weights) = c.requires.start.root.figures in
     let good = plan_alone m total weight found totals weights c.in_ok-found.ensures.proved c.in_ok-found.ensures.decided in

@@ -1,4 +1,4 @@
-use Rattle.std.proofs.Common.{subst, sym}
+use Rattle.std.proofs.Common.{arith, subst, sym}
 use Rattle.certificate.specs.Shapes.{shape_of}
 use Rattle.branch_and_cut.specs.Search.{IsUsualVersion}
 use Rattle.search_ranges.specs.Within.{given_ranges}
@@ -7,8 +7,8 @@ use Rattle.branch_and_cut.proofs.LeastVersion.{usual_is}
 use Rattle.branch_and_cut.proofs.searching.impossible.Goals as goal
 
 pub returns : goal.returns
-returns c = λ limits stopping.
-    let m = c.args.instance.now in
+returns c = λ stopping.
+    let m = c.args.start.instance.now in
     let usual = subst (IsUsualVersion m) (sym c.none_found.ensures.version) c.usual_version-version.ensures.usual in
-    let version = usual_is m (shape_of c.none_found.result.certificate) usual c.none_found.ensures.proved.writable in
-    none_within m (given_ranges c.args.ranges.now) c.args.budget limits stopping c.args.first c.none_found.result c.args.said c.requires.start.room c.requires.start.good c.requires.start.root c.requires.none version c.whole_is_proved.ensures c.none_found.ensures.proved c.none_found.ensures.plan c.none_found.ensures.root c.none_found.ensures.alone
+    let version = usual_is m c.args.wanted.newest (shape_of c.none_found.result.certificate) usual (omega (arith, c.none_found.ensures.version, c.usual_version-version.ensures.at_most, c.requires.start.oldest)) c.none_found.ensures.proved.writable in
+    none_within m (given_ranges c.args.start.ranges.now) c.args.wanted stopping c.none_found.result c.args.start.said c.requires.start.room c.requires.start.good c.requires.start.root c.requires.none version c.whole_is_proved.ensures c.none_found.ensures.proved c.none_found.ensures.plan c.none_found.ensures.root c.none_found.ensures.alone

@@ -6,7 +6,7 @@ use Rattle.branch_and_cut.proofs.searching.search_all.Goals as goal
 pub search-requires-clause-first : goal.search-requires-clause-first
 search-requires-clause-first ghosts c =
     let ranges = given_ranges c.in_ok-ranges.ranges in
-    first_within c.args.instance.now ranges c.args.first (c.lie_in_whole.ensures ranges c.in_ok-ranges.ensures.whole) c.requires.first
+    first_within c.args.instance.now ranges c.args.wanted.first (c.lie_in_whole.ensures ranges c.in_ok-ranges.ensures.whole) c.requires.first
 
 pub returns : goal.returns
 returns ghosts c =

@@ -1,21 +1,21 @@
 use Rattle.std.proofs.Common.{refl}
-use Rattle.cert_lines.specs.declared.limits.TheConstants.{MAX_CERT_VERSION}
 use Rattle.branch_and_cut.specs.declared.guiding.Model.{Model}
 use Rattle.branch_and_cut.specs.Finishing.{IsSearched}
 use Rattle.branch_and_cut.proofs.Answering.{ended_on, searched_ok}
-use Rattle.branch_and_cut.proofs.LeastVersion.{latest_known}
+use Rattle.branch_and_cut.proofs.LeastVersion.{version_known}
 use Rattle.branch_and_cut.proofs.searching.searched.Goals as goal
 
 pub search-requires-clause-state : goal.search-requires-clause-state
 search-requires-clause-state g c =
-    let begins = c.in_ok-begun.ensures.begins MAX_CERT_VERSION (latest_known c.args.instance.now) in
+    let newest = c.args.wanted.newest in
+    let begins = c.in_ok-begun.ensures.begins newest (version_known c.args.start.instance.now newest c.requires.start.oldest c.requires.start.latest) in
     record { known = record { given = c.requires.start.given; begun = begins.begun; cuts = begins.cuts; best = c.in_ok-best.ensures.made; sums = c.in_ok-sums.ensures; explosion = c.in_ok-explosion.ensures }; ended = λ _. refl }
 
 pub finish-requires-clause-searched : goal.finish-requires-clause-searched
 finish-requires-clause-searched g c =
     let found = c.in_ok-found.ensures in (
-      c.args.budget,
-      c.args.limits,
+      c.args.wanted.budget,
+      c.args.wanted.limits,
       g.W.Watch.may_stop c.args.watch,
       c.in_ok-list.list.items,
       record {
@@ -37,11 +37,11 @@ finish-requires-clause-searched g c =
 pub returns : goal.returns
 returns ghosts c =
     let g : Model = record {
-      instance = c.args.instance;
-      ranges = c.args.ranges;
+      instance = c.args.start.instance;
+      ranges = c.args.start.ranges;
       explosion = c.in_ok-explosion.explosion;
-      version = MAX_CERT_VERSION;
-      root = c.args.said.says;
+      version = c.args.wanted.newest;
+      root = c.args.start.said.says;
       least = c.in_ok-begun.begun.least;
       first = c.in_ok-begun.begun.first;
     } in
@@ -49,7 +49,7 @@ returns ghosts c =
     let stopping = ghosts.W.Watch.may_stop c.args.watch in
     let rs = c.in_ok-list.list.items in
     let found = c.in_ok-found.ensures in
-    let is : IsSearched g k c.args.budget c.args.limits stopping rs c.in_ok-found.found = record {
+    let is : IsSearched g k c.args.wanted.budget c.args.wanted.limits stopping rs c.in_ok-found.found = record {
       known = found.state.known;
       listed = c.in_ok-list.ensures.listed;
       node = c.in_ok-list.ensures.node;
@@ -63,7 +63,7 @@ returns ghosts c =
       cause = found.cause;
       decided = found.decided;
     } in
-    searched_ok g k c.args.budget c.args.limits stopping c.args.first c.finish.result c.args.said c.args.apart c.in_ok-best.best refl c.requires.start.root c.requires.coupled c.requires.some c.requires.apart c.apart_is_one.ensures c.lie_in_whole.ensures c.whole_is_proved.ensures
+    searched_ok g k c.args.wanted stopping c.finish.result c.args.start.said c.args.start.apart c.in_ok-best.best refl c.requires.start.root c.requires.coupled c.requires.some c.requires.start.apart c.apart_is_one.ensures c.lie_in_whole.ensures c.whole_is_proved.ensures
     c.finish.ensures.proved
-    (ended_on g k c.args.budget c.args.limits stopping rs c.in_ok-found.found c.finish.result is c.finish.ensures.shown)
+    (ended_on g k c.args.wanted.budget c.args.wanted.limits stopping rs c.in_ok-found.found c.finish.result is c.finish.ensures.shown)
     c.finish.ensures.plan c.finish.ensures.root c.finish.ensures.version c.in_ok-begun.ensures.apart c.in_ok-begun.ensures.closed found.state.known.best found.kept c.in_ok-best.ensures.kept c.in_ok-best.ensures.own
