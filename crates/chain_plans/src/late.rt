@@ -1,30 +1,17 @@
 // An item whose units may fall short of what is on time: lot sizing with backlogging and no price of stocks (Zangwill 1966).
 // What is on time is served period by period; of the lots that serve it, each one serves the needs that follow each other.
 use crate::level::{Lots, NONE};
-use crate::numbers::{at, forget, grow, plus, times, write};
+use crate::numbers::{at, forget, grow, plus, times, within, write};
 use crate::quantities::Quantities;
 use std::alloc::{AllocError, Global};
 
-/// What falls short of an item, and until when anything may.
+/// What falls short of an item costs, and until when anything may.
 #[derive(Clone, Copy, Debug)]
-pub(crate) struct Owing {
-    /// The price of a unit for each period in which it falls short, from 0 to `NONE`.
-    pub(crate) share: i64,
+pub(crate) struct Owing<'a> {
+    /// The price of a unit that falls short at the end of each period.
+    pub(crate) shares: &'a [i64],
     /// From this period on nothing may fall short.
     pub(crate) settled: usize,
-}
-
-impl Owing {
-    // What a unit costs that is on time in a period and falls short until a lot makes it.
-    fn price(self, period: usize, lot: usize) -> i64 {
-        let periods = i64::try_from(lot.saturating_sub(period)).unwrap_or(NONE);
-        times(self.share, periods)
-    }
-
-    // The last lot that may make what is on time in a period, of so many lots.
-    fn last_lot(self, period: usize, lots: usize) -> usize {
-        period.max(self.settled).min(lots.saturating_sub(1))
-    }
 }
 
 // A lot and what it costs that it serves what is on time last.
@@ -47,6 +34,9 @@ pub(crate) struct LateRows {
     begun: Vec<i64>,
     // By period the lot by which what is on time so far costs least.
     servers: Vec<usize>,
+    // By lot what a unit costs that falls short in all periods before it, from period 0 on.
+    owed: Vec<i64>,
+    settled: usize,
     width: usize,
     /// The units that fall short at the end of each period, from period 0 on.
     pub(crate) short: Vec<i64>,
@@ -59,9 +49,24 @@ impl LateRows {
             costs: Vec::new(alloc),
             begun: Vec::new(alloc),
             servers: Vec::new(alloc),
+            owed: Vec::new(alloc),
+            settled: 0,
             width: 0,
             short: Vec::new(alloc),
         }
+    }
+
+    // What a unit costs that falls short, from the first period on.
+    fn owe(&mut self, owing: Owing<'_>) -> Result<(), AllocError> {
+        self.settled = owing.settled;
+        self.owed.clear();
+        self.owed.push(0)?;
+        let mut sum = 0;
+        for period in 1..self.width {
+            self.owed.push(sum)?;
+            sum = plus(sum, within(at(owing.shares, period.wrapping_sub(1))));
+        }
+        Ok(())
     }
 
     // There is room for so many lots, of which none serves yet.
@@ -75,13 +80,23 @@ impl LateRows {
         Ok(())
     }
 
+    // What a unit costs that is on time in a period and falls short until a lot makes it.
+    fn price(&self, period: usize, lot: usize) -> i64 {
+        at(&self.owed, lot).saturating_sub(at(&self.owed, period.min(lot)))
+    }
+
+    // The last lot that may make what is on time in a period.
+    fn last_lot(&self, period: usize) -> usize {
+        period.max(self.settled).min(self.width.saturating_sub(1))
+    }
+
     // A lot serves what is on time in a period beyond what was before it, which cost `least`.
-    fn serve(&mut self, lots: &Lots, owing: Owing, period: usize, lot: usize, least: i64) -> i64 {
+    fn serve(&mut self, lots: &Lots, period: usize, lot: usize, least: i64) -> i64 {
         let before = at(&self.costs, lot);
         let entered = plus(least, lots.fee(lot));
         let place = period.wrapping_mul(self.width).wrapping_add(lot);
         write(&mut self.begun, place, i64::from(entered < before));
-        let price = plus(lots.price(lot, 0), owing.price(period, lot));
+        let price = plus(lots.price(lot, 0), self.price(period, lot));
         let units = lots.units(period, period.wrapping_add(1));
         let cost = plus(before.min(entered), times(price, units));
         write(&mut self.costs, lot, cost);
@@ -89,10 +104,10 @@ impl LateRows {
     }
 
     // The cheapest lot to serve what is on time last in a period, where all before it cost `least`.
-    fn serve_by_any(&mut self, lots: &Lots, owing: Owing, period: usize, least: i64) -> Server {
+    fn serve_by_any(&mut self, lots: &Lots, period: usize, least: i64) -> Server {
         let mut best = no_server();
-        for lot in 1..owing.last_lot(period, self.width).saturating_add(1) {
-            let cost = self.serve(lots, owing, period, lot, least);
+        for lot in 1..self.last_lot(period).saturating_add(1) {
+            let cost = self.serve(lots, period, lot, least);
             if cost < best.cost {
                 best = Server { lot, cost };
             }
@@ -101,11 +116,12 @@ impl LateRows {
     }
 
     /// The least cost of serving all that is on time.
-    pub(crate) fn fill(&mut self, lots: &Lots, owing: Owing) -> Result<i64, AllocError> {
+    pub(crate) fn fill(&mut self, lots: &Lots, owing: Owing<'_>) -> Result<i64, AllocError> {
         self.begin(lots.count())?;
+        self.owe(owing)?;
         let mut least = 0;
         for period in 1..lots.count() {
-            let best = self.serve_by_any(lots, owing, period, least);
+            let best = self.serve_by_any(lots, period, least);
             self.servers.push(best.lot)?;
             if lots.units(0, period.saturating_add(1)) > 0 {
                 least = best.cost;

@@ -1,7 +1,7 @@
 // The calls that plan a chain.
 use crate::late::{LateRows, Owing};
 use crate::level::{Level, Levels, Lots, NONE, has_lots};
-use crate::numbers::{part, within};
+use crate::numbers::part;
 use crate::quantities::Quantities;
 use crate::states::States;
 use crate::stretches::Stretches;
@@ -102,13 +102,14 @@ impl ChainPlans {
     }
 
     /// The least cost of a level whose units may fall short of what is asked for, before a position from which on nothing may, and
-    /// a plan at that cost, as `plan_one`. Each unit that falls short costs `share` for each position, and a number below 0 is
-    /// read as 0. What is there before the first position isn't used.
+    /// a plan at that cost, as `plan_one`. Each unit that falls short at the end of a position costs its share: `shares` has one entry for
+    /// each position from the first on, and what isn't there or is below 0 is read as 0. What is there before the first position isn't
+    /// used.
     pub fn plan_late(
         &mut self,
         _alloc: Global,
         level: &Level,
-        share: i64,
+        shares: &[i64],
         settled: usize,
     ) -> Result<i64, AllocError> {
         self.clear();
@@ -117,11 +118,7 @@ impl ChainPlans {
             return Ok(NONE);
         }
         self.low.refill(level)?;
-        let owing = Owing {
-            share: within(share),
-            settled,
-        };
-        let cost = self.late.fill(&self.low, owing)?;
+        let cost = self.late.fill(&self.low, Owing { shares, settled })?;
         if cost >= NONE {
             return Ok(NONE);
         }

@@ -82,7 +82,7 @@ fn chains_without_a_plan(rt: HostRuntime) -> Result<(), Fail> {
     assert_eq!(rt; plans.plan_one(alloc, &short)?, 1);
     for item in [&uneven, &empty, &closed] {
         assert_eq!(rt; plans.plan_one(alloc, item)?, NONE);
-        assert_eq!(rt; plans.plan_late(alloc, item, 1, 2)?, NONE);
+        assert_eq!(rt; plans.plan_late(alloc, item, &[1, 1], 2)?, NONE);
         assert!(rt; plans.short().is_empty());
         assert!(rt; plans.made(0).is_empty());
     }
@@ -125,9 +125,9 @@ fn numbers_at_their_limits(rt: HostRuntime) -> Result<(), Fail> {
     assert_eq!(rt; plans.plan_one(alloc, &small)?, 0);
     assert_eq!(rt; plans.plan_one(alloc, &dear)?, NONE - 2);
     for item in [&large, &small, &dear] {
-        plans.plan_late(alloc, item, most, 2)?;
-        plans.plan_late(alloc, item, NONE - 1, usize::MAX)?;
-        plans.plan_late(alloc, item, least, 0)?;
+        plans.plan_late(alloc, item, &[most, most], 2)?;
+        plans.plan_late(alloc, item, &[NONE - 1], usize::MAX)?;
+        plans.plan_late(alloc, item, &[least, least], 0)?;
         plans.plan_two(alloc, item, &large)?;
         plans.plan_two(alloc, item, &dear)?;
         plans.plan_three(alloc, &dear, item, &large)?;
@@ -323,12 +323,12 @@ fn late_items_by_hand(rt: HostRuntime) -> Result<(), Fail> {
     let mut plans = ChainPlans::new(alloc);
     // The first lot is dear, and the 2 units of the first position fall short for one position: all in the second lot.
     let dear = level(alloc, &[0, 20, 4, 4], &[NONE, 1, 1, 1], &[2, 0, 3], 1)?;
-    assert_eq!(rt; plans.plan_late(alloc, &dear, 1, 2)?, 11);
+    assert_eq!(rt; plans.plan_late(alloc, &dear, &[1, 1, 1], 2)?, 11);
     assert_eq!(rt; plans.made(0), [0, 0, 5, 0].as_slice());
     assert_eq!(rt; plans.setups(0), [0, 0, 1, 0].as_slice());
     assert_eq!(rt; plans.short(), [0, 2, 0, 0].as_slice());
     // They may not.
-    assert_eq!(rt; plans.plan_late(alloc, &dear, 1, 1)?, 25);
+    assert_eq!(rt; plans.plan_late(alloc, &dear, &[1], 1)?, 25);
     assert_eq!(rt; plans.made(0), [0, 5, 0, 0].as_slice());
     assert_eq!(rt; plans.short(), [0, 0, 0, 0].as_slice());
     // They fall short for two positions at a low share: one setup at 4, and 5 units at 1, and 2 units for two positions.
@@ -336,7 +336,7 @@ fn late_items_by_hand(rt: HostRuntime) -> Result<(), Fail> {
         plans.plan_late(
             alloc,
             &level(alloc, &[0, 20, 9, 4], &[0, 1, 1, 1], &[2, 0, 3], 1)?,
-            1,
+            &[1, 1, 0],
             3
         )?,
         13
@@ -344,15 +344,30 @@ fn late_items_by_hand(rt: HostRuntime) -> Result<(), Fail> {
     assert_eq!(rt; plans.short(), [0, 2, 2, 0].as_slice());
     // Nothing is asked for.
     let none = level(alloc, &[0, 5, NONE], &[0, 1, 1], &[0, 0], 1)?;
-    assert_eq!(rt; plans.plan_late(alloc, &none, 1, 2)?, 0);
+    assert_eq!(rt; plans.plan_late(alloc, &none, &[], 2)?, 0);
     assert_eq!(rt; plans.made(0), [0, 0, 0].as_slice());
     assert_eq!(rt; plans.plan_one(alloc, &none)?, 0);
     assert!(rt; plans.short().is_empty());
     Ok(())
 }
 
+// What a unit costs that falls short from a position until a lot makes it.
+fn late_cost(shares: &[i64], period: u32, lot: u32) -> i64 {
+    let mut cost = 0i64;
+    for position in period..lot.max(period) {
+        cost = cost.saturating_add(at(shares, position.saturating_sub(1) as usize));
+    }
+    cost
+}
+
 // What a choice of setups of a late item costs where each unit is made as cheaply as it allows.
-fn late_choice_cost(level: &Level, share: i64, settled: u32, positions: u32, choice: u32) -> i64 {
+fn late_choice_cost(
+    level: &Level,
+    shares: &[i64],
+    settled: u32,
+    positions: u32,
+    choice: u32,
+) -> i64 {
     let mut cost = 0i64;
     for lot in 1..positions.saturating_add(1) {
         if is_set_up(choice, positions, 0, lot) {
@@ -363,7 +378,7 @@ fn late_choice_cost(level: &Level, share: i64, settled: u32, positions: u32, cho
         let mut least = NONE;
         for lot in 1..period.max(settled).min(positions).saturating_add(1) {
             if is_set_up(choice, positions, 0, lot) {
-                let late = i64::from(lot.saturating_sub(period)).saturating_mul(share);
+                let late = late_cost(shares, period, lot);
                 least = least.min(at(&level.unit, lot as usize).saturating_add(late));
             }
         }
@@ -376,13 +391,19 @@ fn late_choice_cost(level: &Level, share: i64, settled: u32, positions: u32, cho
 }
 
 // What the plan of a late item costs; None where it makes units without a setup, or less than is on time and doesn't fall short.
-fn late_plan_cost(plans: &ChainPlans, level: &Level, share: i64, settled: usize) -> Option<i64> {
+fn late_plan_cost(
+    plans: &ChainPlans,
+    level: &Level,
+    shares: &[i64],
+    settled: usize,
+) -> Option<i64> {
     let (mut cost, mut sum) = (0i64, 0i64);
     let mut lot = 0usize;
     let mut serves = plans.setups(0).len() == level.fee.len();
     for (units, short) in plans.made(0).iter().zip(plans.short()) {
         sum = sum.saturating_add(*units);
         cost = cost.saturating_add(at(&level.unit, lot).saturating_mul(*units));
+        let share = at(shares, lot.wrapping_sub(1));
         cost = cost.saturating_add(share.saturating_mul(*short));
         let setup = at(plans.setups(0), lot);
         cost = cost.saturating_add(at(&level.fee, lot).saturating_mul(setup));
@@ -408,17 +429,20 @@ fn small_late_items_cost_the_least_of_all_choices(rt: HostRuntime) -> Result<(),
             if let Some(price) = level.unit.first_mut() {
                 *price = NONE;
             }
-            let share = draws.below(6);
+            let mut shares = Vec::new(alloc);
+            for _position in 0..positions {
+                shares.push(draws.below(6))?;
+            }
             let drawn = draws.below(i64::from(positions).saturating_add(2));
             let settled = u32::try_from(drawn).unwrap_or(0);
-            let cost = plans.plan_late(alloc, &level, share, settled as usize)?;
+            let cost = plans.plan_late(alloc, &level, &shares, settled as usize)?;
             let mut least = NONE;
             for choice in 0..1u32.wrapping_shl(positions) {
-                least = least.min(late_choice_cost(&level, share, settled, positions, choice));
+                least = least.min(late_choice_cost(&level, &shares, settled, positions, choice));
             }
             assert_eq!(rt; cost, least, "{positions} {item}");
             if least < NONE {
-                let found = late_plan_cost(&plans, &level, share, settled as usize);
+                let found = late_plan_cost(&plans, &level, &shares, settled as usize);
                 assert_eq!(rt; found, Some(least), "{positions} {item}");
             } else {
                 assert!(rt; plans.made(0).is_empty() && plans.short().is_empty());

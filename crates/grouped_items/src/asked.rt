@@ -41,6 +41,22 @@ pub(crate) fn ask_on_time(instance: &Instance, on_time: &OnTime, item: u32, aske
     }
 }
 
+/// What is on time of an item by the end of each period is written to its line.
+pub(crate) fn write_on_time(
+    instance: &Instance,
+    on_time: &OnTime,
+    item: u32,
+    asked: &mut IntegerGrid,
+)
+    requires on_time { IsOnTimeOf instance.now on_time.now }
+    requires low { 1 ≤ item }
+    requires high { item ≤ item_count instance.now }
+{
+    for period in 1..instance.periods() + 1 {
+        asked.put(item, period, of_amount(on_time.by_end(item, period)));
+    }
+}
+
 // What all items but one take of an item by the end of a period, by what must have been started of them.
 fn taken_besides(instance: &Instance, started: &MustStart, item: u32, next: u32, period: u32) -> i64
     requires started { IsMustStartOf instance.now started.now }

@@ -2,8 +2,9 @@
 ghost use Rattle.std.specs.Prelude.{◌≤◌};
 ghost use Rattle.lot_sizing.specs.Problem.{item_count};
 
+use crate::groups::ItemGroup;
 use integer_grids::numbers::{of_amount, plus};
-use item_groups::{ChainLink, Group};
+use item_groups::ChainLink;
 use lot_model::Instance;
 use std::alloc::{AllocError, Global};
 
@@ -13,14 +14,29 @@ const NONE_THERE: u128 = 100_000_000_000;
 // Chains of three items are planned over at most so many periods.
 const LONG_CHAIN: u32 = 72;
 
+/// What is known of an item before it is in a group.
+#[derive(Clone, Copy, Debug, PartialEq, Eq)]
+pub(crate) enum Kind {
+    /// It isn't planned in groups.
+    Alone,
+    /// It may fall short of what is on time.
+    Late,
+    /// It is planned in whole quantities.
+    Whole,
+    /// It is planned in whole quantities, and may fall short of what is on time.
+    LateWhole,
+    /// It never falls short, and may be in a chain.
+    Chained,
+}
+
 /// Which items may be in groups, and which are.
 #[derive(Debug, Drop)]
 pub(crate) struct Cover {
+    // By item what is known of it.
+    kinds: Vec<Kind>,
     // By item whether it is left: neither planned alone nor in a group yet.
     left: Vec<bool>,
-    // By item whether it is planned by what is on time of it: then it is in a group of its own.
-    late: Vec<bool>,
-    groups: Vec<Group>,
+    groups: Vec<ItemGroup>,
 }
 
 // What the setups of an item cost in all periods.
@@ -52,25 +68,25 @@ fn link(item: u32) -> ChainLink {
 }
 
 impl Cover {
-    /// No groups yet. `short` says by item whether it may fall short: then it is planned by what is on time of it, or alone where
-    /// `are_alone`. The error is that memory ran out.
-    pub(crate) fn new(alloc: Global, short: &[bool], are_alone: bool) -> Result<Cover, AllocError> {
-        let mut left = Vec::with_capacity(alloc, short.len())?;
-        let mut late = Vec::with_capacity(alloc, short.len())?;
-        for is_short in short {
-            left.push(!*is_short || !are_alone)?;
-            late.push(*is_short && !are_alone)?;
+    /// No groups yet. `kinds` says what is known of each item. The error is that memory ran out.
+    pub(crate) fn new(alloc: Global, kinds: Vec<Kind>) -> Result<Cover, AllocError> {
+        let mut left = Vec::with_capacity(alloc, kinds.len())?;
+        for kind in kinds.iter() {
+            left.push(*kind != Kind::Alone)?;
         }
         Ok(Cover {
+            kinds,
             left,
-            late,
             groups: Vec::new(alloc),
         })
     }
 
-    // Whether an item is planned by what is on time of it.
-    fn is_late(&self, item: u32) -> bool {
-        is_true(&self.late, item)
+    // What is known of an item.
+    fn kind(&self, item: u32) -> Kind {
+        match self.kinds.get((item as usize).wrapping_sub(1)) {
+            Some(kind) => *kind,
+            None => Kind::Alone,
+        }
     }
 
     // Whether an item is left.
@@ -85,14 +101,14 @@ impl Cover {
         }
     }
 
-    /// The groups so far, and by item whether it is planned by what is on time of it.
-    pub(crate) fn into_groups(self) -> (Vec<Group>, Vec<bool>) {
-        (self.groups, self.late)
+    /// The groups so far.
+    pub(crate) fn into_groups(self) -> Vec<ItemGroup> {
+        self.groups
     }
 
-    // Whether an item may stand below another one in a chain: it is left, and never falls short.
+    // Whether an item may stand below another one in a chain: it is left, and is neither late nor in whole quantities.
     fn may_be_below(&self, item: u32) -> bool {
-        self.is_left(item) && !self.is_late(item)
+        self.is_left(item) && self.kind(item) == Kind::Chained
     }
 
     // The component of an item whose setups cost most, of those that may stand below it.
@@ -114,32 +130,36 @@ impl Cover {
         best
     }
 
-    // A group of an item that is planned by what is on time of it; else of an item and, where there are such, of a component of it and of one of that.
-    fn group_below(&mut self, instance: &Instance, top: u32) -> Group {
-        self.take(top);
-        if self.is_late(top) {
-            return Group::Late {
-                item: top,
-                share: 0,
-            };
-        }
+    // A chain of an item and, where there are such, of a component of it and of one of that.
+    fn chain_below(&mut self, instance: &Instance, top: u32) -> ItemGroup {
         let Some(mid) = self.below(instance, top) else {
-            return Group::Item { item: top };
+            return ItemGroup::Item { item: top };
         };
         self.take(mid);
         match self.below(instance, mid) {
             Some(low) if is_short(instance, mid) => {
                 self.take(low);
-                Group::Triple {
+                ItemGroup::Triple {
                     low: link(low),
                     mid: link(mid),
                     top: link(top),
                 }
             }
-            _ => Group::Pair {
+            _ => ItemGroup::Pair {
                 low: link(mid),
                 top: link(top),
             },
+        }
+    }
+
+    // A group that an item begins.
+    fn group_below(&mut self, instance: &Instance, item: u32) -> ItemGroup {
+        self.take(item);
+        match self.kind(item) {
+            Kind::Late => ItemGroup::Late { item },
+            Kind::Whole => ItemGroup::Quantities { item },
+            Kind::LateWhole => ItemGroup::LateQuantities { item },
+            Kind::Alone | Kind::Chained => self.chain_below(instance, item),
         }
     }
 

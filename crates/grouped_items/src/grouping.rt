@@ -4,12 +4,13 @@ ghost use Rattle.lot_sizing.specs.Problem.{item_count};
 ghost use Rattle.must_start.specs.Rows.{IsMustStartOf};
 ghost use Rattle.late_starts.specs.Rows.{IsOnTimeOf};
 
-use crate::asked::{ask_besides, ask_by_starts, ask_on_time};
-use crate::cover::Cover;
+use crate::asked::{ask_besides, ask_by_starts, ask_on_time, write_on_time};
+use crate::cover::{Cover, Kind};
+use crate::groups::ItemGroup;
+use crate::lots::{Limits, LotBounds, have_least_lots};
 use crate::weights::weights_of;
 use integer_grids::IntegerGrid;
 use integer_grids::numbers::{less, of_amount, plus, times};
-use item_groups::{ChainLink, Group};
 use late_starts::OnTime;
 use lot_model::Instance;
 use must_start::MustStart;
@@ -18,15 +19,28 @@ use std::alloc::{AllocError, Global};
 /// The groups in which items of an instance are planned, and what is asked of each item there.
 #[derive(Debug, Drop)]
 pub struct Grouping {
-    groups: Vec<Group>,
+    groups: Vec<ItemGroup>,
     // By item what is asked of it in each period, other than by the next one in its chain.
     asked: IntegerGrid,
     // By item the units of each item in one of it.
     weights: IntegerGrid,
     // By item the most that can be made of it in all.
     most: IntegerGrid,
+    // What of each item may fall short.
+    lateness: Lateness,
+    // The needs and the largest lots of items in whole quantities.
+    bounds: LotBounds,
+}
+
+// What of each item may fall short.
+#[derive(Debug, Drop)]
+struct Lateness {
     // By item whether it is planned by what is on time of it.
     late: Vec<bool>,
+    // By item whether it has a price of backlog, and goes into no other one that has.
+    last: Vec<bool>,
+    // By item what is on time of it by the end of each period, where it may fall short.
+    on_time: IntegerGrid,
 }
 
 // Whether something of an item is ever late, its components left out.
@@ -60,6 +74,34 @@ fn short_of(
         short.push(may_fall_short(instance, weights, item))?;
     }
     Ok(short)
+}
+
+// Whether an item may be late and goes into no other one that may be.
+fn is_last(instance: &Instance, weights: &IntegerGrid, item: u32) -> bool {
+    for other in 1..instance.items() + 1 {
+        if other != item && weights.get(other, item) > 0 && is_late(instance, other) {
+            return false;
+        }
+    }
+    is_late(instance, item)
+}
+
+// By item whether it may be late and goes into no other one that may be.
+fn last_of(
+    alloc: Global,
+    instance: &Instance,
+    weights: &IntegerGrid,
+) -> Result<Vec<bool>, AllocError> {
+    let mut last = Vec::with_capacity(alloc, instance.items() as usize)?;
+    for item in 1..instance.items() + 1 {
+        last.push(is_last(instance, weights, item))?;
+    }
+    Ok(last)
+}
+
+// Whether a list says so of some item.
+fn are_some(list: &[bool]) -> bool {
+    list.iter().any(|is_so| *is_so)
 }
 
 // Whether an item or one that it goes into has a lead time.
@@ -146,22 +188,24 @@ fn ask_group(
     instance: &Instance,
     started: &MustStart,
     on_time: &OnTime,
-    group: &Group,
+    group: &ItemGroup,
     asked: &mut IntegerGrid,
 )
     requires started { IsMustStartOf instance.now started.now }
     requires on_time { IsOnTimeOf instance.now on_time.now }
 {
     match group {
-        Group::Late { item, .. } => ask_late(instance, on_time, *item, asked),
-        Group::Item { item } | Group::Quantities { item } => {
+        ItemGroup::Late { item } | ItemGroup::LateQuantities { item } => {
+            ask_late(instance, on_time, *item, asked);
+        }
+        ItemGroup::Item { item } | ItemGroup::Quantities { item } => {
             ask(instance, started, *item, None, asked);
         }
-        Group::Pair { low, top } => {
+        ItemGroup::Pair { low, top } => {
             ask(instance, started, low.item, Some(top.item), asked);
             ask(instance, started, top.item, None, asked);
         }
-        Group::Triple { low, mid, top } => {
+        ItemGroup::Triple { low, mid, top } => {
             ask(instance, started, low.item, Some(mid.item), asked);
             ask(instance, started, mid.item, Some(top.item), asked);
             ask(instance, started, top.item, None, asked);
@@ -170,48 +214,176 @@ fn ask_group(
 }
 
 // Whether a group says more than its items do alone: it has several, or one that has a lead time or goes into such an item.
-fn is_useful(instance: &Instance, weights: &IntegerGrid, group: &Group) -> bool {
+fn is_useful(instance: &Instance, weights: &IntegerGrid, group: &ItemGroup) -> bool {
     match group {
-        Group::Item { item } | Group::Quantities { item } | Group::Late { item, .. } => {
-            waits(instance, weights, *item)
-        }
-        Group::Pair { .. } | Group::Triple { .. } => true,
+        ItemGroup::Item { item }
+        | ItemGroup::Quantities { item }
+        | ItemGroup::Late { item }
+        | ItemGroup::LateQuantities { item } => waits(instance, weights, *item),
+        ItemGroup::Pair { .. } | ItemGroup::Triple { .. } => true,
     }
 }
 
 // Whether some group says more than its items do alone.
-fn are_useful(instance: &Instance, weights: &IntegerGrid, groups: &[Group]) -> bool {
+fn are_useful(instance: &Instance, weights: &IntegerGrid, groups: &[ItemGroup]) -> bool {
     groups
         .iter()
         .any(|group| is_useful(instance, weights, group))
 }
 
-// A link with another price, where it is that of an item.
-fn priced(link: ChainLink, item: u32, price: u128) -> ChainLink {
-    if link.item == item {
-        ChainLink {
-            item,
-            opening_price: price,
-        }
+// What is known of items in lots of any size: those that may fall short are late, or planned alone.
+fn kinds_of(alloc: Global, short: &[bool], are_alone: bool) -> Result<Vec<Kind>, AllocError> {
+    let mut kinds = Vec::with_capacity(alloc, short.len())?;
+    for is_short in short {
+        kinds.push(match (*is_short, are_alone) {
+            (true, true) => Kind::Alone,
+            (true, false) => Kind::Late,
+            (false, _) => Kind::Chained,
+        })?;
+    }
+    Ok(kinds)
+}
+
+// What is known of items where those are planned in whole quantities that have few enough of them and whose lots are too small.
+fn whole_kinds(
+    alloc: Global,
+    instance: &Instance,
+    started: &MustStart,
+    on_time: &OnTime,
+    short: &[bool],
+) -> Result<Vec<Kind>, AllocError>
+    requires started { IsMustStartOf instance.now started.now }
+    requires on_time { IsOnTimeOf instance.now on_time.now }
+{
+    let mut kinds = Vec::with_capacity(alloc, short.len())?;
+    let mut limits = Limits::new(instance);
+    let mut item = 0u32;
+    for is_short in short {
+        item = item.saturating_add(1);
+        let total = total_of(instance, started, on_time, item, *is_short);
+        kinds.push(match (limits.take(instance, item, total), *is_short) {
+            (true, true) => Kind::LateWhole,
+            (true, false) => Kind::Whole,
+            (false, true) => Kind::Late,
+            (false, false) => Kind::Chained,
+        })?;
+    }
+    Ok(kinds)
+}
+
+// All that is on time of an item that may fall short, and else all that must have been started.
+fn total_of(
+    instance: &Instance,
+    started: &MustStart,
+    on_time: &OnTime,
+    item: u32,
+    is_short: bool,
+) -> i64
+    requires started { IsMustStartOf instance.now started.now }
+    requires on_time { IsOnTimeOf instance.now on_time.now }
+{
+    if item < 1 || item > instance.items() {
+        return 0;
+    }
+    let last = instance.periods();
+    of_amount(if is_short {
+        on_time.by_end(item, last)
     } else {
-        link
+        started.by_end(item, last)
+    })
+}
+
+// The groups of items of these kinds. In `order` each item comes before its components.
+fn groups_of(
+    alloc: Global,
+    instance: &Instance,
+    order: &[u32],
+    kinds: Vec<Kind>,
+) -> Result<Vec<ItemGroup>, AllocError> {
+    let mut cover = Cover::new(alloc, kinds)?;
+    for item in order {
+        cover.put(instance, *item)?;
+    }
+    Ok(cover.into_groups())
+}
+
+// Whether an item is planned in such a group by what is on time of it.
+fn late_in(group: &ItemGroup) -> Option<u32> {
+    match group {
+        ItemGroup::Late { item } | ItemGroup::LateQuantities { item } => Some(*item),
+        _ => None,
     }
 }
 
-// A group in which the links of an item, but for the last one, have another price.
-fn with_price(group: Group, item: u32, price: u128) -> Group {
-    match group {
-        Group::Pair { low, top } => Group::Pair {
-            low: priced(low, item, price),
-            top,
-        },
-        Group::Triple { low, mid, top } => Group::Triple {
-            low: priced(low, item, price),
-            mid: priced(mid, item, price),
-            top,
-        },
-        other => other,
+impl Lateness {
+    // What of each item may fall short, where none is planned so yet.
+    fn of(
+        alloc: Global,
+        instance: &Instance,
+        weights: &IntegerGrid,
+    ) -> Result<Lateness, AllocError> {
+        let mut late = Vec::new(alloc);
+        late.resize(instance.items() as usize, false)?;
+        Ok(Lateness {
+            late,
+            last: last_of(alloc, instance, weights)?,
+            on_time: IntegerGrid::zero(alloc, instance.items(), instance.periods())?,
+        })
     }
+
+    // The item of a group may fall short, if it is planned so.
+    fn put(&mut self, instance: &Instance, on_time: &OnTime, group: &ItemGroup)
+        requires on_time { IsOnTimeOf instance.now on_time.now }
+    {
+        let Some(item) = late_in(group) else {
+            return;
+        };
+        if item < 1 || item > instance.items() {
+            return;
+        }
+        if let Some(late) = self.late.get_mut((item as usize).wrapping_sub(1)) {
+            *late = true;
+        }
+        write_on_time(instance, on_time, item, &mut self.on_time);
+    }
+}
+
+// What a list says of an item.
+fn is_true(list: &[bool], item: u32) -> bool {
+    match list.get((item as usize).wrapping_sub(1)) {
+        Some(found) => *found,
+        None => false,
+    }
+}
+
+// The grouping of these groups.
+fn grouping_of(
+    alloc: Global,
+    instance: &Instance,
+    weights: IntegerGrid,
+    groups: Vec<ItemGroup>,
+    started: &MustStart,
+    on_time: &OnTime,
+) -> Result<Grouping, AllocError>
+    requires started { IsMustStartOf instance.now started.now }
+    requires on_time { IsOnTimeOf instance.now on_time.now }
+{
+    let mut asked = IntegerGrid::zero(alloc, instance.items(), instance.periods())?;
+    let mut lateness = Lateness::of(alloc, instance, &weights)?;
+    let mut bounds = LotBounds::of(alloc, instance, &groups)?;
+    for group in groups.iter() {
+        ask_group(instance, started, on_time, group, &mut asked);
+        lateness.put(instance, on_time, group);
+        bounds.put(instance, started, on_time, group);
+    }
+    Ok(Grouping {
+        groups,
+        asked,
+        most: most_of(alloc, instance, &weights)?,
+        weights,
+        lateness,
+        bounds,
+    })
 }
 
 impl Grouping {
@@ -230,44 +402,81 @@ impl Grouping {
         let weights = weights_of(alloc, instance, order)?;
         let short = short_of(alloc, instance, &weights)?;
         let are_alone = !some_wait(instance, &weights, &short);
-        let mut cover = Cover::new(alloc, &short, are_alone)?;
-        for item in order {
-            cover.put(instance, *item)?;
-        }
-        let (groups, late) = cover.into_groups();
+        let kinds = kinds_of(alloc, &short, are_alone)?;
+        let groups = groups_of(alloc, instance, order, kinds)?;
         if !are_useful(instance, &weights, &groups) {
             return Ok(None);
         }
         let started = MustStart::of(alloc, instance)?;
         let on_time = OnTime::of(alloc, instance)?;
-        let mut asked = IntegerGrid::zero(alloc, instance.items(), instance.periods())?;
-        for group in groups.iter() {
-            ask_group(instance, &started, &on_time, group, &mut asked);
+        let found = grouping_of(alloc, instance, weights, groups, &started, &on_time)?;
+        Ok(Some(found))
+    }
+
+    /// Other groups of an instance in which some items may fall short: the same, but none of these is planned alone. None where nothing
+    /// may fall short, and where none is planned alone in `of`.
+    ///
+    /// The error is that memory ran out. It takes time in the square of the number of items times that of the periods.
+    pub fn late(
+        alloc: Global,
+        instance: &Instance,
+        order: &[u32],
+    ) -> Result<Option<Grouping>, AllocError> {
+        let weights = weights_of(alloc, instance, order)?;
+        let short = short_of(alloc, instance, &weights)?;
+        if !are_some(&short) || some_wait(instance, &weights, &short) {
+            return Ok(None);
         }
-        Ok(Some(Grouping {
-            groups,
-            asked,
-            most: most_of(alloc, instance, &weights)?,
-            weights,
-            late,
-        }))
+        let started = MustStart::of(alloc, instance)?;
+        let on_time = OnTime::of(alloc, instance)?;
+        let kinds = kinds_of(alloc, &short, false)?;
+        let groups = groups_of(alloc, instance, order, kinds)?;
+        let found = grouping_of(alloc, instance, weights, groups, &started, &on_time)?;
+        Ok(Some(found))
+    }
+
+    /// Groups in whole quantities: each item by itself whose lots are too small for what is asked of it, and which has few enough of
+    /// them; the others as in `of`, but none is planned alone. None where nothing may fall short, where some item has a least lot, and
+    /// where no item is in whole quantities.
+    ///
+    /// The error is that memory ran out. It takes time in the square of the number of items times that of the periods.
+    pub fn whole(
+        alloc: Global,
+        instance: &Instance,
+        order: &[u32],
+    ) -> Result<Option<Grouping>, AllocError> {
+        let weights = weights_of(alloc, instance, order)?;
+        let short = short_of(alloc, instance, &weights)?;
+        if !are_some(&short) || have_least_lots(instance) {
+            return Ok(None);
+        }
+        let started = MustStart::of(alloc, instance)?;
+        let on_time = OnTime::of(alloc, instance)?;
+        let kinds = whole_kinds(alloc, instance, &started, &on_time, &short)?;
+        let groups = groups_of(alloc, instance, order, kinds)?;
+        let found = grouping_of(alloc, instance, weights, groups, &started, &on_time)?;
+        Ok(if found.has_whole() { Some(found) } else { None })
     }
 
     /// The groups, in the order in which they were found.
-    pub fn groups(&self) -> &[Group] {
+    pub fn groups(&self) -> &[ItemGroup] {
         &self.groups
     }
 
     /// About how many steps a plan of all groups takes over so many periods: for each item, pair and triple so many as their recursions
-    /// make.
+    /// make, and for whole quantities a few for each of them and each period.
     pub fn steps(&self, periods: u32) -> u64 {
-        let square = u64::from(periods).saturating_mul(u64::from(periods));
+        let many = u64::from(periods);
+        let square = many.saturating_mul(many);
         let mut sum = 0u64;
         for group in self.groups.iter() {
             let steps = match group {
-                Group::Item { .. } | Group::Quantities { .. } | Group::Late { .. } => square,
-                Group::Pair { .. } => square.saturating_mul(u64::from(periods)) / 2,
-                Group::Triple { .. } => square.saturating_mul(square) / 8,
+                ItemGroup::Item { .. } | ItemGroup::Late { .. } => square,
+                ItemGroup::Quantities { item } | ItemGroup::LateQuantities { item } => {
+                    many.saturating_mul(self.bounds.steps(*item))
+                }
+                ItemGroup::Pair { .. } => square.saturating_mul(many) / 2,
+                ItemGroup::Triple { .. } => square.saturating_mul(square) / 8,
             };
             sum = sum.saturating_add(steps);
         }
@@ -277,21 +486,48 @@ impl Grouping {
     /// The price of what is there of an item before the first period, where it stands below another one in a group, is another one.
     pub fn set_opening_price(&mut self, item: u32, price: u64) {
         for group in self.groups.iter_mut() {
-            *group = with_price(*group, item, u128::from(price));
+            *group = group.with_price(item, u128::from(price));
         }
     }
 
     /// Whether an item is planned by what is on time of it: it may be late, or goes into an item that may be.
     pub fn is_late(&self, item: u32) -> bool {
-        match self.late.get((item as usize).wrapping_sub(1)) {
-            Some(late) => *late,
-            None => false,
-        }
+        is_true(&self.lateness.late, item)
     }
 
     /// Whether some item is.
     pub fn has_late(&self) -> bool {
-        self.late.iter().any(|late| *late)
+        are_some(&self.lateness.late)
+    }
+
+    /// Whether an item has a price of backlog, and goes into no other one that has: what its components leave of the price is its own.
+    pub fn is_last(&self, item: u32) -> bool {
+        is_true(&self.lateness.last, item)
+    }
+
+    /// What is on time of an item by the end of each period, where it may fall short.
+    pub fn on_time(&self, item: u32) -> &[i64] {
+        self.lateness.on_time.line(item)
+    }
+
+    /// Whether some item is planned in whole quantities.
+    pub fn has_whole(&self) -> bool {
+        self.groups.iter().any(|group| {
+            matches!(
+                group,
+                ItemGroup::Quantities { .. } | ItemGroup::LateQuantities { .. }
+            )
+        })
+    }
+
+    /// What must have been started of an item in whole quantities by the end of each period.
+    pub fn needed(&self, item: u32) -> &[i64] {
+        self.bounds.needed(item)
+    }
+
+    /// The largest lot of an item in whole quantities in each period.
+    pub fn largest(&self, item: u32) -> &[i64] {
+        self.bounds.largest(item)
     }
 
     /// What is asked of an item in each period, other than by the next one in its chain; nothing of an item in no group.

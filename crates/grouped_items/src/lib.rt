@@ -14,12 +14,17 @@
 #![tactic(auto)]
 
 mod asked;
+mod components;
 mod cover;
 mod grouping;
+mod groups;
 mod levels;
+mod lots;
 mod moved;
 mod weights;
 
+pub use components::{arrival_of, components_of};
 pub use grouping::Grouping;
+pub use groups::ItemGroup;
 pub use levels::{Place, write_level};
-pub use moved::{MovedCosts, RowPrices};
+pub use moved::{MovedCosts, RowPrices, most_by_setup};

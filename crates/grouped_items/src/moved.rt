@@ -8,14 +8,14 @@ use integer_grids::numbers::{add_times, less, of_amount, plus, times};
 use lot_model::{Instance, Usage};
 use std::alloc::{AllocError, Global};
 
-/// What setups and units of all items cost at prices of capacity, stock and least lots, all times the scale of the prices.
+/// What setups and units of all items cost at prices of capacity, stock, least and largest lots, all times the scale of the prices.
 ///
 /// A unit that arrives costs the price of its stock from then to the last period, and takes from its components what theirs
 /// would have cost from the period on in which it takes them. Where that makes a unit cheaper than nothing, all units of the item are
 /// lifted: what is made of it in all is bounded.
 #[derive(Debug, Drop)]
 pub struct MovedCosts {
-    /// A setup, with the time that it takes and its least lot, by item and period.
+    /// A setup, with the time that it takes, its least and its largest lot, by item and period.
     pub fee: IntegerGrid,
     /// A unit, with the time that it takes and its stock.
     pub unit: IntegerGrid,
@@ -25,7 +25,7 @@ pub struct MovedCosts {
     pub lift: IntegerGrid,
 }
 
-/// Prices of what couples the items of a plan, and of their least lots.
+/// Prices of what couples the items of a plan, and of their least and largest lots.
 #[derive(Clone, Copy)]
 pub struct RowPrices<'a> {
     /// A unit of time, by resource and period.
@@ -34,6 +34,8 @@ pub struct RowPrices<'a> {
     pub stock: &'a IntegerGrid,
     /// A unit by which a lot is larger than the least lot of its setup, by item and period.
     pub lot: &'a IntegerGrid,
+    /// A unit by which a lot is smaller than the largest lot of its setup, by item and period; empty where none is priced.
+    pub link: &'a IntegerGrid,
 }
 
 // Numbers from each place on, added.
@@ -91,6 +93,18 @@ fn open_periods(instance: &Instance, item: u32) -> usize
     instance.periods().saturating_sub(instance.lead(item)) as usize
 }
 
+/// The most that a setup of an item makes, by the row that links it to units: the largest total, or the largest lot where that is less.
+pub fn most_by_setup(instance: &Instance, item: u32) -> i64
+    requires low { 1 ≤ item }
+    requires high { item ≤ item_count instance.now }
+{
+    let total = of_amount(instance.largest_total(item));
+    match instance.max_lot(item) {
+        Some(lot) => total.min(of_amount(lot)),
+        None => total,
+    }
+}
+
 impl MovedCosts {
     /// Costs of 0. The error is that memory ran out.
     pub fn zero(alloc: Global, instance: &Instance) -> Result<MovedCosts, AllocError> {
@@ -112,6 +126,8 @@ impl MovedCosts {
             write_scaled(line, instance.setup_costs(item), scale);
             add_time(line, instance.uses(item), rows.capacity, true);
             add_times(line, rows.lot.line(item), of_amount(instance.min_lot(item)));
+            let most = less(0, most_by_setup(instance, item));
+            add_times(line, rows.link.line(item), most);
         }
     }
 
@@ -127,6 +143,7 @@ impl MovedCosts {
         write_scaled(line, instance.unit_costs(item), scale);
         add_time(line, instance.uses(item), rows.capacity, false);
         add_times(line, rows.lot.line(item), -1);
+        add_times(line, rows.link.line(item), 1);
         add_times(line, from_place(self.tail.line(item), lead), 1);
         for need in instance.needs(item) {
             let units = less(0, of_amount(need.quantity));

@@ -1,12 +1,13 @@
 // On which setup a node is branched: some are tried with a few rounds of prices on both sides. Nothing is claimed of it.
+use crate::gains::{Gains, Side};
 use lot_model::Instance;
-use priced_leaves::{Average, Fixed, GROWTH_PARTS, Held, ONE, Pricing, Reached, Rounds};
+use priced_leaves::{
+    Average, Fixed, GROWTH_PARTS, Held, NodePricing, ONE, Pricing, Reached, Rounds,
+};
 use std::alloc::{AllocError, Global};
 
-// How many setups are tried, and with how many rounds on each side.
+// How many setups are tried.
 const TRIALS: usize = 8;
-
-const TRIAL_ROUNDS: u32 = 15;
 
 /// A setup of an item in a period on which a node may be branched, and what a branch there is worth.
 #[derive(Clone, Copy, Debug, PartialEq, Eq)]
@@ -98,14 +99,21 @@ fn worthiest(
     Ok(list)
 }
 
-// What is given to all trials at a node: by how much a side may gain, and what the best plan costs.
+/// What the branches of a node are tried with.
 #[derive(Clone, Copy)]
-struct Given<'a> {
-    instance: &'a Instance,
-    pricing: &'a Pricing,
-    rounds: &'a Rounds,
-    most: i128,
-    cost: Option<u128>,
+pub struct Trials<'a> {
+    /// The instance.
+    pub instance: &'a Instance,
+    /// What prices of it are made with.
+    pub pricing: &'a Pricing,
+    /// The rounds of the node.
+    pub rounds: &'a Rounds,
+    /// What the best plan costs, in money, if there is one.
+    pub cost: Option<u128>,
+    /// How many rounds are made on each side.
+    pub count: u32,
+    /// The number of the next bound on the node's path, counted from 1.
+    pub number: u32,
 }
 
 // By how much one number is more than another; by nothing where one of them doesn't fit.
@@ -116,26 +124,26 @@ fn growth(before: Option<i128>, after: Option<i128>) -> i128 {
     }
 }
 
-// By how much the number of the node grows on a side of a branch, within a few rounds.
+// By how much the number of the node grows on a side of a branch, within a few rounds; by no more than `most`.
 fn gain(
     alloc: Global,
-    given: Given<'_>,
+    trials: Trials<'_>,
+    most: i128,
     fixed: &mut Fixed,
     choice: Choice,
     held: Held,
 ) -> Result<i128, AllocError> {
-    let Given {
-        instance,
-        pricing,
-        rounds,
-        most,
-        cost,
-    } = given;
+    let Trials { rounds, cost, .. } = trials;
     let prices = rounds.prices().copy(alloc)?;
     let average = rounds.average().copy(alloc)?;
     fixed.hold(choice.item, choice.period, held);
-    let mut side = Rounds::start(alloc, instance, pricing, prices, Some(average), fixed)?;
-    let reached = side.go_on(alloc, instance, pricing, fixed, cost, TRIAL_ROUNDS)?;
+    let node = NodePricing {
+        instance: trials.instance,
+        pricing: trials.pricing,
+        fixed,
+    };
+    let mut side = Rounds::start(alloc, node, prices, Some(average))?;
+    let reached = side.go_on(alloc, node, cost, trials.count)?;
     fixed.hold(choice.item, choice.period, Held::Free);
     match reached {
         Reached::Open => {
@@ -146,17 +154,63 @@ fn gain(
     }
 }
 
+// How far the setup of a choice is from a side, times its cost.
+fn apart_of(trials: Trials<'_>, choice: Choice, side: Side) -> i128 {
+    let Choice { item, period, .. } = choice;
+    let often = trials.rounds.average().setup(item, period);
+    let apart = match side {
+        Side::Low => often,
+        Side::High => ONE.saturating_sub(often),
+    };
+    apart.saturating_mul(cost_at(trials.instance, item, period).saturating_add(1))
+}
+
+// What a setup costs in a period, in money.
+fn cost_at(instance: &Instance, item: u32, period: u32) -> i128 {
+    if item < 1 || item > instance.items() {
+        return 0;
+    }
+    let costs = instance.setup_costs(item);
+    match costs.get((period as usize).wrapping_sub(1)) {
+        Some(cost) => i128::from(*cost),
+        None => 0,
+    }
+}
+
+// What a side of a choice gains: by what it gained before, or else by rounds on trial.
+fn side_gain(
+    alloc: Global,
+    trials: Trials<'_>,
+    fixed: &mut Fixed,
+    gains: &mut Gains,
+    choice: Choice,
+    side: Side,
+) -> Result<i128, AllocError> {
+    let most = most_gain(trials.rounds, trials.cost);
+    let apart = apart_of(trials, choice, side);
+    if let Some(gain) = gains.expected(choice.item, choice.period, side, apart) {
+        return Ok(gain.max(0).min(most));
+    }
+    let held = match side {
+        Side::Low => Held::AtMostZero(trials.number),
+        Side::High => Held::AtLeastOne(trials.number),
+    };
+    let gained = gain(alloc, trials, most, fixed, choice, held)?;
+    gains.remember(choice.item, choice.period, side, apart, gained);
+    Ok(gained)
+}
+
 // The choice with what both sides gain, as a product.
 fn tried(
     alloc: Global,
-    given: Given<'_>,
+    trials: Trials<'_>,
     fixed: &mut Fixed,
+    gains: &mut Gains,
     choice: Choice,
-    number: u32,
 ) -> Result<Choice, AllocError> {
-    let half = i128::from(given.rounds.prices().scale);
-    let low = gain(alloc, given, fixed, choice, Held::AtMostZero(number))?;
-    let high = gain(alloc, given, fixed, choice, Held::AtLeastOne(number))?;
+    let half = i128::from(trials.rounds.prices().scale);
+    let low = side_gain(alloc, trials, fixed, gains, choice, Side::Low)?;
+    let high = side_gain(alloc, trials, fixed, gains, choice, Side::High)?;
     let low = low.saturating_mul(2).saturating_add(half);
     let high = high.saturating_mul(2).saturating_add(half);
     Ok(Choice {
@@ -186,29 +240,19 @@ fn most_gain(rounds: &Rounds, cost: Option<u128>) -> i128 {
 /// The free setup on which a branch gains most, of some that are tried by a few rounds of prices on both sides; None where all
 /// averages are whole.
 ///
-/// `pricing` is what prices of the instance are made with, `rounds` are those of the node, and `fixed` are the setups that its
-/// path chooses, which are as before in the end. `cost` is that of the best plan, in money, if there is one, and `number` that of
-/// the next bound on the path, counted from 1. The error is that memory ran out.
+/// `fixed` are the setups that the node's path chooses, which are as before in the end. What sides gain is remembered in `gains`: a side that has been tried often enough isn't tried again. The error
+/// is that memory ran out.
 pub fn choice_for(
     alloc: Global,
-    instance: &Instance,
-    pricing: &Pricing,
-    rounds: &Rounds,
+    trials: Trials<'_>,
     fixed: &mut Fixed,
-    cost: Option<u128>,
-    number: u32,
+    gains: &mut Gains,
 ) -> Result<Option<Choice>, AllocError> {
-    let given = Given {
-        instance,
-        pricing,
-        rounds,
-        most: most_gain(rounds, cost),
-        cost,
-    };
-    let list = worthiest(alloc, instance, rounds.average(), fixed)?;
+    let average = trials.rounds.average();
+    let list = worthiest(alloc, trials.instance, average, fixed)?;
     let mut best: Option<Choice> = None;
     for choice in list.iter() {
-        let found = tried(alloc, given, fixed, *choice, number)?;
+        let found = tried(alloc, trials, fixed, gains, *choice)?;
         match best {
             Some(other) if other.worth >= found.worth => {}
             _ => best = Some(found),

@@ -11,10 +11,11 @@ use cert_lines::{Leaf, Part};
 use echelon::Explosion;
 use grouped_items::Grouping;
 use lot_model::Instance;
-use node_splits::{Choice, Note, Notes, choice_for, split_of};
+use node_splits::{Choice, Gains, Note, Notes, Trials, choice_for, split_of};
 use priced_leaves::{
-    Average, Fixed, Grouped, Improved, Priced, Pricing, Reached, Rounds, dropped_grouped_leaf,
-    dropped_leaf, fixed_setups, grouped_leaf, priced_leaf, split_prices, tune_openings,
+    Average, Fixed, Grouped, Improved, NodePricing, Priced, Pricing, Reached, Rounds,
+    dropped_grouped_leaf, dropped_leaf, fixed_setups, grouped_leaf, priced_leaf, split_prices,
+    tune_openings,
 };
 use search_plugins::{Progress, Proposed, Proposer};
 use std::alloc::{AllocError, Global};
@@ -30,7 +31,7 @@ const NODE_ROUNDS: u32 = 40;
 // So often are rounds made at a node while what they come to grows by a part of what it lacks of the best plan's cost.
 const NODE_TIMES: u32 = 5;
 
-const NODE_PART: i128 = 40;
+const NODE_PART: i128 = 30;
 
 // A larger model has fewer rounds at a node: so many for a single item and period, and at least some.
 const NODE_WORK: u32 = 20_000;
@@ -45,8 +46,8 @@ const NODE_STEPS: u64 = 60_000_000;
 
 const FEWEST_ROUNDS: u32 = 2;
 
-// Before the first node so many rounds are made on trial, with items in groups and with each by itself; those with groups take
-// so many steps.
+// Before the first node so many rounds are made on trial, with items in groups, with each by itself and in whole quantities; those with
+// groups take so many steps.
 const TRIAL_ROUNDS: u32 = 60;
 
 const TRIAL_STEPS: u64 = 640_000_000;
@@ -54,14 +55,23 @@ const TRIAL_STEPS: u64 = 640_000_000;
 // Where the search ends by a clock, it is read before each of so many equal parts of these rounds.
 const TRIAL_PARTS: u32 = 6;
 
-// Branches are tried before one is chosen in a model with at most so many items times periods.
+// Whole quantities are to gain one part in so many of what rounds come to without them: their rounds take longer.
+const WHOLE_PARTS: i128 = 200;
+
+// Branches are tried before one is chosen in a model with at most so many items times periods, by so many rounds on each side; those with
+// groups take so many steps.
 const TRIED_SIZE: u32 = 400;
 
-/// What prices of a model are made with, and the notes of its nodes.
+const TRIED_ROUNDS: u32 = 40;
+
+const TRIED_STEPS: u64 = 4_000_000;
+
+/// What prices of a model are made with, the notes of its nodes, and what branches gained that were tried.
 #[derive(Debug, Drop)]
 pub struct Pricings {
     pricing: Pricing,
     notes: Notes,
+    gains: Gains,
 }
 
 /// The rounds of a node, and what its path says of setups.
@@ -80,27 +90,23 @@ pub struct Prices {
     pub until: Deadline,
 }
 
-// The rounds at a node, from what those of the node above came to or from the first prices.
+// The rounds at a node, from what those of the node above came to, if anything, or from the first prices.
 fn first_rounds(
     alloc: Global,
-    instance: &Instance,
-    pricing: &Pricing,
-    node: &Node,
-    above: Option<usize>,
-    fixed: &Fixed,
-    notes: &mut Notes,
+    node: NodePricing<'_>,
+    above: Option<Note>,
 ) -> Result<Rounds, AllocError> {
-    match notes.hand_down(alloc, above, &node.path)? {
+    match above {
         Some(
             Note {
                 prices,
                 average,
                 ..
             },
-        ) => Rounds::start(alloc, instance, pricing, prices, Some(average), fixed),
+        ) => Rounds::start(alloc, node, prices, Some(average)),
         None => {
-            let prices = split_prices(alloc, instance, pricing)?;
-            Rounds::start(alloc, instance, pricing, prices, None, fixed)
+            let prices = split_prices(alloc, node.instance, node.pricing)?;
+            Rounds::start(alloc, node, prices, None)
         }
     }
 }
@@ -130,25 +136,22 @@ fn trial_number(
     until: Deadline,
 ) -> Result<Option<i128>, AllocError> {
     let fixed = fixed_setups(alloc, instance, &[])?;
-    let prices = split_prices(alloc, instance, pricing)?;
-    let mut rounds = Rounds::start(alloc, instance, pricing, prices, None, &fixed)?;
+    let node = NodePricing {
+        instance,
+        pricing,
+        fixed: &fixed,
+    };
+    let mut rounds = first_rounds(alloc, node, None)?;
     let count = within_work(instance, pricing, TRIAL_STEPS, TRIAL_ROUNDS);
     if until.millis_left().is_none() {
-        let _ = rounds.go_on(alloc, instance, pricing, &fixed, None, count)?;
+        let _ = rounds.go_on(alloc, node, None, count)?;
         return Ok(rounds.number());
     }
     for _part in 0..TRIAL_PARTS {
         if until.is_past() {
             break;
         }
-        let _ = rounds.go_on(
-            alloc,
-            instance,
-            pricing,
-            &fixed,
-            None,
-            (count / TRIAL_PARTS).max(1),
-        )?;
+        let _ = rounds.go_on(alloc, node, None, (count / TRIAL_PARTS).max(1))?;
     }
     Ok(rounds.number())
 }
@@ -162,22 +165,102 @@ fn is_more(one: Option<i128>, other: Option<i128>) -> bool {
     }
 }
 
-// Items stay in groups but where rounds on trial come to more with each item by itself.
+// Whether one number is more than another by some part of it; not so where it doesn't fit.
+fn is_worth(one: Option<i128>, other: Option<i128>) -> bool {
+    match (one, other) {
+        (Some(one), Some(other)) => {
+            one > other.saturating_add(other.saturating_abs() / WHOLE_PARTS)
+        }
+        (Some(_), None) => true,
+        (None, _) => false,
+    }
+}
+
+// What rounds on trial come to in other groups, which are given back.
+fn trial_in(
+    alloc: Global,
+    instance: &Instance,
+    pricing: &mut Pricing,
+    grouping: Option<Grouping>,
+    until: Deadline,
+) -> Result<Trial, AllocError> {
+    pricing.set_grouping(grouping);
+    let number = trial_number(alloc, instance, pricing, until)?;
+    Ok(Trial {
+        grouping: pricing.take_grouping(),
+        number,
+    })
+}
+
+// Groups, and what rounds on trial come to in them.
+#[derive(Debug, Drop)]
+struct Trial {
+    grouping: Option<Grouping>,
+    number: Option<i128>,
+}
+
+// The groups of items in lots of any size, or each by itself where rounds on trial come to more so.
+fn best_fractions(
+    alloc: Global,
+    instance: &Instance,
+    pricing: &mut Pricing,
+    until: Deadline,
+) -> Result<Trial, AllocError> {
+    let grouping = pricing.take_grouping();
+    let has_groups = grouping.is_some();
+    let first = trial_in(alloc, instance, pricing, grouping, until)?;
+    if !has_groups {
+        return Ok(first);
+    }
+    let apart = trial_in(alloc, instance, pricing, None, until)?;
+    Ok(if is_more(apart.number, first.number) {
+        apart
+    } else {
+        first
+    })
+}
+
+// Other groups, with prices of what is there before the first period, and what rounds on trial come to in them.
+fn tuned_trial(
+    alloc: Global,
+    instance: &Instance,
+    pricing: &mut Pricing,
+    grouping: Grouping,
+    until: Deadline,
+) -> Result<Trial, AllocError> {
+    pricing.set_grouping(Some(grouping));
+    let prices = split_prices(alloc, instance, pricing)?;
+    tune_openings(alloc, instance, pricing, &prices, until)?;
+    let tuned = pricing.take_grouping();
+    trial_in(alloc, instance, pricing, tuned, until)
+}
+
+// Items are planned in those groups in which rounds on trial come to most, or each by itself.
 fn choose_grouping(
     alloc: Global,
     instance: &Instance,
     pricing: &mut Pricing,
     until: Deadline,
 ) -> Result<(), AllocError> {
-    if pricing.grouping().is_none() {
+    let late = Grouping::late(alloc, instance, pricing.order())?;
+    let whole = Grouping::whole(alloc, instance, pricing.order())?;
+    if pricing.grouping().is_none() && late.is_none() && whole.is_none() {
         return Ok(());
     }
-    let together = trial_number(alloc, instance, pricing, until)?;
-    let grouping = pricing.take_grouping();
-    let apart = trial_number(alloc, instance, pricing, until)?;
-    if !is_more(apart, together) {
-        pricing.set_grouping(grouping);
+    let mut best = best_fractions(alloc, instance, pricing, until)?;
+    if let Some(late) = late {
+        let other = tuned_trial(alloc, instance, pricing, late, until)?;
+        if is_more(other.number, best.number) {
+            best = other;
+        }
     }
+    if let Some(whole) = whole {
+        let other = tuned_trial(alloc, instance, pricing, whole, until)?;
+        if is_worth(other.number, best.number) {
+            best = other;
+        }
+    }
+    pricing.set_grouping(best.grouping);
     Ok(())
 }
 
@@ -208,26 +291,29 @@ fn came_closer(before: Option<i128>, after: Option<i128>) -> bool {
     }
 }
 
+// How long rounds go on: so many at a time, so often while they come to much more, and no longer than to this time.
+#[derive(Clone, Copy)]
+struct Lengths {
+    count: u32,
+    times: u32,
+    until: Deadline,
+}
+
 // Makes rounds, and some more at a node below the root while they come to much more and it isn't time to end.
 fn go_further(
     alloc: Global,
-    instance: &Instance,
-    pricing: &Pricing,
-    node: &Node,
+    node: NodePricing<'_>,
     rounds: &mut Rounds,
-    fixed: &Fixed,
     cost: Option<u128>,
-    until: Deadline,
+    lengths: Lengths,
 ) -> Result<Reached, AllocError> {
-    let count = count_at(instance, pricing, node);
-    let times = if node.path.is_empty() { 1 } else { NODE_TIMES };
-    for _time in 0..times {
+    for _time in 0..lengths.times {
         let before = lack(rounds, cost);
-        match rounds.go_on(alloc, instance, pricing, fixed, cost, count)? {
+        match rounds.go_on(alloc, node, cost, lengths.count)? {
             Reached::Open => {}
             reached => return Ok(reached),
         }
-        if !came_closer(before, lack(rounds, cost)) || until.is_past() {
+        if !came_closer(before, lack(rounds, cost)) || lengths.until.is_past() {
             break;
         }
     }
@@ -302,24 +388,22 @@ fn proposed_grouped(grouped: Grouped) -> Proposed
     }
 }
 
-// What is proposed by the rounds of a node where items are planned in groups.
+// What is proposed by the rounds of a node where items are planned in groups: cuts from this number on, and parts.
 fn grouped_at(
     alloc: Global,
-    instance: &Instance,
-    pricing: &Pricing,
+    node: NodePricing<'_>,
     grouping: &Grouping,
     rounds: &Rounds,
     refuted: bool,
-    fixed: &Fixed,
     first: u32,
 ) -> Result<Option<Proposed>, AllocError>
     ensures { IfFound result IsProposal }
 {
     let prices = rounds.prices();
     let found = if refuted {
-        dropped_grouped_leaf(alloc, instance, pricing, grouping, prices, fixed, first)?
+        dropped_grouped_leaf(alloc, node, grouping, prices, first)?
     } else {
-        grouped_leaf(alloc, instance, pricing, grouping, prices, fixed, first)?
+        grouped_leaf(alloc, node, grouping, prices, first)?
     };
     match found {
         Some(grouped) => Ok(Some(proposed_grouped(grouped))),
@@ -327,48 +411,45 @@ fn grouped_at(
     }
 }
 
-// What is proposed by the rounds of a node: cuts from this number on, and parts.
+// The same where each item is planned by itself.
 fn priced_at(
     alloc: Global,
     instance: &Instance,
     pricing: &Pricing,
-    rounds: &Rounds,
-    refuted: bool,
-    fixed: &Fixed,
+    work: &Round,
     first: u32,
-) -> Result<Option<Priced>, AllocError>
-    ensures { IfFound result (IsPricedProposal instance.now) }
+) -> Result<Option<Proposed>, AllocError>
+    ensures { IfFound result IsProposal }
 {
-    if refuted {
-        dropped_leaf(alloc, instance, pricing, rounds.prices(), fixed, first)
+    let (prices, fixed) = (work.rounds.prices(), &work.fixed);
+    let found = if work.is_refuted {
+        dropped_leaf(alloc, instance, pricing, prices, fixed, first)?
     } else {
-        priced_leaf(alloc, instance, pricing, rounds.prices(), fixed, first)
+        priced_leaf(alloc, instance, pricing, prices, fixed, first)?
+    };
+    match found {
+        Some(priced) => Ok(Some(proposed(instance, priced, work.is_refuted))),
+        None => Ok(None),
     }
 }
 
 // The setup on which a node is to be branched.
 fn branch_at(
     alloc: Global,
-    instance: &Instance,
-    pricing: &Pricing,
-    node: &Node,
-    rounds: &Rounds,
+    trials: Trials<'_>,
     fixed: &mut Fixed,
-    cost: Option<u128>,
+    gains: &mut Gains,
 ) -> Result<Option<Choice>, AllocError> {
-    if instance.items() * instance.periods() > TRIED_SIZE {
+    if trials.instance.items() * trials.instance.periods() > TRIED_SIZE {
         return Ok(None);
     }
-    let number = u32::try_from(node.path.len()).unwrap_or(u32::MAX);
-    choice_for(
-        alloc,
-        instance,
-        pricing,
-        rounds,
-        fixed,
-        cost,
-        number.saturating_add(1),
-    )
+    choice_for(alloc, trials, fixed, gains)
+}
+
+// The number of the next bound on a node's path, counted from 1.
+fn next_bound(node: &Node) -> u32 {
+    let count = u32::try_from(node.path.len()).unwrap_or(u32::MAX);
+    count.saturating_add(1)
 }
 
 // Remembers what rounds came to and the setup on which a node is to be branched, and gives the place of the note.
@@ -397,6 +478,7 @@ impl Proposer for Prices {
         Ok(Pricings {
             pricing,
             notes: Notes::new(alloc),
+            gains: Gains::new(alloc, instance)?,
         })
     }
 
@@ -409,9 +491,13 @@ impl Proposer for Prices {
         state: &mut Pricings,
     ) -> Result<Round, AllocError> {
         let fixed = fixed_setups(alloc, instance, &node.path)?;
-        let pricing = &state.pricing;
-        let notes = &mut state.notes;
-        let rounds = first_rounds(alloc, instance, pricing, node, above, &fixed, notes)?;
+        let above = state.notes.hand_down(alloc, above, &node.path)?;
+        let priced = NodePricing {
+            instance,
+            pricing: &state.pricing,
+            fixed: &fixed,
+        };
+        let rounds = first_rounds(alloc, priced, above)?;
         Ok(Round {
             rounds,
             fixed,
@@ -436,10 +522,17 @@ impl Proposer for Prices {
         if until.is_past() {
             return Ok(Progress::Done);
         }
-        let rounds = &mut work.rounds;
-        let fixed = &work.fixed;
-        let pricing = &state.pricing;
-        match go_further(alloc, instance, pricing, node, rounds, fixed, cost, until)? {
+        let lengths = Lengths {
+            count: count_at(instance, &state.pricing, node),
+            times: if node.path.is_empty() { 1 } else { NODE_TIMES },
+            until,
+        };
+        let priced = NodePricing {
+            instance,
+            pricing: &state.pricing,
+            fixed: &work.fixed,
+        };
+        match go_further(alloc, priced, &mut work.rounds, cost, lengths)? {
             Reached::Open => Ok(Progress::Open),
             Reached::Closed => Ok(Progress::Done),
             Reached::Refuted => {
@@ -467,17 +560,16 @@ impl Proposer for Prices {
         if !refuted && !is_promising(rounds, says) {
             return Ok(None);
         }
-        let fixed = &work.fixed;
         let pricing = &state.pricing;
         if let Some(grouping) = pricing.grouping() {
-            return grouped_at(
-                alloc, instance, pricing, grouping, rounds, refuted, fixed, first_cut,
-            );
+            let node = NodePricing {
+                instance,
+                pricing,
+                fixed: &work.fixed,
+            };
+            return grouped_at(alloc, node, grouping, rounds, refuted, first_cut);
         }
-        match priced_at(alloc, instance, pricing, rounds, refuted, fixed, first_cut)? {
-            Some(priced) => Ok(Some(proposed(instance, priced, refuted))),
-            None => Ok(None),
-        }
+        priced_at(alloc, instance, pricing, work, first_cut)
     }
 
     fn close(
@@ -495,7 +587,15 @@ impl Proposer for Prices {
         let choice = if self.until.is_past() {
             None
         } else {
-            branch_at(alloc, instance, pricing, node, &rounds, &mut held, cost)?
+            let trials = Trials {
+                instance,
+                pricing,
+                rounds: &rounds,
+                cost,
+                count: within_work(instance, pricing, TRIED_STEPS, TRIED_ROUNDS),
+                number: next_bound(node),
+            };
+            branch_at(alloc, trials, &mut held, &mut state.gains)?
         };
         Ok(Some(note_of(&mut state.notes, rounds, choice)?))
     }

@@ -2,15 +2,16 @@
 ghost use Rattle.std.specs.Prelude.{◌≤◌};
 ghost use Rattle.lot_sizing.specs.Problem.{item_count};
 
-use crate::lots::{Average, Spare};
+use crate::lots::{Average, Spare, from_place};
 use chain_plans::{ChainPlans, Level, NONE};
-use grouped_items::{Grouping, MovedCosts, Place, write_level};
+use grouped_items::{Grouping, ItemGroup, MovedCosts, Place, write_level};
 use integer_grids::IntegerGrid;
 use integer_grids::numbers::{less, of_amount, wide};
-use item_groups::{ChainLink, Group};
+use item_groups::ChainLink;
 use lot_model::Instance;
 use path_setups::Fixed;
-use priced_items::{DualPrices, Pricing};
+use priced_items::{DualPrices, NodePricing, Pricing};
+use quantity_plans::{QuantityPlans, Terms};
 use std::alloc::{AllocError, Global};
 
 /// What groups are planned with.
@@ -18,20 +19,26 @@ use std::alloc::{AllocError, Global};
 pub(crate) struct GroupPlanning {
     /// What setups and units cost.
     pub(crate) moved: MovedCosts,
-    // What falls short costs, by item.
+    // What falls short costs, by item and period.
     share: IntegerGrid,
     chains: ChainPlans,
+    quantities: QuantityPlans,
     low: Level,
     mid: Level,
     top: Level,
 }
 
-// What is given to the planning of all groups.
+/// What is given to the planning of all groups.
 #[derive(Clone, Copy)]
-struct Given<'a> {
-    instance: &'a Instance,
-    grouping: &'a Grouping,
-    fixed: &'a Fixed,
+pub(crate) struct Given<'a> {
+    /// Where tables get their memory.
+    pub(crate) alloc: Global,
+    /// The instance.
+    pub(crate) instance: &'a Instance,
+    /// Its groups.
+    pub(crate) grouping: &'a Grouping,
+    /// What the path of a node says of setups.
+    pub(crate) fixed: &'a Fixed,
 }
 
 // A level without lots.
@@ -152,8 +159,9 @@ impl GroupPlanning {
     pub(crate) fn new(alloc: Global, instance: &Instance) -> Result<GroupPlanning, AllocError> {
         Ok(GroupPlanning {
             moved: MovedCosts::zero(alloc, instance)?,
-            share: IntegerGrid::zero(alloc, instance.items(), 1)?,
+            share: IntegerGrid::zero(alloc, instance.items(), instance.periods())?,
             chains: ChainPlans::new(alloc),
+            quantities: QuantityPlans::new(alloc),
             low: empty_level(alloc),
             mid: empty_level(alloc),
             top: empty_level(alloc),
@@ -166,6 +174,13 @@ impl GroupPlanning {
         self.share.take_from(&prices.share);
     }
 
+    // What is made of an item beyond its plan is added to it.
+    fn add_spare(&self, given: Given<'_>, item: u32, total: i64, plan: &mut Average) {
+        if let Some(spare) = spare_of(given, &self.moved, item, total) {
+            plan.add_spare(item, spare);
+        }
+    }
+
     // The plan of a level becomes that of its item.
     fn take_plan(
         &self,
@@ -175,25 +190,23 @@ impl GroupPlanning {
         shift: usize,
         plan: &mut Average,
     ) {
-        let made = self.chains.made(level);
-        let setups = self.chains.setups(level);
-        let total = plan.write_positions(item, made, setups, shift, given.fixed);
-        if let Some(spare) = spare_of(given, &self.moved, item, total) {
-            plan.add_spare(item, spare);
-        }
+        let first = shift.saturating_add(1);
+        let made = from_place(self.chains.made(level), first);
+        let setups = from_place(self.chains.setups(level), first);
+        let total = plan.write_plan(item, made, setups, given.fixed);
+        self.add_spare(given, item, total, plan);
     }
 
     // What an item by itself costs.
     fn item_value(
         &mut self,
-        alloc: Global,
         given: Given<'_>,
         item: u32,
         plan: &mut Average,
     ) -> Result<i128, AllocError> {
         let place = top_place(given.instance, item, given.instance.periods() as usize);
         write(&mut self.top, given, &self.moved, item, place)?;
-        let cost = self.chains.plan_one(alloc, &self.top)?;
+        let cost = self.chains.plan_one(given.alloc, &self.top)?;
         self.take_plan(given, 0, item, 0, plan);
         Ok(i128::from(cost))
     }
@@ -201,24 +214,49 @@ impl GroupPlanning {
     // What an item by itself costs that may fall short of what is on time.
     fn late_value(
         &mut self,
-        alloc: Global,
         given: Given<'_>,
         item: u32,
         plan: &mut Average,
     ) -> Result<i128, AllocError> {
         let place = top_place(given.instance, item, given.instance.periods() as usize);
         write(&mut self.top, given, &self.moved, item, place)?;
-        let share = self.share.get(item, 1);
-        let cost = self.chains.plan_late(alloc, &self.top, share, place.open)?;
+        let shares = self.share.line(item);
+        let cost = self
+            .chains
+            .plan_late(given.alloc, &self.top, shares, place.open)?;
         self.take_plan(given, 0, item, 0, plan);
-        plan.write_short(item, self.chains.short());
+        plan.write_short(item, from_place(self.chains.short(), 1));
+        Ok(i128::from(cost))
+    }
+
+    // What an item costs in whole quantities, with what falls short of what is on time, if it may.
+    fn whole_value(
+        &mut self,
+        given: Given<'_>,
+        item: u32,
+        plan: &mut Average,
+    ) -> Result<i128, AllocError> {
+        let place = top_place(given.instance, item, given.instance.periods() as usize);
+        write(&mut self.top, given, &self.moved, item, place)?;
+        let terms = Terms {
+            fee: from_place(&self.top.fee, 1),
+            unit: from_place(&self.top.unit, 1),
+            need: given.grouping.needed(item),
+            asked: given.grouping.on_time(item),
+            share: self.share.line(item),
+            largest: given.grouping.largest(item),
+        };
+        let cost = self.quantities.plan(terms)?;
+        let made = self.quantities.made();
+        let total = plan.write_plan(item, made, self.quantities.setups(), given.fixed);
+        self.add_spare(given, item, total, plan);
+        plan.write_short(item, self.quantities.short());
         Ok(i128::from(cost))
     }
 
     // What a chain of two items costs, less what the opening stock of the first is worth.
     fn pair_value(
         &mut self,
-        alloc: Global,
         given: Given<'_>,
         low: &ChainLink,
         top: &ChainLink,
@@ -230,7 +268,7 @@ impl GroupPlanning {
         write(&mut self.low, given, &self.moved, low.item, lower)?;
         let upper = top_place(instance, top.item, horizon);
         write(&mut self.top, given, &self.moved, top.item, upper)?;
-        let cost = self.chains.plan_two(alloc, &self.low, &self.top)?;
+        let cost = self.chains.plan_two(given.alloc, &self.low, &self.top)?;
         self.take_plan(given, 0, low.item, lower.shift, plan);
         self.take_plan(given, 1, top.item, 0, plan);
         Ok(i128::from(cost).saturating_sub(worth_of(instance, low)))
@@ -239,7 +277,6 @@ impl GroupPlanning {
     // What a chain of three items costs, less what the opening stocks of the first two are worth.
     fn triple_value(
         &mut self,
-        alloc: Global,
         given: Given<'_>,
         low: &ChainLink,
         mid: &ChainLink,
@@ -257,7 +294,7 @@ impl GroupPlanning {
         write(&mut self.top, given, &self.moved, top.item, upper)?;
         let cost = self
             .chains
-            .plan_three(alloc, &self.low, &self.mid, &self.top)?;
+            .plan_three(given.alloc, &self.low, &self.mid, &self.top)?;
         self.take_plan(given, 0, low.item, lower.shift, plan);
         self.take_plan(given, 1, mid.item, middle.shift, plan);
         self.take_plan(given, 2, top.item, 0, plan);
@@ -268,75 +305,74 @@ impl GroupPlanning {
     // What a group costs. Its plan is written.
     fn group_value(
         &mut self,
-        alloc: Global,
         given: Given<'_>,
-        group: &Group,
+        group: &ItemGroup,
         plan: &mut Average,
     ) -> Result<i128, AllocError> {
         match group {
-            Group::Item { item } | Group::Quantities { item } => {
-                self.item_value(alloc, given, *item, plan)
+            ItemGroup::Item { item } => self.item_value(given, *item, plan),
+            ItemGroup::Late { item } => self.late_value(given, *item, plan),
+            ItemGroup::Quantities { item } | ItemGroup::LateQuantities { item } => {
+                self.whole_value(given, *item, plan)
             }
-            Group::Late { item, .. } => self.late_value(alloc, given, *item, plan),
-            Group::Pair { low, top } => self.pair_value(alloc, given, low, top, plan),
-            Group::Triple { low, mid, top } => {
-                self.triple_value(alloc, given, low, mid, top, plan)
-            }
+            ItemGroup::Pair { low, top } => self.pair_value(given, low, top, plan),
+            ItemGroup::Triple { low, mid, top } => self.triple_value(given, low, mid, top, plan),
         }
     }
 
-    /// What a group costs at the prices that were written last, less what is known of stocks, and what is taken of the stock that is there
-    /// of the item of a level before the first period.
-    pub(crate) fn value_and_use(
+    /// What is taken of the stock that is there of the item of a level of a group before the first period, at the prices that were
+    /// written last.
+    pub(crate) fn used_of(
         &mut self,
-        alloc: Global,
-        instance: &Instance,
-        grouping: &Grouping,
-        fixed: &Fixed,
-        group: &Group,
+        given: Given<'_>,
+        group: &ItemGroup,
         level: usize,
         plan: &mut Average,
-    ) -> Result<(i128, i64), AllocError> {
-        let given = Given {
-            instance,
-            grouping,
-            fixed,
-        };
-        let cost = self.group_value(alloc, given, group, plan)?;
-        let used = match self.chains.made(level).first() {
+    ) -> Result<i64, AllocError> {
+        let _ = self.group_value(given, group, plan)?;
+        Ok(match self.chains.made(level).first() {
             Some(units) => *units,
             None => 0,
-        };
-        Ok((cost, used))
+        })
     }
 
     /// What all groups cost at prices, less what is known of stocks. Their plans are written.
     pub(crate) fn value(
         &mut self,
         alloc: Global,
-        instance: &Instance,
-        pricing: &Pricing,
+        node: NodePricing<'_>,
         grouping: &Grouping,
         prices: &DualPrices,
-        fixed: &Fixed,
         plan: &mut Average,
-    ) -> Result<Option<i128>, AllocError> {
+    ) -> Result<i128, AllocError> {
+        let NodePricing {
+            instance,
+            pricing,
+            fixed,
+        } = node;
         self.write_costs(instance, prices);
         let given = Given {
+            alloc,
             instance,
             grouping,
             fixed,
         };
         let mut sum = stock_value(instance, pricing, prices);
         for group in grouping.groups() {
-            let cost = self.group_value(alloc, given, group, plan)?;
+            let cost = self.group_value(given, group, plan)?;
             sum = sum.saturating_add(cost);
         }
+        Ok(sum.saturating_sub(self.lifted(instance, grouping)))
+    }
+
+    // What all units cost by which items are lifted, as many as can be made of each.
+    fn lifted(&self, instance: &Instance, grouping: &Grouping) -> i128 {
+        let mut sum = 0i128;
         for item in 1..instance.items() + 1 {
             let lifted = wide(self.moved.lift.get(item, 1), grouping.most(item));
-            sum = sum.saturating_sub(lifted);
+            sum = sum.saturating_add(lifted);
         }
-        Ok(Some(sum))
+        sum
     }
 }
 

@@ -36,7 +36,7 @@ fn write_fixed(units: &mut [i64], setups: &mut [i64], held: &[Held]) {
 }
 
 // The last numbers of a list, without so many first ones.
-fn from_place(list: &[i64], place: usize) -> &[i64] {
+pub(crate) fn from_place(list: &[i64], place: usize) -> &[i64] {
     &list[list.len().min(place)..]
 }
 
@@ -151,14 +151,13 @@ impl Average {
         }
     }
 
-    /// The plan of an item by its lots, which stand so many positions later than the periods in which they are started; before
-    /// them stands what is there before the first period. The setups that the path fixes are made. The answer is what is made in all.
-    pub(crate) fn write_positions(
+    /// The plan of an item: what is made in each period, and whether a lot is set up. The setups that the path fixes are made. The
+    /// answer is what is made in all.
+    pub(crate) fn write_plan(
         &mut self,
         item: u32,
         made: &[i64],
         opened: &[i64],
-        shift: usize,
         fixed: &Fixed,
     ) -> i64 {
         let (Some(units), Some(setups)) = (self.units.line_mut(item), self.setups.line_mut(item))
@@ -167,12 +166,10 @@ impl Average {
         };
         write_fixed(units, setups, fixed.line(item));
         let mut total = 0;
-        let lots = from_place(made, shift.saturating_add(1));
-        for (cell, lot) in units.iter_mut().zip(lots) {
+        for (cell, lot) in units.iter_mut().zip(made) {
             *cell = times(*lot, UNIT);
             total = plus(total, *lot);
         }
-        let opened = from_place(opened, shift.saturating_add(1));
         for (cell, is_open) in setups.iter_mut().zip(opened) {
             if *is_open > 0 {
                 *cell = UNIT;
@@ -181,11 +178,11 @@ impl Average {
         total
     }
 
-    // What falls short of an item at the end of each period, from period 0 on; nothing does where the list is empty.
+    // What falls short of an item at the end of each period; nothing does where the list is empty.
     pub(crate) fn write_short(&mut self, item: u32, short: &[i64]) {
         if let Some(owed) = self.owed.line_mut(item) {
             clear(owed);
-            for (cell, units) in owed.iter_mut().zip(from_place(short, 1)) {
+            for (cell, units) in owed.iter_mut().zip(short) {
                 *cell = times(*units, UNIT);
             }
         }

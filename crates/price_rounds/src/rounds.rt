@@ -5,9 +5,7 @@ use crate::lots::Average;
 use crate::slopes::Slopes;
 use crate::valuing::Planning;
 use integer_grids::numbers::{ONE, Rate, UNIT};
-use lot_model::Instance;
-use path_setups::Fixed;
-use priced_items::{DualPrices, Pricing, settle};
+use priced_items::{DualPrices, Loads, NodePricing, settle};
 use std::alloc::{AllocError, Global};
 use std::marker::Model;
 
@@ -18,7 +16,7 @@ const WHOLE_STEP: i128 = 1_000_000;
 const ROOT_STEP: i128 = 500_000;
 
 // The first step of rounds that begin with such an average, in the same parts.
-const NODE_STEP: i128 = 100_000;
+const NODE_STEP: i128 = 50_000;
 
 // The largest step, in the same parts.
 const MOST_STEP: i128 = 2_000_000;
@@ -75,9 +73,7 @@ pub struct Improved {
 #[derive(Clone, Copy)]
 struct Given<'a> {
     alloc: Global,
-    instance: &'a Instance,
-    pricing: &'a Pricing,
-    fixed: &'a Fixed,
+    node: NodePricing<'a>,
     plan_cost: Option<u128>,
 }
 
@@ -105,6 +101,7 @@ pub struct Rounds {
     plan: Average,
     slopes: Slopes,
     others: Slopes,
+    loads: Loads,
 }
 
 impl Model for Rounds {
@@ -173,18 +170,21 @@ impl Rounds {
     /// shorter. The error is that memory ran out.
     pub fn start(
         alloc: Global,
-        instance: &Instance,
-        pricing: &Pricing,
+        node: NodePricing<'_>,
         prices: DualPrices,
         average: Option<Average>,
-        fixed: &Fixed,
     ) -> Result<Rounds, AllocError>
         ensures prices { IfOk result (λ rounds. rounds.prices ≡ prices) }
     {
+        let NodePricing {
+            instance,
+            pricing,
+            ..
+        } = node;
         let (items, periods) = (instance.items(), instance.periods());
         let mut planning = Planning::new(alloc);
         let mut best_plan = Average::zero(alloc, items, periods)?;
-        let number = planning.value(instance, pricing, &prices, fixed, &mut best_plan)?;
+        let number = planning.value(node, &prices, &mut best_plan)?;
         let (average, step) = match average {
             Some(average) => (average, NODE_STEP),
             None => (best_plan.copy(alloc)?, ROOT_STEP),
@@ -202,14 +202,14 @@ impl Rounds {
             plan: Average::zero(alloc, items, periods)?,
             slopes: Slopes::zero(alloc, instance, pricing)?,
             others: Slopes::zero(alloc, instance, pricing)?,
+            loads: Loads::new(alloc, instance, pricing)?,
         })
     }
 
     // The plan at the prices on trial enters the average, with the weight that makes the new direction shortest. The answer is
     // whether the plan's direction is still the old one.
     fn mix(&mut self, given: Given<'_>, square: i128) -> bool {
-        self.others
-            .write(given.instance, given.pricing, &self.best, &self.plan);
+        self.others.write(given.node, &self.best, &self.plan);
         let both = self.slopes.dot(&self.others);
         let other = self.others.dot(&self.others);
         self.average.mix(&self.plan, weight_of(square, both, other));
@@ -241,13 +241,17 @@ impl Rounds {
         let gap = gap_to(self.number, self.best.scale, given.plan_cost);
         let part = gap.saturating_mul(ONE).saturating_mul(self.step) / WHOLE_STEP;
         self.slopes.go(&self.best, &mut self.trial, part, square);
-        settle(given.instance, given.pricing, &mut self.trial);
+        let NodePricing {
+            instance,
+            pricing,
+            ..
+        } = given.node;
+        settle(instance, pricing, &mut self.trial, &mut self.loads);
     }
 
     // One round.
     fn round(&mut self, given: Given<'_>, planning: &mut Planning) -> Result<(), AllocError> {
-        self.slopes
-            .write(given.instance, given.pricing, &self.best, &self.average);
+        self.slopes.write(given.node, &self.best, &self.average);
         let square = self.slopes.dot(&self.slopes);
         if square == 0 {
             self.average.take_from(&self.best_plan);
@@ -255,13 +259,7 @@ impl Rounds {
             return Ok(());
         }
         self.try_prices(given, square);
-        let number = planning.value(
-            given.instance,
-            given.pricing,
-            &self.trial,
-            given.fixed,
-            &mut self.plan,
-        )?;
+        let number = planning.value(given.node, &self.trial, &mut self.plan)?;
         let goes_on = self.mix(given, square);
         self.take(number, goes_on);
         Ok(())
@@ -274,16 +272,13 @@ impl Rounds {
             return Ok(false);
         }
         self.is_tried = true;
-        let free = self
-            .best
-            .dropped(given.alloc, given.instance, given.pricing)?;
-        let number = planning.value(
-            given.instance,
-            given.pricing,
-            &free,
-            given.fixed,
-            &mut self.plan,
-        )?;
+        let NodePricing {
+            instance,
+            pricing,
+            ..
+        } = given.node;
+        let free = self.best.dropped(given.alloc, instance, pricing)?;
+        let number = planning.value(given.node, &free, &mut self.plan)?;
         let is_refuted = match number {
             Some(number) => number > 0,
             None => false,
@@ -317,17 +312,13 @@ impl Rounds {
     pub fn go_on(
         &mut self,
         alloc: Global,
-        instance: &Instance,
-        pricing: &Pricing,
-        fixed: &Fixed,
+        node: NodePricing<'_>,
         plan_cost: Option<u128>,
         count: u32,
     ) -> Result<Reached, AllocError> {
         let given = Given {
             alloc,
-            instance,
-            pricing,
-            fixed,
+            node,
             plan_cost,
         };
         let mut planning = Planning::new(alloc);

@@ -4,11 +4,11 @@ ghost use Rattle.lot_sizing.specs.Problem.{item_count};
 
 use crate::lots::Average;
 use crate::steps::Steps;
-use grouped_items::Grouping;
-use integer_grids::numbers::{Rate, UNIT, add_times, less, of_amount, plus, sum_of, times};
+use grouped_items::{Grouping, arrival_of, components_of, most_by_setup};
+use integer_grids::numbers::{Rate, UNIT, add_times, at, less, of_amount, plus, times};
 use integer_grids::{IntegerGrid, clear};
-use lot_model::Instance;
-use priced_items::{DualPrices, Pricing};
+use lot_model::{Instance, Need};
+use priced_items::{DualPrices, NodePricing, Pricing};
 use std::alloc::{AllocError, Global};
 
 // Shares and prices of least lots take so many times the steps of prices of stock.
@@ -22,6 +22,7 @@ pub(crate) struct Slopes {
     back: IntegerGrid,
     share: IntegerGrid,
     lot: IntegerGrid,
+    link: IntegerGrid,
     steps: Steps,
 }
 
@@ -80,6 +81,16 @@ fn add_up(line: &mut [i64], first: i64) {
     }
 }
 
+// How many items have directions of prices of largest lots: all, or none where none is priced.
+fn linked_items(instance: &Instance, pricing: &Pricing) -> u32 {
+    for item in 1..instance.items() + 1 {
+        if pricing.is_linked(instance, item) {
+            return instance.items();
+        }
+    }
+    0
+}
+
 impl Slopes {
     pub(crate) fn zero(
         alloc: Global,
@@ -91,8 +102,9 @@ impl Slopes {
             capacity: IntegerGrid::zero(alloc, instance.resources(), periods)?,
             stock: IntegerGrid::zero(alloc, instance.items(), periods)?,
             back: IntegerGrid::zero(alloc, instance.items(), periods)?,
-            share: IntegerGrid::zero(alloc, instance.items(), 1)?,
+            share: IntegerGrid::zero(alloc, instance.items(), periods)?,
             lot: IntegerGrid::zero(alloc, instance.items(), periods)?,
+            link: IntegerGrid::zero(alloc, linked_items(instance, pricing), periods)?,
             steps: Steps::of(alloc, instance, pricing)?,
         })
     }
@@ -103,7 +115,8 @@ impl Slopes {
         let far = self
             .share
             .dot(&other.share)
-            .saturating_add(self.lot.dot(&other.lot));
+            .saturating_add(self.lot.dot(&other.lot))
+            .saturating_add(self.link.dot(&other.link));
         self.steps
             .dot(&self.capacity, &other.capacity)
             .saturating_add(stock)
@@ -175,7 +188,12 @@ impl Slopes {
             return;
         };
         if pricing.is_late_end(instance, item) {
-            clear(line);
+            if pricing.keeps_rest(item) {
+                stay_below(line, own, instance.hold_costs(item), scale);
+                stay_above(line, own, instance.backlog_costs(item), scale);
+            } else {
+                clear(line);
+            }
             return;
         }
         match pricing.get(item) {
@@ -240,6 +258,22 @@ impl Slopes {
         self.stock.put(item, instance.periods(), less(stock, units));
     }
 
+    // What falls short of an item whose share goes up with the price of its stock is added where its lots arrive.
+    fn add_short(&mut self, instance: &Instance, pricing: &Pricing, plan: &Average, item: u32)
+        requires low { 1 ≤ item }
+        requires high { item ≤ item_count instance.now }
+    {
+        if !pricing.keeps_rest(item) {
+            return;
+        }
+        let lead = instance.lead(item) as usize;
+        if let Some(line) = self.stock.line_mut(item) {
+            let stop = line.len().saturating_sub(1);
+            let start = stop.min(lead);
+            add_times(&mut line[start..stop], plan.owed.line(item), 1);
+        }
+    }
+
     // What is in stock of each item where items are planned in groups, or more where it may be owed: what falls short of what is on time
     // is none of it.
     fn write_grouped_stock(&mut self, instance: &Instance, pricing: &Pricing, plan: &Average) {
@@ -259,6 +293,7 @@ impl Slopes {
         for item in 1..instance.items() + 1 {
             if is_late {
                 self.take_end(instance, item);
+                self.add_short(instance, pricing, plan, item);
             } else {
                 self.add_owed(instance, plan, item);
             }
@@ -358,12 +393,11 @@ impl Slopes {
         }
     }
 
-    // What falls short of an item in all periods, and not of the end products that it goes into. The share of an end product is what is
-    // left.
-    fn write_share(
+    // By how much the lots of an item are larger than the largest lots of its setups.
+    fn write_link(
         &mut self,
         instance: &Instance,
-        grouping: &Grouping,
+        pricing: &Pricing,
         prices: &DualPrices,
         plan: &Average,
         item: u32,
@@ -371,54 +405,114 @@ impl Slopes {
         requires low { 1 ≤ item }
         requires high { item ≤ item_count instance.now }
     {
-        if instance.has_backlog_cost(item) {
+        if !pricing.is_linked(instance, item) {
             return;
         }
-        let mut sum = sum_of(plan.owed.line(item));
-        for end in 1..instance.items() + 1 {
-            if instance.has_backlog_cost(end) {
-                let weight = grouping.weight(item, end);
-                sum = less(sum, times(weight, sum_of(plan.owed.line(end))));
+        let most = less(0, most_by_setup(instance, item));
+        let Some(line) = self.link.line_mut(item) else {
+            return;
+        };
+        clear(line);
+        add_times(line, plan.units.line(item), 1);
+        add_times(line, plan.setups.line(item), most);
+        stay_positive(line, prices.link.line(item));
+        for period in 1..instance.periods() + 1 {
+            let price = prices.link.get(item, period);
+            if price >= prices.most_link(instance, item, period) {
+                let slope = self.link.get(item, period);
+                self.link.put(item, period, slope.min(0));
             }
         }
-        if prices.share.get(item, 1) <= 0 {
-            sum = sum.max(0);
-        }
-        self.share.put(item, 1, sum);
     }
 
-    // The same of all items that may fall short, and what least lots miss.
+    // What falls short of a component because of an item, for each unit that falls short of it, is added in the periods whose lots arrive
+    // in time for it.
+    fn induce(&mut self, instance: &Instance, grouping: &Grouping, item: u32, need: Need) {
+        let units = of_amount(need.quantity);
+        for period in 1..instance.periods() + 1 {
+            if at(grouping.on_time(need.item), period) > 0 {
+                let arrival = arrival_of(instance, need.item, period);
+                let more = times(units, self.share.get(item, arrival));
+                let sum = plus(self.share.get(need.item, period), more);
+                self.share.put(need.item, period, sum);
+            }
+        }
+    }
+
+    // What falls short of an item and not because of those that it goes into, which is there before. The share of an item that keeps
+    // what is left isn't changed.
+    fn keep_share(&mut self, grouping: &Grouping, prices: &DualPrices, plan: &Average, item: u32) {
+        let Some(line) = self.share.line_mut(item) else {
+            return;
+        };
+        if grouping.is_last(item) || !grouping.is_late(item) {
+            clear(line);
+            return;
+        }
+        for (cell, units) in line.iter_mut().zip(plan.owed.line(item)) {
+            *cell = less(*units, *cell);
+        }
+        stay_positive(line, prices.share.line(item));
+    }
+
+    // By how much more falls short of all items than of those that they go into: items before their components.
     fn write_shares(
         &mut self,
         instance: &Instance,
+        pricing: &Pricing,
         grouping: &Grouping,
         prices: &DualPrices,
         plan: &Average,
     ) {
-        for item in 1..instance.items() + 1 {
-            if grouping.is_late(item) {
-                self.write_share(instance, grouping, prices, plan, item);
+        self.share.clear();
+        for item in pricing.order() {
+            if grouping.is_last(*item) {
+                self.share.add_times(*item, plan.owed.line(*item), 1);
             }
+            for need in components_of(instance, *item) {
+                self.induce(instance, grouping, *item, *need);
+            }
+            self.keep_share(grouping, prices, plan, *item);
+        }
+    }
+
+    // What the least lots of all items miss.
+    fn write_lots(&mut self, instance: &Instance, prices: &DualPrices, plan: &Average) {
+        for item in 1..instance.items() + 1 {
             self.write_lot(instance, prices, plan, item);
         }
     }
 
-    // The directions at prices and plans.
-    pub(crate) fn write(
+    // By how much the lots of all items are larger than their largest lots.
+    fn write_links(
         &mut self,
         instance: &Instance,
         pricing: &Pricing,
         prices: &DualPrices,
         plan: &Average,
     ) {
+        for item in 1..instance.items() + 1 {
+            self.write_link(instance, pricing, prices, plan, item);
+        }
+    }
+
+    // The directions at prices and plans.
+    pub(crate) fn write(&mut self, node: NodePricing<'_>, prices: &DualPrices, plan: &Average) {
+        let NodePricing {
+            instance,
+            pricing,
+            ..
+        } = node;
         self.write_capacity(instance, prices, plan);
         self.write_stock(instance, pricing, prices, plan);
         if pricing.may_owe() {
             self.write_back(instance, pricing, prices, plan);
         }
         if let Some(grouping) = pricing.late_grouping() {
-            self.write_shares(instance, grouping, prices, plan);
+            self.write_shares(instance, pricing, grouping, prices, plan);
+            self.write_lots(instance, prices, plan);
         }
+        self.write_links(instance, pricing, prices, plan);
     }
 
     // Other prices: some further, by such a part of a whole of these directions, each times the steps of its price.
@@ -436,7 +530,9 @@ impl Slopes {
         to.back.go(&from.back, &self.back, rate);
         to.share.go(&from.share, &self.share, far);
         to.lot.go(&from.lot, &self.lot, far);
+        to.link.go(&from.link, &self.link, far);
         to.capacity.cut_at_zero();
         to.lot.cut_at_zero();
+        to.link.cut_at_zero();
     }
 }

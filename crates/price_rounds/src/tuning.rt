@@ -1,9 +1,8 @@
 // Prices of what is there of the lower items of chains before the first period.
-use crate::groups::GroupPlanning;
+use crate::groups::{self, GroupPlanning};
 use crate::lots::Average;
-use grouped_items::Grouping;
+use grouped_items::{Grouping, ItemGroup};
 use integer_grids::numbers::of_amount;
-use item_groups::Group;
 use lot_model::Instance;
 use path_setups::{Fixed, fixed_setups};
 use priced_items::{DualPrices, Pricing};
@@ -26,6 +25,14 @@ struct Given<'a> {
     fixed: &'a Fixed,
 }
 
+// An item at a level of the group at a place of the list.
+#[derive(Clone, Copy)]
+struct Spot {
+    place: usize,
+    level: usize,
+    item: u32,
+}
+
 // The units of an item that are there before the first period.
 fn opening_of(instance: &Instance, item: u32) -> i64 {
     if item < 1 || item > instance.items() {
@@ -35,11 +42,33 @@ fn opening_of(instance: &Instance, item: u32) -> i64 {
 }
 
 // The group at a place of the list.
-fn group_at(grouping: &Grouping, place: usize) -> Option<Group> {
+fn group_at(grouping: &Grouping, place: usize) -> Option<ItemGroup> {
     match grouping.groups().get(place) {
         Some(group) => Some(*group),
         None => None,
     }
+}
+
+// What a group takes at a price of the stock that is there of an item.
+fn used_at(
+    given: Given<'_>,
+    planning: &mut GroupPlanning,
+    grouping: &mut Grouping,
+    spot: Spot,
+    price: u64,
+    plan: &mut Average,
+) -> Result<i64, AllocError> {
+    grouping.set_opening_price(spot.item, price);
+    let Some(group) = group_at(grouping, spot.place) else {
+        return Ok(0);
+    };
+    let given = groups::Given {
+        alloc: given.alloc,
+        instance: given.instance,
+        grouping,
+        fixed: given.fixed,
+    };
+    planning.used_of(given, &group, spot.level, plan)
 }
 
 // Finds the price at which a group takes as much of the stock that is there as there is: where it takes more, the price is too low.
@@ -47,12 +76,10 @@ fn tune_item(
     given: Given<'_>,
     planning: &mut GroupPlanning,
     grouping: &mut Grouping,
-    place: usize,
-    level: usize,
-    item: u32,
+    spot: Spot,
     plan: &mut Average,
 ) -> Result<(), AllocError> {
-    let there = opening_of(given.instance, item);
+    let there = opening_of(given.instance, spot.item);
     if there <= 0 {
         return Ok(());
     }
@@ -61,23 +88,11 @@ fn tune_item(
     for _halving in 0..HALVINGS {
         step /= 2;
         let price = low.saturating_add(step);
-        grouping.set_opening_price(item, price);
-        let Some(group) = group_at(grouping, place) else {
-            return Ok(());
-        };
-        let Given {
-            alloc,
-            instance,
-            fixed,
-        } = given;
-        let (_, used) = planning.value_and_use(
-            alloc, instance, grouping, fixed, &group, level, plan,
-        )?;
-        if used > there {
+        if used_at(given, planning, grouping, spot, price, plan)? > there {
             low = price;
         }
     }
-    grouping.set_opening_price(item, low);
+    grouping.set_opening_price(spot.item, low);
     Ok(())
 }
 
@@ -89,16 +104,17 @@ fn tune_group(
     place: usize,
     plan: &mut Average,
 ) -> Result<(), AllocError> {
+    let spot = |level: usize, item: u32| Spot { place, level, item };
     match group_at(grouping, place) {
-        Some(Group::Pair { low, .. }) => {
-            tune_item(given, planning, grouping, place, 0, low.item, plan)
+        Some(ItemGroup::Pair { low, .. }) => {
+            tune_item(given, planning, grouping, spot(0, low.item), plan)
         }
-        Some(Group::Triple { low, mid, .. }) => {
-            tune_item(given, planning, grouping, place, 0, low.item, plan)?;
-            tune_item(given, planning, grouping, place, 1, mid.item, plan)?;
+        Some(ItemGroup::Triple { low, mid, .. }) => {
+            tune_item(given, planning, grouping, spot(0, low.item), plan)?;
+            tune_item(given, planning, grouping, spot(1, mid.item), plan)?;
             if given.instance.periods() <= FEW_PERIODS {
-                tune_item(given, planning, grouping, place, 0, low.item, plan)?;
-                tune_item(given, planning, grouping, place, 1, mid.item, plan)?;
+                tune_item(given, planning, grouping, spot(0, low.item), plan)?;
+                tune_item(given, planning, grouping, spot(1, mid.item), plan)?;
             }
             Ok(())
         }

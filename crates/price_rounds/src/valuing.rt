@@ -7,8 +7,8 @@ use crate::lots::{Average, Spare};
 use grouped_items::Grouping;
 use integer_grids::numbers::{at, dot, dot_amounts, less, wide};
 use lot_model::Instance;
-use path_setups::{Fixed, Held};
-use priced_items::{Costs, DualPrices, Item, Pricing, Serving};
+use path_setups::Held;
+use priced_items::{Costs, DualPrices, Item, NodePricing, Serving};
 use std::alloc::{AllocError, Global};
 
 // The lists in which single items are planned, one after the other.
@@ -104,16 +104,19 @@ impl Planning {
     // What an item adds to the right side of the leaf; None where that doesn't fit. Its plan is written where it has one.
     fn value_of(
         &mut self,
-        instance: &Instance,
-        pricing: &Pricing,
+        node: NodePricing<'_>,
         prices: &DualPrices,
-        fixed: &Fixed,
         number: u32,
         plan: &mut Average,
     ) -> Result<Option<i128>, AllocError>
         requires low { 1 ≤ number }
-        requires high { number ≤ item_count instance.now }
+        requires high { number ≤ item_count node.instance.now }
     {
+        let NodePricing {
+            instance,
+            pricing,
+            fixed,
+        } = node;
         let mut sum = Some(0i128);
         match pricing.get(number) {
             Some(item) => {
@@ -132,33 +135,35 @@ impl Planning {
     // that doesn't fit.
     fn alone_value(
         &mut self,
-        instance: &Instance,
+        node: NodePricing<'_>,
         item: &Item,
         prices: &DualPrices,
-        fixed: &Fixed,
         plan: &mut Average,
     ) -> Result<Option<i128>, AllocError> {
-        self.costs.write(instance, item, prices, fixed)?;
+        self.costs.write(node.instance, item, prices, node.fixed)?;
         self.costs.move_all(item.backlogged)?;
         self.serving.serve_all(item, &self.costs)?;
-        plan.write_item(item, &self.serving.places, self.spare(item), fixed);
+        plan.write_item(item, &self.serving.places, self.spare(item), node.fixed);
         Ok(self.serving.cost())
     }
 
     // What all items cost that are planned alone beside groups, and the setups that the path fixes.
     fn rest_value(
         &mut self,
-        instance: &Instance,
-        pricing: &Pricing,
+        node: NodePricing<'_>,
         prices: &DualPrices,
-        fixed: &Fixed,
         plan: &mut Average,
     ) -> Result<Option<i128>, AllocError> {
+        let NodePricing {
+            instance,
+            pricing,
+            fixed,
+        } = node;
         let mut sum = Some(0i128);
         for number in 1..instance.items() + 1 {
             if let Some(item) = pricing.get(number) {
                 if pricing.is_backlogged(number) {
-                    let cost = self.alone_value(instance, item, prices, fixed, plan)?;
+                    let cost = self.alone_value(node, item, prices, plan)?;
                     sum = added(sum, cost);
                 }
             }
@@ -171,40 +176,36 @@ impl Planning {
     // What the leaf of prices says, times the scale, where items are planned in groups.
     fn grouped_value(
         &mut self,
-        instance: &Instance,
-        pricing: &Pricing,
+        node: NodePricing<'_>,
         grouping: &Grouping,
         prices: &DualPrices,
-        fixed: &Fixed,
         plan: &mut Average,
     ) -> Result<Option<i128>, AllocError> {
         let alloc = self.alloc;
         let mut groups = match self.groups.take() {
             Some(groups) => groups,
-            None => GroupPlanning::new(alloc, instance)?,
+            None => GroupPlanning::new(alloc, node.instance)?,
         };
-        let sum = groups.value(alloc, instance, pricing, grouping, prices, fixed, plan)?;
+        let sum = groups.value(alloc, node, grouping, prices, plan)?;
         self.groups = Some(groups);
-        let rest = self.rest_value(instance, pricing, prices, fixed, plan)?;
-        let used = 0i128.checked_sub(capacity_value(instance, prices));
-        Ok(added(added(sum, rest), used))
+        let rest = self.rest_value(node, prices, plan)?;
+        let used = 0i128.checked_sub(capacity_value(node.instance, prices));
+        Ok(added(added(Some(sum), rest), used))
     }
 
     // What the leaf of prices says, times the scale; None where that doesn't fit. The plan is that of all items by themselves.
     pub(crate) fn value(
         &mut self,
-        instance: &Instance,
-        pricing: &Pricing,
+        node: NodePricing<'_>,
         prices: &DualPrices,
-        fixed: &Fixed,
         plan: &mut Average,
     ) -> Result<Option<i128>, AllocError> {
-        if let Some(grouping) = pricing.grouping() {
-            return self.grouped_value(instance, pricing, grouping, prices, fixed, plan);
+        if let Some(grouping) = node.pricing.grouping() {
+            return self.grouped_value(node, grouping, prices, plan);
         }
-        let mut sum = 0i128.checked_sub(capacity_value(instance, prices));
-        for number in 1..instance.items() + 1 {
-            let more = self.value_of(instance, pricing, prices, fixed, number, plan)?;
+        let mut sum = 0i128.checked_sub(capacity_value(node.instance, prices));
+        for number in 1..node.instance.items() + 1 {
+            let more = self.value_of(node, prices, number, plan)?;
             sum = added(sum, more);
         }
         Ok(sum)

@@ -5,6 +5,7 @@ ghost use Rattle.lot_sizing.specs.Problem.{item_count};
 use crate::prices::DualPrices;
 use crate::pricing::Item;
 use echelon_rows::limits::MAX_PRICE;
+use grouped_items::most_by_setup;
 use integer_grids::clear;
 use integer_grids::numbers::{
     add_times, less, none_is_negative, of_amount, plus, refill, refill_scaled, sum_of, times,
@@ -81,7 +82,7 @@ impl Costs {
         }
     }
 
-    /// What setups of an item cost, with the time that they take and the price of their least lots. The error is that memory ran out.
+    /// What setups of an item cost, with the time that they take and the prices of their least and largest lots. The error is that memory ran out.
     pub fn write_fees(
         &mut self,
         instance: &Instance,
@@ -96,6 +97,8 @@ impl Costs {
         add_time(&mut self.fee, instance.uses(item), prices, true);
         let least = of_amount(instance.min_lot(item));
         add_times(&mut self.fee, prices.lot.line(item), least);
+        let most = less(0, most_by_setup(instance, item));
+        add_times(&mut self.fee, prices.link.line(item), most);
         Ok(())
     }
 

@@ -25,7 +25,8 @@ mod splitting;
 
 pub use costs::Costs;
 pub use prices::DualPrices;
-pub use pricing::{Item, Pricing};
+pub use pricing::{Item, NodePricing, Pricing};
 pub use recursion::{Served, Serving};
 pub use settling::settle;
+pub use shares::Loads;
 pub use splitting::split_prices;

@@ -4,9 +4,10 @@ ghost use Rattle.lot_sizing.specs.Problem.{item_count};
 
 use crate::pricing::Pricing;
 use crate::settling::settle;
-use grouped_items::RowPrices;
+use crate::shares::Loads;
+use grouped_items::{RowPrices, most_by_setup};
 use integer_grids::IntegerGrid;
-use integer_grids::numbers::{less, of_amount, times};
+use integer_grids::numbers::{less, of_amount, over, plus, times};
 use lot_model::Instance;
 use std::alloc::{AllocError, Global};
 
@@ -25,10 +26,23 @@ pub struct DualPrices {
     pub stock: IntegerGrid,
     /// A unit of an item's echelon owed at the end of a period, by item: at least 0.
     pub back: IntegerGrid,
-    /// A unit of an item that falls short at the end of any period, by item, where it is planned by what is on time of it: at least 0.
+    /// A unit of an item that falls short at the end of a period, by item, where it is planned by what is on time of it: at least 0.
     pub share: IntegerGrid,
     /// A unit by which a lot is larger than the least lot of its setup, by item and period: at least 0.
     pub lot: IntegerGrid,
+    /// A unit by which a lot is smaller than the largest lot of its setup, by item and period: at least 0, and no more than what a setup
+    /// costs for each unit of that lot. It has no lines where no item has a largest lot.
+    pub link: IntegerGrid,
+}
+
+// How many items have lines of prices of largest lots: all, or none where no item has a largest lot.
+fn linked_items(instance: &Instance) -> u32 {
+    for item in 1..instance.items() + 1 {
+        if instance.max_lot(item).is_some() {
+            return instance.items();
+        }
+    }
+    0
 }
 
 impl DualPrices {
@@ -44,8 +58,9 @@ impl DualPrices {
             capacity: IntegerGrid::zero(alloc, instance.resources(), periods)?,
             stock: IntegerGrid::zero(alloc, instance.items(), periods)?,
             back: IntegerGrid::zero(alloc, instance.items(), periods)?,
-            share: IntegerGrid::zero(alloc, instance.items(), 1)?,
+            share: IntegerGrid::zero(alloc, instance.items(), periods)?,
             lot: IntegerGrid::zero(alloc, instance.items(), periods)?,
+            link: IntegerGrid::zero(alloc, linked_items(instance), periods)?,
         })
     }
 
@@ -55,6 +70,7 @@ impl DualPrices {
             capacity: &self.capacity,
             stock: &self.stock,
             lot: &self.lot,
+            link: &self.link,
         }
     }
 
@@ -83,6 +99,7 @@ impl DualPrices {
             back: self.back.copy(alloc)?,
             share: self.share.copy(alloc)?,
             lot: self.lot.copy(alloc)?,
+            link: self.link.copy(alloc)?,
         })
     }
 
@@ -94,6 +111,7 @@ impl DualPrices {
         self.back.take_from(&other.back);
         self.share.take_from(&other.share);
         self.lot.take_from(&other.lot);
+        self.link.take_from(&other.link);
     }
 
     /// The same prices with all costs dropped: their scale is 0, and what a unit in stock costs is taken off its price.
@@ -105,25 +123,46 @@ impl DualPrices {
         pricing: &Pricing,
     ) -> Result<DualPrices, AllocError> {
         let mut found = DualPrices::zero(alloc, instance, 0)?;
-        found.drop_from(self, instance, pricing);
+        let mut loads = Loads::new(alloc, instance, pricing)?;
+        found.drop_from(self, instance);
+        settle(instance, pricing, &mut found, &mut loads);
         Ok(found)
     }
 
-    /// These prices are those of another list, of the same problem, with all costs dropped: as in `dropped`. It takes no memory.
-    pub fn drop_from(&mut self, other: &DualPrices, instance: &Instance, pricing: &Pricing) {
+    /// The most that the price of the largest lot of an item may be in a period: what a setup costs, with the time that it takes and the
+    /// price of its least lot, for each unit of that lot.
+    pub fn most_link(&self, instance: &Instance, item: u32, period: u32) -> i64
+        requires low { 1 ≤ item }
+        requires high { item ≤ item_count instance.now }
+        requires first { 1 ≤ period }
+        requires last { period ≤ instance.now.periods }
+    {
+        let cost = of_amount(instance.setup_cost(item, period));
+        let mut fee = times(of_amount(self.scale), cost);
+        for usage in instance.uses(item) {
+            let price = self.capacity.get(usage.resource, period);
+            fee = plus(fee, times(of_amount(usage.setup), price));
+        }
+        let least = of_amount(instance.min_lot(item));
+        fee = plus(fee, times(least, self.lot.get(item, period)));
+        over(fee, most_by_setup(instance, item))
+    }
+
+    // These prices are those of another list, of the same problem, with all costs dropped, but may be outside their bounds.
+    fn drop_from(&mut self, other: &DualPrices, instance: &Instance) {
         self.scale = 0;
         self.capacity.take_from(&other.capacity);
         self.stock.take_from(&other.stock);
         self.back.clear();
         self.share.clear();
         self.lot.take_from(&other.lot);
+        self.link.take_from(&other.link);
         let scale = of_amount(other.scale);
         for item in 1..instance.items() + 1 {
             if let Some(line) = self.stock.line_mut(item) {
                 take_costs(line, instance.hold_costs(item), scale);
             }
         }
-        settle(instance, pricing, self);
     }
 }
 

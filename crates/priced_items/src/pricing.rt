@@ -7,6 +7,7 @@ use echelon::{EchelonItem, Explosion, echelon_of, lead_free, net_of};
 use grouped_items::Grouping;
 use integer_grids::numbers::{of_amount, of_total, plus, sum_of, times};
 use lot_model::Instance;
+use path_setups::Fixed;
 use std::alloc::{AllocError, Global};
 
 /// A lead-free item with its echelon: the item and all items that it goes into. Lists have an entry for each period.
@@ -30,6 +31,17 @@ pub struct Item {
     pub end_max: i64,
     /// Whether the echelon may be owed.
     pub backlogged: bool,
+}
+
+/// What a node is priced with.
+#[derive(Clone, Copy)]
+pub struct NodePricing<'a> {
+    /// The instance.
+    pub instance: &'a Instance,
+    /// What prices of it are made with.
+    pub pricing: &'a Pricing,
+    /// What the path of the node says of setups.
+    pub fixed: &'a Fixed,
 }
 
 impl Item {
@@ -127,6 +139,26 @@ impl Pricing {
             return false;
         }
         self.late_grouping().is_some()
+    }
+
+    /// Whether an item is such an end product that goes into no other one: the share of what falls short of it is what those of its
+    /// components leave.
+    pub fn keeps_rest(&self, item: u32) -> bool {
+        match self.late_grouping() {
+            Some(grouping) => grouping.is_last(item),
+            None => false,
+        }
+    }
+
+    /// Whether the largest lots of an item are priced: it is planned in a group, and more of it may be made in all than a lot of it.
+    pub fn is_linked(&self, instance: &Instance, item: u32) -> bool {
+        if item < 1 || item > instance.items() || self.is_backlogged(item) {
+            return false;
+        }
+        match (self.grouping(), instance.max_lot(item)) {
+            (Some(grouping), Some(lot)) => of_amount(lot) < grouping.most(item),
+            _ => false,
+        }
     }
 
     /// Whether echelons may be owed that are planned alone.

@@ -4,7 +4,7 @@ ghost use Rattle.lot_sizing.specs.Problem.{item_count};
 
 use crate::prices::DualPrices;
 use crate::pricing::Pricing;
-use crate::shares::settle_shares;
+use crate::shares::{Loads, settle_shares};
 use integer_grids::numbers::{less, lower, of_amount, over, plus, share, times};
 use integer_grids::{IntegerGrid, clear};
 use lot_model::{Instance, Need};
@@ -47,7 +47,7 @@ fn bound_grouped(instance: &Instance, line: &mut [i64], item: u32, scale: i64)
 
 // Prices of stock of an item are at most its holding costs, and 0 where the item isn't lead-free and no items are planned in groups;
 // where the echelon may be owed and is planned alone, a unit in stock and one owed together cost no less than nothing. Those of an end
-// product that is planned by what is on time of it are its holding costs.
+// product that is planned by what is on time of it are its holding costs, where it goes into another one.
 fn bound_stock(instance: &Instance, pricing: &Pricing, prices: &mut DualPrices, item: u32)
     requires low { 1 ≤ item }
     requires high { item ≤ item_count instance.now }
@@ -55,7 +55,11 @@ fn bound_stock(instance: &Instance, pricing: &Pricing, prices: &mut DualPrices, 
     let scale = of_amount(prices.scale);
     if let Some(line) = prices.stock.line_mut(item) {
         if pricing.is_late_end(instance, item) {
-            fill_scaled(line, instance.hold_costs(item), scale);
+            if pricing.keeps_rest(item) {
+                bound_grouped(instance, line, item, scale);
+            } else {
+                fill_scaled(line, instance.hold_costs(item), scale);
+            }
             return;
         }
         match pricing.get(item) {
@@ -238,8 +242,26 @@ fn keep_rests(instance: &Instance, pricing: &Pricing, prices: &mut DualPrices) {
     }
 }
 
-/// All prices are kept within their bounds.
-pub fn settle(instance: &Instance, pricing: &Pricing, prices: &mut DualPrices) {
+// Prices of largest lots of an item are at least 0, and leave nothing of a setup that costs less than nothing; 0 where they aren't priced.
+fn bound_links(instance: &Instance, pricing: &Pricing, prices: &mut DualPrices, item: u32)
+    requires low { 1 ≤ item }
+    requires high { item ≤ item_count instance.now }
+{
+    if !pricing.is_linked(instance, item) {
+        if let Some(line) = prices.link.line_mut(item) {
+            clear(line);
+        }
+        return;
+    }
+    for period in 1..instance.periods() + 1 {
+        let most = prices.most_link(instance, item, period);
+        let price = prices.link.get(item, period);
+        prices.link.put(item, period, price.max(0).min(most));
+    }
+}
+
+/// All prices are kept within their bounds. `loads` are those of the same items.
+pub fn settle(instance: &Instance, pricing: &Pricing, prices: &mut DualPrices, loads: &mut Loads) {
     if pricing.may_owe() {
         bound_backs(instance, pricing, prices);
         lower_all_backs(instance, pricing, prices);
@@ -250,7 +272,10 @@ pub fn settle(instance: &Instance, pricing: &Pricing, prices: &mut DualPrices) {
     }
     order_stocks(instance, pricing, prices);
     if let Some(grouping) = pricing.late_grouping() {
-        settle_shares(instance, grouping, prices);
+        settle_shares(instance, pricing, grouping, prices, loads);
+    }
+    for item in 1..instance.items() + 1 {
+        bound_links(instance, pricing, prices, item);
     }
 }
 

@@ -2,7 +2,7 @@
 use crate::prices::DualPrices;
 use crate::pricing::{Item, Pricing};
 use crate::settling::{settle, split_backs};
-use crate::shares::split_shares;
+use crate::shares::{Loads, split_shares};
 use integer_grids::numbers::{less, lower, of_amount, over, plus, times};
 use integer_grids::{IntegerGrid, clear};
 use lot_model::Instance;
@@ -170,9 +170,10 @@ pub fn split_prices(
     if pricing.grouping().is_some() {
         fill_stocks(alloc, instance, pricing, &mut prices)?;
     }
+    let mut loads = Loads::new(alloc, instance, pricing)?;
     if let Some(grouping) = pricing.late_grouping() {
-        split_shares(instance, grouping, &mut prices);
+        split_shares(instance, pricing, grouping, &mut prices, &mut loads);
     }
-    settle(instance, pricing, &mut prices);
+    settle(instance, pricing, &mut prices, &mut loads);
     Ok(prices)
 }

@@ -5,13 +5,13 @@ ghost use Rattle.lot_sizing.specs.Problem.{item_count};
 use crate::cutting::item_cut;
 use crate::leaf::Making;
 use cert_lines::{Cut, ListKind, Part, PartList};
-use grouped_items::{Grouping, MovedCosts};
+use grouped_items::{Grouping, ItemGroup, MovedCosts};
 use integer_grids::numbers::{less, of_amount, times};
-use item_groups::Group;
+use item_groups::{Group, Shares};
 use lin_rows::RowName;
 use lot_model::Instance;
 use path_setups::Fixed;
-use priced_items::{Costs, DualPrices, Item, Pricing, Serving};
+use priced_items::{Costs, DualPrices, Item, NodePricing, Pricing, Serving};
 use std::alloc::{AllocError, Global};
 
 /// Block cuts, and what a leaf over reduced costs has.
@@ -21,7 +21,7 @@ pub struct Grouped {
     pub cuts: Vec<Cut>,
     /// The parts: the cuts by their numbers, least lots, end stocks, lots that come too late, and bounds of the path.
     pub parts: Vec<Part>,
-    /// Capacities and balances, by period.
+    /// Balances, capacities and largest lots, by period.
     pub lists: Vec<PartList>,
     /// The groups.
     pub groups: Vec<Group>,
@@ -81,7 +81,7 @@ fn put_list(
     Ok(())
 }
 
-// The balances of all items, and the capacities of all resources.
+// The balances of all items, the capacities of all resources, and the largest lots of all items.
 fn lists_of(
     alloc: Global,
     given: Given<'_>,
@@ -95,6 +95,10 @@ fn lists_of(
     for resource in 1..given.instance.resources() + 1 {
         let times = wide_line(alloc, given.prices.capacity.line(resource))?;
         put_list(&mut lists, ListKind::Capacity, resource, times)?;
+    }
+    for item in 1..given.instance.items() + 1 {
+        let times = wide_line(alloc, given.prices.link.line(item))?;
+        put_list(&mut lists, ListKind::Link, item, times)?;
     }
     Ok(lists)
 }
@@ -170,21 +174,34 @@ fn put_ends(
     )
 }
 
+// The lists in which items are planned that are planned alone.
+#[derive(Debug, Drop)]
+struct Planning {
+    alloc: Global,
+    costs: Costs,
+    serving: Serving,
+    // The number of the first cut.
+    first_cut: u32,
+}
+
 // The cut of an item that is planned alone.
 fn put_alone(
-    alloc: Global,
     given: Given<'_>,
     item: &Item,
-    costs: &mut Costs,
-    serving: &mut Serving,
-    first_cut: u32,
+    planning: &mut Planning,
     making: &mut Making,
 ) -> Result<(), AllocError> {
+    let Planning {
+        alloc,
+        costs,
+        serving,
+        first_cut,
+    } = planning;
     costs.write(given.instance, item, given.prices, given.fixed)?;
     costs.move_all(item.backlogged)?;
     serving.serve_all(item, costs)?;
-    match item_cut(alloc, item, costs, serving)? {
-        Some(cut) => making.put_cut(cut, first_cut)?,
+    match item_cut(*alloc, item, costs, serving)? {
+        Some(cut) => making.put_cut(cut, *first_cut)?,
         None => making.fail(),
     }
     making.put_fixed(&costs.fee, &costs.setup, given.fixed, item.number)
@@ -204,13 +221,10 @@ const CLOSED: i64 = 100_000_000_000;
 
 // What is taken for an item beside balances and capacities.
 fn put_item(
-    alloc: Global,
     given: Given<'_>,
     moved: &MovedCosts,
     number: u32,
-    costs: &mut Costs,
-    serving: &mut Serving,
-    first_cut: u32,
+    planning: &mut Planning,
     making: &mut Making,
 ) -> Result<(), AllocError>
     requires low { 1 ≤ number }
@@ -218,57 +232,78 @@ fn put_item(
 {
     if let Some(item) = given.pricing.get(number) {
         if given.pricing.is_backlogged(number) {
-            return put_alone(alloc, given, item, costs, serving, first_cut, making);
+            return put_alone(given, item, planning, making);
         }
     }
     let fees = moved.fee.line(number);
-    let setups = closed_fees(alloc, fees)?;
+    let setups = closed_fees(planning.alloc, fees)?;
     making.put_fixed(fees, &setups, given.fixed, number)?;
     put_lots(given, number, making)?;
     put_late(given, moved, number, making)
 }
 
-// A group, with the share of what falls short by the prices.
-fn with_share(prices: &DualPrices, group: Group) -> Group {
-    match group {
-        Group::Late { item, .. } => Group::Late {
-            item,
-            share: u64::try_from(prices.share.get(item, 1)).unwrap_or(0),
-        },
-        other => other,
+// The shares of what falls short of an item by the prices, by period.
+fn shares_of(alloc: Global, prices: &DualPrices, item: u32) -> Result<Shares, AllocError> {
+    let mut list = Vec::new(alloc);
+    for price in prices.share.line(item) {
+        list.push(u64::try_from(*price).unwrap_or(0))?;
     }
+    Ok(Shares::new(list))
+}
+
+// A group as leaves have it, with the shares of what falls short by the prices.
+fn with_shares(alloc: Global, prices: &DualPrices, group: ItemGroup) -> Result<Group, AllocError> {
+    Ok(match group {
+        ItemGroup::Item { item } => Group::Item { item },
+        ItemGroup::Late { item } => Group::Late {
+            item,
+            shares: shares_of(alloc, prices, item)?,
+        },
+        ItemGroup::Quantities { item } => Group::Quantities { item },
+        ItemGroup::LateQuantities { item } => Group::LateQuantities {
+            item,
+            shares: shares_of(alloc, prices, item)?,
+        },
+        ItemGroup::Pair { low, top } => Group::Pair { low, top },
+        ItemGroup::Triple { low, mid, top } => Group::Triple { low, mid, top },
+    })
 }
 
 // All groups.
 fn groups_of(alloc: Global, given: Given<'_>) -> Result<Vec<Group>, AllocError> {
     let mut groups = Vec::new(alloc);
     for group in given.grouping.groups() {
-        groups.push(with_share(given.prices, *group))?;
+        groups.push(with_shares(alloc, given.prices, *group)?)?;
     }
     Ok(groups)
 }
 
+// What is taken for all items beside balances and capacities.
+fn make(
+    alloc: Global,
+    given: Given<'_>,
+    moved: &MovedCosts,
+    first_cut: u32,
+) -> Result<Making, AllocError> {
+    let mut making = Making::new(alloc, given.instance)?;
+    let mut planning = Planning {
+        alloc,
+        costs: Costs::new(alloc),
+        serving: Serving::new(alloc),
+        first_cut,
+    };
+    for number in 1..given.instance.items() + 1 {
+        put_item(given, moved, number, &mut planning, &mut making)?;
+        put_ends(given, moved, number, &mut making)?;
+    }
+    Ok(making)
+}
+
 // The leaf.
 fn leaf_at(alloc: Global, given: Given<'_>, first_cut: u32) -> Result<Option<Grouped>, AllocError> {
-    let instance = given.instance;
-    let mut moved = MovedCosts::zero(alloc, instance)?;
-    moved.write(instance, given.prices.scale, given.prices.rows());
-    let mut making = Making::new(alloc, instance)?;
-    let mut costs = Costs::new(alloc);
-    let mut serving = Serving::new(alloc);
-    for number in 1..instance.items() + 1 {
-        put_item(
-            alloc,
-            given,
-            &moved,
-            number,
-            &mut costs,
-            &mut serving,
-            first_cut,
-            &mut making,
-        )?;
-        put_ends(given, &moved, number, &mut making)?;
-    }
+    let mut moved = MovedCosts::zero(alloc, given.instance)?;
+    moved.write(given.instance, given.prices.scale, given.prices.rows());
+    let making = make(alloc, given, &moved, first_cut)?;
     let lists = lists_of(alloc, given, &moved)?;
     let Some((cuts, parts)) = making.into_lines() else {
         return Ok(None);
@@ -292,19 +327,17 @@ fn leaf_at(alloc: Global, given: Given<'_>, first_cut: u32) -> Result<Option<Gro
 /// The error is that memory ran out. It takes time in the square of the number of items times that of the periods.
 pub fn grouped_leaf(
     alloc: Global,
-    instance: &Instance,
-    pricing: &Pricing,
+    node: NodePricing<'_>,
     grouping: &Grouping,
     prices: &DualPrices,
-    fixed: &Fixed,
     first_cut: u32,
 ) -> Result<Option<Grouped>, AllocError> {
     let given = Given {
-        instance,
-        pricing,
+        instance: node.instance,
+        pricing: node.pricing,
         grouping,
         prices,
-        fixed,
+        fixed: node.fixed,
     };
     leaf_at(alloc, given, first_cut)
 }
@@ -313,13 +346,11 @@ pub fn grouped_leaf(
 /// denominator is 0.
 pub fn dropped_grouped_leaf(
     alloc: Global,
-    instance: &Instance,
-    pricing: &Pricing,
+    node: NodePricing<'_>,
     grouping: &Grouping,
     prices: &DualPrices,
-    fixed: &Fixed,
     first_cut: u32,
 ) -> Result<Option<Grouped>, AllocError> {
-    let free = prices.dropped(alloc, instance, pricing)?;
-    grouped_leaf(alloc, instance, pricing, grouping, &free, fixed, first_cut)
+    let free = prices.dropped(alloc, node.instance, node.pricing)?;
+    grouped_leaf(alloc, node, grouping, &free, first_cut)
 }

@@ -24,4 +24,4 @@ pub use integer_grids::numbers::ONE;
 pub use leaf::{Priced, dropped_leaf, priced_leaf};
 pub use path_setups::{Fixed, Held, fixed_setups};
 pub use price_rounds::{Average, GROWTH_PARTS, Improved, Reached, Rounds, tune_openings};
-pub use priced_items::{DualPrices, Pricing, split_prices};
+pub use priced_items::{DualPrices, NodePricing, Pricing, split_prices};
