@@ -1,6 +1,7 @@
 ghost use Rattle.std.specs.Prelude.{◌≡◌, ◌≤◌, Bool, true};
+ghost use Rattle.cert_lines.specs.declared.limits.TheConstants.{LOTS_CERT_VERSION, MAX_CERT_VERSION};
 
-use branch_and_cut::{Found, Limits, Ranges, RootSays, search, search_all};
+use branch_and_cut::{Found, Limits, Plugins, Ranges, RootSays, Wanted, search, search_all};
 use cert_checker::check;
 use certificate::{Claim, is_writable};
 use fixtures::{Item, MADE, Resource, instance};
@@ -29,8 +30,11 @@ fn alone(alloc: Global, periods: u32, demand: &[i64]) -> Result<Instance, Fail> 
     instance(alloc, periods, &[], &[Item { demand, ..ALONE }])
 }
 
-// No gap.
-const NO_LIMITS: Limits = Limits { gap: None };
+// What proposes nothing.
+const NOTHING: Plugins<'static, Nothing, Nothing> = Plugins {
+    proposer: &Nothing,
+    heuristic: &Nothing,
+};
 
 // Counts the nodes and passes of which it is told, and ends the search before so many passes.
 #[derive(Debug, Drop)]
@@ -60,8 +64,7 @@ impl Watch for Count {
 // a watcher is told.
 fn found_by<P: Proposer, H: Heuristic<P::Hint>>(
     alloc: Global,
-    proposer: &P,
-    heuristic: &H,
+    plugins: &Plugins<'_, P, H>,
     periods: u32,
     demand: &[i64],
     capacity: i64,
@@ -75,9 +78,8 @@ fn found_by<P: Proposer, H: Heuristic<P::Hint>>(
         passes: 0,
         most: u64::MAX,
     };
-    let found = search_all(
-        alloc, proposer, heuristic, &mut count, &instance, budget, None, NO_LIMITS,
-    )?;
+    let wanted = Wanted::with_budget(budget);
+    let found = search_all(alloc, plugins, &mut count, &instance, wanted)?;
     if check(alloc, &instance, &found.certificate, found.plan.as_ref()).is_err() {
         return Err("not accepted".into());
     }
@@ -94,7 +96,7 @@ fn found(
 ) -> Result<Found, Fail>
     requires { 1 ≤ budget }
 {
-    let (found, _) = found_by(alloc, &Nothing, &Nothing, periods, demand, capacity, budget)?;
+    let (found, _) = found_by(alloc, &NOTHING, periods, demand, capacity, budget)?;
     Ok(found)
 }
 
@@ -136,15 +138,11 @@ fn a_best_plan_is_found(rt: HostRuntime) -> Result<(), Fail> {
 fn a_best_plan_is_found_by_prices(rt: HostRuntime) -> Result<(), Fail> {
     let alloc = rt.alloc();
     let until = Deadline::none();
-    let (found, nodes) = found_by(
-        alloc,
-        &Prices { until },
-        &Plans { until },
-        2,
-        &[2, 8],
-        6,
-        1_000,
-    )?;
+    let plugins = Plugins {
+        proposer: &Prices { until },
+        heuristic: &Plans { until },
+    };
+    let (found, nodes) = found_by(alloc, &plugins, 2, &[2, 8], 6, 1_000)?;
     let claim = found.certificate.claim;
     assert_eq!(rt; (claim, made(&found)?), (Claim::Optimal(23), (5, 5)));
     assert_eq!(rt; nodes, found.nodes);
@@ -165,7 +163,7 @@ fn that_there_is_no_plan_is_found(rt: HostRuntime) -> Result<(), Fail> {
 // What is claimed of one item without a resource, what the root says, and the nodes of the search.
 fn said_alone(alloc: Global, demand: &[i64]) -> Result<(Claim, RootSays, u64), Fail> {
     let instance = alone(alloc, 2, demand)?;
-    let found = search_all(alloc, &Nothing, &Nothing, (), &instance, 1, None, NO_LIMITS)?;
+    let found = search_all(alloc, &NOTHING, (), &instance, Wanted::with_budget(1))?;
     Ok((found.certificate.claim, found.root, found.nodes))
 }
 
@@ -197,17 +195,8 @@ fn between(alloc: Global, instance: &Instance, low: u64, high: u64) -> Result<Fo
     if !ranges.are_of(instance) {
         return Err("no ranges of the instance".into());
     }
-    let found = search(
-        alloc,
-        &Nothing,
-        &Nothing,
-        (),
-        instance,
-        ranges,
-        1_000,
-        None,
-        NO_LIMITS,
-    )?;
+    let wanted = Wanted::with_budget(1_000);
+    let found = search(alloc, &NOTHING, (), instance, ranges, wanted)?;
     Ok(found)
 }
 
@@ -223,16 +212,8 @@ fn two_lots(alloc: Global, is_shared: bool) -> Result<Instance, Fail> {
 // The claim of a search over all ranges, and how much its plan makes in each period.
 fn best_of_all(alloc: Global, is_shared: bool) -> Result<(Claim, (u64, u64)), Fail> {
     let instance = two_lots(alloc, is_shared)?;
-    let found = search_all(
-        alloc,
-        &Nothing,
-        &Nothing,
-        (),
-        &instance,
-        1_000,
-        None,
-        NO_LIMITS,
-    )?;
+    let wanted = Wanted::with_budget(1_000);
+    let found = search_all(alloc, &NOTHING, (), &instance, wanted)?;
     let quantities = made(&found)?;
     Ok((found.certificate.claim, quantities))
 }
@@ -313,26 +294,18 @@ fn ranges_of_another_shape_are_told(rt: HostRuntime) -> Result<(), Fail> {
 // search before so many passes and one: whether a bound is claimed, whether the tree has one node, and how much is made.
 fn cut_short(alloc: Global, gap: Option<u32>, most: u64) -> Result<(bool, bool, (u64, u64)), Fail> {
     let instance = model(alloc, 2, &[2, 8], 6)?;
-    let known = search_all(
-        alloc,
-        &Nothing,
-        &Nothing,
-        (),
-        &instance,
-        1_000,
-        None,
-        NO_LIMITS,
-    )?;
+    let known = search_all(alloc, &NOTHING, (), &instance, Wanted::with_budget(1_000))?;
     let mut count = Count {
         nodes: 0,
         passes: 0,
         most,
     };
-    let first = known.plan;
-    let limits = Limits { gap };
-    let found = search_all(
-        alloc, &Nothing, &Nothing, &mut count, &instance, 1_000, first, limits,
-    )?;
+    let wanted = Wanted {
+        first: known.plan,
+        limits: Limits { gap },
+        ..Wanted::with_budget(1_000)
+    };
+    let found = search_all(alloc, &NOTHING, &mut count, &instance, wanted)?;
     let is_bound = matches!(&found.certificate.claim, Claim::Bound(_));
     let quantities = made(&found)?;
     Ok((is_bound, found.nodes == 1, quantities))
@@ -349,6 +322,52 @@ fn a_search_ends_early(rt: HostRuntime) -> Result<(), Fail> {
         (None, 0, true),
     ] {
         assert_eq!(rt; cut_short(alloc, gap, most)?, (is_bound, is_bound, (5, 5)));
+    }
+    Ok(())
+}
+
+// What arrives one period after it was started.
+const LATE: Item<'static> = Item {
+    lead: 1,
+    setup_cost: &[9],
+    ..ALONE
+};
+
+// The claim of a search whose certificate has this version at most, the version that it has, and whether the checker accepts it.
+fn found_in(alloc: Global, newest: u32) -> Result<(Claim, u32, bool), Fail>
+    requires oldest { LOTS_CERT_VERSION ≤ newest }
+    requires latest { newest ≤ MAX_CERT_VERSION }
+{
+    let item = Item {
+        demand: &[0, 1, 1],
+        ..LATE
+    };
+    let instance = instance(alloc, 3, &[], &[item])?;
+    let until = Deadline::none();
+    let plugins = Plugins {
+        proposer: &Prices { until },
+        heuristic: &Plans { until },
+    };
+    let wanted = Wanted {
+        newest,
+        ..Wanted::with_budget(1_000)
+    };
+    let found = search_all(alloc, &plugins, (), &instance, wanted)?;
+    let certificate = &found.certificate;
+    let is_accepted = check(alloc, &instance, certificate, found.plan.as_ref()).is_ok();
+    Ok((certificate.claim, certificate.version, is_accepted))
+}
+
+// Both units are started in the first period, and one is held for a period: that costs 10. Where leaves over reduced costs may be
+// taken, one of them says so of the root; a tree without them decides it too, since it has room for all choices.
+#[test]
+fn a_certificate_keeps_to_a_version(rt: HostRuntime) -> Result<(), Fail> {
+    let alloc = rt.alloc();
+    for version in [2u32, 3] {
+        assert_eq!(rt;
+            found_in(alloc, version)?,
+            (Claim::Optimal(10), version, true)
+        );
     }
     Ok(())
 }

@@ -6,8 +6,9 @@ use fixtures::{Item, MADE, Resource, instance};
 use lin_rows::{Bound, Column, RowName};
 use lot_model::Instance;
 use priced_leaves::{
-    DualPrices, Fixed, Grouped, Held, Priced, Pricing, Reached, Rounds, dropped_grouped_leaf,
-    dropped_leaf, fixed_setups, grouped_leaf, priced_leaf, split_prices, tune_openings,
+    DualPrices, Fixed, Grouped, Held, NodePricing, Priced, Pricing, Reached, Rounds,
+    dropped_grouped_leaf, dropped_leaf, fixed_setups, grouped_leaf, priced_leaf, split_prices,
+    tune_openings,
 };
 use std::alloc::{AllocError, Global};
 use std::boxed::Box;
@@ -105,14 +106,9 @@ fn pricing_of(alloc: Global, instance: &Instance) -> Result<Pricing, Fail> {
 }
 
 // Rounds that start at the prices of the split.
-fn started(
-    alloc: Global,
-    instance: &Instance,
-    pricing: &Pricing,
-    fixed: &Fixed,
-) -> Result<Rounds, Fail> {
-    let start = split_prices(alloc, instance, pricing)?;
-    Ok(Rounds::start(alloc, instance, pricing, start, None, fixed)?)
+fn started(alloc: Global, node: NodePricing<'_>) -> Result<Rounds, Fail> {
+    let start = split_prices(alloc, node.instance, node.pricing)?;
+    Ok(Rounds::start(alloc, node, start, None)?)
 }
 
 // The prices of so many rounds at a node, what their leaf is to say, and what was reached.
@@ -124,8 +120,13 @@ fn improved(
 ) -> Result<(DualPrices, u128, Reached), Fail> {
     let pricing = pricing_of(alloc, instance)?;
     let fixed = fixed_setups(alloc, instance, path)?;
-    let mut rounds = started(alloc, instance, &pricing, &fixed)?;
-    let reached = rounds.go_on(alloc, instance, &pricing, &fixed, None, count)?;
+    let node = NodePricing {
+        instance,
+        pricing: &pricing,
+        fixed: &fixed,
+    };
+    let mut rounds = started(alloc, node)?;
+    let reached = rounds.go_on(alloc, node, None, count)?;
     let found = rounds.number().ok_or("no number")?;
     let improved = rounds.into_improved();
     let says = rounded(found, improved.prices.scale);
@@ -179,7 +180,12 @@ fn leaf_of_prices(
     let fixed = fixed_setups(alloc, instance, path)?;
     match pricing.grouping() {
         Some(groups) => {
-            let found = grouped_leaf(alloc, instance, &pricing, groups, prices, &fixed, first)?;
+            let node = NodePricing {
+                instance,
+                pricing: &pricing,
+                fixed: &fixed,
+            };
+            let found = grouped_leaf(alloc, node, groups, prices, first)?;
             Ok(reduced(found.ok_or("no leaf")?))
         }
         None => {
@@ -330,9 +336,14 @@ fn two_ends(
     pricing: &Pricing,
     fixed: &Fixed,
 ) -> Result<(Reached, Reached), Fail> {
-    let mut rounds = started(alloc, instance, pricing, fixed)?;
-    let first = rounds.go_on(alloc, instance, pricing, fixed, Some(18), 10)?;
-    let second = rounds.go_on(alloc, instance, pricing, fixed, Some(30), 10)?;
+    let node = NodePricing {
+        instance,
+        pricing,
+        fixed,
+    };
+    let mut rounds = started(alloc, node)?;
+    let first = rounds.go_on(alloc, node, Some(18), 10)?;
+    let second = rounds.go_on(alloc, node, Some(30), 10)?;
     Ok((first, second))
 }
 
@@ -442,7 +453,12 @@ fn refuted_in_groups(alloc: Global, hours: i64, count: u32) -> Result<(Reached, 
     let pricing = pricing_of(alloc, &instance)?;
     let fixed = fixed_setups(alloc, &instance, &[])?;
     let groups = pricing.grouping().ok_or("no groups")?;
-    let found = dropped_grouped_leaf(alloc, &instance, &pricing, groups, &prices, &fixed, 1)?;
+    let node = NodePricing {
+        instance: &instance,
+        pricing: &pricing,
+        fixed: &fixed,
+    };
+    let found = dropped_grouped_leaf(alloc, node, groups, &prices, 1)?;
     let found = reduced(found.ok_or("no leaf")?);
     let made = Certificate {
         version: found.version,
@@ -541,7 +557,12 @@ fn too_few_hours_are_refuted_of_late_items(rt: HostRuntime) -> Result<(), Fail> 
     let pricing = pricing_of(alloc, &instance)?;
     let fixed = fixed_setups(alloc, &instance, &[])?;
     let groups = pricing.grouping().ok_or("no groups")?;
-    let found = dropped_grouped_leaf(alloc, &instance, &pricing, groups, &prices, &fixed, 1)?;
+    let node = NodePricing {
+        instance: &instance,
+        pricing: &pricing,
+        fixed: &fixed,
+    };
+    let found = dropped_grouped_leaf(alloc, node, groups, &prices, 1)?;
     let found = reduced(found.ok_or("no leaf")?);
     let made = Certificate {
         version: found.version,
