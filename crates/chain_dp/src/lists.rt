@@ -6,6 +6,7 @@ ghost use Rattle.chain_dp.specs.Numbers.{IsCapped};
 ghost use Rattle.chain_dp.specs.Lists.{AreByLots, AreListsOf, IsAskedBefore, asked_between, at, moved, moved_level, price_at, row_of};
 
 use crate::level::ChainLevel;
+use crate::numbers::times;
 use crate::spare::Spare;
 use std::alloc::{AllocError, Global};
 use std::marker::Model;
@@ -181,7 +182,7 @@ pub(crate) fn lot_price(level: &LevelLists, into: u128, below: u128, lot: usize)
     if lot == 0 {
         level.unit_cost[0]
     } else {
-        level.unit_cost[lot].saturating_add(into.saturating_mul(below))
+        level.unit_cost[lot].saturating_add(times(into, below))
     }
 }
 
@@ -190,5 +191,5 @@ pub(crate) fn lot_cost(level: &LevelLists, into: u128, below: u128, lot: usize, 
     requires { lot < length level.now.unit_cost.items }
     ensures { IsCapped (price_at level.now into below lot * units) result }
 {
-    lot_price(level, into, below, lot).saturating_mul(units)
+    times(lot_price(level, into, below, lot), units)
 }

@@ -5,7 +5,7 @@ ghost use Rattle.chain_dp.specs.Lists.{AreWide, HaveWidth, at};
 ghost use Rattle.chain_dp.specs.Tables.{AreStretches, IsStretchRow, step_cost};
 
 use crate::lists::{LevelLists, Row, asked_between};
-use crate::numbers::lesser;
+use crate::numbers::{lesser, times};
 use crate::spare::Spare;
 use std::alloc::{AllocError, Global};
 
@@ -18,7 +18,7 @@ fn step_cost(row: &[u128], level: &LevelLists, lot: usize, to: usize) -> u128
     ensures { IsCapped (step_cost row.now level.now to lot) result }
 {
     let units = asked_between(level, lot, to);
-    row[lot].saturating_add(level.unit_cost[lot].saturating_mul(units))
+    row[lot].saturating_add(times(level.unit_cost[lot], units))
 }
 
 // The least cost of going on to lot `to`, from lot `first` or a later one.
