@@ -8,8 +8,11 @@ pub mod Parts
 pub mod Steps
 pub mod Choices
 pub mod Leasts
+pub mod Narrowed
 pub mod Pushed
+pub mod StateRows
 pub mod Tabled
+pub mod Stated
 pub mod Leads
 pub mod Exact
 pub mod Worked

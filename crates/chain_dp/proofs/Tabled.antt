@@ -13,7 +13,7 @@ use Rattle.chain_dp.proofs.Choices.{chain_reached, one_reached, pair_reached}
 
 -- PRICES
 
-product : (p q a b : ℕ) → p ≡ q → a ≡ b → p * a ≡ q * b
+pub product : (p q a b : ℕ) → p ≡ q → a ≡ b → p * a ≡ q * b
 product p q a b e i = ap (λ k. k * a) e ∙ ap (λ k. q * k) i
 
 price_is : (periods : ℕ) (l : Level) (x : LevelLists) (into sub a below : ℕ) → AreListsOf periods l x → into * sub ≡ a * below → (t : ℕ) → t ≤ periods → price_at x into sub t ≡ lot_price l t (a * below)
@@ -24,21 +24,21 @@ low_is : (periods : ℕ) (l : Level) (x : LevelLists) → AreListsOf periods l x
 low_is periods l x is zero h = is.opening_price
 low_is periods l x is (suc t) h = omega (arith, is.unit_cost (suc t) (omega arith) h)
 
-fee_is : (periods : ℕ) (l : Level) (x : LevelLists) → AreListsOf periods l x → (t : ℕ) → t ≤ periods → at x.setup_cost.items t ≡ lot_fee l t
+pub fee_is : (periods : ℕ) (l : Level) (x : LevelLists) → AreListsOf periods l x → (t : ℕ) → t ≤ periods → at x.setup_cost.items t ≡ lot_fee l t
 fee_is periods l x is zero h = is.first_cost
 fee_is periods l x is (suc t) h = is.setup_cost (suc t) (omega arith) h
 
-asked_is : (periods : ℕ) (l : Level) (x : LevelLists) → AreListsOf periods l x → (w z : ℕ) → w ≤ suc periods → z ≤ suc periods → asked_between x w z ≡ asked l w z
+pub asked_is : (periods : ℕ) (l : Level) (x : LevelLists) → AreListsOf periods l x → (w z : ℕ) → w ≤ suc periods → z ≤ suc periods → asked_between x w z ≡ asked l w z
 asked_is periods l x is w z low high = omega (arith, is.asked w low, is.asked z high)
 
-mid_is : (periods : ℕ) (l m : Level) (low mid : LevelLists) → AreListsOf periods l low → AreListsOf periods m mid → (v b : ℕ) → v ≤ periods → b ≤ periods → mid_at low mid v b ≡ mid_price l m l.per_next b v
+pub mid_is : (periods : ℕ) (l m : Level) (low mid : LevelLists) → AreListsOf periods l low → AreListsOf periods m mid → (v b : ℕ) → v ≤ periods → b ≤ periods → mid_at low mid v b ≡ mid_price l m l.per_next b v
 mid_is periods l m low mid is_low is_mid v b first second =
     price_is periods m mid low.per_next (at low.unit_cost.items v) l.per_next (low_price l v) is_mid (product low.per_next l.per_next (at low.unit_cost.items v) (low_price l v) is_low.per_next (low_is periods l low is_low v first)) b second
 
 abbrev pub chain_of : Level → Level → Level → Chain
 chain_of l m t = record { low = l; mid = m; top = t; into_mid = l.per_next; into_top = m.per_next }
 
-top_is : (periods : ℕ) (l m t : Level) (low mid top : LevelLists) → AreListsOf periods l low → AreListsOf periods m mid → AreListsOf periods t top → (v b k : ℕ) → v ≤ periods → b ≤ periods → k ≤ periods
+pub top_is : (periods : ℕ) (l m t : Level) (low mid top : LevelLists) → AreListsOf periods l low → AreListsOf periods m mid → AreListsOf periods t top → (v b k : ℕ) → v ≤ periods → b ≤ periods → k ≤ periods
     → top_at low mid top v b k ≡ top_price (chain_of l m t) k b v
 top_is periods l m t low mid top is_low is_mid is_top v b k first second third =
     price_is periods t top mid.per_next (mid_at low mid v b) m.per_next (mid_price l m l.per_next b v) is_top (product mid.per_next m.per_next (mid_at low mid v b) (mid_price l m l.per_next b v) is_mid.per_next (mid_is periods l m low mid is_low is_mid v b first second)) k third
@@ -120,14 +120,14 @@ one_cost x row last table long end periods l is =
     })
 
 -- rows of all lots
-stretches_are : (periods : ℕ) (l : Level) (x : LevelLists) (rows : List (List ℕ)) → AreListsOf periods l x → length rows ≡ suc periods → ((v : ℕ) → v < suc periods → length (row_of rows v) ≡ suc periods + 1) → AreStretches x rows → IsStretchTable periods l (λ v z. cell rows v z)
+pub stretches_are : (periods : ℕ) (l : Level) (x : LevelLists) (rows : List (List ℕ)) → AreListsOf periods l x → length rows ≡ suc periods → ((v : ℕ) → v < suc periods → length (row_of rows v) ≡ suc periods + 1) → AreStretches x rows → IsStretchTable periods l (λ v z. cell rows v z)
 stretches_are periods l x rows is size wide table = record {
   none = λ v h. (table v (omega (arith, h, size))).none;
   next = λ v w z order before high. row_next periods l x (row_of rows v) v is (table v (omega (arith, order, before, high, size))) (omega (arith, wide v (omega (arith, order, before, high)))) w z order before high;
   last = λ v w order high. row_last periods l x (row_of rows v) v is (table v (omega (arith, order, high, size))) (omega (arith, wide v (omega (arith, order, high)))) w order high;
 }
 
-steps_are : (periods : ℕ) (l : Level) (x : LevelLists) (rows : List (List ℕ)) → AreListsOf periods l x → length rows ≡ suc periods → ((v : ℕ) → v < suc periods → length (row_of rows v) ≡ suc periods + 1) → AreStretches x rows → AreStretchSteps most periods l (λ v z. cell rows v z)
+pub steps_are : (periods : ℕ) (l : Level) (x : LevelLists) (rows : List (List ℕ)) → AreListsOf periods l x → length rows ≡ suc periods → ((v : ℕ) → v < suc periods → length (row_of rows v) ≡ suc periods + 1) → AreStretches x rows → AreStretchSteps most periods l (λ v z. cell rows v z)
 steps_are periods l x rows is size wide table v h =
     row_steps periods l x rows v is (table v (omega (arith, h, size))) (omega (arith, wide v (omega (arith, h)))) h
 

@@ -7,6 +7,7 @@ use crate::lists::{LevelLists, Row};
 use crate::pairs::{least_of_ends, pair_firsts, pair_plane};
 use crate::planes::all_planes;
 use crate::spare::Spare;
+use crate::states::narrow_cost;
 use crate::stretches::{stretch_row, stretch_rows};
 use std::alloc::{AllocError, Global};
 
@@ -65,6 +66,11 @@ pub(crate) fn cost_of_three(
 {
     let lots = top.asked.len() - 1;
     let stretches = stretch_rows(alloc, spare, low, lots)?;
+    let short = narrow_cost(alloc, low, mid, top, &stretches)?;
+    if short < u64::MAX {
+        spare.keep_rows(stretches)?;
+        return Ok(u128::from(short));
+    }
     let planes = all_planes(alloc, spare, low, mid, top, &stretches)?;
     let cost = least_of_ends(low, mid, &stretches, &planes[lots].rows, lots);
     spare.keep_rows(stretches)?;

@@ -7,7 +7,8 @@
 //! of a setup and of a unit in each period, needs of its own beside those of the next level, and a lead time
 //! (multi-level uncapacitated lot sizing in series; Zangwill 1969, Pochet and Wolsey's book, chapter 13).
 //! `ChainTables` finds the least cost over all choices of whole quantities and setups, by recursions over
-//! lots: `stretches` for one level, `pairs` for two, `planes` for three. Lots of levels with lead times are
+//! lots: `stretches` for one level, `pairs` for two, `states` for three in numbers of 64 bits and `planes` in
+//! numbers of 128 bits, where 64 may not be enough. Lots of levels with lead times are
 //! moved to the periods in which they serve (`lists`). Contracts say what the definition says: some choice
 //! costs this, and none costs less.
 #![tactic(auto)]
@@ -17,11 +18,13 @@ mod error;
 pub mod laws;
 mod level;
 mod lists;
+mod narrow;
 mod numbers;
 mod pairs;
 mod planes;
 mod solving;
 mod spare;
+mod states;
 mod stretches;
 
 pub use error::ChainError;

@@ -13,7 +13,8 @@ use crate::lists::lists_of;
 use crate::spare::Spare;
 use std::alloc::Global;
 
-/// Finds the least costs of chains. It keeps the memory of its tables from one call to the next.
+/// Finds the least costs of chains. It keeps the memory of its lists and of its tables of 128 bits from one call
+/// to the next.
 ///
 /// A choice of quantities, whole numbers, and of setups, at most one of a level in a period, serves a chain
 /// where each level is made in time for what is asked of it and for what the next level takes of it, and
@@ -23,7 +24,8 @@ use std::alloc::Global;
 /// make do with it are at least the least cost less the value of these stocks at their prices.
 ///
 /// Over `T` periods three levels take some `T^4 / 8` steps (5,720 over 12 periods, 63,675 over 24, 1,941,996 over
-/// 60) and some `T^3 / 6` numbers of 16 bytes; two levels take some `T^3 / 2` steps (119,072 over 60
+/// 60) and some `T^3 / 2` numbers of 8 bytes, which are given back; where the least cost is 2^64 - 1 or more, as many steps
+/// again and some `T^3 / 6` numbers of 16 bytes. Two levels take some `T^3 / 2` steps (119,072 over 60
 /// periods), and one takes `(T + 1) * (T + 2) / 2`. The lead times of all levels but the lowest add to `T`.
 #[derive(Drop)]
 pub struct ChainTables {
