@@ -1,13 +1,16 @@
 -- Sums of multiples of rows, and what they prove of points.
-use Rattle.std.specs.Prelude.{◌≡◌, ℕ, ◌*◌, false, ℤ, pos, ◌+ℤ◌, ◌*ℤ◌, ◌≤ℤ◌, ◌<ℤ◌, List, [], ◌∷◌, ⊤}
+use Rattle.std.specs.Prelude.{◌≡◌, ◌≤◌, ℕ, ◌*◌, false, ℤ, pos, ◌+ℤ◌, ◌*ℤ◌, ◌≤ℤ◌, ◌<ℤ◌, List, [], ◌∷◌, ⊤}
 use Rattle.std.specs.List.{All}
 use Rattle.lot_sizing.specs.Problem.{Problem}
 use Rattle.lot_sizing.specs.Plan.{Plan, IsFeasible, cost}
+use Rattle.lot_sizing.specs.Totals.{AreLargestTotals, IsRanking}
+use Rattle.lin_rows.specs.declared.base.RowName.{RowName}
 use Rattle.lin_rows.specs.declared.column.Column.{Column}
 use Rattle.lin_rows.specs.declared.row.Term.{Term}
+use Rattle.lin_rows.specs.Base.{HasRow, row_of}
 use Rattle.lin_rows.specs.Columns.{IsColumn, column_cost, value_in}
 use Rattle.lin_rows.specs.Costs.{point_cost}
-use Rattle.lin_rows.specs.Rows.{HoldsAt, LinPoint, LinRow, sum_at, whole_point}
+use Rattle.lin_rows.specs.Rows.{HoldsAt, HoldsIn, LinPoint, LinRow, sum_at, whole_point}
 use Rattle.lin_rows.specs.Sums.{coefficient}
 
 -- a number of each row, taken so many times; what the longer list has more doesn't count
@@ -51,6 +54,18 @@ SumsHold =
     → AreSigned rows times
     → ((c : Column) → column_sum rows times c ≤ℤ (pos den *ℤ coefficient terms c))
     → (q : LinPoint) → AllHold q rows → (right_sum rows times *ℤ pos q.den) ≤ℤ (pos den *ℤ sum_at q.values terms)
+
+-- where no item is its own component, each row that the rules of plans make holds at each feasible plan
+abbrev pub BaseRowsHold : Type 0
+BaseRowsHold =
+    (m : Problem) (rank total : ℕ → ℕ) → 1 ≤ m.periods → IsRanking m rank → AreLargestTotals m total
+    → (p : Plan) → IsFeasible m p → (name : RowName) → HasRow m name → HoldsIn p (row_of m total name)
+
+-- and its columns are those of the problem, whatever the totals are
+abbrev pub BaseColumnsExist : Type 0
+BaseColumnsExist =
+    (m : Problem) (total : ℕ → ℕ) → 1 ≤ m.periods
+    → (name : RowName) → HasRow m name → All (λ a. IsColumn m a.column) (row_of m total name).terms
 
 -- a feasible plan costs what its point costs
 abbrev pub PlansCost : Type 0

@@ -5,8 +5,8 @@ ghost use Rattle.lin_rows.specs.Texts.{column_text};
 use std::fmt;
 
 /// What a plan has of an item in a period, both counted from 1. Columns are ordered by kind as they stand
-/// here, then by item, then by period.
-#[derive(Clone, Copy, Debug, PartialEq, Eq, PartialOrd, Ord)]
+/// here, then by item, then by period; their numbers, which `column_number` gives, rise in this order.
+#[derive(Clone, Copy, Debug, PartialEq, Eq)]
 pub enum Column {
     /// Units made.
     X {

@@ -1,5 +1,20 @@
 // Laws about rows and points, each the contract of a function that does nothing.
-ghost use Rattle.lin_rows.specs.Combining.{PlansCost, SumsBound, SumsBoundPlans, SumsHold, SumsRefute};
+ghost use Rattle.lin_rows.specs.Combining.{BaseColumnsExist, BaseRowsHold, PlansCost, SumsBound, SumsBoundPlans, SumsHold, SumsRefute};
+
+use lot_sizing::totals_are_bounded;
+
+/// In a problem in which no item is its own component, each row that the rules of plans make holds at every feasible
+/// plan, of any size of number.
+pub fn base_rows_hold()
+    ensures { BaseRowsHold }
+{
+    totals_are_bounded();
+}
+
+/// The columns of each row that the rules of plans make are those of the problem, whatever the largest totals are.
+pub fn base_columns_exist()
+    ensures { BaseColumnsExist }
+{}
 
 /// A point at which rows hold meets each sum of multiples of them, where only equations are taken a negative
 /// number of times. So terms that take each column at least as often as the sum does, once they are multiplied

@@ -9,6 +9,7 @@
 //! make, by their names; each holds at every feasible plan. `Sums` adds multiples of rows, column by
 //! column, as a proof by multipliers needs it; `Total` does so for one sum. What such sums prove is said by the
 //! laws `sums_hold`, `sums_bound` and `sums_refute`, and `plans_cost` ties the columns' costs to a plan's cost.
+//! That the rules' rows hold at every feasible plan of a problem, without an instance, is `base_rows_hold`.
 //!
 //! `Bound` is what a side of a branch says of a column, with its row. `Point` has a fraction for each column: a
 //! solution of the relaxation, read by columns.
@@ -38,7 +39,9 @@ pub use base::{RowName, base_row, has_row};
 pub use bound::Bound;
 pub use column::Column;
 pub use fault::{CutFault, RowFault};
-pub use laws::{plans_cost, sums_bound, sums_hold, sums_refute};
+pub use laws::{
+    base_columns_exist, base_rows_hold, plans_cost, sums_bound, sums_hold, sums_refute,
+};
 pub use numbers::{column_at, column_cost, column_count, column_number, is_cell};
 pub use point::Point;
 pub use prices::{Potentials, Prices};

@@ -204,7 +204,8 @@ impl Sums {
         adding::add_times(self, row, times)
     }
 
-    /// The sum of a column; 0 for one that isn't there.
+    /// The sum of a column; 0 for one whose item or period the model hasn't. A backlog that is no column of the model has
+    /// what rows added of it, so 0 where no row has it.
     pub fn column(&self, column: Column) -> i128
         ensures { result ≡ (total_of self.now column).sum }
     {
