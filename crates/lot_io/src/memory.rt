@@ -1,5 +1,5 @@
 // Files and a sink in memory, whose calls can be made to fail by their numbers.
-ghost use Rattle.std.specs.Prelude.{◌≡◌, ◌≤◌, ◌++◌, ◌↔◌, ◌⊎◌, ℕ, List, [], length, Some, None, unwrap_or, IfOk, OnOk, OnErr, IsErr, IsErrOf, Contains};
+ghost use Rattle.std.specs.Prelude.{◌≡◌, ◌≤◌, ◌-◌, ◌++◌, ◌↔◌, ◌⊎◌, ℕ, min, List, [], length, Some, None, unwrap_or, IfOk, OnOk, OnErr, IsErr, IsErrOf, Contains};
 ghost use Rattle.lot_io.specs.Memory.{file_in, next_count, printed, shelved};
 ghost use Rattle.lot_io.specs.Shelves.{AddsHalf, AddsNothing, KeepsLists, PutsHalf, PutsNothing};
 ghost use Rattle.lot_io.specs.Outside.{Fetched, SameElsewhere, GrewBy, AppendsSome, OnlyReads, OnlyWrites, Finds, Misses, Fails};
@@ -81,6 +81,7 @@ impl MemoryShelf {
 fn copy_from(file: &[u8], at: u64, room: &mut [u8]) -> usize
     ensures bound { result ≤ length room.new }
     ensures bytes { Fetched file.now at result room.new }
+    ensures most { result ≡ min (length room.new) (length file.now - at) }
 {
     if at >= file.len() as u64 {
         return 0;
@@ -99,6 +100,9 @@ impl Shelf for MemoryShelf {
         ensures bound { IfOk result (λ n. n ≤ length room.new) }
         ensures bytes { IfOk result (λ n. (bytes : List ℕ)
             × (file_in self.old.files name.now ≡ Some bytes) × Fetched bytes at n room.new) }
+        ensures most { IfOk result (λ n. (bytes : List ℕ)
+            × (file_in self.old.files name.now ≡ Some bytes)
+            × (n ≡ min (length room.new) (length bytes - at))) }
         ensures given { IfOk result (λ n. GrewBy n self.old.given self.new.given) }
         ensures not_given { OnErr result (self.new.given ≡ self.old.given) }
         ensures found { OnOk result (Finds (shelved self.old) (shelved self.new)) }
