@@ -1,5 +1,5 @@
 -- What is needed next, and what is left after it.
-use Rattle.std.proofs.Common.{◌≡◌, ◌≤◌, ◌<◌, ◌∙◌, ℕ, zero, suc, refl, sym, ap, arith, length, true, false, List, [], ◌∷◌, ◌++◌, append_assoc, Bool}
+use Rattle.std.proofs.Common.{◌≡◌, ◌≤◌, ◌<◌, ◌∙◌, ℕ, zero, suc, refl, sym, ap, arith, length, true, false, List, [], ◌∷◌, ◌++◌, append_assoc, Bool, set, slice_index_or, take}
 use Rattle.std.specs.Prelude.{IsTrue, not, replicate}
 use Rattle.certificate.specs.Dues.{Due, a_cut, a_group, a_list, a_part, a_tree, row_dues}
 use Rattle.certificate.specs.Stacks.{last_dues, trees_before}
@@ -24,6 +24,24 @@ trees_push (b ∷ trees) above rest = trees_push trees above (a_tree b ∷ rest)
 pub tree_first : (p l g c : ℕ) (t u : List ℕ) (above : ℕ) (e : Bool) → p ≡ 0 → l ≡ 0 → g ≡ 0 → c ≡ 0 → u ≡ t ++ above ∷ [] → dues_of p l g c u e ≡ a_tree above ∷ dues_of p l g c t e
 tree_first p l g c t u above e parts lists groups cuts is =
     none_before p l g c u e parts lists groups cuts ∙ ap (λ x. trees_of x e) is ∙ trees_push t above (last_dues e) ∙ ap (λ ns. a_tree above ∷ ns) (sym (none_before p l g c t e parts lists groups cuts))
+
+-- the last element of a list and those before it
+pub last_is : (xs : List ℕ) (k : ℕ) (d : ℕ) → length xs ≡ suc k → xs ≡ take k xs ++ slice_index_or xs k d ∷ []
+last_is [] k d is = cc is
+last_is (x ∷ []) zero d is = refl
+last_is (x ∷ y ∷ xs) zero d is = absurd (omega (arith, is))
+last_is (x ∷ xs) (suc k) d is = ap (λ l. x ∷ l) (last_is xs k d (omega (arith, is)))
+
+-- one is put at the end, and the one before it is changed
+pub last_set : (xs : List ℕ) (k a b : ℕ) → length xs ≡ suc k → set (xs ++ b ∷ []) k a ≡ (take k xs ++ a ∷ []) ++ b ∷ []
+last_set [] k a b is = cc is
+last_set (x ∷ []) zero a b is = refl
+last_set (x ∷ y ∷ xs) zero a b is = absurd (omega (arith, is))
+last_set (x ∷ xs) (suc k) a b is = ap (λ l. x ∷ l) (last_set xs k a b (omega (arith, is)))
+
+-- the last tree is needed first
+pub last_first : (p l g c : ℕ) (t : List ℕ) (k d : ℕ) (e : Bool) → p ≡ 0 → l ≡ 0 → g ≡ 0 → c ≡ 0 → length t ≡ suc k → dues_of p l g c t e ≡ a_tree (slice_index_or t k d) ∷ dues_of p l g c (take k t) e
+last_first p l g c t k d e parts lists groups cuts is = tree_first p l g c (take k t) t (slice_index_or t k d) e parts lists groups cuts (last_is t k d is)
 
 -- what a leaf over reduced costs needs comes first
 pub rows_first : (p l g : ℕ) (a b c d : ℕ) (t : List ℕ) (e : Bool) → a ≡ 0 → b ≡ 0 → c ≡ 0 → d ≡ 0 → row_dues p l g ++ dues_of a b c d t e ≡ dues_of p l g d t e

@@ -1,10 +1,10 @@
 // What a text needs next, as a value: one line after the other takes from it.
-ghost use Rattle.std.specs.Prelude.{◌≡◌, ◌≤◌, ◌↔◌, [], ◌∷◌, IfOk, IsErrOf, IsTrue, OnOk};
+ghost use Rattle.std.specs.Prelude.{◌≡◌, ◌≤◌, ◌↔◌, [], ◌∷◌, IfErr, IfOk, IsErrOf, IsTrue, OnOk, length};
 ghost use Rattle.cert_lines.specs.Shapes.{line_shape};
 ghost use Rattle.certificate.specs.declared.dues.Misfit.TheVariants.{Deep, Unwanted};
-ghost use Rattle.certificate.specs.Dues.{IsTooDeep, IsUnwanted, TakesAll, a_tree};
+ghost use Rattle.certificate.specs.Dues.{IsTooDeep, IsUnwanted, TakesAll};
 ghost use Rattle.certificate.specs.Faults.{body_dues};
-ghost use Rattle.certificate.specs.Stacks.{dues_in};
+ghost use Rattle.certificate.specs.Stacks.{EndsTree, HasDeepTree, SplitsTree, dues_in};
 
 use crate::CertLine;
 use cert_lines::MAX_BRANCHES;
@@ -78,13 +78,15 @@ impl Dues {
     }
 
     /// Takes the next line: what it needs itself comes first then. The line is another one than is needed, or a
-    /// branch too deep, exactly where this is the answer. Memory is taken for a branch alone.
+    /// branch too deep, exactly where this is the answer. Memory is taken for a branch alone. After an error just what was
+    /// needed before is still needed (`kept`).
     pub fn take(&mut self, line: &CertLine) -> Result<(), Misfit>
         ensures taken { OnOk result (TakesAll (dues_in self.old) (line_shape line.now ∷ [])
             (dues_in self.new)) }
         ensures unwanted { IsErrOf result Unwanted
             → IsUnwanted (dues_in self.old) (line_shape line.now) }
         ensures deep { IsErrOf result Deep → IsTooDeep (dues_in self.old) (line_shape line.now) }
+        ensures kept { IfErr result (λ _. dues_in self.new ≡ dues_in self.old) }
     {
         if self.parts > 0 {
             return self.take_part(line);
@@ -98,10 +100,10 @@ impl Dues {
         if self.cuts > 0 {
             return self.take_cut(line);
         }
-        match self.trees.pop() {
-            Some(above) => self.take_tree(line, above),
-            None => self.take_end(line),
+        if self.trees.is_empty() {
+            return self.take_end(line);
         }
+        self.take_tree(line)
     }
 
     /// Whether nothing is needed any more.
@@ -134,6 +136,7 @@ impl Dues {
         ensures unwanted { IsErrOf result Unwanted
             → IsUnwanted (dues_in self.old) (line_shape line.now) }
         ensures deep { IsErrOf result Deep → ⊥ }
+        ensures kept { IfErr result (λ _. dues_in self.new ≡ dues_in self.old) }
     {
         match line {
             CertLine::Part(_) => {
@@ -153,6 +156,7 @@ impl Dues {
         ensures unwanted { IsErrOf result Unwanted
             → IsUnwanted (dues_in self.old) (line_shape line.now) }
         ensures deep { IsErrOf result Deep → ⊥ }
+        ensures kept { IfErr result (λ _. dues_in self.new ≡ dues_in self.old) }
     {
         match line {
             CertLine::List(_) => {
@@ -173,6 +177,7 @@ impl Dues {
         ensures unwanted { IsErrOf result Unwanted
             → IsUnwanted (dues_in self.old) (line_shape line.now) }
         ensures deep { IsErrOf result Deep → ⊥ }
+        ensures kept { IfErr result (λ _. dues_in self.new ≡ dues_in self.old) }
     {
         match line {
             CertLine::Group(_) => {
@@ -194,6 +199,7 @@ impl Dues {
         ensures unwanted { IsErrOf result Unwanted
             → IsUnwanted (dues_in self.old) (line_shape line.now) }
         ensures deep { IsErrOf result Deep → ⊥ }
+        ensures kept { IfErr result (λ _. dues_in self.new ≡ dues_in self.old) }
     {
         match line {
             CertLine::Cut(_) => {
@@ -209,43 +215,43 @@ impl Dues {
         }
     }
 
-    // A line where a tree with so many branches above it is needed, which was taken from the trees.
-    fn take_tree(&mut self, line: &CertLine, above: u32) -> Result<(), Misfit>
+    // A line where a tree is needed, the last one of the trees.
+    fn take_tree(&mut self, line: &CertLine) -> Result<(), Misfit>
         requires parts { self.old.parts ≡ 0 }
         requires lists { self.old.lists ≡ 0 }
         requires groups { self.old.groups ≡ 0 }
         requires cuts { self.old.cuts ≡ 0 }
-        ensures taken { OnOk result (TakesAll (a_tree above ∷ dues_in self.old)
-            (line_shape line.now ∷ []) (dues_in self.new)) }
+        requires some { 1 ≤ length self.old.trees.items }
+        ensures taken { OnOk result (TakesAll (dues_in self.old) (line_shape line.now ∷ [])
+            (dues_in self.new)) }
         ensures unwanted { IsErrOf result Unwanted
-            → IsUnwanted (a_tree above ∷ dues_in self.old) (line_shape line.now) }
-        ensures deep { IsErrOf result Deep
-            → IsTooDeep (a_tree above ∷ dues_in self.old) (line_shape line.now) }
+            → IsUnwanted (dues_in self.old) (line_shape line.now) }
+        ensures deep { IsErrOf result Deep → IsTooDeep (dues_in self.old) (line_shape line.now) }
+        ensures kept { IfErr result (λ _. dues_in self.new ≡ dues_in self.old) }
     {
         match line {
-            CertLine::Branch { .. } => {
-                if above >= MAX_BRANCHES {
-                    return Err(Misfit::Deep);
-                }
-                self.trees.push(above + 1)?;
-                self.trees.push(above + 1)?;
-                Ok(())
-            }
+            CertLine::Branch { .. } => self.split_last(),
             CertLine::Linear { parts, .. } => {
+                self.end_last();
                 self.parts = *parts;
                 Ok(())
             }
             CertLine::Farkas { parts } => {
+                self.end_last();
                 self.parts = *parts;
                 Ok(())
             }
-            CertLine::Point => Ok(()),
+            CertLine::Point => {
+                self.end_last();
+                Ok(())
+            }
             CertLine::Reduced {
                 parts,
                 lists,
                 groups,
                 ..
             } => {
+                self.end_last();
                 self.parts = *parts;
                 self.lists = *lists;
                 self.groups = *groups;
@@ -253,6 +259,45 @@ impl Dues {
             }
             _ => Err(Misfit::Unwanted),
         }
+    }
+
+    // The last tree begins with a branch: both of its sides are needed in its place.
+    fn split_last(&mut self) -> Result<(), Misfit>
+        requires parts { self.old.parts ≡ 0 }
+        requires lists { self.old.lists ≡ 0 }
+        requires groups { self.old.groups ≡ 0 }
+        requires cuts { self.old.cuts ≡ 0 }
+        requires some { 1 ≤ length self.old.trees.items }
+        ensures split { OnOk result (SplitsTree self.old self.new) }
+        ensures unwanted { IsErrOf result Unwanted → ⊥ }
+        ensures deep { IsErrOf result Deep → HasDeepTree self.old }
+        ensures kept { IfErr result (λ _. dues_in self.new ≡ dues_in self.old) }
+    {
+        let last = self.trees.len() - 1;
+        let above = self.trees[last];
+        if above >= MAX_BRANCHES {
+            return Err(Misfit::Deep);
+        }
+        // The room for one more tree is taken first, so that a want of memory changes nothing.
+        self.trees.push(above + 1)?;
+        self.trees[last] = above + 1;
+        Ok(())
+    }
+
+    // The last tree is a leaf.
+    fn end_last(&mut self)
+        requires parts { self.old.parts ≡ 0 }
+        requires lists { self.old.lists ≡ 0 }
+        requires groups { self.old.groups ≡ 0 }
+        requires cuts { self.old.cuts ≡ 0 }
+        requires some { 1 ≤ length self.old.trees.items }
+        ensures ends { EndsTree self.old self.new }
+        ensures parts { self.new.parts ≡ 0 }
+        ensures lists { self.new.lists ≡ 0 }
+        ensures groups { self.new.groups ≡ 0 }
+        ensures cuts { self.new.cuts ≡ 0 }
+    {
+        let _last = self.trees.pop();
     }
 
     // A line where the end is needed, or nothing.
@@ -267,6 +312,7 @@ impl Dues {
         ensures unwanted { IsErrOf result Unwanted
             → IsUnwanted (dues_in self.old) (line_shape line.now) }
         ensures deep { IsErrOf result Deep → ⊥ }
+        ensures kept { IfErr result (λ _. dues_in self.new ≡ dues_in self.old) }
     {
         if !self.end {
             return Err(Misfit::Unwanted);
