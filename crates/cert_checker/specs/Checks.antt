@@ -34,11 +34,6 @@ abbrev pub plan_given : Option Plan → Option terms.Plan
 plan_given None = None
 plan_given (Some p) = Some (plan_of p)
 
--- the grids of a plan that was given have the problem's items and periods
-abbrev pub GivenFits : Problem → Option Plan → Type 0
-GivenFits m None = ⊤
-GivenFits m (Some p) = AllFit m p
-
 -- the line of the claim, and that of the first cut
 abbrev pub line_at_claim : ℕ
 line_at_claim = CLAIM_LINE

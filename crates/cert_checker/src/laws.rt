@@ -1,7 +1,8 @@
 // Laws about checks, each the contract of a function that does nothing.
-ghost use Rattle.cert_checker.specs.Laws.{CertifiedIsNotRefused, ChecksAreOne, LinesAreBytes};
+ghost use Rattle.cert_checker.specs.Laws.{CertifiedIsNotRefused, ChecksAreOne, GoodIsNotFaulty, LinesAreBytes};
 
 use acceptance::{cut_rows_are_one, cut_rows_go_on, says_are_one};
+use bill::totals_exist;
 use plan_rules::judgement_is_one;
 use reduced_leaf::reduced_sums_are_one;
 
@@ -31,4 +32,13 @@ pub fn certified_is_not_refused()
     cut_rows_are_one();
     says_are_one();
     reduced_sums_are_one();
+}
+
+/// In a problem in which no item is its own component no certificate is both: what `check` promises where it accepts one and what
+/// it promises where it refuses one exclude each other, since there are largest totals and weights of which both are said.
+pub fn good_is_not_faulty()
+    ensures { GoodIsNotFaulty }
+{
+    totals_exist();
+    certified_is_not_refused();
 }

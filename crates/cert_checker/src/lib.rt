@@ -38,6 +38,6 @@ pub use claims::{judge_claim, shortfall};
 pub use cut::{cut_row, cut_row_in};
 pub use cut_echelons::echelon_for;
 pub use fault::{CheckFault, Rejected, Why};
-pub use laws::{certified_is_not_refused, checks_are_one, lines_are_bytes};
+pub use laws::{certified_is_not_refused, checks_are_one, good_is_not_faulty, lines_are_bytes};
 pub use leaf::{leaf_bound, leaf_bound_in};
 pub use named::NamedSums;
