@@ -26,6 +26,15 @@ pub struct LineSums {
     pub held_net: Vec<u128>,
 }
 
+/// A single item with the sums that tell what its lines cost.
+#[derive(Clone, Copy)]
+pub struct SummedItem<'a> {
+    /// The item.
+    pub single: &'a SingleItem,
+    /// The sums over its first periods and positions.
+    pub sums: &'a LineSums,
+}
+
 /// What all positions up to one cost.
 pub fn cost_at(single: &SingleItem, sums: &LineSums, line: Line, position: u32) -> u128
     requires within { IsWithinBounds (single_of_item single.now) }

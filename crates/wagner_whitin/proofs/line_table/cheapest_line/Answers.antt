@@ -7,20 +7,20 @@ use Rattle.wagner_whitin.proofs.Progress.{found_is, met_here}
 use Rattle.wagner_whitin.proofs.line_table.cheapest_line.Goals as goal
 
 pub overflow_cast-position : goal.overflow_cast-position
-overflow_cast-position g c = omega (arith, positions_small (single_of_item c.args.single.now) c.requires.within, c.requires.some)
+overflow_cast-position g c = omega (arith, positions_small (single_of_item c.args.item.now.single.now) c.requires.within, c.requires.some)
 
 pub overflow_add-position : goal.overflow_add-position
-overflow_add-position g c = omega (arith, positions_small (single_of_item c.args.single.now) c.requires.within, c.requires.some)
+overflow_add-position g c = omega (arith, positions_small (single_of_item c.args.item.now.single.now) c.requires.within, c.requires.some)
 
-pub overflow_cast-end : goal.overflow_cast-end
-overflow_cast-end g c = omega (arith, positions_small (single_of_item c.args.single.now) c.requires.within, c.requires.hull.size)
+pub overflow_cast-whole : goal.overflow_cast-whole
+overflow_cast-whole g c = omega (arith, positions_small (single_of_item c.args.item.now.single.now) c.requires.within, c.requires.hull.size)
 
-pub overflow_add-end : goal.overflow_add-end
-overflow_add-end g c = omega (arith, positions_small (single_of_item c.args.single.now) c.requires.within, c.requires.hull.size)
+pub overflow_add-whole : goal.overflow_add-whole
+overflow_add-whole g c = omega (arith, positions_small (single_of_item c.args.item.now.single.now) c.requires.within, c.requires.hull.size)
 
 pub unreachable-requires : goal.unreachable-requires
 unreachable-requires g c =
-    let s = single_of_item c.args.single.now in
+    let s = single_of_item c.args.item.now.single.now in
     let xs = c.args.potentials.now in
     let p = length xs + 1 in
     let period = period_in s p c.requires.within (omega arith) (omega (arith, c.requires.some)) in
@@ -30,7 +30,7 @@ unreachable-requires g c =
 
 pub returns-clause-cheapest : goal.returns-clause-cheapest
 returns-clause-cheapest g c =
-    let s = single_of_item c.args.single.now in
+    let s = single_of_item c.args.item.now.single.now in
     let xs = c.args.potentials.now in
     let p = length xs + 1 in
     let kept = subst (IsKept c.args.slots.now) c.in-Some.is c.cheapest.ensures.kept in
