@@ -21,6 +21,14 @@ struct Widths {
     numbers: usize,
 }
 
+// The numbers of a plan that a table shows.
+#[derive(Clone, Copy)]
+struct Shown<'a> {
+    instance: &'a Instance,
+    plan: &'a Plan,
+    series: Series,
+}
+
 // Adds the number of a period at the head of its column.
 #[tactic(auto, unfolding(crate::specs::Tables::head_cell))]
 fn add_head_cell(
@@ -79,22 +87,21 @@ fn add_row_cell(
     alloc: Global,
     text: &mut String,
     width: usize,
-    instance: &Instance,
-    plan: &Plan,
-    series: Series,
+    shown: &Shown<'_>,
     row: u32,
     period: u32,
 ) -> Result<(), AllocError>
-    requires fits { AllFit instance.now plan.now }
+    requires fits { AllFit shown.now.instance.now shown.now.plan.now }
     requires row_low { 1 ≤ row }
-    requires row_high { row ≤ row_count instance.now series }
+    requires row_high { row ≤ row_count shown.now.instance.now shown.now.series }
     requires low { 1 ≤ period }
-    requires high { period ≤ instance.now.periods }
+    requires high { period ≤ shown.now.instance.now.periods }
     ensures { OnOk result (string_bytes text.new ≡ string_bytes text.old
-        ++ row_cell width instance.now (plan_of plan.now) series row period) }
+        ++ row_cell width shown.now.instance.now (plan_of shown.now.plan.now) shown.now.series row
+        period) }
 {
-    let shown = cell_text(alloc, instance, plan, series, row, period)?;
-    add_at_right(text, width, shown.as_str())?;
+    let number = cell_text(alloc, shown.instance, shown.plan, shown.series, row, period)?;
+    add_at_right(text, width, number.as_str())?;
     Ok(())
 }
 
@@ -104,19 +111,17 @@ fn add_row_cells(
     alloc: Global,
     text: &mut String,
     width: usize,
-    instance: &Instance,
-    plan: &Plan,
-    series: Series,
+    shown: &Shown<'_>,
     row: u32,
 ) -> Result<(), AllocError>
-    requires fits { AllFit instance.now plan.now }
+    requires fits { AllFit shown.now.instance.now shown.now.plan.now }
     requires low { 1 ≤ row }
-    requires high { row ≤ row_count instance.now series }
+    requires high { row ≤ row_count shown.now.instance.now shown.now.series }
     ensures { OnOk result (string_bytes text.new ≡ string_bytes text.old
-        ++ row_cells width instance.now (plan_of plan.now) series row) }
+        ++ row_cells width shown.now.instance.now (plan_of shown.now.plan.now) shown.now.series row) }
 {
-    for period in 1..instance.periods() + 1 {
-        add_row_cell(alloc, text, width, instance, plan, series, row, period)?;
+    for period in 1..shown.instance.periods() + 1 {
+        add_row_cell(alloc, text, width, shown, row, period)?;
     }
     Ok(())
 }
@@ -127,20 +132,19 @@ fn add_row(
     alloc: Global,
     text: &mut String,
     widths: Widths,
-    instance: &Instance,
-    plan: &Plan,
-    series: Series,
+    shown: &Shown<'_>,
     row: u32,
 ) -> Result<(), AllocError>
-    requires fits { AllFit instance.now plan.now }
+    requires fits { AllFit shown.now.instance.now shown.now.plan.now }
     requires low { 1 ≤ row }
-    requires high { row ≤ row_count instance.now series }
+    requires high { row ≤ row_count shown.now.instance.now shown.now.series }
     ensures { OnOk result (string_bytes text.new ≡ string_bytes text.old
-        ++ row_line widths.labels widths.numbers instance.now (plan_of plan.now) series row) }
+        ++ row_line widths.labels widths.numbers shown.now.instance.now (plan_of shown.now.plan.now)
+        shown.now.series row) }
 {
-    let name = row_name(instance, series, row);
+    let name = row_name(shown.instance, shown.series, row);
     add_at_left(text, widths.labels, name)?;
-    add_row_cells(alloc, text, widths.numbers, instance, plan, series, row)?;
+    add_row_cells(alloc, text, widths.numbers, shown, row)?;
     text.push_str("\n")?;
     Ok(())
 }
@@ -151,16 +155,15 @@ fn add_rows(
     alloc: Global,
     text: &mut String,
     widths: Widths,
-    instance: &Instance,
-    plan: &Plan,
-    series: Series,
+    shown: &Shown<'_>,
 ) -> Result<(), AllocError>
-    requires { AllFit instance.now plan.now }
+    requires { AllFit shown.now.instance.now shown.now.plan.now }
     ensures { OnOk result (string_bytes text.new ≡ string_bytes text.old
-        ++ row_lines widths.labels widths.numbers instance.now (plan_of plan.now) series) }
+        ++ row_lines widths.labels widths.numbers shown.now.instance.now (plan_of
+        shown.now.plan.now) shown.now.series) }
 {
-    for row in 1..row_count(instance, series) + 1 {
-        add_row(alloc, text, widths, instance, plan, series, row)?;
+    for row in 1..row_count(shown.instance, shown.series) + 1 {
+        add_row(alloc, text, widths, shown, row)?;
     }
     Ok(())
 }
@@ -180,7 +183,12 @@ fn add_lines(
         ++ table_of_widths widths.labels widths.numbers instance.now (plan_of plan.now) series) }
 {
     add_head(alloc, text, widths, instance, series)?;
-    add_rows(alloc, text, widths, instance, plan, series)?;
+    let shown = &Shown {
+        instance,
+        plan,
+        series,
+    };
+    add_rows(alloc, text, widths, shown)?;
     text.push_str("\n")?;
     Ok(())
 }

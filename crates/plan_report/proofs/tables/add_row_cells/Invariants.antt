@@ -6,4 +6,4 @@ use Rattle.plan_report.proofs.tables.add_row_cells.Given as goal
 
 -- the cells so far
 abbrev pub invariant-loop-period : goal.invariant-loop-period
-invariant-loop-period l = string_bytes l.text ≡ string_bytes l.fn.text ++ join_to (l.period - 1) (row_cell l.width l.instance (plan_of l.plan) l.series l.row)
+invariant-loop-period l = string_bytes l.text ≡ string_bytes l.fn.text ++ join_to (l.period - 1) (row_cell l.width l.shown.instance.now (plan_of l.shown.plan.now) l.shown.series l.row)

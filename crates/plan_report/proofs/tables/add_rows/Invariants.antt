@@ -6,4 +6,4 @@ use Rattle.plan_report.proofs.tables.add_rows.Given as goal
 
 -- the lines so far
 abbrev pub invariant-loop-row : goal.invariant-loop-row
-invariant-loop-row l = string_bytes l.text ≡ string_bytes l.fn.text ++ join_to (l.row - 1) (row_line l.widths.labels l.widths.numbers l.instance (plan_of l.plan) l.series)
+invariant-loop-row l = string_bytes l.text ≡ string_bytes l.fn.text ++ join_to (l.row - 1) (row_line l.widths.labels l.widths.numbers l.shown.instance.now (plan_of l.shown.plan.now) l.shown.series)
