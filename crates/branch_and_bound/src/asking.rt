@@ -13,6 +13,17 @@ use crate::{Guide, Node, Proposal, Sought, Split};
 use std::alloc::{AllocError, Global};
 use std::boxed::Box;
 
+/// What a round of asking goes by.
+#[derive(Drop)]
+pub struct Asking<'a, G> {
+    /// Where its answers get their memory.
+    pub alloc: Global,
+    /// The guide, which is asked.
+    pub guide: &'a G,
+    /// Leaves that say just this number are asked at.
+    pub bound: u128,
+}
+
 // A leaf, after evidence was asked for if it says just this number.
 fn ask_leaf<S, G: Guide<S>>(
     alloc: Global,
@@ -41,21 +52,21 @@ fn ask_leaf<S, G: Guide<S>>(
 // before. The node is as before. It calls itself for each branch on the way to a leaf.
 #[cycle(ask)]
 pub fn ask_tree<S, G: Guide<S>>(
-    alloc: Global,
-    guide: &G,
+    asking: &Asking<'_, G>,
     node: &mut Node,
     state: &mut S,
-    bound: u128,
     tree: Sought,
 ) -> Result<Sought, AllocError>
-    requires node { AtNode node.old (IsGuided G.Guide guide.now) }
-    requires state { G.IsState guide.now state.old }
-    requires tree { AtNode node.old (IsSoundTree G.Guide guide.now state.old tree) }
+    requires node { AtNode node.old (IsGuided G.Guide asking.now.guide.now) }
+    requires state { G.IsState asking.now.guide.now state.old }
+    requires tree { AtNode node.old (IsSoundTree G.Guide asking.now.guide.now state.old tree) }
     ensures same_node { OnOk result (IsSameNode node.old node.new) }
-    ensures later { OnOk result (IsLater G.Guide guide.now state.old state.new) }
+    ensures later { OnOk result (IsLater G.Guide asking.now.guide.now state.old state.new) }
     ensures count { IfOk result (λ t. branches t ≡ branches tree) }
-    ensures tree { IfOk result (λ t. AtNode node.old (IsSoundTree G.Guide guide.now state.new t)) }
-    ensures fewer { IfOk result (λ t. unexamined t + wanted bound tree ≡ unexamined tree) }
+    ensures tree { IfOk result (λ t. AtNode node.old (IsSoundTree G.Guide asking.now.guide.now
+        state.new t)) }
+    ensures fewer { IfOk result (λ t. unexamined t + wanted asking.now.bound tree
+        ≡ unexamined tree) }
     ensures deep { IfOk result (λ t.
         AtNode node.old (StaysDeep G.Guide state.old state.new tree t)) }
     ensures risen { IfOk result (λ t. IsAtMost (least_said tree) (least_said t)) }
@@ -68,17 +79,20 @@ pub fn ask_tree<S, G: Guide<S>>(
             low,
             high,
         } => ask_branch(
-            alloc,
-            guide,
+            asking,
             node,
             state,
-            bound,
             Split { column, place, at },
             Box::into_inner(low),
             Box::into_inner(high),
         ),
         Sought::Leaf(proposal) => Ok(Sought::Leaf(ask_leaf(
-            alloc, guide, node, state, bound, proposal,
+            asking.alloc,
+            asking.guide,
+            node,
+            state,
+            asking.bound,
+            proposal,
         )?)),
     }
 }
@@ -86,64 +100,66 @@ pub fn ask_tree<S, G: Guide<S>>(
 // The same of a branch with these sides.
 #[cycle(ask)]
 fn ask_branch<S, G: Guide<S>>(
-    alloc: Global,
-    guide: &G,
+    asking: &Asking<'_, G>,
     node: &mut Node,
     state: &mut S,
-    bound: u128,
     split: Split,
     low: Sought,
     high: Sought,
 ) -> Result<Sought, AllocError>
-    requires node { AtNode node.old (IsGuided G.Guide guide.now) }
-    requires state { G.IsState guide.now state.old }
-    requires branch { AtNode node.old (IsBranchOf (G.rules guide.now) split) }
-    requires low { AtSide true node.old split (IsSoundTree G.Guide guide.now state.old low) }
-    requires high { AtSide false node.old split (IsSoundTree G.Guide guide.now state.old high) }
+    requires node { AtNode node.old (IsGuided G.Guide asking.now.guide.now) }
+    requires state { G.IsState asking.now.guide.now state.old }
+    requires branch { AtNode node.old (IsBranchOf (G.rules asking.now.guide.now) split) }
+    requires low { AtSide true node.old split (IsSoundTree G.Guide asking.now.guide.now state.old
+        low) }
+    requires high { AtSide false node.old split (IsSoundTree G.Guide asking.now.guide.now state.old
+        high) }
     ensures same_node { OnOk result (IsSameNode node.old node.new) }
-    ensures later { OnOk result (IsLater G.Guide guide.now state.old state.new) }
+    ensures later { OnOk result (IsLater G.Guide asking.now.guide.now state.old state.new) }
     ensures count { IfOk result (λ t. branches t ≡ branches low + branches high + 1) }
-    ensures tree { IfOk result (λ t. AtNode node.old (IsSoundTree G.Guide guide.now state.new t)) }
+    ensures tree { IfOk result (λ t. AtNode node.old (IsSoundTree G.Guide asking.now.guide.now
+        state.new t)) }
     ensures fewer { IfOk result (λ t.
-        unexamined t + wanted bound low + wanted bound high ≡ unexamined low + unexamined high) }
+        unexamined t + wanted asking.now.bound low + wanted asking.now.bound high
+        ≡ unexamined low + unexamined high) }
     ensures deep { IfOk result (StaysDeepJoined G.Guide state.old state.new node.old split low
         high) }
     ensures risen { IfOk result (λ t.
         IsAtMost (lesser (least_said low) (least_said high)) (least_said t)) }
 {
-    let left = ask_side(alloc, guide, node, state, bound, split, true, low)?;
-    let right = ask_side(alloc, guide, node, state, bound, split, false, high)?;
-    Ok(join(alloc, split, left, right)?)
+    let left = ask_side(asking, node, state, split, true, low)?;
+    let right = ask_side(asking, node, state, split, false, high)?;
+    Ok(join(asking.alloc, split, left, right)?)
 }
 
 // The same of a side of a branch.
 #[cycle(ask)]
 fn ask_side<S, G: Guide<S>>(
-    alloc: Global,
-    guide: &G,
+    asking: &Asking<'_, G>,
     node: &mut Node,
     state: &mut S,
-    bound: u128,
     split: Split,
     most: bool,
     tree: Sought,
 ) -> Result<Sought, AllocError>
-    requires node { AtNode node.old (IsGuided G.Guide guide.now) }
-    requires state { G.IsState guide.now state.old }
-    requires branch { AtNode node.old (IsBranchOf (G.rules guide.now) split) }
-    requires tree { AtSide most node.old split (IsSoundTree G.Guide guide.now state.old tree) }
+    requires node { AtNode node.old (IsGuided G.Guide asking.now.guide.now) }
+    requires state { G.IsState asking.now.guide.now state.old }
+    requires branch { AtNode node.old (IsBranchOf (G.rules asking.now.guide.now) split) }
+    requires tree { AtSide most node.old split (IsSoundTree G.Guide asking.now.guide.now state.old
+        tree) }
     ensures same_node { OnOk result (IsSameNode node.old node.new) }
-    ensures later { OnOk result (IsLater G.Guide guide.now state.old state.new) }
+    ensures later { OnOk result (IsLater G.Guide asking.now.guide.now state.old state.new) }
     ensures count { IfOk result (λ t. branches t ≡ branches tree) }
     ensures tree { IfOk result (λ t.
-        AtSide most node.old split (IsSoundTree G.Guide guide.now state.new t)) }
-    ensures fewer { IfOk result (λ t. unexamined t + wanted bound tree ≡ unexamined tree) }
+        AtSide most node.old split (IsSoundTree G.Guide asking.now.guide.now state.new t)) }
+    ensures fewer { IfOk result (λ t. unexamined t + wanted asking.now.bound tree
+        ≡ unexamined tree) }
     ensures deep { IfOk result (λ t.
         AtSide most node.old split (StaysDeep G.Guide state.old state.new tree t)) }
     ensures risen { IfOk result (λ t. IsAtMost (least_said tree) (least_said t)) }
 {
-    let range = enter::<S, G>(guide, node, split, most)?;
-    let examined = ask_tree(alloc, guide, node, state, bound, tree)?;
+    let range = enter::<S, G>(asking.guide, node, split, most)?;
+    let examined = ask_tree(asking, node, state, tree)?;
     leave(node, split.place, range);
     Ok(examined)
 }

@@ -7,12 +7,30 @@ ghost use Rattle.branch_and_bound.specs.Guided.{AreDeep, AtNode, AtSide, IsBranc
 ghost use Rattle.branch_and_bound.specs.Joined.{IsBranch};
 
 use crate::costs::is_below;
-use crate::side::{enter, leave};
+use crate::side::{Side, enter, leave};
 use crate::splitting::propose_sides;
 use crate::{Guide, Node, Proposal, Sought, Split};
 use cert_lines::MAX_BRANCHES;
 use std::alloc::{AllocError, Global};
 use std::boxed::Box;
+
+/// What a pass over a tree goes by.
+#[derive(Drop)]
+pub struct Pass<'a, G> {
+    /// Where branches get their memory.
+    pub alloc: Global,
+    /// The guide.
+    pub guide: &'a G,
+    /// Leaves below it are branched on; all that are left open, where there is none.
+    pub mark: Option<u128>,
+}
+
+// The trees of the two sides of a branch.
+#[derive(Drop)]
+struct Halves {
+    low: Sought,
+    high: Sought,
+}
 
 // Whether a leaf is branched on: there is room for a branch, and the leaf is below the mark and the best cost.
 fn is_branched(
@@ -66,24 +84,23 @@ pub fn join(alloc: Global, split: Split, low: Sought, high: Sought) -> Result<So
 // guide doesn't end the search. The node is as before. It calls itself for each branch on the way to a leaf.
 #[cycle(grow)]
 pub fn grow<S, G: Guide<S>>(
-    alloc: Global,
-    guide: &G,
+    pass: &Pass<'_, G>,
     node: &mut Node,
     state: &mut S,
     room: &mut u64,
-    mark: Option<u128>,
     tree: Sought,
 ) -> Result<Sought, AllocError>
-    requires node { AtNode node.old (IsGuided G.Guide guide.now) }
-    requires state { G.IsState guide.now state.old }
-    requires tree { AtNode node.old (IsSoundTree G.Guide guide.now state.old tree) }
+    requires node { AtNode node.old (IsGuided G.Guide pass.now.guide.now) }
+    requires state { G.IsState pass.now.guide.now state.old }
+    requires tree { AtNode node.old (IsSoundTree G.Guide pass.now.guide.now state.old tree) }
     ensures same_node { OnOk result (IsSameNode node.old node.new) }
-    ensures later { OnOk result (IsLater G.Guide guide.now state.old state.new) }
+    ensures later { OnOk result (IsLater G.Guide pass.now.guide.now state.old state.new) }
     ensures less { OnOk result (room.new ≤ room.old) }
     ensures rest { IfOk result (λ t. branches t + room.new ≡ branches tree + room.old) }
-    ensures tree { IfOk result (λ t. AtNode node.old (IsSoundTree G.Guide guide.now state.new t)) }
-    ensures deep { IfOk result (λ t. G.may_stop guide.now state.old ≡ false
-        → 1 ≤ room.new → AtNode node.old (AreDeep mark (G.cost state.new) t)) }
+    ensures tree { IfOk result (λ t. AtNode node.old (IsSoundTree G.Guide pass.now.guide.now
+        state.new t)) }
+    ensures deep { IfOk result (λ t. G.may_stop pass.now.guide.now state.old ≡ false
+        → 1 ≤ room.new → AtNode node.old (AreDeep pass.now.mark (G.cost state.new) t)) }
 {
     match tree {
         Sought::Branch {
@@ -92,122 +109,121 @@ pub fn grow<S, G: Guide<S>>(
             at,
             low,
             high,
-        } => grow_branch(
-            alloc,
-            guide,
-            node,
-            state,
-            room,
-            mark,
-            Split { column, place, at },
-            Box::into_inner(low),
-            Box::into_inner(high),
-        ),
-        Sought::Leaf(proposal) => grow_leaf(alloc, guide, node, state, room, mark, proposal),
+        } => {
+            let split = Split { column, place, at };
+            let halves = Halves {
+                low: Box::into_inner(low),
+                high: Box::into_inner(high),
+            };
+            grow_branch(pass, node, state, room, split, halves)
+        }
+        Sought::Leaf(proposal) => grow_leaf(pass, node, state, room, proposal),
     }
 }
 
 // The same of a leaf.
 #[cycle(grow)]
 fn grow_leaf<S, G: Guide<S>>(
-    alloc: Global,
-    guide: &G,
+    pass: &Pass<'_, G>,
     node: &mut Node,
     state: &mut S,
     room: &mut u64,
-    mark: Option<u128>,
     proposal: Proposal,
 ) -> Result<Sought, AllocError>
-    requires node { AtNode node.old (IsGuided G.Guide guide.now) }
-    requires state { G.IsState guide.now state.old }
-    requires sound { AtNode node.old (IsSoundLeaf G.Guide guide.now state.old proposal) }
+    requires node { AtNode node.old (IsGuided G.Guide pass.now.guide.now) }
+    requires state { G.IsState pass.now.guide.now state.old }
+    requires sound { AtNode node.old (IsSoundLeaf G.Guide pass.now.guide.now state.old proposal) }
     ensures same_node { OnOk result (IsSameNode node.old node.new) }
-    ensures later { OnOk result (IsLater G.Guide guide.now state.old state.new) }
+    ensures later { OnOk result (IsLater G.Guide pass.now.guide.now state.old state.new) }
     ensures less { OnOk result (room.new ≤ room.old) }
     ensures rest { IfOk result (λ t. branches t + room.new ≡ room.old) }
-    ensures tree { IfOk result (λ t. AtNode node.old (IsSoundTree G.Guide guide.now state.new t)) }
-    ensures deep { IfOk result (λ t. G.may_stop guide.now state.old ≡ false
-        → 1 ≤ room.new → AtNode node.old (AreDeep mark (G.cost state.new) t)) }
+    ensures tree { IfOk result (λ t. AtNode node.old (IsSoundTree G.Guide pass.now.guide.now
+        state.new t)) }
+    ensures deep { IfOk result (λ t. G.may_stop pass.now.guide.now state.old ≡ false
+        → 1 ≤ room.new → AtNode node.old (AreDeep pass.now.mark (G.cost state.new) t)) }
 {
-    if !goes_on(guide, state, *room, node.path.len(), proposal.says, mark) {
+    if !goes_on(
+        pass.guide,
+        state,
+        *room,
+        node.path.len(),
+        proposal.says,
+        pass.mark,
+    ) {
         return Ok(Sought::Leaf(proposal));
     }
-    let split = guide.branch(node, &proposal, state);
-    let sides = propose_sides(alloc, guide, node, state, &proposal, split)?;
+    let split = pass.guide.branch(node, &proposal, state);
+    let sides = propose_sides(pass.alloc, pass.guide, node, state, &proposal, split)?;
     *room -= 1;
-    grow_branch(
-        alloc,
-        guide,
-        node,
-        state,
-        room,
-        mark,
-        split,
-        Sought::Leaf(sides.low),
-        Sought::Leaf(sides.high),
-    )
+    let halves = Halves {
+        low: Sought::Leaf(sides.low),
+        high: Sought::Leaf(sides.high),
+    };
+    grow_branch(pass, node, state, room, split, halves)
 }
 
 // The same of a branch with these sides.
 #[cycle(grow)]
 fn grow_branch<S, G: Guide<S>>(
-    alloc: Global,
-    guide: &G,
+    pass: &Pass<'_, G>,
     node: &mut Node,
     state: &mut S,
     room: &mut u64,
-    mark: Option<u128>,
     split: Split,
-    low: Sought,
-    high: Sought,
+    halves: Halves,
 ) -> Result<Sought, AllocError>
-    requires node { AtNode node.old (IsGuided G.Guide guide.now) }
-    requires state { G.IsState guide.now state.old }
-    requires branch { AtNode node.old (IsBranchOf (G.rules guide.now) split) }
-    requires low { AtSide true node.old split (IsSoundTree G.Guide guide.now state.old low) }
-    requires high { AtSide false node.old split (IsSoundTree G.Guide guide.now state.old high) }
+    requires node { AtNode node.old (IsGuided G.Guide pass.now.guide.now) }
+    requires state { G.IsState pass.now.guide.now state.old }
+    requires branch { AtNode node.old (IsBranchOf (G.rules pass.now.guide.now) split) }
+    requires low { AtSide true node.old split (IsSoundTree G.Guide pass.now.guide.now state.old
+        halves.low) }
+    requires high { AtSide false node.old split (IsSoundTree G.Guide pass.now.guide.now state.old
+        halves.high) }
     ensures same_node { OnOk result (IsSameNode node.old node.new) }
-    ensures later { OnOk result (IsLater G.Guide guide.now state.old state.new) }
+    ensures later { OnOk result (IsLater G.Guide pass.now.guide.now state.old state.new) }
     ensures less { OnOk result (room.new ≤ room.old) }
     ensures rest { IfOk result (λ t. branches t + room.new
-        ≡ branches low + branches high + 1 + room.old) }
-    ensures tree { IfOk result (λ t. AtNode node.old (IsSoundTree G.Guide guide.now state.new t)) }
-    ensures deep { IfOk result (λ t. G.may_stop guide.now state.old ≡ false
-        → 1 ≤ room.new → AtNode node.old (AreDeep mark (G.cost state.new) t)) }
+        ≡ branches halves.low + branches halves.high + 1 + room.old) }
+    ensures tree { IfOk result (λ t. AtNode node.old (IsSoundTree G.Guide pass.now.guide.now
+        state.new t)) }
+    ensures deep { IfOk result (λ t. G.may_stop pass.now.guide.now state.old ≡ false
+        → 1 ≤ room.new → AtNode node.old (AreDeep pass.now.mark (G.cost state.new) t)) }
 {
-    let left = grow_side(alloc, guide, node, state, room, mark, split, true, low)?;
-    let right = grow_side(alloc, guide, node, state, room, mark, split, false, high)?;
-    Ok(join(alloc, split, left, right)?)
+    let Halves { low, high } = halves;
+    let low_side = Side { split, most: true };
+    let high_side = Side { split, most: false };
+    let left = grow_side(pass, node, state, room, low_side, low)?;
+    let right = grow_side(pass, node, state, room, high_side, high)?;
+    Ok(join(pass.alloc, split, left, right)?)
 }
 
 // The same of a side of a branch.
 #[cycle(grow)]
 fn grow_side<S, G: Guide<S>>(
-    alloc: Global,
-    guide: &G,
+    pass: &Pass<'_, G>,
     node: &mut Node,
     state: &mut S,
     room: &mut u64,
-    mark: Option<u128>,
-    split: Split,
-    most: bool,
+    side: Side,
     tree: Sought,
 ) -> Result<Sought, AllocError>
-    requires node { AtNode node.old (IsGuided G.Guide guide.now) }
-    requires state { G.IsState guide.now state.old }
-    requires branch { AtNode node.old (IsBranchOf (G.rules guide.now) split) }
-    requires tree { AtSide most node.old split (IsSoundTree G.Guide guide.now state.old tree) }
+    requires node { AtNode node.old (IsGuided G.Guide pass.now.guide.now) }
+    requires state { G.IsState pass.now.guide.now state.old }
+    requires branch { AtNode node.old (IsBranchOf (G.rules pass.now.guide.now) side.split) }
+    requires tree { AtSide side.most node.old side.split (IsSoundTree G.Guide pass.now.guide.now
+        state.old tree) }
     ensures same_node { OnOk result (IsSameNode node.old node.new) }
-    ensures later { OnOk result (IsLater G.Guide guide.now state.old state.new) }
+    ensures later { OnOk result (IsLater G.Guide pass.now.guide.now state.old state.new) }
     ensures less { OnOk result (room.new ≤ room.old) }
     ensures rest { IfOk result (λ t. branches t + room.new ≡ branches tree + room.old) }
     ensures tree { IfOk result (λ t.
-        AtSide most node.old split (IsSoundTree G.Guide guide.now state.new t)) }
-    ensures deep { IfOk result (λ t. G.may_stop guide.now state.old ≡ false
-        → 1 ≤ room.new → AtSide most node.old split (AreDeep mark (G.cost state.new) t)) }
+        AtSide side.most node.old side.split (IsSoundTree G.Guide pass.now.guide.now state.new t)) }
+    ensures deep { IfOk result (λ t. G.may_stop pass.now.guide.now state.old ≡ false
+        → 1 ≤ room.new → AtSide side.most node.old side.split (AreDeep pass.now.mark (G.cost
+        state.new) t)) }
 {
-    let range = enter::<S, G>(guide, node, split, most)?;
-    let grown = grow(alloc, guide, node, state, room, mark, tree)?;
-    leave(node, split.place, range);
+    let range = enter::<S, G>(pass.guide, node, side.split, side.most)?;
+    let grown = grow(pass, node, state, room, tree)?;
+    leave(node, side.split.place, range);
     Ok(grown)
 }

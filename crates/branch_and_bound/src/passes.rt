@@ -6,7 +6,7 @@ ghost use Rattle.branch_and_bound.specs.Guided.{AtNode, IsEnded, IsGuided, IsLat
 
 use crate::costs::is_below;
 use crate::counting::least_number;
-use crate::growing::grow;
+use crate::growing::{Pass, grow};
 use crate::limits::is_near;
 use crate::{Guide, Limits, Node, Sought};
 use std::alloc::{AllocError, Global};
@@ -65,6 +65,19 @@ fn mark_of(
     next_mark(least, root, best)
 }
 
+/// What all passes of a search go by.
+#[derive(Drop)]
+pub struct Passes<'a, G> {
+    /// Where branches get their memory.
+    pub alloc: Global,
+    /// The guide.
+    pub guide: &'a G,
+    /// Where the search may end though its plan isn't shown to be best.
+    pub limits: Limits,
+    /// The number that the root's leaf said.
+    pub root: Option<u128>,
+}
+
 // What a pass leaves.
 #[derive(Drop)]
 struct Passed {
@@ -77,26 +90,24 @@ struct Passed {
 // The tree after one pass. The search is over where there is no room for a branch or no leaf is open, where it ends before
 // the pass, and after the last one.
 fn grow_once<S, G: Guide<S>>(
-    alloc: Global,
-    guide: &G,
+    passes: &Passes<'_, G>,
     node: &mut Node,
     state: &mut S,
-    limits: Limits,
     room: &mut u64,
-    root: Option<u128>,
     is_last: bool,
     first: Sought,
 ) -> Result<Passed, AllocError>
-    requires node { AtNode node.old (IsGuided G.Guide guide.now) }
-    requires state { G.IsState guide.now state.old }
-    requires tree { AtNode node.old (IsSoundTree G.Guide guide.now state.old first) }
+    requires node { AtNode node.old (IsGuided G.Guide passes.now.guide.now) }
+    requires state { G.IsState passes.now.guide.now state.old }
+    requires tree { AtNode node.old (IsSoundTree G.Guide passes.now.guide.now state.old first) }
     ensures same_node { OnOk result (IsSameNode node.old node.new) }
-    ensures later { OnOk result (IsLater G.Guide guide.now state.old state.new) }
+    ensures later { OnOk result (IsLater G.Guide passes.now.guide.now state.old state.new) }
     ensures rest { IfOk result (λ p. branches p.tree + room.new ≡ branches first + room.old) }
     ensures tree { IfOk result (λ p.
-        AtNode node.old (IsSoundTree G.Guide guide.now state.new p.tree)) }
-    ensures ended { IfOk result (λ p. p.is_over ≡ true → G.may_stop guide.now state.old ≡ false
-        → 1 ≤ room.new → AtNode node.old (IsEnded limits.gap (G.cost state.new) p.tree)) }
+        AtNode node.old (IsSoundTree G.Guide passes.now.guide.now state.new p.tree)) }
+    ensures ended { IfOk result (λ p. p.is_over ≡ true → G.may_stop passes.now.guide.now state.old ≡
+        false
+        → 1 ≤ room.new → AtNode node.old (IsEnded passes.now.limits.gap (G.cost state.new) p.tree)) }
     ensures last { IfOk result (λ p. is_last ≡ true → p.is_over ≡ true) }
 {
     if *room == 0 {
@@ -106,56 +117,59 @@ fn grow_once<S, G: Guide<S>>(
         });
     }
     let least = least_number(&first);
-    let best = guide.best(state);
+    let best = passes.guide.best(state);
     if !is_below(least, best) {
         return Ok(Passed {
             tree: first,
             is_over: true,
         });
     }
-    if is_over(guide, state, limits, least, best) {
+    if is_over(passes.guide, state, passes.limits, least, best) {
         return Ok(Passed {
             tree: first,
             is_over: true,
         });
     }
-    let mark = mark_of(is_last, least, root, best);
-    let grown = grow(alloc, guide, node, state, room, mark, first)?;
+    let mark = mark_of(is_last, least, passes.root, best);
+    let pass = &Pass {
+        alloc: passes.alloc,
+        guide: passes.guide,
+        mark,
+    };
+    let grown = grow(pass, node, state, room, first)?;
     Ok(Passed {
         tree: grown,
         is_over: is_last,
     })
 }
 
-// The tree after all passes, or after those before the search was over. The root's leaf said the number `root`.
+// The tree after all passes, or after those before the search was over.
 pub fn grow_all<S, G: Guide<S>>(
-    alloc: Global,
-    guide: &G,
+    passes: &Passes<'_, G>,
     node: &mut Node,
     state: &mut S,
-    limits: Limits,
     room: &mut u64,
-    root: Option<u128>,
     first: Sought,
 ) -> Result<Sought, AllocError>
-    requires node { AtNode node.old (IsGuided G.Guide guide.now) }
-    requires state { G.IsState guide.now state.old }
-    requires tree { AtNode node.old (IsSoundTree G.Guide guide.now state.old first) }
+    requires node { AtNode node.old (IsGuided G.Guide passes.now.guide.now) }
+    requires state { G.IsState passes.now.guide.now state.old }
+    requires tree { AtNode node.old (IsSoundTree G.Guide passes.now.guide.now state.old first) }
     ensures same_node { OnOk result (IsSameNode node.old node.new) }
-    ensures later { OnOk result (IsLater G.Guide guide.now state.old state.new) }
+    ensures later { OnOk result (IsLater G.Guide passes.now.guide.now state.old state.new) }
     ensures rest { IfOk result (λ t. branches t + room.new ≡ branches first + room.old) }
-    ensures tree { IfOk result (λ t. AtNode node.old (IsSoundTree G.Guide guide.now state.new t)) }
-    ensures ended { IfOk result (λ t. G.may_stop guide.now state.old ≡ false
-        → 1 ≤ room.new → AtNode node.old (IsEnded limits.gap (G.cost state.new) t)) }
+    ensures tree { IfOk result (λ t. AtNode node.old (IsSoundTree G.Guide passes.now.guide.now
+        state.new t)) }
+    ensures ended { IfOk result (λ t. G.may_stop passes.now.guide.now state.old ≡ false
+        → 1 ≤ room.new → AtNode node.old (IsEnded passes.now.limits.gap (G.cost state.new) t)) }
 {
     let mut tree = first;
     for _ in 0..PASSES {
-        let passed = grow_once(alloc, guide, node, state, limits, room, root, false, tree)?;
+        let passed = grow_once(passes, node, state, room, false, tree)?;
         tree = passed.tree;
         if passed.is_over {
             return Ok(tree);
         }
     }
-    let passed = grow_once(alloc, guide, node, state, limits, room, root, true, tree)?;
+    let passed = grow_once(passes, node, state, room, true, tree)?;
     Ok(passed.tree)
 }

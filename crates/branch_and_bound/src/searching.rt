@@ -10,7 +10,7 @@ ghost use Rattle.branch_and_bound.specs.Guided.{IsEnded, IsGuided, IsLater, IsSo
 ghost use Rattle.branch_and_bound.specs.Claims.{HasCause, IsBound, IsLeastClaim, IsShown, IsEvidenced};
 
 use crate::counting::least_number;
-use crate::passes::grow_all;
+use crate::passes::{Passes, grow_all};
 use crate::settling::settle;
 use crate::{Guide, Limits, Node, Range, Searched, Sought};
 use cert_lines::Claim;
@@ -57,9 +57,14 @@ fn search_tree<S, G: Guide<S>>(
         path: Vec::new(alloc),
     };
     let first = guide.start(alloc, &node, state)?;
-    let root = first.says;
+    let passes = &Passes {
+        alloc,
+        guide,
+        limits,
+        root: first.says,
+    };
     let leaf = Sought::Leaf(first);
-    let grown = grow_all(alloc, guide, &mut node, state, limits, room, root, leaf)?;
+    let grown = grow_all(passes, &mut node, state, room, leaf)?;
     let settled = settle(alloc, guide, &mut node, state, grown)?;
     Ok(settled)
 }

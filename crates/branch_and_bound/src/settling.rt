@@ -4,7 +4,7 @@ ghost use Rattle.branch_and_bound.specs.Counts.{branches};
 ghost use Rattle.branch_and_bound.specs.Growing.{IsSettled, IsWanting, unexamined};
 ghost use Rattle.branch_and_bound.specs.Guided.{AtNode, IsGuided, IsLater, IsSameNode, IsSoundTree, StaysEnded};
 
-use crate::asking::ask_tree;
+use crate::asking::{Asking, ask_tree};
 use crate::costs::is_below;
 use crate::counting::{has_wanted, least_number};
 use crate::{Guide, Node, Sought};
@@ -42,7 +42,12 @@ fn ask_least<S, G: Guide<S>>(
 {
     match least_number(&tree) {
         Some(bound) => {
-            let asked = ask_tree(alloc, guide, node, state, bound, tree)?;
+            let asking = &Asking {
+                alloc,
+                guide,
+                bound,
+            };
+            let asked = ask_tree(asking, node, state, tree)?;
             Ok(asked)
         }
         None => Ok(tree),

@@ -8,6 +8,15 @@ use crate::{Guide, Node, Range, Split};
 use lin_rows::{Bound, Column};
 use std::alloc::AllocError;
 
+/// A side of a branch.
+#[derive(Clone, Copy)]
+pub struct Side {
+    /// The branch.
+    pub split: Split,
+    /// Whether it is the low side, where the column is at most the number of the branch.
+    pub most: bool,
+}
+
 // The part of a range on a side.
 fn part(most: bool, range: Range, at: u64) -> Range
     requires { at < range.high }

@@ -2,7 +2,7 @@
 ghost use Rattle.std.specs.Prelude.{◌≡◌, ℕ, true, false, List, OnOk, IfOk};
 ghost use Rattle.branch_and_bound.specs.Guided.{AreSoundSides, AtNode, AtSide, IsBranchOf, IsGuided, IsLater, IsSameNode, IsSoundLeaf};
 
-use crate::side::{enter, leave};
+use crate::side::{Side, enter, leave};
 use crate::{Guide, Node, Proposal, Split};
 use std::alloc::{AllocError, Global};
 
@@ -22,22 +22,21 @@ fn propose_side<S, G: Guide<S>>(
     node: &mut Node,
     state: &mut S,
     above: &Proposal,
-    split: Split,
-    most: bool,
+    side: Side,
 ) -> Result<Proposal, AllocError>
     requires node { AtNode node.old (IsGuided G.Guide guide.now) }
     requires state { G.IsState guide.now state.old }
-    requires branch { AtNode node.old (IsBranchOf (G.rules guide.now) split) }
+    requires branch { AtNode node.old (IsBranchOf (G.rules guide.now) side.split) }
     requires holds { G.Holds guide.now state.old node.old.ranges.items node.old.path.items
         above.now }
     ensures same_node { OnOk result (IsSameNode node.old node.new) }
     ensures later { OnOk result (IsLater G.Guide guide.now state.old state.new) }
     ensures sound { IfOk result (λ p.
-        AtSide most node.old split (IsSoundLeaf G.Guide guide.now state.new p)) }
+        AtSide side.most node.old side.split (IsSoundLeaf G.Guide guide.now state.new p)) }
 {
-    let range = enter::<S, G>(guide, node, split, most)?;
+    let range = enter::<S, G>(guide, node, side.split, side.most)?;
     let proposal = guide.propose(alloc, node, above, state)?;
-    leave(node, split.place, range);
+    leave(node, side.split.place, range);
     Ok(proposal)
 }
 
@@ -61,7 +60,9 @@ pub fn propose_sides<S, G: Guide<S>>(
     ensures branch { OnOk result (AtNode node.new (IsBranchOf (G.rules guide.now) split)) }
     ensures sound { IfOk result (AreSoundSides G.Guide guide.now state.new node.new split) }
 {
-    let low = propose_side(alloc, guide, node, state, above, split, true)?;
-    let high = propose_side(alloc, guide, node, state, above, split, false)?;
+    let low_side = Side { split, most: true };
+    let high_side = Side { split, most: false };
+    let low = propose_side(alloc, guide, node, state, above, low_side)?;
+    let high = propose_side(alloc, guide, node, state, above, high_side)?;
     Ok(Sides { low, high })
 }

@@ -7,7 +7,7 @@ use Rattle.branch_and_bound.proofs.asking.+ask.Goals as goal
 
 pub ask_branch-ask_side-requires-2 : goal.ask_branch-ask_side-requires-2
 ask_branch-ask_side-requires-2 g t c =
-    let guide = c.args.guide.now in
+    let guide = c.args.asking.now.guide.now in
     let split = c.args.split in
     let old = c.args.node.now in
     let mid = c.ask_side.new.node in
@@ -25,7 +25,7 @@ ask_branch-ask_side-requires-2 g t c =
 
 pub ask_branch-returns-clause-tree : goal.ask_branch-returns-clause-tree
 ask_branch-returns-clause-tree g t c =
-    let guide = c.args.guide.now in
+    let guide = c.args.asking.now.guide.now in
     let split = c.args.split in
     let old = c.args.node.now in
     let mid = c.ask_side.new.node in

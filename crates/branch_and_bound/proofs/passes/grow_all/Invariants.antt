@@ -5,10 +5,10 @@ use Rattle.branch_and_bound.proofs.passes.grow_all.Given as goal
 
 abbrev pub invariant-loop : goal.invariant-loop
 invariant-loop g l = record {
-  node : AtNode l.node (IsGuided g.G.Guide l.guide);
-  state : g.G.Guide.IsState l.guide l.state;
+  node : AtNode l.node (IsGuided g.G.Guide l.passes.guide.now);
+  state : g.G.Guide.IsState l.passes.guide.now l.state;
   same_node : IsSameNode l.fn.node l.node;
-  later : IsLater g.G.Guide l.guide l.fn.state l.state;
+  later : IsLater g.G.Guide l.passes.guide.now l.fn.state l.state;
   rest : branches l.tree + l.room ≡ branches l.fn.first + l.fn.room;
-  tree : AtNode l.fn.node (IsSoundTree g.G.Guide l.guide l.state l.tree);
+  tree : AtNode l.fn.node (IsSoundTree g.G.Guide l.passes.guide.now l.state l.tree);
 }

@@ -18,7 +18,7 @@ returns-then-not-is_below-clause-ended g c = λ over still more.
 
 pub returns-then-is_over-clause-tree : goal.returns-then-is_over-clause-tree
 returns-then-is_over-clause-tree g c =
-    let guide = c.args.guide.now in
+    let guide = c.args.passes.now.guide.now in
     let node = c.args.node.now in
     let s0 = c.args.state.now in
     let s1 = c.is_over.new.state in
@@ -29,14 +29,14 @@ returns-then-is_over-clause-ended g c = λ over still more.
     let least = c.least_number-least.result in
     let best = c.best-best.result in
     let less = g.G.Guide.cost c.is_over.new.state in
-    inr (near_later c.args.limits.gap least (least_said c.args.first) best less
+    inr (near_later c.args.passes.now.limits.gap least (least_said c.args.first) best less
     (subst (IsAtMost least) c.least_number-least.ensures (at_most-refl least))
     (subst (IsAtMost less) (sym c.best-best.ensures) c.is_over.ensures.later.kept)
     (c.is_over.ensures.over c.if-is_over.true still))
 
 pub grow-requires-clause-tree : goal.grow-requires-clause-tree
 grow-requires-clause-tree g c =
-    let guide = c.args.guide.now in
+    let guide = c.args.passes.now.guide.now in
     let node = c.args.node.now in
     let s0 = c.args.state.now in
     let s1 = c.is_over.new.state in
