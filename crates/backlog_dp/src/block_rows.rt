@@ -15,7 +15,7 @@ ghost use Rattle.backlog_dp.specs.Broken.{IsFirstBrokenOrNone};
 ghost use Rattle.backlog_dp.specs.BlockRow.{AreSmall, HaveLengths, HavePrices, IsAllowed, IsBlockFault, block_right, block_row_of, block_terms, single_by, priced_by};
 
 use crate::broken::first_broken;
-use crate::costs::periods_of;
+use crate::costs::{UnitPrices, periods_of};
 use crate::laws::block_rows_hold;
 use echelon::{Block, EchelonItem, net_of};
 use echelon_rows::{
@@ -164,16 +164,13 @@ fn broken_block(
     ensures { IfOk result (IsFirstBrokenOrNone (single_by net.now potentials.now backlogged)
         potentials.now.steps.items) }
 {
-    let broken = first_broken(
-        alloc,
-        net,
-        &potentials.setup,
-        &potentials.unit,
-        &potentials.hold,
-        &potentials.back,
+    let rates = &UnitPrices {
+        unit: &potentials.unit,
+        hold: &potentials.hold,
+        back: &potentials.back,
         backlogged,
-        &potentials.steps,
-    )?;
+    };
+    let broken = first_broken(alloc, net, &potentials.setup, rates, &potentials.steps)?;
     Ok(broken)
 }
 

@@ -10,7 +10,7 @@ ghost use Rattle.echelon_rows.specs.declared.limits.TheConstants.{MAX_PRICE, MAX
 ghost use Rattle.backlog_dp.specs.Broken.{IsFirstBrokenOrNone};
 ghost use Rattle.backlog_dp.specs.Search.{BreaksOf, EndsAt, earlier_of, is_before};
 
-use crate::costs::{periods_of, serving_costs};
+use crate::costs::{UnitPrices, periods_of, serving_costs};
 use crate::rising::{holds_for, may_serve};
 use echelon::Block;
 use std::alloc::{AllocError, Global};
@@ -136,29 +136,29 @@ pub fn first_broken(
     alloc: Global,
     net: &[u128],
     setup: &[u64],
-    unit: &[u64],
-    hold: &[u64],
-    back: &[u64],
-    backlogged: bool,
+    rates: &UnitPrices<'_>,
     steps: &[u128],
 ) -> Result<Option<Block>, AllocError>
     requires periods { length net.now ≤ MAX_PERIODS }
     requires setup { length setup.now ≡ length net.now }
-    requires prices { ArePriced (length net.now) unit.now hold.now back.now }
+    requires prices { ArePriced (length net.now) rates.now.unit.now rates.now.hold.now
+        rates.now.back.now }
     requires net { sum_to (length net.now) (entry net.now) ≤ MAX_ASKED }
     requires size { length steps.now
-        ≡ position_count (single_with net.now setup.now unit.now hold.now back.now backlogged) }
+        ≡ position_count (single_with net.now setup.now rates.now.unit.now rates.now.hold.now
+        rates.now.back.now rates.now.backlogged) }
     requires steps { AllAtMost MAX_STEP steps.now }
     ensures { IfOk result (IsFirstBrokenOrNone
-        (single_with net.now setup.now unit.now hold.now back.now backlogged) steps.now) }
+        (single_with net.now setup.now rates.now.unit.now rates.now.hold.now rates.now.back.now
+        rates.now.backlogged) steps.now) }
 {
     let list = periods_of(alloc, net)?;
     let periods = list.as_slice();
     let mut found: Option<Block> = None;
     for server in 1..net.len() as u32 + 1 {
-        let costs = serving_costs(alloc, net, periods, unit, hold, back, backlogged, server)?;
+        let costs = serving_costs(alloc, net, periods, rates, server)?;
         let fee = setup[server as usize - 1];
-        let other = broken_of(steps, &costs, periods, fee, backlogged, server);
+        let other = broken_of(steps, &costs, periods, fee, rates.backlogged, server);
         found = earlier(found, other);
     }
     Ok(found)

@@ -13,6 +13,19 @@ ghost use Rattle.backlog_dp.specs.Search.{AreServingCosts};
 use echelon_rows::serving_prices;
 use std::alloc::{AllocError, Global};
 
+/// What a unit costs that a period makes, or that is held or owed for a period, with an entry for each period.
+#[derive(Clone, Copy)]
+pub struct UnitPrices<'a> {
+    /// Of making a unit.
+    pub unit: &'a [u64],
+    /// Of holding a unit.
+    pub hold: &'a [u64],
+    /// Of owing a unit.
+    pub back: &'a [u64],
+    /// Whether units may be owed.
+    pub backlogged: bool,
+}
+
 /// The periods of the positions: those with a net demand, in order. The error is that memory ran out.
 pub fn periods_of(alloc: Global, net: &[u128]) -> Result<Vec<u32>, AllocError>
     requires { length net.now ≤ MAX_PERIODS }
@@ -68,24 +81,30 @@ pub fn serving_costs(
     alloc: Global,
     net: &[u128],
     periods: &[u32],
-    unit: &[u64],
-    hold: &[u64],
-    back: &[u64],
-    backlogged: bool,
+    rates: &UnitPrices<'_>,
     server: u32,
 ) -> Result<Vec<u128>, AllocError>
     requires count { length net.now ≤ MAX_PERIODS }
-    requires prices { ArePriced (length net.now) unit.now hold.now back.now }
+    requires prices { ArePriced (length net.now) rates.now.unit.now rates.now.hold.now
+        rates.now.back.now }
     requires net { sum_to (length net.now) (entry net.now) ≤ MAX_ASKED }
     requires periods { periods.now ≡ positions (single_with net.now [] [] [] [] false) }
     requires low { 1 ≤ server }
     requires high { server ≤ length net.now }
     ensures each { IfOk result (λ found.
-        AreServingCosts net.now unit.now hold.now back.now backlogged server found.items) }
+        AreServingCosts net.now rates.now.unit.now rates.now.hold.now rates.now.back.now
+        rates.now.backlogged server found.items) }
     ensures small { IfOk result (λ found. sum_to (length found.items) (entry found.items)
         ≤ MAX_PERIODS * MAX_STEP) }
 {
-    let prices = serving_prices(alloc, unit, hold, back, backlogged, server)?;
+    let prices = serving_prices(
+        alloc,
+        rates.unit,
+        rates.hold,
+        rates.back,
+        rates.backlogged,
+        server,
+    )?;
     let costs = costs_at(alloc, net, periods, &prices)?;
     Ok(costs)
 }

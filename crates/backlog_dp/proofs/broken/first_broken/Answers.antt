@@ -8,17 +8,17 @@ use Rattle.backlog_dp.proofs.broken.first_broken.Goals as goal
 
 pub broken_of-other-requires-clause-few : goal.broken_of-other-requires-clause-few
 broken_of-other-requires-clause-few c =
-    let s = single_with c.args.net.now c.args.setup.now c.args.unit.now c.args.hold.now c.args.back.now c.args.backlogged in
+    let s = single_with c.args.net.now c.args.setup.now c.args.rates.now.unit.now c.args.rates.now.hold.now c.args.rates.now.back.now c.args.rates.now.backlogged in
     omega (arith, c.requires.size, count_most s (length c.args.net.now), c.requires.periods)
 
 pub loop-server-preserved : goal.loop-server-preserved
 loop-server-preserved c =
     let net = c.args.net.now in
     let setup = c.args.setup.now in
-    let unit = c.args.unit.now in
-    let hold = c.args.hold.now in
-    let back = c.args.back.now in
-    let owing = c.args.backlogged in
+    let unit = c.args.rates.now.unit.now in
+    let hold = c.args.rates.now.hold.now in
+    let back = c.args.rates.now.back.now in
+    let owing = c.args.rates.now.backlogged in
     let g = c.args.steps.now in
     let s = single_with net setup unit hold back owing in
     let u = c.loop-server.server in
@@ -34,6 +34,6 @@ loop-server-preserved c =
 pub returns : goal.returns
 returns c =
     let net = c.args.net.now in
-    let s = single_with net c.args.setup.now c.args.unit.now c.args.hold.now c.args.back.now c.args.backlogged in
+    let s = single_with net c.args.setup.now c.args.rates.now.unit.now c.args.rates.now.hold.now c.args.rates.now.back.now c.args.rates.now.backlogged in
     let e : c.loop-server.server - 1 ≡ period_count s = omega arith in
     all_servers s c.args.steps.now c.loop-server.found (subst (λ k. AnswersTo s c.args.steps.now k c.loop-server.found) e c.loop-server.invariant)

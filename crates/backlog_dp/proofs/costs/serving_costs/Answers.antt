@@ -29,10 +29,10 @@ costs_at-requires-clause-prices c =
 pub returns-clause-each : goal.returns-clause-each
 returns-clause-each c setup =
     let net = c.args.net.now in
-    let s = single_with net setup c.args.unit.now c.args.hold.now c.args.back.now c.args.backlogged in
+    let s = single_with net setup c.args.rates.now.unit.now c.args.rates.now.hold.now c.args.rates.now.back.now c.args.rates.now.backlogged in
     let u = c.args.server in
     let prices = c.deref.result.now in
-    let priced = subst (λ n. HasEach n (unit_price s u) prices) c.requires.prices.unit.size (subst (HasEach (length c.args.unit.now) (unit_price s u)) (sym c.deref.ensures.value) (c.in_ok-prices.ensures.each net setup)) in
+    let priced = subst (λ n. HasEach n (unit_price s u) prices) c.requires.prices.unit.size (subst (HasEach (length c.args.rates.now.unit.now) (unit_price s u)) (sym c.deref.ensures.value) (c.in_ok-prices.ensures.each net setup)) in
     let has = subst (λ ps. HasEach (length ps) (λ p. entry net (entry ps p) * entry prices (entry ps p)) c.in_ok-costs.costs.items) c.requires.periods c.in_ok-costs.ensures in
     each_serving s net prices c.in_ok-costs.costs.items u refl priced has
 
