@@ -11,6 +11,22 @@ use lot_model::Instance;
 use plan_rules::{Plan, time_used};
 use std::alloc::AllocError;
 
+// A time that is stacked above what is used before it.
+#[derive(Clone, Copy)]
+struct Layer {
+    before: u128,
+    time: u128,
+}
+
+// A resource in a period of a plan.
+#[derive(Clone, Copy)]
+struct Loaded<'a> {
+    instance: &'a Instance,
+    plan: &'a Plan,
+    resource: u32,
+    period: u32,
+}
+
 // Adds the mark of a run time, above what is used by the items before.
 #[tactic(auto, unfolding(crate::specs::Loads::run_mark))]
 fn add_run(
@@ -19,20 +35,19 @@ fn add_run(
     name: &str,
     item: u32,
     period: u32,
-    before: u128,
-    run: u128,
+    layer: Layer,
 ) -> Result<(), AllocError>
-    requires { before + run < 2 ^ 120 }
+    requires { layer.before + layer.time < 2 ^ 120 }
     ensures { OnOk result (string_bytes text.new
-        ≡ string_bytes text.old ++ run_mark chart name.now item period before run) }
+        ≡ string_bytes text.old ++ run_mark chart name.now item period layer.before layer.time) }
 {
-    if run > 0 {
-        let shown = Grouped(run);
+    if layer.time > 0 {
+        let shown = Grouped(layer.time);
         add_painted_bar(
             text,
             "run",
             item,
-            stacked(chart, period, 4, before, before + run),
+            stacked(chart, period, 4, layer.before, layer.before + layer.time),
         )?;
         write!(
             text,
@@ -50,20 +65,19 @@ fn add_setup(
     name: &str,
     item: u32,
     period: u32,
-    before: u128,
-    setup: u128,
+    layer: Layer,
 ) -> Result<(), AllocError>
-    requires { before + setup < 2 ^ 120 }
+    requires { layer.before + layer.time < 2 ^ 120 }
     ensures { OnOk result (string_bytes text.new
-        ≡ string_bytes text.old ++ setup_mark chart name.now item period before setup) }
+        ≡ string_bytes text.old ++ setup_mark chart name.now item period layer.before layer.time) }
 {
-    if setup > 0 {
-        let shown = Grouped(setup);
+    if layer.time > 0 {
+        let shown = Grouped(layer.time);
         add_painted_bar(
             text,
             "setup",
             item,
-            stacked(chart, period, 4, before, before + setup),
+            stacked(chart, period, 4, layer.before, layer.before + layer.time),
         )?;
         write!(
             text,
@@ -112,32 +126,37 @@ pub fn setup_time_used(
 fn add_stack(
     text: &mut String,
     chart: Chart,
-    instance: &Instance,
-    plan: &Plan,
-    resource: u32,
-    period: u32,
+    load: &Loaded<'_>,
     item: u32,
     before: u128,
 ) -> Result<u128, AllocError>
-    requires fits { AllFit instance.now plan.now }
-    requires low { 1 ≤ period }
-    requires high { period ≤ instance.now.periods }
+    requires fits { AllFit load.now.instance.now load.now.plan.now }
+    requires low { 1 ≤ load.now.period }
+    requires high { load.now.period ≤ load.now.instance.now.periods }
     requires item_low { 1 ≤ item }
-    requires item_high { item ≤ item_count instance.now }
+    requires item_high { item ≤ item_count load.now.instance.now }
     requires small { before < 2 ^ 119 }
     ensures text { OnOk result (string_bytes text.new
         ≡ string_bytes text.old
-        ++ stack chart instance.now (plan_of plan.now) resource period item before) }
+        ++ stack chart load.now.instance.now (plan_of load.now.plan.now) load.now.resource
+        load.now.period item before) }
     ensures used { IfOk result (λ used. used
-        ≡ before + (run_time instance.now (plan_of plan.now) resource period item
-        + setup_time_used instance.now (plan_of plan.now) resource period item)) }
+        ≡ before + (run_time load.now.instance.now (plan_of load.now.plan.now) load.now.resource
+        load.now.period item
+        + setup_time_used load.now.instance.now (plan_of load.now.plan.now) load.now.resource
+        load.now.period item)) }
     ensures more { IfOk result (λ used. used ≤ before + 2 ^ 101) }
 {
-    let name = instance.item_name(item);
-    let run = run_time(instance, plan, resource, period, item);
-    let setup = setup_time_used(instance, plan, resource, period, item);
-    add_run(text, chart, name, item, period, before, run)?;
-    add_setup(text, chart, name, item, period, before + run, setup)?;
+    let name = load.instance.item_name(item);
+    let run = run_time(load.instance, load.plan, load.resource, load.period, item);
+    let setup = setup_time_used(load.instance, load.plan, load.resource, load.period, item);
+    let first = Layer { before, time: run };
+    let second = Layer {
+        before: before + run,
+        time: setup,
+    };
+    add_run(text, chart, name, item, load.period, first)?;
+    add_setup(text, chart, name, item, load.period, second)?;
     Ok(before + (run + setup))
 }
 
@@ -158,9 +177,15 @@ fn add_stacks(
         ≡ string_bytes text.old
         ++ load_marks chart instance.now (plan_of plan.now) resource period) }
 {
+    let load = &Loaded {
+        instance,
+        plan,
+        resource,
+        period,
+    };
     let mut used = 0u128;
     for item in 1..instance.items() + 1 {
-        used = add_stack(text, chart, instance, plan, resource, period, item, used)?;
+        used = add_stack(text, chart, load, item, used)?;
     }
     Ok(())
 }
