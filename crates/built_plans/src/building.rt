@@ -6,7 +6,7 @@ ghost use Rattle.plan_rules.specs.Rows.{IfFound};
 ghost use Rattle.own_plan.specs.Made.{IsMade};
 ghost use Rattle.built_plans.specs.Construction.{HasShape};
 
-use crate::construction::{Construction, begin, is_wanted};
+use crate::construction::{BuildState, Construction, begin, is_wanted};
 use crate::lots::{set_lots, settle};
 use crate::relief::relieve;
 use lot_model::Instance;
@@ -34,27 +34,19 @@ fn work_before(instance: &Instance, built: &Construction, resource: u32, period:
 
 // The time that setups take on a resource in an earlier period, of items of which units are left then: of all of them, or
 // of those with a wanted setup there.
-fn setups_in(
-    instance: &Instance,
-    wanted: &Grid,
-    built: &Construction,
-    resource: u32,
-    period: u32,
-    earlier: u32,
-    all: bool,
-) -> u128
-    requires wanted { Fits instance.now wanted.now }
-    requires shape { HasShape instance.now built.now }
+fn setups_in(state: &BuildState<'_>, resource: u32, period: u32, earlier: u32, all: bool) -> u128
+    requires wanted { Fits state.now.instance.now state.now.wanted.now }
+    requires shape { HasShape state.now.instance.now state.now.plan.now }
     requires earlier_low { 1 ≤ earlier }
-    requires earlier_high { earlier ≤ instance.now.periods }
+    requires earlier_high { earlier ≤ state.now.instance.now.periods }
     requires low { 1 ≤ period }
-    requires high { period ≤ instance.now.periods }
+    requires high { period ≤ state.now.instance.now.periods }
 {
     let mut total = 0u128;
-    for item in 1..instance.items() + 1 {
-        let is_left = built.left[(item - 1) as usize] > built.make.get(item, period);
-        if is_left && (all || is_wanted(instance, wanted, built, item, earlier)) {
-            total = total.saturating_add(instance.setup_time(item, resource) as u128);
+    for item in 1..state.instance.items() + 1 {
+        let is_left = state.plan.left[(item - 1) as usize] > state.plan.make.get(item, period);
+        if is_left && (all || is_wanted(state.instance, state.wanted, state.plan, item, earlier)) {
+            total = total.saturating_add(state.instance.setup_time(item, resource) as u128);
         }
     }
     total
@@ -77,10 +69,15 @@ fn has_time_before(
     requires low { 1 ≤ period }
     requires high { period ≤ instance.now.periods }
 {
+    let state = &BuildState {
+        instance,
+        wanted,
+        plan: built,
+    };
     let mut work = work_before(instance, built, resource, period);
     let mut room = 0u128;
     for earlier in 1..period {
-        let setups = setups_in(instance, wanted, built, resource, period, earlier, all);
+        let setups = setups_in(state, resource, period, earlier, all);
         work = work.saturating_add(setups);
         room = room.saturating_add(instance.capacity(resource, earlier) as u128);
     }

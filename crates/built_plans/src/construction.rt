@@ -28,6 +28,17 @@ pub struct Construction {
     pub late: u32,
 }
 
+/// A plan while it is built, with the instance and the setups that are wanted.
+#[derive(Clone, Copy)]
+pub struct BuildState<'a> {
+    /// The instance.
+    pub instance: &'a Instance,
+    /// 1 where a setup is wanted.
+    pub wanted: &'a Grid,
+    /// The plan so far.
+    pub plan: &'a Construction,
+}
+
 // All units of an item that a grid has, or the most that the type holds.
 fn row_total(grid: &Grid, instance: &Instance, item: u32) -> u64
     requires fits { Fits instance.now grid.now }

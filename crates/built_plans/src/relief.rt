@@ -5,7 +5,7 @@ ghost use Rattle.plan_rules.specs.Cells.{Fits};
 ghost use Rattle.built_plans.specs.Construction.{HasShape};
 ghost use Rattle.built_plans.specs.Relief.{IsMove};
 
-use crate::construction::{Construction, is_wanted};
+use crate::construction::{BuildState, Construction, is_wanted};
 use crate::lots::set_lots;
 use crate::prices::echelon_hold;
 use lot_model::Instance;
@@ -163,24 +163,22 @@ fn is_cheaper(one: Move, other: Move) -> bool {
 
 // The cheaper one for the time gained, of the move of an item and the best of those before.
 fn better(
-    instance: &Instance,
-    wanted: &Grid,
-    built: &Construction,
+    state: &BuildState<'_>,
     period: u32,
     over: Overload,
     item: u32,
     best: Option<Move>,
 ) -> Option<Move>
-    requires wanted { Fits instance.now wanted.now }
-    requires shape { HasShape instance.now built.now }
+    requires wanted { Fits state.now.instance.now state.now.wanted.now }
+    requires shape { HasShape state.now.instance.now state.now.plan.now }
     requires low { 1 < period }
-    requires high { period ≤ instance.now.periods }
+    requires high { period ≤ state.now.instance.now.periods }
     requires item_low { 1 ≤ item }
-    requires item_high { item ≤ item_count instance.now }
-    requires best { IfSome best (IsMove instance.now) }
-    ensures { IfSome result (IsMove instance.now) }
+    requires item_high { item ≤ item_count state.now.instance.now }
+    requires best { IfSome best (IsMove state.now.instance.now) }
+    ensures { IfSome result (IsMove state.now.instance.now) }
 {
-    let Some(found) = move_of(instance, wanted, built, period, over, item) else {
+    let Some(found) = move_of(state.instance, state.wanted, state.plan, period, over, item) else {
         return best;
     };
     match best {
@@ -203,9 +201,14 @@ fn cheapest_move(
     requires high { period ≤ instance.now.periods }
     ensures { IfSome result (IsMove instance.now) }
 {
+    let state = &BuildState {
+        instance,
+        wanted,
+        plan: built,
+    };
     let mut best = None;
     for item in 1..instance.items() + 1 {
-        best = better(instance, wanted, built, period, over, item, best);
+        best = better(state, period, over, item, best);
     }
     best
 }
