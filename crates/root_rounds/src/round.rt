@@ -97,6 +97,13 @@ fn separation_passed(round: u32, end: LastPeriod) -> Verdict
     without_leaf(RootSays::Passed { round, at })
 }
 
+// The least point of a program, and the multipliers of its rows that show it.
+#[derive(Debug, Drop)]
+struct LeastPoint {
+    point: Vec<Frac>,
+    multipliers: Vec<Frac>,
+}
+
 // A round that ends at a least point: the cuts that it finds are put, and their rows into the program;
 // or what is said.
 fn least_round(
@@ -104,8 +111,7 @@ fn least_round(
     instance: &Instance,
     explosion: &Explosion,
     round: u32,
-    point: Vec<Frac>,
-    multipliers: Vec<Frac>,
+    least: LeastPoint,
     state: &mut Rounds,
 ) -> Result<Option<Verdict>, AllocError>
     requires explosion { IsExplosionOf instance.now explosion.now }
@@ -113,8 +119,8 @@ fn least_round(
     requires high { round ≤ MAX_ROUNDS }
     requires rounds { AreRounds instance.now (round - 1) state.old }
     requires least { (value : ℚ) × IsOutcome state.old.program.lp MAX_PIVOTS
-        (Least point multipliers value)
-        × IsCertain state.old.program.lp (Least point multipliers value) }
+        (Least least.point least.multipliers value)
+        × IsCertain state.old.program.lp (Least least.point least.multipliers value) }
     ensures goes { IfOk result (λ end. IsNone end → AreRounds instance.now round state.new) }
     ensures ends { IfOk result (λ end.
         IfSome end (λ verdict.
@@ -122,6 +128,7 @@ fn least_round(
 {
     lesser_separates();
     rounds_close();
+    let LeastPoint { point, multipliers } = least;
     let before = state.list.rows.len();
     let point = Point::new(instance, point);
     if let Some(end) = separate_all(alloc, instance, explosion, &point, &mut state.list)? {
@@ -196,7 +203,10 @@ pub(crate) fn make_round(
             point,
             multipliers,
             value: _,
-        } => least_round(alloc, instance, explosion, round, point, multipliers, state),
+        } => {
+            let least = LeastPoint { point, multipliers };
+            least_round(alloc, instance, explosion, round, least, state)
+        }
         Outcome::Empty { multipliers } => {
             let verdict = empty_round(alloc, instance, explosion, round, multipliers, state)?;
             Ok(Some(verdict))
