@@ -63,38 +63,44 @@ struct Lack {
     item: u32,
 }
 
-// Whether an item has its slot on a resource in a period, if it takes time there: the place to begin the next search
+// A lot on a resource that it may take time on.
+#[derive(Clone, Copy)]
+struct LotOn {
+    resource: u32,
+    period: u32,
+    item: u32,
+}
+
+// Whether a lot has its slot on a resource, if it takes time there: the place to begin the next search
 // at, which is that of its slot.
 fn check_item(
     instance: &Instance,
     plan: &Plan,
     slots: &[Slot],
     hint: usize,
-    resource: u32,
-    period: u32,
-    item: u32,
+    lot: LotOn,
 ) -> Option<usize>
     requires fits { AllFit instance.now plan.now }
     requires feasible { IsFeasible instance.now (plan_of plan.now) }
     requires hint { hint ≤ length slots.now }
-    requires resource_low { 1 ≤ resource }
-    requires resource_high { resource ≤ resource_count instance.now }
-    requires low { 1 ≤ period }
-    requires high { period ≤ instance.now.periods }
-    requires item_low { 1 ≤ item }
-    requires item_high { item ≤ item_count instance.now }
+    requires resource_low { 1 ≤ lot.resource }
+    requires resource_high { lot.resource ≤ resource_count instance.now }
+    requires low { 1 ≤ lot.period }
+    requires high { lot.period ≤ instance.now.periods }
+    requires item_low { 1 ≤ lot.item }
+    requires item_high { lot.item ≤ item_count instance.now }
     ensures next { IfSome result (λ next. next ≤ length slots.now) }
     ensures found { IfSome result (λ _. 0
-        < length_of instance.now (plan_of plan.now) resource period item
-        → HasSlot slots.now resource period item) }
+        < length_of instance.now (plan_of plan.now) lot.resource lot.period lot.item
+        → HasSlot slots.now lot.resource lot.period lot.item) }
     ensures takes { IfNone result (0
-        < length_of instance.now (plan_of plan.now) resource period item) }
-    ensures absent { IfNone result (HasSlot slots.now resource period item → ⊥) }
+        < length_of instance.now (plan_of plan.now) lot.resource lot.period lot.item) }
+    ensures absent { IfNone result (HasSlot slots.now lot.resource lot.period lot.item → ⊥) }
 {
-    if length_of(instance, plan, resource, period, item) == 0 {
+    if length_of(instance, plan, lot.resource, lot.period, lot.item) == 0 {
         return Some(hint);
     }
-    place_of(slots, hint, resource, period, item)
+    place_of(slots, hint, lot.resource, lot.period, lot.item)
 }
 
 // The first item that lacks its slot on a resource in a period, or the place to begin the next search at.
@@ -120,7 +126,12 @@ fn check_items(
 {
     let mut last = hint;
     for item in 1..instance.items() + 1 {
-        match check_item(instance, plan, slots, hint, resource, period, item) {
+        let lot = LotOn {
+            resource,
+            period,
+            item,
+        };
+        match check_item(instance, plan, slots, hint, lot) {
             Some(place) => last = place,
             None => return Err(item),
         }
