@@ -47,10 +47,10 @@ bound_call laws None s t a b = inl (a ∙ sym b)
 bound_call laws (Some bytes) s t (inl a) (inl b) = inl (a.1 ∙ sym b.1)
 bound_call laws (Some bytes) s t (inl a) (inr b) = absurd (omega (arith, a.0, b.0))
 bound_call laws (Some bytes) s t (inr a) (inl b) = absurd (omega (arith, a.0, b.0))
-bound_call laws (Some bytes) s t (inr (short, inr (f, reads, is))) (inr (also, inr (g, too, other))) = inl (is ∙ sym other)
-bound_call laws (Some bytes) s t (inr (short, inr (f, reads, is))) (inr (also, inl (m, too, calls))) = absurd (no_fault bytes m f too reads)
-bound_call laws (Some bytes) s t (inr (short, inl (m, reads, calls))) (inr (also, inr (f, too, is))) = absurd (no_fault bytes m f reads too)
-bound_call laws (Some bytes) s t (inr (short, inl (m, reads, calls))) (inr (also, inl (n, too, other))) =
+bound_call laws (Some bytes) s t (inr (short, inl (f, reads, is))) (inr (also, inl (g, too, other))) = inl (is ∙ sym other)
+bound_call laws (Some bytes) s t (inr (short, inl (f, reads, is))) (inr (also, inr (m, too, calls))) = absurd (no_fault bytes m f too reads)
+bound_call laws (Some bytes) s t (inr (short, inr (m, reads, calls))) (inr (also, inl (f, too, is))) = absurd (no_fault bytes m f reads too)
+bound_call laws (Some bytes) s t (inr (short, inr (m, reads, calls))) (inr (also, inr (n, too, other))) =
     let known = meant laws.totals laws.weights bytes m reads in
     ⊎_elim
     (λ same. inl same)
@@ -71,8 +71,8 @@ module _ (by : Grounds) where
   bounded_some bytes short (Ok m) means =
       let rank = ranked bytes m means in
       let call = outcome_some m (by.bounds m rank.0 (meant by.totals by.weights bytes m means).limits rank.1) in
-      (call.0, inr (short, inl (m, means, call.1)))
-  bounded_some bytes short (Err fault) means = (REFUSED, inr (short, inr (fault, means, refl)))
+      (call.0, inr (short, inr (m, means, call.1)))
+  bounded_some bytes short (Err fault) means = (REFUSED, inr (short, inl (fault, means, refl)))
 
   pub bound_some : (model : Option (List ℕ)) → (status : ℕ) × BoundCallsFor model status
   bound_some None = (MISSING, refl)

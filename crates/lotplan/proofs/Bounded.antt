@@ -4,10 +4,11 @@ use Rattle.std.specs.Prelude.{Result, Ok, Err, IfOk}
 use Rattle.std.specs.declared.alloc.AllocError.{AllocError}
 use Rattle.lot_io.specs.Outside.{OnlyReads, Printed, Shelved}
 use Rattle.lot_sizing.specs.Problem.{Problem}
+use Rattle.lotplan.specs.Meaning.{Says}
 use Rattle.lotplan.specs.declared.said.Said.{Said}
 use Rattle.lotplan.specs.Status.{code_of}
 use Rattle.lotplan.specs.Reading.{HoldsProblem, ModelExplains, ReadAnswer, refused, missing, unread, too_long, read_line, read_status}
-use Rattle.lotplan.specs.Bounding.{BoundAnswer, bound, empty, skipped, passed, no_input, bound_line, bound_status, BoundCallsFor, BoundExplains, BoundIsSaid, BoundedCallsFor, FindsBound, FindsNoBound, FindsNoPoint, MayBeBoundAnswer, bound_meaning}
+use Rattle.lotplan.specs.Bounding.{BoundAnswer, bound, empty, skipped, passed, no_input, bound_line, bound_status, BoundCallsFor, BoundExplains, BoundedCallsFor, FindsBound, FindsNoBound, FindsNoPoint, MayBeBoundAnswer, bound_meaning}
 use Rattle.lotplan.specs.Saying.{Gains, IsSaid}
 use Rattle.lotplan.specs.Run.{HadNoFault}
 use Rattle.lotplan.specs.declared.status.Status.{Status}
@@ -25,18 +26,18 @@ bound_after m problem old new skipped holds x = λ t. (problem, holds t, x)
 bound_after m problem old new passed holds x = λ t. (problem, holds t, x)
 bound_after m problem old new (no_input why) holds x = absurd x
 
-pub says_bounded : (m : List ℕ) (problem : Problem) (old new : Shelved) (answer : BoundAnswer) (r : Result Said AllocError) → (IsTrue old.told → HoldsProblem old.file m problem) → MayBeBoundAnswer problem answer → OnlyReads old new → IfOk r (IsSaid (bound_line answer) (bound_status answer)) → IfOk r (BoundIsSaid m old new)
+pub says_bounded : (m : List ℕ) (problem : Problem) (old new : Shelved) (answer : BoundAnswer) (r : Result Said AllocError) → (IsTrue old.told → HoldsProblem old.file m problem) → MayBeBoundAnswer problem answer → OnlyReads old new → IfOk r (IsSaid (bound_line answer) (bound_status answer)) → IfOk r (Says (bound_meaning m) old new)
 says_bounded m problem old new answer (Ok said) holds x reads says = answered BoundAnswer (λ a. BoundExplains m old new a × OnlyReads old new) bound_line bound_status answer said (bound_after m problem old new answer holds x, reads) says
 says_bounded m problem old new answer (Err e) holds x reads says = tt
 
-pub says_stop : (m : List ℕ) (old new : Shelved) (why : ReadAnswer) (r : Result Said AllocError) → ModelExplains m old new why → OnlyReads old new → IfOk r (IsSaid (read_line why) (read_status why)) → IfOk r (BoundIsSaid m old new)
+pub says_stop : (m : List ℕ) (old new : Shelved) (why : ReadAnswer) (r : Result Said AllocError) → ModelExplains m old new why → OnlyReads old new → IfOk r (IsSaid (read_line why) (read_status why)) → IfOk r (Says (bound_meaning m) old new)
 says_stop m old new why (Ok said) x reads says = answered BoundAnswer (λ a. BoundExplains m old new a × OnlyReads old new) bound_line bound_status (no_input why) said (x, reads) says
 says_stop m old new why (Err e) x reads says = tt
 
 -- ---- what each number says
 module _ (m : List ℕ) (code : ℕ) (old new : Shelved) (out_old out_new : Printed) where
   pub bounded_at : (answer : BoundAnswer) → BoundExplains m old new answer → code ≡ code_of (bound_status answer) → Gains (bound_line answer) out_old out_new → code ≡ DONE → IsTrue old.told → FindsBound old.file m out_old out_new
-  bounded_at (bound n) x is line none t = record { least = n; holds = x t; line = line }
+  bounded_at (bound n) x is line none t = record { what = n; holds = x t; line = line }
   bounded_at empty x is line none t = absurd (omega (arith, is, none))
   bounded_at skipped x is line none t = absurd (omega (arith, is, none))
   bounded_at passed x is line none t = absurd (omega (arith, is, none))
@@ -52,8 +53,8 @@ module _ (m : List ℕ) (code : ℕ) (old new : Shelved) (out_old out_new : Prin
   pub undecided_at : (answer : BoundAnswer) → BoundExplains m old new answer → code ≡ code_of (bound_status answer) → Gains (bound_line answer) out_old out_new → code ≡ UNDECIDED → IsTrue old.told → FindsNoBound old.file m out_old out_new
   undecided_at (bound n) x is line two t = absurd (omega (arith, is, two))
   undecided_at empty x is line two t = absurd (omega (arith, is, two))
-  undecided_at skipped x is line two t = record { answer = skipped; undecided = tt; holds = x t; line = line }
-  undecided_at passed x is line two t = record { answer = passed; undecided = tt; holds = x t; line = line }
+  undecided_at skipped x is line two t = record { answer = skipped; ends = refl; holds = x t; line = line }
+  undecided_at passed x is line two t = record { answer = passed; ends = refl; holds = x t; line = line }
   undecided_at (no_input why) x is line two t = absurd (omega (arith, (reading why code is).low, two))
 
 -- ---- what the model file calls for
@@ -62,11 +63,11 @@ module _ (m : List ℕ) (code : ℕ) (old : Shelved) where
   by_bytes bytes same calls = subst (λ f. BoundCallsFor f code) (sym same) calls
 
   by_model : (problem : Problem) → HoldsProblem old.file m problem → BoundedCallsFor problem code → BoundCallsFor (old.file m) code
-  by_model problem holds calls = by_bytes holds.bytes holds.read (inr (holds.short, inl (problem, holds.means, calls)))
+  by_model problem holds calls = by_bytes holds.bytes holds.read (inr (holds.short, inr (problem, holds.means, calls)))
 
   module _ (new : Shelved) (out_old out_new : Printed) (fine : HadNoFault old new out_old out_new) (t : IsTrue old.told) where
     stop_called : (why : ReadAnswer) → ModelExplains m old new why → code ≡ code_of (read_status why) → BoundCallsFor (old.file m) code
-    stop_called (refused fault) x is = let h = x t in by_bytes h.bytes h.read (inr (h.short, inr (fault, h.means, is)))
+    stop_called (refused fault) x is = let h = x t in by_bytes h.bytes h.read (inr (h.short, inl (fault, h.means, is)))
     stop_called (missing file) x is = subst (λ f. BoundCallsFor f code) (sym (x.2 t)) is
     stop_called (unread file) x is = absurd (fine.read x.1)
     stop_called (too_long file) x is = let h = x.2 t in by_bytes h.bytes h.read (inl (h.long, is))

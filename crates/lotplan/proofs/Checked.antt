@@ -4,7 +4,11 @@ use Rattle.std.specs.Prelude.{Result, Ok, Err, IfOk}
 use Rattle.std.specs.declared.alloc.AllocError.{AllocError}
 use Rattle.lot_io.specs.Outside.{Files, OnlyReads, Printed, Shelved}
 use Rattle.lot_sizing.specs.Problem.{Problem}
+use Rattle.lot_sizing.specs.Plan.{Plan as Chosen}
 use Rattle.plan_rules.specs.declared.plan.Plan.{Plan}
+use Rattle.plan_rules.specs.Held.{plan_of}
+use Rattle.plan_file.specs.Records.{IsPlanOf, records_of}
+use Rattle.acceptance.specs.Accepts.{IsTrueOf}
 use Rattle.cert_lines.specs.declared.parts.Claim.{Claim}
 use Rattle.cert_lines.specs.declared.parts.Claim.TheVariants.{Optimal, Infeasible, Bound as BoundOf}
 use Rattle.certificate.specs.declared.fault.CertTextFault.TheVariants as text
@@ -14,16 +18,17 @@ use Rattle.certificate.specs.Limits.{IsTextOf}
 use Rattle.certificate.specs.Shapes.{Shape}
 use Rattle.cert_checker.specs.declared.fault.Why.{Why}
 use Rattle.cert_checker.specs.Cuts.{OfProblem}
-use Rattle.cert_checker.specs.Checks.{IsCertified, IsCheckFault}
+use Rattle.cert_checker.specs.Checks.{IsCertified, IsCheckFault, plan_given}
 use Rattle.stream_check.specs.declared.fault.StreamFault.{StreamFault}
 use Rattle.stream_check.specs.declared.fault.StreamFault.TheVariants as stream
 use Rattle.stream_check.specs.Streams.{IsStreamFault, IsTooLong, OfBytes, OfCertificate, never_refused}
+use Rattle.lotplan.specs.Meaning.{Says}
 use Rattle.lotplan.specs.declared.said.Said.{Said}
 use Rattle.lot_io.proofs.Frames.{reads_on}
 use Rattle.lotplan.specs.Status.{code_of}
 use Rattle.lotplan.specs.Reading.{FileExplains, HoldsProblem, ModelExplains, OfFile, ReadAnswer, refused, missing, unread, too_long, read_line, read_status, AreNoPlan, HoldsPlan}
 use Rattle.lotplan.specs.Proving.{HoldsCertificate, IsGiven}
-use Rattle.lotplan.specs.Checking.{check_meaning, CheckAnswer, accepted, no_certificate, no_plan, rejected, no_input, check_line, check_status, Accepts, AllAre, AsksForPlan, CertificateExplains, CheckCallsFor, CheckExplains, CheckSays, ClaimCallsFor, FindsRefused, GivenCallsFor, GivenExplains, IsOptimal, IsRefusal, PlanStops, PlannedCallsFor, PlannedExplains, ProofCallsFor, ProofExplains, ProofIs, ProofStops}
+use Rattle.lotplan.specs.Checking.{check_meaning, CheckAnswer, accepted, no_certificate, no_plan, rejected, no_input, check_line, check_status, Accepts, AcceptsCertificate, ClaimIsTrue, AllAre, AsksForPlan, CertificateExplains, CheckCallsFor, CheckExplains, ClaimCallsFor, FindsRefused, GivenCallsFor, GivenExplains, IsOptimal, IsRefusal, PlanStops, PlannedCallsFor, PlannedExplains, ProofCallsFor, ProofExplains, ProofIs, ProofStops}
 use Rattle.lotplan.specs.Saying.{Gains, IsSaid}
 use Rattle.lotplan.specs.Run.{HadNoFault}
 use Rattle.lotplan.specs.declared.status.Status.{Status}
@@ -202,27 +207,48 @@ check_after m p c problem old mid new (no_plan fault) holds reads x = λ t. (pro
 check_after m p c problem old mid new (rejected line w) holds reads x = λ t. (problem, holds t, subst (λ (f : Files). ProofIs f p c problem (rejected line w)) reads.files (x (told_before reads t)))
 check_after m p c problem old mid new (no_input w) holds reads x = inr (problem, holds, proof_after p c old mid new w reads x)
 
-pub says_checked : (m p c : List ℕ) (problem : Problem) (old mid new : Shelved) (answer : CheckAnswer) (r : Result Said AllocError) → (IsTrue old.told → HoldsProblem old.file m problem) → OnlyReads old mid → ProofExplains problem p c mid new answer → OnlyReads mid new → IfOk r (IsSaid (check_line answer) (check_status answer)) → IfOk r (CheckSays m p c old new)
+pub says_checked : (m p c : List ℕ) (problem : Problem) (old mid new : Shelved) (answer : CheckAnswer) (r : Result Said AllocError) → (IsTrue old.told → HoldsProblem old.file m problem) → OnlyReads old mid → ProofExplains problem p c mid new answer → OnlyReads mid new → IfOk r (IsSaid (check_line answer) (check_status answer)) → IfOk r (Says (check_meaning m p c) old new)
 says_checked m p c problem old mid new answer (Ok said) holds reads x more says = answered CheckAnswer (λ a. CheckExplains m p c old new a × OnlyReads old new) check_line check_status answer said (check_after m p c problem old mid new answer holds reads x, reads_on reads more) says
 says_checked m p c problem old mid new answer (Err e) holds reads x more says = tt
 
-pub says_stop : (m p c : List ℕ) (old new : Shelved) (w : ReadAnswer) (r : Result Said AllocError) → ModelExplains m old new w → OnlyReads old new → IfOk r (IsSaid (read_line w) (read_status w)) → IfOk r (CheckSays m p c old new)
+pub says_stop : (m p c : List ℕ) (old new : Shelved) (w : ReadAnswer) (r : Result Said AllocError) → ModelExplains m old new w → OnlyReads old new → IfOk r (IsSaid (read_line w) (read_status w)) → IfOk r (Says (check_meaning m p c) old new)
 says_stop m p c old new w (Ok said) x reads says = answered CheckAnswer (λ a. CheckExplains m p c old new a × OnlyReads old new) check_line check_status (no_input w) said (inl x, reads) says
 says_stop m p c old new w (Err e) x reads says = tt
 
 -- ---- what each number says
-pub accepts_at : (m p c : List ℕ) (code : ℕ) (old new : Shelved) (out_old out_new : Printed) (answer : CheckAnswer) → CheckExplains m p c old new answer → code ≡ code_of (check_status answer) → Gains (check_line answer) out_old out_new → code ≡ DONE → IsTrue old.told → Accepts old.file m p c out_old out_new
-accepts_at m p c code old new out_old out_new (accepted claim) x is line none t = record { claim = claim; holds = x t; line = line }
-accepts_at m p c code old new out_old out_new (no_certificate fault) x is line none t = absurd (omega (arith, is, none))
-accepts_at m p c code old new out_old out_new (no_plan fault) x is line none t = absurd (omega (arith, is, none))
-accepts_at m p c code old new out_old out_new (rejected at w) x is line none t = absurd (omega (arith, is, none))
-accepts_at m p c code old new out_old out_new (no_input w) x is line none t = absurd (omega (arith, (reading w code is).low, none))
+pub certified_at : (m p c : List ℕ) (code : ℕ) (old new : Shelved) (out_old out_new : Printed) (answer : CheckAnswer) → CheckExplains m p c old new answer → code ≡ code_of (check_status answer) → Gains (check_line answer) out_old out_new → code ≡ DONE → IsTrue old.told → AcceptsCertificate old.file m p c out_old out_new
+certified_at m p c code old new out_old out_new (accepted claim) x is line none t = record { what = claim; holds = x t; line = line }
+certified_at m p c code old new out_old out_new (no_certificate fault) x is line none t = absurd (omega (arith, is, none))
+certified_at m p c code old new out_old out_new (no_plan fault) x is line none t = absurd (omega (arith, is, none))
+certified_at m p c code old new out_old out_new (rejected at w) x is line none t = absurd (omega (arith, is, none))
+certified_at m p c code old new out_old out_new (no_input w) x is line none t = absurd (omega (arith, (reading w code is).low, none))
+
+-- a true claim of a plan that was given is one of the plan file's
+some_plan : (a b : Chosen) → Some a ≡ Some b → a ≡ b
+some_plan a b same = cc same
+
+claim_true : (before : Files) (p : List ℕ) (problem : Problem) (claim : Claim) (given : Option Plan) → IsGiven before p problem claim given → IsTrueOf problem claim (plan_given given) → ClaimIsTrue before p problem claim
+claim_true before p problem (Optimal amount) (Some grids) goes (plan, same, best, costs) =
+    (goes.bytes, goes.read, goes.short, (plan, subst (λ q. IsPlanOf problem (records_of goes.bytes) q) (some_plan (plan_of grids) plan same) goes.is, best, costs))
+claim_true before p problem (Optimal amount) None goes is = absurd goes
+claim_true before p problem Infeasible given goes is = is
+claim_true before p problem (BoundOf amount) given goes is = is
+
+pub accepts_of : (before : Files) (m p c : List ℕ) (out_old out_new : Printed) → AcceptsCertificate before m p c out_old out_new → Accepts before m p out_old out_new
+accepts_of before m p c out_old out_new a =
+    let (problem, model, proof) = a.holds in
+    let h = proof.holds in
+    record {
+      what = a.what;
+      holds = (problem, model, claim_true before p problem a.what h.given (subst (λ k. IsGiven before p problem k h.given) proof.claims h.goes_with) proof.is_true);
+      line = a.line;
+    }
 
 pub refused_at : (m p c : List ℕ) (code : ℕ) (old new : Shelved) (out_old out_new : Printed) (answer : CheckAnswer) → CheckExplains m p c old new answer → code ≡ code_of (check_status answer) → Gains (check_line answer) out_old out_new → code ≡ FAULTY → IsTrue old.told → FindsRefused old.file m p c out_old out_new
 refused_at m p c code old new out_old out_new (accepted claim) x is line three t = absurd (omega (arith, is, three))
-refused_at m p c code old new out_old out_new (no_certificate fault) x is line three t = record { answer = no_certificate fault; fault = tt; holds = x t; line = line }
-refused_at m p c code old new out_old out_new (no_plan fault) x is line three t = record { answer = no_plan fault; fault = tt; holds = x t; line = line }
-refused_at m p c code old new out_old out_new (rejected at w) x is line three t = record { answer = rejected at w; fault = tt; holds = x t; line = line }
+refused_at m p c code old new out_old out_new (no_certificate fault) x is line three t = record { answer = no_certificate fault; ends = refl; holds = x t; line = line }
+refused_at m p c code old new out_old out_new (no_plan fault) x is line three t = record { answer = no_plan fault; ends = refl; holds = x t; line = line }
+refused_at m p c code old new out_old out_new (rejected at w) x is line three t = record { answer = rejected at w; ends = refl; holds = x t; line = line }
 refused_at m p c code old new out_old out_new (no_input w) x is line three t = absurd (omega (arith, (reading w code is).low, three))
 
 -- ---- what the three files call for

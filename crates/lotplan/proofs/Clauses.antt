@@ -5,7 +5,7 @@ use Rattle.command_line.specs.Words.{Request, Search, IsAllowed, planning, judgi
 use Rattle.lotplan.specs.Writing.{StartsAmong}
 use Rattle.lotplan.specs.Planning.{FailsToWrite, FindsNoPlan, FindsStartFault, KeepsStart, LeavesOpen, OutcomeExplains, PlanOutcome, PlansBest, outcome_line, outcome_status}
 use Rattle.lotplan.specs.Judging.{FindsFault, FindsFeasible, JudgeAnswer, JudgeExplains, judge_line, judge_status}
-use Rattle.lotplan.specs.Checking.{Accepts, CallsForDone, CheckAnswer, CheckCallsFor, CheckExplains, FindsRefused, check_line, check_status}
+use Rattle.lotplan.specs.Checking.{Accepts, AcceptsCertificate, CallsForDone, CheckAnswer, CheckCallsFor, CheckExplains, FindsRefused, check_line, check_status}
 use Rattle.lotplan.specs.Upgrading.{FailsToUpgrade, UpgradeAnswer, UpgradeExplains, Upgrades, upgrade_line, upgrade_status}
 use Rattle.lotplan.specs.Bounding.{BoundAnswer, BoundExplains, FindsBound, FindsNoBound, FindsNoPoint, bound_line, bound_status}
 use Rattle.command_line.specs.declared.commands.ReportForm.{ReportForm}
@@ -143,10 +143,13 @@ module _ (request : Option Request) (code : ℕ) (old new : Shelved) (out_old ou
         of_judged.fault_at m p code old new out_old out_new answer why.0 number line is_code t
 
     -- ---- `check`
-    pub checked : (m p c : List ℕ) → request ≡ Some (checking m p c) → code ≡ DONE → IsTrue old.told → Accepts old.file m p c out_old out_new
-    checked m p c is is_code t =
+    pub certified : (m p c : List ℕ) → request ≡ Some (checking m p c) → code ≡ DONE → IsTrue old.told → AcceptsCertificate old.file m p c out_old out_new
+    certified m p c is is_code t =
         let (answer, why, number, line) = check_ending m p c is (ended request code old new out_old out_new run (λ e. omega (arith, e, is_code)) (λ e. omega (arith, e, is_code))) in
-        of_checked.accepts_at m p c code old new out_old out_new answer why.0 number line is_code t
+        of_checked.certified_at m p c code old new out_old out_new answer why.0 number line is_code t
+
+    pub checked : (m p c : List ℕ) → request ≡ Some (checking m p c) → code ≡ DONE → IsTrue old.told → Accepts old.file m p out_old out_new
+    checked m p c is is_code t = of_checked.accepts_of old.file m p c out_old out_new (certified m p c is is_code t)
 
     pub check_faulty : (m p c : List ℕ) → request ≡ Some (checking m p c) → code ≡ FAULTY → IsTrue old.told → FindsRefused old.file m p c out_old out_new
     check_faulty m p c is is_code t =
@@ -323,7 +326,7 @@ module _ (request : Option Request) (code : ℕ) (old new : Shelved) (out_old ou
     showed seed is is_code =
         let e = ended request code old new out_old out_new run (λ e. omega (arith, e, is_code)) (λ e. omega (arith, e, is_code)) in
         let d = subst (λ r. Does r old new e.line e.status) is e.does in
-        record { text = e.line; shows = d.shows; line = e.gains }
+        record { what = e.line; holds = d.shows; line = e.gains }
 
     -- ---- what `check` calls for on what `plan` wrote
     neither : (other : ℕ) → UNDECIDED < other → EndsSearch code → code ≢ other

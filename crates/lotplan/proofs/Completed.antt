@@ -14,12 +14,13 @@ use Rattle.plan_rules.specs.declared.broken.Broken.{Broken}
 use Rattle.plan_rules.specs.declared.plan.Plan.{Plan as Grids}
 use Rattle.lot_quantities.specs.Completed.{IsRefused}
 use Rattle.lot_quantities.specs.declared.quantities.Quantities.{Quantities}
+use Rattle.lotplan.specs.Meaning.{Says}
 use Rattle.lotplan.specs.declared.said.Said.{Said}
 use Rattle.lotplan.specs.declared.commands.complete.NoTable.{NoTable}
 use Rattle.lotplan.specs.declared.commands.complete.NoTable.TheVariants.{Answered, Memory}
 use Rattle.lotplan.specs.Status.{code_of}
 use Rattle.lotplan.specs.Reading.{FileExplains, HoldsProblem, ModelExplains, OfFile, ReadAnswer, refused, missing, unread, too_long, read_status}
-use Rattle.lotplan.specs.Completing.{AreIncomplete, AreNoTable, AreQuantities, CompleteAnswer, CompleteCallsFor, CompleteExplains, CompleteSays, Completes, ExplainsNoTable, FailsToComplete, FindsIncomplete, FindsNoTable, GridsExplain, GridsSay, HasPlan, HoldsTables, OfTable, PutsAndSays, TableAnswer, TableCallsFor, TableExplains, TablesExplain, WritesCompleted, broken, completed, no_input, no_table, none, unwritten, complete_line, complete_meaning, complete_status, table_line, table_meant, table_status}
+use Rattle.lotplan.specs.Completing.{AreIncomplete, AreNoTable, AreQuantities, CompleteAnswer, CompleteCallsFor, CompleteExplains, Completes, ExplainsNoTable, FailsToComplete, FindsIncomplete, FindsNoTable, GridsExplain, GridsSay, HasPlan, HoldsTables, OfTable, PutsAndSays, TableAnswer, TableCallsFor, TableExplains, TablesExplain, WritesCompleted, broken, completed, no_input, no_table, none, unwritten, complete_line, complete_meaning, complete_status, table_line, table_meant, table_status}
 use Rattle.lotplan.specs.Saying.{Gains, IsSaid}
 use Rattle.lotplan.specs.Writing.{StartsAtMost, unwritten_line}
 use Rattle.lotplan.specs.Run.{HadNoFault}
@@ -104,18 +105,18 @@ module _ (m p q : List ℕ) where
   complete_after problem grids old mid new (broken rule) holds reads x = (λ t. of_table old.file m p problem grids (AreIncomplete rule) (holds t) x.0, reads_on reads x.1)
   complete_after problem grids old mid new (none answer) holds reads x = absurd x
 
-  pub says_grids : (problem : Problem) (grids : Quantities) (old mid new : Shelved) (r : Result Said AllocError) → (IsTrue old.told → HoldsTables old.file m p problem grids) → OnlyReads old mid → IfOk r (GridsSay problem (table_of grids.make) (table_of grids.setup) q mid new) → IfOk r (CompleteSays m p q old new)
+  pub says_grids : (problem : Problem) (grids : Quantities) (old mid new : Shelved) (r : Result Said AllocError) → (IsTrue old.told → HoldsTables old.file m p problem grids) → OnlyReads old mid → IfOk r (GridsSay problem (table_of grids.make) (table_of grids.setup) q mid new) → IfOk r (Says (complete_meaning m p q) old new)
   says_grids problem grids old mid new (Ok said) holds reads (answer, x, says) = answered CompleteAnswer (CompleteExplains m p q old new) complete_line complete_status answer said (complete_after problem grids old mid new answer holds reads x) says
   says_grids problem grids old mid new (Err e) holds reads x = tt
 
-  pub says_no_table : (old new : Shelved) (answer : TableAnswer) (r : Result Said AllocError) → TablesExplain m p old new answer → OnlyReads old new → IfOk r (IsSaid (table_line answer) (table_status answer)) → IfOk r (CompleteSays m p q old new)
+  pub says_no_table : (old new : Shelved) (answer : TableAnswer) (r : Result Said AllocError) → TablesExplain m p old new answer → OnlyReads old new → IfOk r (IsSaid (table_line answer) (table_status answer)) → IfOk r (Says (complete_meaning m p q) old new)
   says_no_table old new answer (Ok said) x reads says = answered CompleteAnswer (CompleteExplains m p q old new) complete_line complete_status (none answer) said (x, reads) says
   says_no_table old new answer (Err e) x reads says = tt
 
   -- ---- what each number says
   module _ (code : ℕ) (old new : Shelved) (out_old out_new : Printed) where
     pub completed_at : (answer : CompleteAnswer) → CompleteExplains m p q old new answer → code ≡ code_of (complete_status answer) → Gains (complete_line answer) out_old out_new → code ≡ DONE → IsTrue old.told → Completes old.file new.file m p q out_old out_new
-    completed_at (completed amount) x is line done t = record { amount = amount; holds = x.0 t; line = line }
+    completed_at (completed amount) x is line done t = record { what = amount; holds = x.0 t; line = line }
     completed_at (unwritten file) x is line done t = absurd (omega (arith, is, done))
     completed_at (broken rule) x is line done t = absurd (omega (arith, is, done))
     completed_at (none (no_table fault)) x is line done t = absurd (omega (arith, is, done))
@@ -124,8 +125,8 @@ module _ (m p q : List ℕ) where
     pub faulty_at : (answer : CompleteAnswer) → CompleteExplains m p q old new answer → code ≡ code_of (complete_status answer) → Gains (complete_line answer) out_old out_new → code ≡ FAULTY → IsTrue old.told → FindsIncomplete old.file m p out_old out_new ⊎ FindsNoTable old.file m p out_old out_new
     faulty_at (completed amount) x is line three t = absurd (omega (arith, is, three))
     faulty_at (unwritten file) x is line three t = absurd (omega (arith, is, three))
-    faulty_at (broken rule) x is line three t = inl (record { rule = rule; holds = x.0 t; line = line })
-    faulty_at (none (no_table fault)) x is line three t = inr (record { fault = fault; holds = x.0 t; line = line })
+    faulty_at (broken rule) x is line three t = inl (record { what = rule; holds = x.0 t; line = line })
+    faulty_at (none (no_table fault)) x is line three t = inr (record { what = fault; holds = x.0 t; line = line })
     faulty_at (none (no_input why)) x is line three t = absurd (omega (arith, (reading why code is).low, three))
 
     pub unwritten_at : (answer : CompleteAnswer) → CompleteExplains m p q old new answer → code ≡ code_of (complete_status answer) → Gains (complete_line answer) out_old out_new → code ≡ UNWRITTEN → FailsToComplete old new m p q out_old out_new

@@ -7,10 +7,11 @@ use Rattle.lot_sizing.specs.Problem.{Problem}
 use Rattle.lot_sizing.specs.Plan.{Plan}
 use Rattle.plan_rules.specs.declared.plan.Plan.{Plan as Grids}
 use Rattle.plan_rules.specs.Held.{plan_of}
+use Rattle.lotplan.specs.Meaning.{Says}
 use Rattle.lotplan.specs.declared.said.Said.{Said}
 use Rattle.lotplan.specs.Status.{code_of}
 use Rattle.lotplan.specs.Judging.{AnyPlan, FindsFault, FindsNone, HoldFeasible, HoldsBoth, JudgeAnswer, JudgeCallsFor, JudgeExplains, feasible, no_plan, broken, no_input, judge_line, judge_status}
-use Rattle.lotplan.specs.Extracting.{Extract, ExtractAnswer, ExtractExplains, ExtractSays, FailsToExtract, GivenExplains, GivenSays, WritesAndSays, WritesExtract, judged, unwritten, written, extract_line, extract_meaning, extract_status}
+use Rattle.lotplan.specs.Extracting.{Extract, ExtractAnswer, ExtractExplains, FailsToExtract, GivenExplains, GivenSays, WritesAndSays, WritesExtract, judged, unwritten, written, extract_line, extract_meaning, extract_status}
 use Rattle.lotplan.specs.Saying.{Gains, IsSaid}
 use Rattle.lotplan.specs.Writing.{StartsAtMost, unwritten_line}
 use Rattle.lotplan.specs.Run.{HadNoFault}
@@ -46,18 +47,18 @@ module _ (Writes : Extract) (word : List ℕ) where
     )
     extract_after problem grids amount old mid new (judged answer) holds f reads x = absurd x
 
-    pub says_given : (problem : Problem) (grids : Grids) (amount : ℕ) (old mid new : Shelved) (r : Result Said AllocError) → (IsTrue old.told → HoldsBoth old.file m p problem grids) → HoldFeasible problem grids amount → OnlyReads old mid → IfOk r (GivenSays Writes word problem (plan_of grids) s mid new) → IfOk r (ExtractSays Writes word m p s old new)
+    pub says_given : (problem : Problem) (grids : Grids) (amount : ℕ) (old mid new : Shelved) (r : Result Said AllocError) → (IsTrue old.told → HoldsBoth old.file m p problem grids) → HoldFeasible problem grids amount → OnlyReads old mid → IfOk r (GivenSays Writes word problem (plan_of grids) s mid new) → IfOk r (Says (extract_meaning Writes word m p s) old new)
     says_given problem grids amount old mid new (Ok said) holds f reads (answer, x, says) = answered ExtractAnswer (ExtractExplains Writes m p s old new) (extract_line word) extract_status answer said (extract_after problem grids amount old mid new answer holds f reads x) says
     says_given problem grids amount old mid new (Err e) holds f reads some = tt
 
-    pub says_none : (old new : Shelved) (answer : JudgeAnswer) (r : Result Said AllocError) → FindsNone answer × JudgeExplains m p old new answer → OnlyReads old new → IfOk r (IsSaid (judge_line answer) (judge_status answer)) → IfOk r (ExtractSays Writes word m p s old new)
+    pub says_none : (old new : Shelved) (answer : JudgeAnswer) (r : Result Said AllocError) → FindsNone answer × JudgeExplains m p old new answer → OnlyReads old new → IfOk r (IsSaid (judge_line answer) (judge_status answer)) → IfOk r (Says (extract_meaning Writes word m p s) old new)
     says_none old new answer (Ok said) x reads says = answered ExtractAnswer (ExtractExplains Writes m p s old new) (extract_line word) extract_status (judged answer) said (x.0, x.1, reads) says
     says_none old new answer (Err e) x reads says = tt
 
     -- ---- what each number says
     module _ (code : ℕ) (old new : Shelved) (out_old out_new : Printed) where
       pub written_at : (answer : ExtractAnswer) → ExtractExplains Writes m p s old new answer → code ≡ code_of (extract_status answer) → Gains (extract_line word answer) out_old out_new → code ≡ DONE → IsTrue old.told → WritesExtract Writes word old.file new.file m p out_old out_new
-      written_at (written count) x is line none t = record { count = count; holds = x.0 t; line = line }
+      written_at (written count) x is line none t = record { what = count; holds = x.0 t; line = line }
       written_at (unwritten file) x is line none t = absurd (omega (arith, is, none))
       written_at (judged (feasible amount)) x is line none t = absurd x.0
       written_at (judged (no_plan fault)) x is line none t = absurd (omega (arith, is, none))

@@ -81,7 +81,7 @@ module _ (by : Grounds) where
       (λ long. (TOO_LONG, inl (long, refl)))
       (λ short. ⊎_elim
       (λ read. ⊎_elim
-      (λ feasible. (DONE, inr (short, inl (cost m read.0, record { plan = read.0; is = read.1; feasible = feasible; costs = refl }, refl))))
+      (λ feasible. (DONE, inr (short, inl (cost m read.0, record { plan = read.0; is = read.1; feasible = feasible; holds = refl }, refl))))
       (λ broken. (FAULTY, inr (short, inr (inl (broken.1, record { plan = read.0; is = read.1; infeasible = broken.0; breaks = broken.2 }, refl)))))
       (by.judged m read.0))
       (λ fault. (FAULTY, inr (short, inr (inr (fault.0, record { cause = fault.1; is = fault.2 }, refl)))))

@@ -11,12 +11,12 @@ use Rattle.plan_rules.specs.declared.broken.Broken.{Broken}
 use Rattle.lotplan.specs.declared.commands.judge.NotFeasible.{NotFeasible}
 use Rattle.lotplan.specs.declared.commands.judge.NotFeasible.TheVariants.{Judged, Memory}
 use Rattle.lotplan.specs.declared.said.Said.{Said}
-use Rattle.lotplan.specs.Meaning.{Meaning}
+use Rattle.lotplan.specs.Meaning.{Meaning, Says}
 use Rattle.lotplan.specs.Status.{code_of}
 use Rattle.plan_rules.specs.declared.plan.Plan.{Plan as Grids}
 use Rattle.plan_rules.specs.Held.{plan_of}
 use Rattle.lotplan.specs.Reading.{FilesStop, HoldsPlan, FileExplains, HoldsProblem, ModelExplains, OfFile, ReadAnswer, refused, missing, unread, too_long, read_status}
-use Rattle.lotplan.specs.Judging.{JudgeAnswer, feasible, no_plan, broken, no_input, judge_line, judge_status, BytesAre, FindsFault, ExplainsNone, FindsFeasible, OfFeasible, HoldFeasible, HoldsBoth, JudgeCallsFor, JudgeExplains, JudgeSays, PlanCallsFor, PlanFileExplains, judge_meaning, judge_meant}
+use Rattle.lotplan.specs.Judging.{JudgeAnswer, feasible, no_plan, broken, no_input, judge_line, judge_status, BytesAre, FindsFault, ExplainsNone, FindsFeasible, OfFeasible, HoldFeasible, HoldsBoth, JudgeCallsFor, JudgeExplains, PlanCallsFor, PlanFileExplains, judge_meaning, judge_meant}
 use Rattle.lotplan.specs.Saying.{Gains, IsSaid}
 use Rattle.lotplan.specs.Run.{HadNoFault}
 use Rattle.lotplan.specs.declared.status.Status.{Status}
@@ -45,26 +45,26 @@ none_after m p problem old mid new Memory holds reads x = tt
 pub feasible_in_files : (m p : List ℕ) (problem : Problem) (grids : Grids) (amount : ℕ) (old new : Shelved) → (IsTrue old.told → HoldsBoth old.file m p problem grids) → HoldFeasible problem grids amount → JudgeExplains m p old new (feasible amount)
 feasible_in_files m p problem grids amount old new holds f = λ t.
     let h = holds t in
-    (problem, h.model, (h.plan.bytes, h.plan.read, h.plan.short, record { plan = plan_of grids; is = h.plan.is; feasible = f.feasible; costs = sym f.costs }))
+    (problem, h.model, (h.plan.bytes, h.plan.read, h.plan.short, record { plan = plan_of grids; is = h.plan.is; feasible = f.feasible; holds = sym f.costs }))
 
 pub of_feasible : (before : Files) (m p : List ℕ) (problem : Problem) (grids : Grids) (amount : ℕ) (P : Problem → Plan → Type 0) → HoldsBoth before m p problem grids → HoldFeasible problem grids amount → P problem (plan_of grids) → OfFeasible before m p P
 of_feasible before m p problem grids amount P h f holds = (problem, h.model, (h.plan.bytes, h.plan.read, h.plan.short, record { plan = plan_of grids; is = h.plan.is; feasible = f.feasible; holds = holds }))
 
-pub says_judged : (m p : List ℕ) (old new : Shelved) (answer : JudgeAnswer) (r : Result Said AllocError) → JudgeExplains m p old new answer → OnlyReads old new → IfOk r (IsSaid (judge_line answer) (judge_status answer)) → IfOk r (JudgeSays m p old new)
+pub says_judged : (m p : List ℕ) (old new : Shelved) (answer : JudgeAnswer) (r : Result Said AllocError) → JudgeExplains m p old new answer → OnlyReads old new → IfOk r (IsSaid (judge_line answer) (judge_status answer)) → IfOk r (Says (judge_meaning m p) old new)
 says_judged m p old new answer (Ok said) x reads says = answered JudgeAnswer (λ a. JudgeExplains m p old new a × OnlyReads old new) judge_line judge_status answer said (x, reads) says
 says_judged m p old new answer (Err e) x reads says = tt
 
 -- ---- what each number says
 pub feasible_at : (m p : List ℕ) (code : ℕ) (old new : Shelved) (out_old out_new : Printed) (answer : JudgeAnswer) → JudgeExplains m p old new answer → code ≡ code_of (judge_status answer) → Gains (judge_line answer) out_old out_new → code ≡ DONE → IsTrue old.told → FindsFeasible old.file m p out_old out_new
-feasible_at m p code old new out_old out_new (feasible amount) x is line none t = record { amount = amount; holds = x t; line = line }
+feasible_at m p code old new out_old out_new (feasible amount) x is line none t = record { what = amount; holds = x t; line = line }
 feasible_at m p code old new out_old out_new (no_plan fault) x is line none t = absurd (omega (arith, is, none))
 feasible_at m p code old new out_old out_new (broken rule) x is line none t = absurd (omega (arith, is, none))
 feasible_at m p code old new out_old out_new (no_input why) x is line none t = absurd (omega (arith, (reading why code is).low, none))
 
 pub fault_at : (m p : List ℕ) (code : ℕ) (old new : Shelved) (out_old out_new : Printed) (answer : JudgeAnswer) → JudgeExplains m p old new answer → code ≡ code_of (judge_status answer) → Gains (judge_line answer) out_old out_new → code ≡ FAULTY → IsTrue old.told → FindsFault old.file m p out_old out_new
 fault_at m p code old new out_old out_new (feasible amount) x is line three t = absurd (omega (arith, is, three))
-fault_at m p code old new out_old out_new (no_plan fault) x is line three t = record { answer = no_plan fault; fault = tt; holds = x t; line = line }
-fault_at m p code old new out_old out_new (broken rule) x is line three t = record { answer = broken rule; fault = tt; holds = x t; line = line }
+fault_at m p code old new out_old out_new (no_plan fault) x is line three t = record { answer = no_plan fault; ends = refl; holds = x t; line = line }
+fault_at m p code old new out_old out_new (broken rule) x is line three t = record { answer = broken rule; ends = refl; holds = x t; line = line }
 fault_at m p code old new out_old out_new (no_input why) x is line three t = absurd (omega (arith, (reading why code is).low, three))
 
 -- ---- what the two files call for
@@ -104,7 +104,7 @@ called_at m p code old new out_old out_new fine t (no_input why) x is =
 pub feasible_calls : (file : Files) (m p : List ℕ) (P : Problem → Plan → Type 0) → OfFeasible file m p P → JudgeCallsFor (file m) (file p) DONE
 feasible_calls file m p P (problem, holds, f) =
     let are = f.3 in
-    let plan = plan_call problem (file p) f.0 DONE f.1 (inr (f.2, inl (cost problem are.plan, record { plan = are.plan; is = are.is; feasible = are.feasible; costs = refl }, refl))) in
+    let plan = plan_call problem (file p) f.0 DONE f.1 (inr (f.2, inl (cost problem are.plan, record { plan = are.plan; is = are.is; feasible = are.feasible; holds = refl }, refl))) in
     judge_call (file m) (file p) holds.bytes DONE holds.read (inr (holds.short, inr (problem, holds.means, plan)))
 
 pub feasible_called : (m p : List ℕ) (code : ℕ) (old : Shelved) (P : Problem → Plan → Type 0) → OfFeasible old.file m p P → code ≡ DONE → JudgeCallsFor (old.file m) (old.file p) code

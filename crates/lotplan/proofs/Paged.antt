@@ -20,6 +20,7 @@ use Rattle.plan_page.specs.Page.{page_text}
 use Rattle.plan_page.specs.declared.limits.TheConstants.{MAX_PAGE}
 use Rattle.plan_page.specs.declared.proving.Proved.{Proved}
 use Rattle.plan_page.specs.declared.proving.Proved.TheVariants as proved
+use Rattle.lotplan.specs.Meaning.{Says}
 use Rattle.lotplan.specs.declared.commands.draw.NotDrawn.{NotDrawn}
 use Rattle.lotplan.specs.declared.commands.draw.NotDrawn.TheVariants.{Judged, Unproved, Memory}
 use Rattle.lotplan.specs.declared.said.Said.{Said}
@@ -28,7 +29,7 @@ use Rattle.lotplan.specs.Proving.{IsGiven}
 use Rattle.lotplan.specs.Reading.{ReadAnswer, HoldsPlan, refused, missing, unread, too_long, read_status}
 use Rattle.lotplan.specs.Judging.{AnyPlan, FindsNone, HoldsBoth, JudgeAnswer, JudgeExplains, OfFeasible, feasible, no_plan as no_plan_held, broken, no_input as not_read, judge_line, judge_status}
 use Rattle.lotplan.specs.Checking.{CheckAnswer, CertificateExplains, GivenExplains, IsRefusal, accepted, no_certificate, no_plan, rejected, no_input, check_line, check_meant, check_status}
-use Rattle.lotplan.specs.Drawing.{DrawAnswer, DrawCallsFor, DrawExplains, DrawSays, DrawingCallsFor, Draws, ExplainsNoProof, ExplainsNotDrawn, FailsToDraw, FindsDrawFault, FindsNoProof, HasDrawing, HasNoProof, IsAcceptedWith, IsShown, IsSo, IsUnproved, PageCallsFor, PageSays, ProofCallsFor, ProofExplains, ProofStops, SaysAsChecked, ShapeCallsFor, WithPlanExplains, drawn, unwritten, long_page, judged, unproved, draw_line, draw_meaning, draw_status, plan_for, proved_of}
+use Rattle.lotplan.specs.Drawing.{DrawAnswer, DrawCallsFor, DrawExplains, DrawingCallsFor, Draws, ExplainsNoProof, ExplainsNotDrawn, FailsToDraw, FindsDrawFault, FindsNoProof, HasDrawing, HasNoProof, IsAcceptedWith, IsShown, IsSo, IsUnproved, PageCallsFor, PageSays, ProofCallsFor, ProofExplains, ProofStops, SaysAsChecked, ShapeCallsFor, WithPlanExplains, drawn, unwritten, long_page, judged, unproved, draw_line, draw_meaning, draw_status, plan_for, proved_of}
 use Rattle.lotplan.specs.Saying.{Gains, IsSaid}
 use Rattle.lotplan.specs.Writing.{StartsAtMost, unwritten_line}
 use Rattle.lotplan.specs.Run.{HadNoFault}
@@ -152,7 +153,7 @@ module _ (m p : List ℕ) (c : Option (List ℕ)) (problem : Problem) (grids : G
 
 -- ---- what is said
 module _ (m p h : List ℕ) (c : Option (List ℕ)) where
-  pub says_page : (problem : Problem) (grids : Grids) (said : Proved) (old mid new : Shelved) (r : Result Said AllocError) → (IsTrue old.told → HoldsBoth old.file m p problem grids) → IsFeasible problem (plan_of grids) → (IsTrue old.told → IsShown old.file c problem grids said) → IsSo problem (plan_of grids) said → OnlyReads old mid → IfOk r (PageSays problem (plan_of grids) said h mid new) → IfOk r (DrawSays m p h c old new)
+  pub says_page : (problem : Problem) (grids : Grids) (said : Proved) (old mid new : Shelved) (r : Result Said AllocError) → (IsTrue old.told → HoldsBoth old.file m p problem grids) → IsFeasible problem (plan_of grids) → (IsTrue old.told → IsShown old.file c problem grids said) → IsSo problem (plan_of grids) said → OnlyReads old mid → IfOk r (PageSays problem (plan_of grids) said h mid new) → IfOk r (Says (draw_meaning m p h c) old new)
   says_page problem grids said old mid new (Ok s) files feasible_plan shown so reads x = ⊎_elim
       (λ short. ⊎_elim
       (λ done. answered DrawAnswer (DrawExplains m p h c old new) draw_line draw_status (drawn (length text)) s (
@@ -178,11 +179,11 @@ module _ (m p h : List ℕ) (c : Option (List ℕ)) where
       drawing t = record { problem = problem; grids = grids; files = files t; feasible = feasible_plan; said = said; shown = shown t; so = so }
   says_page problem grids said old mid new (Err e) files feasible_plan shown so reads x = tt
 
-  pub says_judged : (old new : Shelved) (answer : JudgeAnswer) (r : Result Said AllocError) → FindsNone answer × JudgeExplains m p old new answer → OnlyReads old new → IfOk r (IsSaid (judge_line answer) (judge_status answer)) → IfOk r (DrawSays m p h c old new)
+  pub says_judged : (old new : Shelved) (answer : JudgeAnswer) (r : Result Said AllocError) → FindsNone answer × JudgeExplains m p old new answer → OnlyReads old new → IfOk r (IsSaid (judge_line answer) (judge_status answer)) → IfOk r (Says (draw_meaning m p h c) old new)
   says_judged old new answer (Ok said) x reads says = answered DrawAnswer (DrawExplains m p h c old new) draw_line draw_status (judged answer) said (x.0, x.1, reads) says
   says_judged old new answer (Err e) x reads says = tt
 
-  pub says_unproved : (old new : Shelved) (answer : CheckAnswer) (r : Result Said AllocError) → HasNoProof old new m p c answer → OnlyReads old new → IfOk r (IsSaid (check_line answer) (check_status answer)) → IfOk r (DrawSays m p h c old new)
+  pub says_unproved : (old new : Shelved) (answer : CheckAnswer) (r : Result Said AllocError) → HasNoProof old new m p c answer → OnlyReads old new → IfOk r (IsSaid (check_line answer) (check_status answer)) → IfOk r (Says (draw_meaning m p h c) old new)
   says_unproved old new answer (Ok said) x reads says = answered DrawAnswer (DrawExplains m p h c old new) draw_line draw_status (unproved answer) said (x, reads) says
   says_unproved old new answer (Err e) x reads says = tt
 
@@ -231,7 +232,7 @@ module _ (m p h : List ℕ) (c : Option (List ℕ)) where
     fault_at (unwritten file) x is line three t = absurd (omega (arith, is, three))
     fault_at long_page x is line three t = absurd (omega (arith, is, three))
     fault_at (judged answer) x is line three t = inl (judging.fault_at m p code old new out_old out_new answer x.1 is line three t)
-    fault_at (unproved answer) x is line three t = inr (record { answer = answer; holds = x.0; line = line })
+    fault_at (unproved answer) x is line three t = inr (record { what = answer; holds = x.0; line = line })
 
     pub unwritten_at : (answer : DrawAnswer) → DrawExplains m p h c old new answer → code ≡ code_of (draw_status answer) → Gains (draw_line answer) out_old out_new → code ≡ UNWRITTEN → FailsToDraw old new m p h c out_old out_new
     unwritten_at (drawn count) x is line eight = absurd (omega (arith, is, eight))

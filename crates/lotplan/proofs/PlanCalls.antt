@@ -1,12 +1,12 @@
 -- The model file calls for a status of `plan`, and for one, but for what may be left open.
-use Rattle.std.proofs.Common.{◌≡◌, ◌⊎◌, ◌∙◌, ⊎_elim, inl, inr, ℕ, sym, subst, arith, List, Option, Some, None, refl, length}
+use Rattle.std.proofs.Common.{◌≡◌, ◌⊎◌, ◌≤◌, ◌∙◌, ⊎_elim, inl, inr, ℕ, sym, subst, arith, List, Option, Some, None, refl, length}
 use Rattle.std.specs.Prelude.{Ok, Err, Result}
 use Rattle.lot_sizing.specs.Problem.{Problem}
 use Rattle.lot_sizing.specs.Totals.{IsRanking}
 use Rattle.lot_draft.specs.declared.fault.ModelFault.{ModelFault}
 use Rattle.instance_reader.specs.Model.{BytesMean}
 use Rattle.instance_reader.specs.declared.versions.TheConstants.{NEWEST_VERSION}
-use Rattle.lotplan.specs.Planning.{FileCallsFor, MayBeLeft, MayLeave, PlanCallFor, PlanMayLeave, ProblemCallsFor, BytesCallFor}
+use Rattle.lotplan.specs.Planning.{FileCallsFor, MayBeLeft, MayLeave, PlanCallFor, PlanMayLeave, ProblemCallsFor}
 use Rattle.lotplan.specs.Judging.{JudgeCallsFor}
 use Rattle.lotplan.specs.declared.sought.Sought.{Sought}
 use Rattle.lotplan.specs.Reading.{file_limit}
@@ -31,10 +31,10 @@ file_call None sought s t a b = inl (a ∙ sym b)
 file_call (Some bytes) sought s t (inl a) (inl b) = inl (a.1 ∙ sym b.1)
 file_call (Some bytes) sought s t (inl a) (inr b) = absurd (omega (arith, a.0, b.0))
 file_call (Some bytes) sought s t (inr a) (inl b) = absurd (omega (arith, a.0, b.0))
-file_call (Some bytes) sought s t (inr (short, inr (f, reads, is))) (inr (also, inr (g, too, other))) = inl (is ∙ sym other)
-file_call (Some bytes) sought s t (inr (short, inr (f, reads, is))) (inr (also, inl (m, too, calls))) = absurd (no_fault bytes m f too reads)
-file_call (Some bytes) sought s t (inr (short, inl (m, reads, calls))) (inr (also, inr (f, too, is))) = absurd (no_fault bytes m f reads too)
-file_call (Some bytes) sought s t (inr (short, inl (m, reads, calls))) (inr (also, inl (n, too, other))) =
+file_call (Some bytes) sought s t (inr (short, inl (f, reads, is))) (inr (also, inl (g, too, other))) = inl (is ∙ sym other)
+file_call (Some bytes) sought s t (inr (short, inl (f, reads, is))) (inr (also, inr (m, too, calls))) = absurd (no_fault bytes m f too reads)
+file_call (Some bytes) sought s t (inr (short, inr (m, reads, calls))) (inr (also, inl (f, too, is))) = absurd (no_fault bytes m f reads too)
+file_call (Some bytes) sought s t (inr (short, inr (m, reads, calls))) (inr (also, inr (n, too, other))) =
     ⊎_elim
     (λ same. inl same)
     (λ left. inr ((m, reads, left.0), left.1))
@@ -63,9 +63,9 @@ module _ (by : Grounds) where
   problem_some : (bytes : List ℕ) (m : Problem) (sought : Sought) → BytesMean bytes (Ok m) → (status : ℕ) × ProblemCallsFor m sought status
   problem_some bytes m sought means = let rank = ranked bytes m means in ranked_some m sought rank.0 rank.1
 
-  bytes_some : (bytes : List ℕ) (sought : Sought) (r : Result Problem ModelFault) → BytesMean bytes r → (status : ℕ) × BytesCallFor bytes sought status
-  bytes_some bytes sought (Ok m) means = let call = problem_some bytes m sought means in (call.0, inl (m, means, call.1))
-  bytes_some bytes sought (Err fault) means = (REFUSED, inr (fault, means, refl))
+  bytes_some : (bytes : List ℕ) (sought : Sought) → length bytes ≤ file_limit → (r : Result Problem ModelFault) → BytesMean bytes r → (status : ℕ) × FileCallsFor (Some bytes) sought status
+  bytes_some bytes sought short (Ok m) means = let call = problem_some bytes m sought means in (call.0, inr (short, inr (m, means, call.1)))
+  bytes_some bytes sought short (Err fault) means = (REFUSED, inr (short, inl (fault, means, refl)))
 
   pub file_some : (file : Option (List ℕ)) (sought : Sought) → (status : ℕ) × FileCallsFor file sought status
   file_some None sought = (MISSING, refl)
@@ -73,8 +73,7 @@ module _ (by : Grounds) where
       (λ long. (TOO_LONG, inl (long, refl)))
       (λ short.
       let means = by.bytes NEWEST_VERSION bytes in
-      let call = bytes_some bytes sought means.0 means.1 in
-      (call.0, inr (short, call.1)))
+      bytes_some bytes sought short means.0 means.1)
       (cases_lt file_limit (length bytes))
 
   pub start_some : (m : List ℕ) (sought : Sought) (start : Option (List ℕ)) (file : Files) → (status : ℕ) × PlanCallFor m sought start file status

@@ -1,5 +1,5 @@
 -- What `plan` leaves, by its answer.
-use Rattle.std.proofs.Common.{◌≡◌, ◌≢◌, ◌<◌, ◌≤◌, ◌∙◌, ◌⊎◌, ⊎_elim, ℕ, List, [], ◌∷◌, Option, Some, None, IsTrue, inl, inr, sym, ap, subst, arith}
+use Rattle.std.proofs.Common.{◌≡◌, ◌≢◌, ◌<◌, ◌≤◌, ◌∙◌, ◌⊎◌, ⊎_elim, ℕ, List, [], ◌∷◌, Option, Some, None, IsTrue, inl, inr, refl, sym, ap, subst, arith}
 use Rattle.std.specs.Prelude.{Result, Ok, Err, IfOk}
 use Rattle.std.specs.declared.alloc.AllocError.{AllocError}
 use Rattle.lot_io.specs.Outside.{Files, GrewBy, OnlyReads, Printed, Shelved}
@@ -11,6 +11,7 @@ use Rattle.cert_lines.specs.declared.parts.Claim.TheVariants.{Optimal, Infeasibl
 use Rattle.branching.specs.declared.found.Found.{Found}
 use Rattle.branch_and_cut.specs.Search.{CostsAtMost, IsDecided}
 use Rattle.command_line.specs.Words.{AreApart, Search}
+use Rattle.lotplan.specs.Meaning.{Says}
 use Rattle.lotplan.specs.declared.said.Said.{Said}
 use Rattle.lotplan.specs.declared.sought.Sought.{Sought}
 use Rattle.lotplan.specs.Status.{code_of}
@@ -19,7 +20,7 @@ use Rattle.lotplan.specs.Finding.{IsFound, PlanCosts}
 use Rattle.lotplan.specs.Writing.{StartsAmong, StartsAtMost}
 use Rattle.lotplan.specs.Judging.{FindsNone, HoldFeasible, HoldsBoth, JudgeAnswer, JudgeExplains, OfFeasible, feasible, no_plan, broken, judge_line, judge_status}
 use Rattle.lotplan.specs.Judging.{no_input as no_files}
-use Rattle.lotplan.specs.Planning.{PlanAnswer, PlanOutcome, of_search, of_start, optimal, infeasible, between, above, unwritten, no_input, outcome_line, outcome_status, plan_line, plan_status, FailsAt, FailsToWrite, FileCallsFor, FindsNoPlan, FindsStartFault, KeepsStart, LeavesOpen, MayBeLeft, OfSearch, OfStart, OutcomeExplains, PlanCallFor, PlanExplains, PlanStops, ProblemCallsFor, PlanSays, PlansBest, WriteExplains, WriteSays, WritesAbove, WritesBetween, WritesFeasible, WritesInfeasible, WritesOptimal, plan_meaning, sought_by}
+use Rattle.lotplan.specs.Planning.{PlanAnswer, PlanOutcome, of_search, of_start, optimal, infeasible, between, above, unwritten, no_input, outcome_line, outcome_status, plan_line, plan_status, FailsAt, FailsToWrite, FileCallsFor, FindsNoPlan, FindsStartFault, KeepsStart, LeavesOpen, MayBeLeft, OfSearch, OfStart, OutcomeExplains, PlanCallFor, PlanExplains, PlanStops, ProblemCallsFor, PlansBest, WriteExplains, WriteSays, WritesAbove, WritesBetween, WritesFeasible, WritesInfeasible, WritesOptimal, plan_meaning, sought_by}
 use Rattle.lotplan.specs.Checking.{AllAre, accepted}
 use Rattle.lotplan.specs.Saying.{Gains, IsSaid}
 use Rattle.lotplan.specs.Run.{HadNoFault}
@@ -90,25 +91,25 @@ module _ (m p c : List ℕ) (search : Search) (problem : Problem) (sought : Soug
   plan_after (unwritten file) x = (omega (arith, x.0, reads.write_faults), fails_after file x.1)
   plan_after (no_input why) x = absurd x
 
-  says_plan : (r : Result Said AllocError) → IfOk r (WriteSays problem sought p c mid new) → IfOk r (PlanSays m p c search old new)
+  says_plan : (r : Result Said AllocError) → IfOk r (WriteSays problem sought p c mid new) → IfOk r (Says (plan_meaning m p c search) old new)
   says_plan (Ok said) (answer, x, says) = answered PlanOutcome (OutcomeExplains m p c search old new) outcome_line outcome_status (of_search answer) said (plan_after answer x) says
   says_plan (Err e) some = tt
 
 -- of a model file alone
-pub says_model : (m p c : List ℕ) (search : Search) (problem : Problem) (old mid new : Shelved) → search.start ≡ None → (IsTrue old.told → HoldsProblem old.file m problem) → OnlyReads old mid → (r : Result Said AllocError) → IfOk r (WriteSays problem (sought_by search None) p c mid new) → IfOk r (PlanSays m p c search old new)
+pub says_model : (m p c : List ℕ) (search : Search) (problem : Problem) (old mid new : Shelved) → search.start ≡ None → (IsTrue old.told → HoldsProblem old.file m problem) → OnlyReads old mid → (r : Result Said AllocError) → IfOk r (WriteSays problem (sought_by search None) p c mid new) → IfOk r (Says (plan_meaning m p c search) old new)
 says_model m p c search problem old mid new none holds reads r says =
     says_plan m p c search problem (sought_by search None) old mid new holds (λ P t x. of_none old.file m search problem P none (holds t) x) reads r says
 
 -- and of a plan to start from
-pub says_from : (m p c : List ℕ) (search : Search) (start : List ℕ) (problem : Problem) (grids : Grids) (amount : ℕ) (old mid new : Shelved) → search.start ≡ Some start → (IsTrue old.told → HoldsBoth old.file m start problem grids) → HoldFeasible problem grids amount → OnlyReads old mid → (r : Result Said AllocError) → IfOk r (WriteSays problem (sought_by search (Some amount)) p c mid new) → IfOk r (PlanSays m p c search old new)
+pub says_from : (m p c : List ℕ) (search : Search) (start : List ℕ) (problem : Problem) (grids : Grids) (amount : ℕ) (old mid new : Shelved) → search.start ≡ Some start → (IsTrue old.told → HoldsBoth old.file m start problem grids) → HoldFeasible problem grids amount → OnlyReads old mid → (r : Result Said AllocError) → IfOk r (WriteSays problem (sought_by search (Some amount)) p c mid new) → IfOk r (Says (plan_meaning m p c search) old new)
 says_from m p c search start problem grids amount old mid new named holds f reads r says =
     says_plan m p c search problem (sought_by search (Some amount)) old mid new (λ t. (holds t).model) (λ P t x. of_some old.file m search start problem grids amount P named (holds t) f x) reads r says
 
-pub says_stop : (m p c : List ℕ) (search : Search) (old new : Shelved) (why : ReadAnswer) (r : Result Said AllocError) → search.start ≡ None → ModelExplains m old new why → OnlyReads old new → IfOk r (IsSaid (read_line why) (read_status why)) → IfOk r (PlanSays m p c search old new)
+pub says_stop : (m p c : List ℕ) (search : Search) (old new : Shelved) (why : ReadAnswer) (r : Result Said AllocError) → search.start ≡ None → ModelExplains m old new why → OnlyReads old new → IfOk r (IsSaid (read_line why) (read_status why)) → IfOk r (Says (plan_meaning m p c search) old new)
 says_stop m p c search old new why (Ok said) none x reads says = answered PlanOutcome (OutcomeExplains m p c search old new) outcome_line outcome_status (of_search (no_input why)) said (none, x, reads) says
 says_stop m p c search old new why (Err e) none x reads says = tt
 
-pub says_unstarted : (m p c : List ℕ) (search : Search) (start : List ℕ) (old new : Shelved) (answer : JudgeAnswer) (r : Result Said AllocError) → search.start ≡ Some start → FindsNone answer × JudgeExplains m start old new answer → OnlyReads old new → IfOk r (IsSaid (judge_line answer) (judge_status answer)) → IfOk r (PlanSays m p c search old new)
+pub says_unstarted : (m p c : List ℕ) (search : Search) (start : List ℕ) (old new : Shelved) (answer : JudgeAnswer) (r : Result Said AllocError) → search.start ≡ Some start → FindsNone answer × JudgeExplains m start old new answer → OnlyReads old new → IfOk r (IsSaid (judge_line answer) (judge_status answer)) → IfOk r (Says (plan_meaning m p c search) old new)
 says_unstarted m p c search start old new answer (Ok said) named x reads says = answered PlanOutcome (OutcomeExplains m p c search old new) outcome_line outcome_status (of_start answer) said (start, named, x.0, x.1, reads) says
 says_unstarted m p c search start old new answer (Err e) named x reads says = tt
 
@@ -141,11 +142,11 @@ module _ (m p c : List ℕ) (search : Search) (code : ℕ) (old new : Shelved) (
   open_at (optimal says nodes amount) x is lines two = absurd (omega (arith, is, two))
   open_at (infeasible says nodes) x is lines two = absurd (omega (arith, is, two))
   open_at (between says nodes bound amount) x is lines two = (
-    λ t. record { answer = between says nodes bound amount; holds = x.0 t; lines = lines },
+    λ t. record { answer = between says nodes bound amount; ends = refl; holds = x.0 t; line = lines },
     inl x.1,
   )
   open_at (above says nodes bound) x is lines two = (
-    λ t. record { answer = above says nodes bound; holds = x.0 t; lines = lines },
+    λ t. record { answer = above says nodes bound; ends = refl; holds = x.0 t; line = lines },
     inr x.1,
   )
   open_at (unwritten file) x is lines two = absurd (omega (arith, is, two))
@@ -225,7 +226,7 @@ module _ (m : List ℕ) (search : Search) (code : ℕ) (old : Shelved) where
   by_bytes bytes same calls = subst (λ f. FileCallsFor f any_start code) (sym same) calls
 
   by_model : (problem : Problem) → HoldsProblem old.file m problem → ProblemCallsFor problem any_start code → FileCallsFor (old.file m) any_start code
-  by_model problem h calls = by_bytes h.bytes h.read (inr (h.short, inl (problem, h.means, calls)))
+  by_model problem h calls = by_bytes h.bytes h.read (inr (h.short, inr (problem, h.means, calls)))
 
   -- of a file to start from, which held a feasible plan
   by_start : (start : Option (List ℕ)) (P : Problem → Sought → Type 0) → OfStart old.file m search start P → FileCallsFor (old.file m) any_start code → PlanCallFor m any_start start old.file code
@@ -240,7 +241,7 @@ module _ (m : List ℕ) (search : Search) (code : ℕ) (old : Shelved) where
 
   module _ (p c : List ℕ) (new : Shelved) (out_old out_new : Printed) (fine : HadNoFault old new out_old out_new) (t : IsTrue old.told) where
     stop_called : (why : ReadAnswer) → ModelExplains m old new why → code ≡ code_of (read_status why) → FileCallsFor (old.file m) any_start code
-    stop_called (refused fault) x is = let h = x t in by_bytes h.bytes h.read (inr (h.short, inr (fault, h.means, is)))
+    stop_called (refused fault) x is = let h = x t in by_bytes h.bytes h.read (inr (h.short, inl (fault, h.means, is)))
     stop_called (missing file) x is = subst (λ f. FileCallsFor f any_start code) (sym (x.2 t)) is
     stop_called (unread file) x is = absurd (fine.read x.1)
     stop_called (too_long file) x is = let h = x.2 t in by_bytes h.bytes h.read (inl (h.long, is))

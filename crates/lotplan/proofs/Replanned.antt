@@ -10,6 +10,7 @@ use Rattle.plan_rules.specs.Held.{plan_of}
 use Rattle.cert_lines.specs.declared.parts.Claim.{Claim}
 use Rattle.cert_lines.specs.declared.parts.Claim.TheVariants.{Optimal, Infeasible, Bound as BoundOf}
 use Rattle.replan.specs.declared.found.Rest.{Rest}
+use Rattle.lotplan.specs.Meaning.{Says}
 use Rattle.lotplan.specs.declared.model_file.PlanStop.{PlanStop}
 use Rattle.lotplan.specs.declared.model_file.PlanStop.TheVariants.{NoPlan, Answered, Memory}
 use Rattle.lotplan.specs.declared.said.Said.{Said}
@@ -21,7 +22,7 @@ use Rattle.lotplan.specs.Finding.{only}
 use Rattle.lotplan.specs.Planning.{HasNone, HasPlan, WritesFeasible, optimal, infeasible, between, above, unwritten}
 use Rattle.lotplan.specs.Planning.{no_input as no_model}
 use Rattle.lotplan.specs.Proving.{HoldsProof}
-use Rattle.lotplan.specs.Replanning.{ReplanAnswer, searched, no_start, no_rest, no_plan, no_input, replan_line, replan_status, ExplainsGivenStop, FailsOn, FailsToReplan, FindsNoRest, FindsNoStart, FindsNoneLater, FindsPlanFault, GivenCallsFor, GoesOn, HasNoStart, HasRest, IsNoRest, IsRestMeant, LeavesRestOpen, OfPlan, OfRest, ReplanCallsFor, ReplanExplains, ReplanSays, ReplansAbove, ReplansBest, ReplansBetween, ReplansInfeasible, ReplansOptimal, StartCallsFor, StartExplains, StartSays, replan_meaning}
+use Rattle.lotplan.specs.Replanning.{ReplanAnswer, searched, no_start, no_rest, no_plan, no_input, replan_line, replan_status, ExplainsGivenStop, FailsOn, FailsToReplan, FindsNoRest, FindsNoStart, FindsNoneLater, FindsPlanFault, GivenCallsFor, GoesOn, HasNoStart, HasRest, IsNoRest, IsRestMeant, LeavesRestOpen, OfPlan, OfRest, ReplanCallsFor, ReplanExplains, ReplansAbove, ReplansBest, ReplansBetween, ReplansInfeasible, ReplansOptimal, StartCallsFor, StartExplains, StartSays, replan_meaning}
 use Rattle.lotplan.specs.Saying.{Gains, IsSaid}
 use Rattle.lotplan.specs.Run.{HadNoFault}
 use Rattle.lotplan.specs.declared.status.Status.{Status}
@@ -89,11 +90,11 @@ module _ (m p : List ℕ) (first : ℕ) (n q c : List ℕ) (budget : ℕ) (probl
   start_after (no_plan fault) x = absurd x
   start_after (no_input why) x = absurd x
 
-  pub says_start : (r : Result Said AllocError) → IfOk r (StartSays problem (plan_of grids) first n q c budget mid new) → IfOk r (ReplanSays m p first n q c budget old new)
+  pub says_start : (r : Result Said AllocError) → IfOk r (StartSays problem (plan_of grids) first n q c budget mid new) → IfOk r (Says (replan_meaning m p first n q c budget) old new)
   says_start (Ok said) (answer, x, says) = answered ReplanAnswer (ReplanExplains m p first n q c budget old new) replan_line replan_status answer said (start_after answer x) says
   says_start (Err e) some = tt
 
-pub says_other : (m p : List ℕ) (first : ℕ) (n q c : List ℕ) (budget : ℕ) (old new : Shelved) (answer : ReplanAnswer) (r : Result Said AllocError) → ReplanExplains m p first n q c budget old new answer → IfOk r (IsSaid (replan_line answer) (replan_status answer)) → IfOk r (ReplanSays m p first n q c budget old new)
+pub says_other : (m p : List ℕ) (first : ℕ) (n q c : List ℕ) (budget : ℕ) (old new : Shelved) (answer : ReplanAnswer) (r : Result Said AllocError) → ReplanExplains m p first n q c budget old new answer → IfOk r (IsSaid (replan_line answer) (replan_status answer)) → IfOk r (Says (replan_meaning m p first n q c budget) old new)
 says_other m p first n q c budget old new answer (Ok said) x says = answered ReplanAnswer (ReplanExplains m p first n q c budget old new) replan_line replan_status answer said x says
 says_other m p first n q c budget old new answer (Err e) x says = tt
 
@@ -158,7 +159,7 @@ module _ (m p : List ℕ) (first : ℕ) (n q c : List ℕ) (budget code : ℕ) (
     no_rest_at (searched (unwritten file) spent) x is line last t = absurd (omega (arith, is, last))
     no_rest_at (searched (no_model why) spent) x is line last t = absurd x
     no_rest_at no_start x is line last t = absurd (omega (arith, is, last))
-    no_rest_at (no_rest fault) x is line last t = record { fault = fault; holds = x.0 t; line = line }
+    no_rest_at (no_rest fault) x is line last t = record { what = fault; holds = x.0 t; line = line }
     no_rest_at (no_plan fault) x is line last t = absurd (omega (arith, is, last))
     no_rest_at (no_input why) x is line last t = absurd (omega (arith, (reading why code is).high, last))
 
@@ -171,7 +172,7 @@ module _ (m p : List ℕ) (first : ℕ) (n q c : List ℕ) (budget code : ℕ) (
     fault_at (searched (no_model why) spent) x is line three t = absurd x
     fault_at no_start x is line three t = absurd (omega (arith, is, three))
     fault_at (no_rest fault) x is line three t = absurd (omega (arith, is, three))
-    fault_at (no_plan fault) x is line three t = record { fault = fault; holds = x.0 t; line = line }
+    fault_at (no_plan fault) x is line three t = record { what = fault; holds = x.0 t; line = line }
     fault_at (no_input why) x is line three t = absurd (omega (arith, (reading why code is).low, three))
 
     pub unwritten_at : (answer : ReplanAnswer) → Why answer → code ≡ code_of (replan_status answer) → Gains (replan_line answer) out_old out_new → code ≡ UNWRITTEN → FailsToReplan old new m p first n q c out_old out_new

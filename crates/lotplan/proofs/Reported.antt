@@ -7,10 +7,11 @@ use Rattle.lot_sizing.specs.Problem.{Problem}
 use Rattle.plan_rules.specs.declared.plan.Plan.{Plan as Grids}
 use Rattle.plan_rules.specs.Held.{plan_of}
 use Rattle.command_line.specs.declared.commands.ReportForm.{ReportForm}
+use Rattle.lotplan.specs.Meaning.{Says}
 use Rattle.lotplan.specs.declared.said.Said.{Said}
 use Rattle.lotplan.specs.Status.{code_of}
 use Rattle.lotplan.specs.Judging.{FindsFault, FindsNone, HoldFeasible, HoldsBoth, JudgeAnswer, JudgeCallsFor, JudgeExplains, feasible, no_plan, broken, no_input, judge_line, judge_status}
-use Rattle.lotplan.specs.Reporting.{IsReport, ReportAnswer, ReportExplains, ReportSays, SumsUp, judged, summed, report_line, report_meaning, report_status, report_text}
+use Rattle.lotplan.specs.Reporting.{IsReport, ReportAnswer, ReportExplains, SumsUp, judged, summed, report_line, report_meaning, report_status, report_text}
 use Rattle.lotplan.specs.Saying.{Gains, IsSaid}
 use Rattle.lotplan.specs.Run.{HadNoFault}
 use Rattle.lotplan.specs.declared.status.Status.{Status}
@@ -23,7 +24,7 @@ use Rattle.lotplan.proofs.Readings.{IsReading, SomeStop, reading}
 use Rattle.lotplan.proofs.Judged as judging
 
 -- ---- what is said
-pub says_summed : (m p : List ℕ) (form : ReportForm) (problem : Problem) (grids : Grids) (amount : ℕ) (old new : Shelved) (r : Result Said AllocError) → (IsTrue old.told → HoldsBoth old.file m p problem grids) → HoldFeasible problem grids amount → OnlyReads old new → IfOk r (IsSaid (report_text form problem (plan_of grids)) Done) → IfOk r (ReportSays m p form old new)
+pub says_summed : (m p : List ℕ) (form : ReportForm) (problem : Problem) (grids : Grids) (amount : ℕ) (old new : Shelved) (r : Result Said AllocError) → (IsTrue old.told → HoldsBoth old.file m p problem grids) → HoldFeasible problem grids amount → OnlyReads old new → IfOk r (IsSaid (report_text form problem (plan_of grids)) Done) → IfOk r (Says (report_meaning m p form) old new)
 says_summed m p form problem grids amount old new (Ok said) holds f reads says =
     answered ReportAnswer (λ a. ReportExplains m p form old new a × OnlyReads old new) report_line report_status (summed (report_text form problem (plan_of grids))) said (
       λ t. judging.of_feasible old.file m p problem grids amount (IsReport form (report_text form problem (plan_of grids))) (holds t) f refl,
@@ -32,14 +33,14 @@ says_summed m p form problem grids amount old new (Ok said) holds f reads says =
     says
 says_summed m p form problem grids amount old new (Err e) holds f reads says = tt
 
-pub says_none : (m p : List ℕ) (form : ReportForm) (old new : Shelved) (answer : JudgeAnswer) (r : Result Said AllocError) → FindsNone answer × JudgeExplains m p old new answer → OnlyReads old new → IfOk r (IsSaid (judge_line answer) (judge_status answer)) → IfOk r (ReportSays m p form old new)
+pub says_none : (m p : List ℕ) (form : ReportForm) (old new : Shelved) (answer : JudgeAnswer) (r : Result Said AllocError) → FindsNone answer × JudgeExplains m p old new answer → OnlyReads old new → IfOk r (IsSaid (judge_line answer) (judge_status answer)) → IfOk r (Says (report_meaning m p form) old new)
 says_none m p form old new answer (Ok said) x reads says = answered ReportAnswer (λ a. ReportExplains m p form old new a × OnlyReads old new) report_line report_status (judged answer) said (x, reads) says
 says_none m p form old new answer (Err e) x reads says = tt
 
 -- ---- what each number says
 module _ (m p : List ℕ) (form : ReportForm) (code : ℕ) (old new : Shelved) (out_old out_new : Printed) where
   pub summed_at : (answer : ReportAnswer) → ReportExplains m p form old new answer → code ≡ code_of (report_status answer) → Gains (report_line answer) out_old out_new → code ≡ DONE → IsTrue old.told → SumsUp old.file m p form out_old out_new
-  summed_at (summed text) x is line none t = record { text = text; holds = x t; line = line }
+  summed_at (summed text) x is line none t = record { what = text; holds = x t; line = line }
   summed_at (judged (feasible amount)) x is line none t = absurd x.0
   summed_at (judged (no_plan fault)) x is line none t = absurd (omega (arith, is, none))
   summed_at (judged (broken rule)) x is line none t = absurd (omega (arith, is, none))

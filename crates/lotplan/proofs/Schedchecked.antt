@@ -20,11 +20,12 @@ use Rattle.lot_schedule.specs.declared.fault.SlotFault.TheVariants.{Memory}
 use Rattle.lot_schedule.specs.Slots.{IsSchedule}
 use Rattle.lot_schedule.proofs.Readings.{rows_exist}
 use Rattle.instance_reader.specs.Model.{BytesMean}
+use Rattle.lotplan.specs.Meaning.{Says}
 use Rattle.lotplan.specs.declared.said.Said.{Said}
 use Rattle.lotplan.specs.Status.{code_of}
 use Rattle.lotplan.specs.Reading.{FileExplains, ReadAnswer, refused, missing, unread, too_long, file_limit, read_line, read_status}
 use Rattle.lotplan.specs.Judging.{AnyPlan, AreFeasible, FindsFault, FindsNone, HoldFeasible, HoldsBoth, JudgeAnswer, JudgeCallsFor, JudgeExplains, OfFeasible, PlanCallsFor, feasible, no_plan, broken as broken_rule, no_input as judge_no_input, judge_line, judge_status}
-use Rattle.lotplan.specs.Scheduling.{AcceptsSchedule, AreSchedule, FindsSlotsFault, ScheduleFileIs, SchedcheckAnswer, SchedcheckCallsFor, SchedcheckExplains, SchedcheckSays, SchedulesAreDecided, SlotBytesAre, SlotBytesSay, SlotFileExplains, SlotFileSays, SlotsCallFor, accepted, no_slots, rejected, no_plan_for, no_input, schedcheck_line, schedcheck_meaning, schedcheck_status}
+use Rattle.lotplan.specs.Scheduling.{AcceptsSchedule, AreSchedule, FindsSlotsFault, ScheduleFileIs, SchedcheckAnswer, SchedcheckCallsFor, SchedcheckExplains, SchedulesAreDecided, SlotBytesAre, SlotBytesSay, SlotFileExplains, SlotFileSays, SlotsCallFor, accepted, no_slots, rejected, no_plan_for, no_input, schedcheck_line, schedcheck_meaning, schedcheck_status}
 use Rattle.lotplan.specs.Saying.{Gains, IsSaid}
 use Rattle.lotplan.specs.Run.{HadNoFault}
 use Rattle.lotplan.specs.declared.status.Status.{Status}
@@ -74,11 +75,11 @@ module _ (m p s : List ℕ) where
   schedcheck_after problem grids amount old mid new (no_plan_for answer) holds f reads x = absurd x
   schedcheck_after problem grids amount old mid new (no_input why) holds f reads x = (λ t. judging.of_feasible old.file m p problem grids amount AnyPlan (holds t) f tt, stops_after s old mid new why reads x)
 
-  pub says_given : (problem : Problem) (grids : Grids) (amount : ℕ) (old mid new : Shelved) (r : Result Said AllocError) → (IsTrue old.told → HoldsBoth old.file m p problem grids) → HoldFeasible problem grids amount → OnlyReads old mid → OnlyReads mid new → IfOk r (SlotFileSays problem (plan_of grids) s mid new) → IfOk r (SchedcheckSays m p s old new)
+  pub says_given : (problem : Problem) (grids : Grids) (amount : ℕ) (old mid new : Shelved) (r : Result Said AllocError) → (IsTrue old.told → HoldsBoth old.file m p problem grids) → HoldFeasible problem grids amount → OnlyReads old mid → OnlyReads mid new → IfOk r (SlotFileSays problem (plan_of grids) s mid new) → IfOk r (Says (schedcheck_meaning m p s) old new)
   says_given problem grids amount old mid new (Ok said) holds f reads more (answer, x, says) = answered SchedcheckAnswer (λ a. SchedcheckExplains m p s old new a × OnlyReads old new) schedcheck_line schedcheck_status answer said (schedcheck_after problem grids amount old mid new answer holds f reads x, reads_on reads more) says
   says_given problem grids amount old mid new (Err e) holds f reads more some = tt
 
-  pub says_none : (old new : Shelved) (answer : JudgeAnswer) (r : Result Said AllocError) → FindsNone answer × JudgeExplains m p old new answer → OnlyReads old new → IfOk r (IsSaid (judge_line answer) (judge_status answer)) → IfOk r (SchedcheckSays m p s old new)
+  pub says_none : (old new : Shelved) (answer : JudgeAnswer) (r : Result Said AllocError) → FindsNone answer × JudgeExplains m p old new answer → OnlyReads old new → IfOk r (IsSaid (judge_line answer) (judge_status answer)) → IfOk r (Says (schedcheck_meaning m p s) old new)
   says_none old new answer (Ok said) x reads says = answered SchedcheckAnswer (λ a. SchedcheckExplains m p s old new a × OnlyReads old new) schedcheck_line schedcheck_status (no_plan_for answer) said (x, reads) says
   says_none old new answer (Err e) x reads says = tt
 
@@ -96,8 +97,8 @@ module _ (m p s : List ℕ) where
 
     pub fault_at : (answer : SchedcheckAnswer) → SchedcheckExplains m p s old new answer → code ≡ code_of (schedcheck_status answer) → Gains (schedcheck_line answer) out_old out_new → code ≡ FAULTY → IsTrue old.told → FindsFault old.file m p out_old out_new ⊎ FindsSlotsFault old.file m p s out_old out_new
     fault_at accepted x is line three t = absurd (omega (arith, is, three))
-    fault_at (no_slots fault) x is line three t = inr (record { answer = no_slots fault; fault = tt; holds = x t; line = line })
-    fault_at (rejected wrong) x is line three t = inr (record { answer = rejected wrong; fault = tt; holds = x t; line = line })
+    fault_at (no_slots fault) x is line three t = inr (record { answer = no_slots fault; ends = refl; holds = x t; line = line })
+    fault_at (rejected wrong) x is line three t = inr (record { answer = rejected wrong; ends = refl; holds = x t; line = line })
     fault_at (no_plan_for answer) x is line three t = inl (judging.fault_at m p code old new out_old out_new answer x.1 is line three t)
     fault_at (no_input why) x is line three t = absurd (omega (arith, (reading why code is).low, three))
 

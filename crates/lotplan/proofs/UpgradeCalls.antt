@@ -23,23 +23,23 @@ upgrade_call (Some bytes) s t a b = ⊎_elim
     no_both : (m : Problem) (f : ModelFault) → FirstVersionMeans bytes (Ok m) → FirstVersionMeans bytes (Err f) → ⊥
     no_both m f c d = let same = bytes_one FIRST_VERSION bytes (Ok m) (Err f) c d in cc same
 
-    means : ((m : Problem) × FirstVersionMeans bytes (Ok m) × (s ≡ DONE)) ⊎ ((f : ModelFault) × FirstVersionMeans bytes (Err f) × (s ≡ REFUSED)) → ((m : Problem) × FirstVersionMeans bytes (Ok m) × (t ≡ DONE)) ⊎ ((f : ModelFault) × FirstVersionMeans bytes (Err f) × (t ≡ REFUSED)) → s ≡ t
+    means : ((f : ModelFault) × FirstVersionMeans bytes (Err f) × (s ≡ REFUSED)) ⊎ ((m : Problem) × FirstVersionMeans bytes (Ok m) × (s ≡ DONE)) → ((f : ModelFault) × FirstVersionMeans bytes (Err f) × (t ≡ REFUSED)) ⊎ ((m : Problem) × FirstVersionMeans bytes (Ok m) × (t ≡ DONE)) → s ≡ t
     means c d = ⊎_elim
-        (λ x. let (m, reads, is) = x in ⊎_elim
-        (λ y. let (n, also, other) = y in is ∙ sym other)
-        (λ y. let (f, also, other) = y in absurd (no_both m f reads also))
-        d)
         (λ x. let (f, reads, is) = x in ⊎_elim
-        (λ y. let (m, also, other) = y in absurd (no_both m f also reads))
         (λ y. let (g, also, other) = y in is ∙ sym other)
+        (λ y. let (m, also, other) = y in absurd (no_both m f also reads))
+        d)
+        (λ x. let (m, reads, is) = x in ⊎_elim
+        (λ y. let (f, also, other) = y in absurd (no_both m f reads also))
+        (λ y. let (n, also, other) = y in is ∙ sym other)
         d)
         c
 
 -- ---- for some
 module _ (by : Grounds) where
   upgraded_some : (bytes : List ℕ) → length bytes ≤ file_limit → (r : Result Problem ModelFault) → FirstVersionMeans bytes r → (status : ℕ) × UpgradeCallsFor (Some bytes) status
-  upgraded_some bytes short (Ok m) means = (DONE, inr (short, inl (m, means, refl)))
-  upgraded_some bytes short (Err fault) means = (REFUSED, inr (short, inr (fault, means, refl)))
+  upgraded_some bytes short (Ok m) means = (DONE, inr (short, inr (m, means, refl)))
+  upgraded_some bytes short (Err fault) means = (REFUSED, inr (short, inl (fault, means, refl)))
 
   pub upgrade_some : (model : Option (List ℕ)) → (status : ℕ) × UpgradeCallsFor model status
   upgrade_some None = (MISSING, refl)

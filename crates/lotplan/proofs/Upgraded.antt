@@ -15,11 +15,12 @@ use Rattle.instance_reader.specs.Model.{BytesMean, FirstVersionMeans}
 use Rattle.instance_reader.specs.Document.{has_only}
 use Rattle.instance_reader.specs.Reading.{Read, fault_at, needed_number, then_read, unknown_key}
 use Rattle.instance_reader.specs.Tables.{body_read, root_keys, version_in}
+use Rattle.lotplan.specs.Meaning.{Says}
 use Rattle.lotplan.specs.declared.said.Said.{Said}
 use Rattle.lotplan.specs.Status.{code_of}
 use Rattle.lotplan.specs.Reading.{FirstExplains, HoldsFirst, HoldsProblem, ReadAnswer, refused, missing, unread, too_long, read_line, read_status}
 use Rattle.lotplan.specs.Writing.{StartsAtMost, unwritten_line, written_line}
-use Rattle.lotplan.specs.Upgrading.{UpgradeAnswer, written, unwritten, no_input, upgrade_line, upgrade_status, FailsToUpgrade, RewriteExplains, RewriteSays, UpgradeCallsFor, UpgradeExplains, UpgradeSays, Upgrades, upgrade_meaning}
+use Rattle.lotplan.specs.Upgrading.{UpgradeAnswer, written, unwritten, no_input, upgrade_line, upgrade_status, FailsToUpgrade, RewriteExplains, RewriteSays, UpgradeCallsFor, UpgradeExplains, Upgrades, upgrade_meaning}
 use Rattle.lotplan.specs.Saying.{Gains, IsSaid}
 use Rattle.lotplan.specs.Run.{HadNoFault}
 use Rattle.lotplan.specs.declared.status.Status.{Status}
@@ -65,11 +66,11 @@ upgrade_after m n problem old mid new (unwritten file) holds reads x =
     (x.0, λ t. (problem, holds t), omega (arith, x.1, reads.write_faults), starts_after (n ∷ []) 1 old mid new reads x.2)
 upgrade_after m n problem old mid new (no_input why) holds reads x = absurd x
 
-pub says_upgraded : (m n : List ℕ) (problem : Problem) (old mid new : Shelved) (r : Result Said AllocError) → (IsTrue old.told → HoldsFirst old.file m problem) → OnlyReads old mid → IfOk r (RewriteSays problem n mid new) → IfOk r (UpgradeSays m n old new)
+pub says_upgraded : (m n : List ℕ) (problem : Problem) (old mid new : Shelved) (r : Result Said AllocError) → (IsTrue old.told → HoldsFirst old.file m problem) → OnlyReads old mid → IfOk r (RewriteSays problem n mid new) → IfOk r (Says (upgrade_meaning m n) old new)
 says_upgraded m n problem old mid new (Ok said) holds reads (answer, x, says) = answered UpgradeAnswer (UpgradeExplains m n old new) upgrade_line upgrade_status answer said (upgrade_after m n problem old mid new answer holds reads x) says
 says_upgraded m n problem old mid new (Err e) holds reads some = tt
 
-pub says_stop : (m n : List ℕ) (old new : Shelved) (why : ReadAnswer) (r : Result Said AllocError) → FirstExplains m old new why → OnlyReads old new → IfOk r (IsSaid (read_line why) (read_status why)) → IfOk r (UpgradeSays m n old new)
+pub says_stop : (m n : List ℕ) (old new : Shelved) (why : ReadAnswer) (r : Result Said AllocError) → FirstExplains m old new why → OnlyReads old new → IfOk r (IsSaid (read_line why) (read_status why)) → IfOk r (Says (upgrade_meaning m n) old new)
 says_stop m n old new why (Ok said) x reads says = answered UpgradeAnswer (UpgradeExplains m n old new) upgrade_line upgrade_status (no_input why) said (x, reads) says
 says_stop m n old new why (Err e) x reads says = tt
 
@@ -111,7 +112,7 @@ upgrade_call found bytes code same calls = subst (λ f. UpgradeCallsFor f code) 
 stop_called : (m : List ℕ) (code : ℕ) (old new : Shelved) (out_old out_new : Printed) → HadNoFault old new out_old out_new → IsTrue old.told → (why : ReadAnswer) → FirstExplains m old new why → code ≡ code_of (read_status why) → UpgradeCallsFor (old.file m) code
 stop_called m code old new out_old out_new fine t (refused fault) x is =
     let h = x t in
-    upgrade_call (old.file m) h.bytes code h.read (inr (h.short, inr (fault, h.means, is)))
+    upgrade_call (old.file m) h.bytes code h.read (inr (h.short, inl (fault, h.means, is)))
 stop_called m code old new out_old out_new fine t (missing file) x is = subst (λ f. UpgradeCallsFor f code) (sym (x.2 t)) is
 stop_called m code old new out_old out_new fine t (unread file) x is = absurd (fine.read x.1)
 stop_called m code old new out_old out_new fine t (too_long file) x is =
@@ -122,7 +123,7 @@ pub called_at : (m n : List ℕ) (code : ℕ) (old new : Shelved) (out_old out_n
 called_at m n code old new out_old out_new fine t (written file) x is =
     let h = x.1 t in
     let f = h.first in
-    upgrade_call (old.file m) f.bytes code f.read (inr (f.short, inl (h.problem, f.means, is)))
+    upgrade_call (old.file m) f.bytes code f.read (inr (f.short, inr (h.problem, f.means, is)))
 called_at m n code old new out_old out_new fine t (unwritten file) x is = absurd (fine.written x.2)
 called_at m n code old new out_old out_new fine t (no_input why) x is = stop_called m code old new out_old out_new fine t why x.0 is
 

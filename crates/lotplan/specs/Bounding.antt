@@ -1,21 +1,19 @@
 -- What `bound` answers, and why.
-use Rattle.std.specs.Prelude.{◌≡◌, ◌⊎◌, ◌<◌, ◌≤◌, ℕ, List, [], ◌∷◌, ◌++◌, length, codes, decimal, IsTrue, Option, Some, None, Ok, Err, ⊤}
+use Rattle.std.specs.Prelude.{◌≡◌, ◌⊎◌, ℕ, List, [], ◌∷◌, ◌++◌, codes, decimal, IsTrue, Option, Some, None, Ok, ⊤}
 use Rattle.lot_sizing.specs.Problem.{Problem}
 use Rattle.lot_sizing.specs.Best.{IsFloor, IsImpossible}
 use Rattle.lot_io.specs.Outside.{Files, OnlyReads, Printed, Shelved}
-use Rattle.lot_draft.specs.declared.fault.ModelFault.{ModelFault}
 use Rattle.instance_reader.specs.Model.{BytesMean}
 use Rattle.tableau.specs.declared.outcome.Outcome.TheVariants as outcome
 use Rattle.tableau.specs.Program.{Program}
 use Rattle.tableau.specs.Stepwise.{IsEndOf}
 use Rattle.base_bound.specs.Bounds.{HasFewCells, HasManyCells, HasNoBasePoint, IsBaseBound, IsBaseProgram}
-use Rattle.lotplan.specs.Reading.{read_meant, ModelExplains, OfModel, ReadAnswer, file_limit, read_line, read_status}
+use Rattle.lotplan.specs.Reading.{ByModel, read_meant, ModelExplains, OfModel, ReadAnswer, read_line, read_status}
 use Rattle.lotplan.specs.Meaning.{Meaning}
-use Rattle.lotplan.specs.Saying.{Answered, Gains}
+use Rattle.lotplan.specs.Saying.{Answered, Gains, Tells, TellsAs}
 use Rattle.lotplan.specs.declared.commands.bound.BoundAnswer.{BoundAnswer as HeldAnswer}
 use Rattle.lotplan.specs.declared.commands.bound.BoundAnswer.TheVariants as held
-use Rattle.lotplan.specs.declared.said.Said.{Said}
-use Rattle.lotplan.specs.declared.status.TheConstants.{DONE, NO_PLAN, UNDECIDED, REFUSED, MISSING, TOO_LONG}
+use Rattle.lotplan.specs.declared.status.TheConstants.{DONE, NO_PLAN, UNDECIDED}
 use Rattle.lotplan.specs.declared.status.Status.{Status}
 use Rattle.lotplan.specs.declared.status.Status.TheVariants as status
 
@@ -101,9 +99,6 @@ BoundExplains m old new (no_input why) = ModelExplains m old new why
 abbrev pub BoundDoes : List ℕ → Shelved → Shelved → List ℕ → Status → Type 0
 BoundDoes m old new = Answered BoundAnswer (λ answer. BoundExplains m old new answer × OnlyReads old new) bound_line bound_status
 
-abbrev pub BoundIsSaid : List ℕ → Shelved → Shelved → Said → Type 0
-BoundIsSaid m old new said = BoundDoes m old new said.line.items said.status
-
 -- ---- the status that the model file calls for, faults and out of memory aside
 -- for a problem `DONE` where it has a base bound, `NO_PLAN` where no point meets the base rows, `UNDECIDED` where the tableau is too large, or a number of the run doesn't fit
 abbrev pub BoundedCallsFor : Problem → ℕ → Type 0
@@ -112,11 +107,7 @@ BoundedCallsFor problem status =
     ⊎ ((HasNoBaseCost problem × (status ≡ NO_PLAN)) ⊎ ((HasManyCells problem × (status ≡ UNDECIDED)) ⊎ (SimplexPasses problem × (status ≡ UNDECIDED))))
 
 abbrev pub BoundCallsFor : Option (List ℕ) → ℕ → Type 0
-BoundCallsFor None status = status ≡ MISSING
-BoundCallsFor (Some bytes) status =
-    ((file_limit < length bytes) × (status ≡ TOO_LONG))
-    ⊎ ((length bytes ≤ file_limit)
-    × (((problem : Problem) × BytesMean bytes (Ok problem) × BoundedCallsFor problem status) ⊎ ((fault : ModelFault) × BytesMean bytes (Err fault) × (status ≡ REFUSED))))
+BoundCallsFor = ByModel BytesMean BoundedCallsFor
 
 -- the file means a problem whose run comes to a number that doesn't fit, so that `UNDECIDED` is called for, beside what is known of the base bound
 abbrev pub MayPass : Option (List ℕ) → Type 0
@@ -125,30 +116,17 @@ MayPass (Some bytes) = (problem : Problem) × BytesMean bytes (Ok problem) × Si
 
 -- ---- what each status says
 -- the model file means a problem with this base bound, and the line has it
-pub record FindsBound (before : Files) (model_file : List ℕ) (out_old out_new : Printed) : Type 0 where
-  pub least : ℕ
-  pub holds : ModelIsBounded before model_file (bound least)
-  pub line : Gains (bound_line (bound least)) out_old out_new
+abbrev pub FindsBound : Files → (model_file : List ℕ) → Printed → Printed → Type 0
+FindsBound before m = Tells ℕ (λ least. ModelIsBounded before m (bound least)) (λ least. bound_line (bound least))
 
 -- it means one without a point, and the line says so
 pub record FindsNoPoint (before : Files) (model_file : List ℕ) (out_old out_new : Printed) : Type 0 where
   pub holds : ModelIsBounded before model_file empty
   pub line : Gains (bound_line empty) out_old out_new
 
--- no bound and no such point was looked for, or found
-abbrev pub LeavesBoundOpen : BoundAnswer → Type 0
-LeavesBoundOpen (bound n) = ⊥
-LeavesBoundOpen empty = ⊥
-LeavesBoundOpen skipped = ⊤
-LeavesBoundOpen passed = ⊤
-LeavesBoundOpen (no_input why) = ⊥
-
 -- it means one whose tableau is too large, or whose run comes to a number that doesn't fit, and the line says which
-pub record FindsNoBound (before : Files) (model_file : List ℕ) (out_old out_new : Printed) : Type 0 where
-  pub answer : BoundAnswer
-  pub undecided : LeavesBoundOpen answer
-  pub holds : ModelIsBounded before model_file answer
-  pub line : Gains (bound_line answer) out_old out_new
+abbrev pub FindsNoBound : Files → (model_file : List ℕ) → Printed → Printed → Type 0
+FindsNoBound before m = TellsAs status.Undecided BoundAnswer bound_status (ModelIsBounded before m) bound_line
 
 -- ---- the command
 abbrev pub bound_meaning : List ℕ → Meaning

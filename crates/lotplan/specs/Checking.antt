@@ -1,8 +1,9 @@
 -- What `check` answers, and why.
-use Rattle.std.specs.Prelude.{◌≡◌, ◌≢◌, ◌⊎◌, ◌<◌, ◌≤◌, ◌-◌, ℕ, List, [], ◌∷◌, ◌++◌, length, codes, decimal, IsTrue, Option, Some, None, Ok, Err, ⊤}
+use Rattle.std.specs.Prelude.{◌≡◌, ◌≢◌, ◌⊎◌, ◌<◌, ◌-◌, ℕ, List, [], ◌∷◌, ◌++◌, length, codes, decimal, IsTrue, Option, Some, None, ⊤}
 use Rattle.lot_sizing.specs.Problem.{Problem}
+use Rattle.lot_sizing.specs.Plan as terms
+use Rattle.lot_sizing.specs.Best.{IsBest, IsFloor, IsImpossible}
 use Rattle.lot_io.specs.Outside.{Files, OnlyReads, Printed, Rose, RoseBy, Shelved}
-use Rattle.lot_draft.specs.declared.fault.ModelFault.{ModelFault}
 use Rattle.instance_reader.specs.Model.{BytesMean}
 use Rattle.plan_rules.specs.declared.plan.Plan.{Plan}
 use Rattle.plan_rules.specs.Held.{AllFit, plan_of}
@@ -26,13 +27,12 @@ use Rattle.stream_check.specs.declared.fault.StreamFault.{StreamFault}
 use Rattle.stream_check.specs.declared.fault.StreamFault.TheVariants as stream
 use Rattle.stream_check.specs.Streams.{IsTooLong, OfBytes, OfCertificate, too_many}
 use Rattle.lotplan.specs.Proving.{HoldsCertificate, HoldsProof}
-use Rattle.lotplan.specs.Reading.{HoldsPlan, read_meant, FileExplains, HoldsProblem, ModelExplains, OfFile, OfModel, ReadAnswer, refused, missing, unread, too_long, file_limit, no_plan_line, read_line, read_status, AreNoPlan}
+use Rattle.lotplan.specs.Reading.{ByFile, ByModel, HoldsPlan, read_meant, FileExplains, HoldsProblem, ModelExplains, OfFile, OfModel, ReadAnswer, refused, missing, unread, too_long, no_plan_line, read_line, read_status, AreNoPlan}
 use Rattle.lotplan.specs.Meaning.{Meaning}
-use Rattle.lotplan.specs.Saying.{Answered, Gains}
+use Rattle.lotplan.specs.Saying.{Answered, Tells, TellsAs}
 use Rattle.lotplan.specs.declared.commands.check.CheckAnswer.{CheckAnswer as HeldAnswer}
 use Rattle.lotplan.specs.declared.commands.check.CheckAnswer.TheVariants as held
-use Rattle.lotplan.specs.declared.said.Said.{Said}
-use Rattle.lotplan.specs.declared.status.TheConstants.{DONE, FAULTY, REFUSED, MISSING, TOO_LONG}
+use Rattle.lotplan.specs.declared.status.TheConstants.{DONE, FAULTY, MISSING, TOO_LONG}
 use Rattle.lotplan.specs.declared.status.Status.{Status}
 use Rattle.lotplan.specs.declared.status.Status.TheVariants as status
 
@@ -200,9 +200,6 @@ CheckExplains m p c old new (no_input w) = CheckStops m p c old new w
 abbrev pub CheckDoes : List ℕ → List ℕ → List ℕ → Shelved → Shelved → List ℕ → Status → Type 0
 CheckDoes m p c old new = Answered CheckAnswer (λ answer. CheckExplains m p c old new answer × OnlyReads old new) check_line check_status
 
-abbrev pub CheckSays : List ℕ → List ℕ → List ℕ → Shelved → Shelved → Said → Type 0
-CheckSays m p c old new said = CheckDoes m p c old new said.line.items said.status
-
 -- ---- the status that the three files call for, faults and out of memory aside
 -- for a certificate with the plan that goes with it `DONE` where it is accepted, and `FAULTY` where it is refused
 abbrev pub GivenCallsFor : Problem → Shape → Option Plan → ℕ → Type 0
@@ -210,57 +207,51 @@ GivenCallsFor problem certificate given status =
     (OfProblem problem (λ total weight. IsCertified problem total weight certificate given) × (status ≡ DONE))
     ⊎ ((line : ℕ) × (w : Why) × OfProblem problem (λ total weight. IsCheckFault problem total weight certificate given line w) × (status ≡ FAULTY))
 
--- for the plan file of one that claims an optimal cost `MISSING` where it is absent, `TOO_LONG` where it is too long, and `FAULTY` where it holds no plan
+-- for the plan file of one that claims an optimal cost `FAULTY` where it holds no plan
 abbrev pub PlannedCallsFor : Problem → Shape → Option (List ℕ) → ℕ → Type 0
-PlannedCallsFor problem certificate None status = status ≡ MISSING
-PlannedCallsFor problem certificate (Some bytes) status =
-    ((file_limit < length bytes) × (status ≡ TOO_LONG))
-    ⊎ ((length bytes ≤ file_limit)
-    × (((fault : PlanFault) × AreNoPlan problem bytes fault × (status ≡ FAULTY))
-    ⊎ ((plan : Plan) × AllFit problem plan × IsPlanOf problem (records_of bytes) (plan_of plan) × GivenCallsFor problem certificate (Some plan) status)))
+PlannedCallsFor problem certificate = ByFile (λ bytes status.
+    ((fault : PlanFault) × AreNoPlan problem bytes fault × (status ≡ FAULTY))
+    ⊎ ((plan : Plan) × AllFit problem plan × IsPlanOf problem (records_of bytes) (plan_of plan) × GivenCallsFor problem certificate (Some plan) status))
 
 abbrev pub ClaimCallsFor : Problem → Shape → Claim → Option (List ℕ) → ℕ → Type 0
 ClaimCallsFor problem certificate (Optimal amount) plan status = PlannedCallsFor problem certificate plan status
 ClaimCallsFor problem certificate Infeasible plan status = GivenCallsFor problem certificate None status
 ClaimCallsFor problem certificate (BoundOf amount) plan status = GivenCallsFor problem certificate None status
 
--- for the certificate file of a problem `MISSING` where it is absent, `TOO_LONG` where it is too long, and `FAULTY` where it holds no certificate
-abbrev pub ProofCallsFor : Problem → Option (List ℕ) → Option (List ℕ) → ℕ → Type 0
-ProofCallsFor problem plan None status = status ≡ MISSING
-ProofCallsFor problem plan (Some bytes) status =
+-- for a certificate file `MISSING` where it is absent, `TOO_LONG` where it is too long, `FAULTY` where it holds no certificate, and else what the certificate calls for
+abbrev pub ByCertificate : (Shape → ℕ → Type 0) → Option (List ℕ) → ℕ → Type 0
+ByCertificate Calls None status = status ≡ MISSING
+ByCertificate Calls (Some bytes) status =
     ((too_many - 1 < length bytes) × (status ≡ TOO_LONG))
     ⊎ ((length bytes < too_many)
     × (((fault : CertTextFault) × (fault ≢ text.Memory) × IsCertTextFault bytes fault × (status ≡ FAULTY))
-    ⊎ ((certificate : Shape) × IsTextOf bytes certificate × ClaimCallsFor problem certificate certificate.claim plan status)))
+    ⊎ ((certificate : Shape) × IsTextOf bytes certificate × Calls certificate status)))
+
+abbrev pub ProofCallsFor : Problem → Option (List ℕ) → Option (List ℕ) → ℕ → Type 0
+ProofCallsFor problem plan = ByCertificate (λ certificate. ClaimCallsFor problem certificate certificate.claim plan)
 
 abbrev pub CheckCallsFor : Option (List ℕ) → Option (List ℕ) → Option (List ℕ) → ℕ → Type 0
-CheckCallsFor None plan certificate status = status ≡ MISSING
-CheckCallsFor (Some bytes) plan certificate status =
-    ((file_limit < length bytes) × (status ≡ TOO_LONG))
-    ⊎ ((length bytes ≤ file_limit)
-    × (((fault : ModelFault) × BytesMean bytes (Err fault) × (status ≡ REFUSED)) ⊎ ((problem : Problem) × BytesMean bytes (Ok problem) × ProofCallsFor problem plan certificate status)))
+CheckCallsFor model plan certificate = ByModel BytesMean (λ problem. ProofCallsFor problem plan certificate) model
 
 -- ---- what each status says
--- the certificate is accepted, its claim is true, and the line has it
-pub record Accepts (before : Files) (model_file plan_file certificate_file : List ℕ) (out_old out_new : Printed) : Type 0 where
-  pub claim : Claim
-  pub holds : AllAre before model_file plan_file certificate_file (accepted claim)
-  pub line : Gains (accepted_line claim) out_old out_new
+-- a claim is true of a problem: the plan file holds a best plan, which costs the amount; no plan is feasible; or none costs less than the amount
+abbrev pub ClaimIsTrue : Files → (plan_file : List ℕ) → Problem → Claim → Type 0
+ClaimIsTrue before p problem (Optimal amount) =
+    OfFile before p (λ bytes. (plan : terms.Plan) × IsPlanOf problem (records_of bytes) plan × IsBest problem plan × (terms.cost problem plan ≡ amount))
+ClaimIsTrue before p problem Infeasible = IsImpossible problem
+ClaimIsTrue before p problem (BoundOf amount) = IsFloor problem amount
 
--- the answer names the fault of a certificate or of a plan file
-abbrev pub IsRefused : CheckAnswer → Type 0
-IsRefused (accepted claim) = ⊥
-IsRefused (no_certificate fault) = ⊤
-IsRefused (no_plan fault) = ⊤
-IsRefused (rejected line w) = ⊤
-IsRefused (no_input w) = ⊥
+-- the claim on the line is true of the problem in the model file
+abbrev pub Accepts : Files → (model_file plan_file : List ℕ) → Printed → Printed → Type 0
+Accepts before m p = Tells Claim (λ claim. OfModel before m (λ problem. ClaimIsTrue before p problem claim)) accepted_line
+
+-- the certificate in the certificate file claims it, and is accepted with the plan that goes with it
+abbrev pub AcceptsCertificate : Files → (model_file plan_file certificate_file : List ℕ) → Printed → Printed → Type 0
+AcceptsCertificate before m p c = Tells Claim (λ claim. AllAre before m p c (accepted claim)) accepted_line
 
 -- the certificate file holds no certificate or a refused one, or the plan file holds no plan, and the line names the first fault
-pub record FindsRefused (before : Files) (model_file plan_file certificate_file : List ℕ) (out_old out_new : Printed) : Type 0 where
-  pub answer : CheckAnswer
-  pub fault : IsRefused answer
-  pub holds : AllAre before model_file plan_file certificate_file answer
-  pub line : Gains (check_line answer) out_old out_new
+abbrev pub FindsRefused : Files → (model_file plan_file certificate_file : List ℕ) → Printed → Printed → Type 0
+FindsRefused before m p c = TellsAs status.Faulty CheckAnswer check_status (AllAre before m p c) check_line
 
 -- ---- the command
 abbrev pub check_meaning : List ℕ → List ℕ → List ℕ → Meaning

@@ -1,10 +1,9 @@
 -- What `complete` answers, why, and what it leaves.
-use Rattle.std.specs.Prelude.{◌≡◌, ◌≢◌, ◌⊎◌, ◌<◌, ◌≤◌, ℕ, List, [], ◌∷◌, ◌++◌, length, codes, decimal, IsTrue, Option, Some, None, Ok, Err, ⊤}
+use Rattle.std.specs.Prelude.{◌≡◌, ◌≢◌, ◌⊎◌, ◌≤◌, ℕ, List, [], ◌∷◌, ◌++◌, length, codes, decimal, IsTrue, Option, Some, ⊤}
 use Rattle.lot_sizing.specs.Problem.{Problem}
 use Rattle.lot_sizing.specs.Plan.{IsFeasible, Plan, Table, cost}
 use Rattle.lot_sizing.specs.Least.{HasChoice}
 use Rattle.lot_io.specs.Outside.{Files, OnlyReads, Printed, Rose, Shelved}
-use Rattle.lot_draft.specs.declared.fault.ModelFault.{ModelFault}
 use Rattle.instance_reader.specs.Model.{BytesMean}
 use Rattle.plan_rules.specs.Cells.{table_of}
 use Rattle.plan_rules.specs.Held.{plan_of}
@@ -20,10 +19,10 @@ use Rattle.lot_quantities.specs.Texts.{quantity_fault_text}
 use Rattle.lot_quantities.specs.declared.fault.QuantityFault.{QuantityFault}
 use Rattle.lot_quantities.specs.declared.fault.QuantityFault.TheVariants as table_fault
 use Rattle.lot_quantities.specs.declared.quantities.Quantities.{Quantities}
-use Rattle.lotplan.specs.Reading.{FileExplains, FilesStop, HoldsProblem, OfFile, OfModel, ReadAnswer, file_limit, read_line, read_meant, read_status}
-use Rattle.lotplan.specs.Meaning.{Meaning}
-use Rattle.lotplan.specs.Writing.{IsUnwritten, IsWritten, StartsAmong, unwritten_line}
-use Rattle.lotplan.specs.Saying.{Answered, Gains, IsSaid}
+use Rattle.lotplan.specs.Reading.{ByFile, ByModel, FileExplains, FilesStop, HoldsProblem, OfFile, OfModel, ReadAnswer, file_limit, read_line, read_meant, read_status}
+use Rattle.lotplan.specs.Meaning.{Meaning, whole_meaning}
+use Rattle.lotplan.specs.Writing.{NamesUnwritten, IsUnwritten, IsWritten, StartsAmong, unwritten_line}
+use Rattle.lotplan.specs.Saying.{Answered, IsSaid, Tells}
 use Rattle.lotplan.specs.declared.commands.complete.CompleteAnswer.{CompleteAnswer as HeldAnswer}
 use Rattle.lotplan.specs.declared.commands.complete.CompleteAnswer.TheVariants as held
 use Rattle.lotplan.specs.declared.commands.complete.TableAnswer.{TableAnswer as HeldTable}
@@ -31,7 +30,7 @@ use Rattle.lotplan.specs.declared.commands.complete.TableAnswer.TheVariants as h
 use Rattle.lotplan.specs.declared.commands.complete.NoTable.{NoTable}
 use Rattle.lotplan.specs.declared.commands.complete.NoTable.TheVariants as stop
 use Rattle.lotplan.specs.declared.said.Said.{Said}
-use Rattle.lotplan.specs.declared.status.TheConstants.{DONE, FAULTY, REFUSED, MISSING, TOO_LONG}
+use Rattle.lotplan.specs.declared.status.TheConstants.{DONE, FAULTY}
 use Rattle.lotplan.specs.declared.status.Status.{Status}
 use Rattle.lotplan.specs.declared.status.Status.TheVariants as status
 
@@ -180,61 +179,34 @@ CompleteExplains m p q old new (none answer) = TablesExplain m p old new answer 
 abbrev pub CompleteDoes : (model_file table_file plan_file : List ℕ) → Shelved → Shelved → List ℕ → Status → Type 0
 CompleteDoes m p q old new = Answered CompleteAnswer (CompleteExplains m p q old new) complete_line complete_status
 
-abbrev pub CompleteSays : (model_file table_file plan_file : List ℕ) → Shelved → Shelved → Said → Type 0
-CompleteSays m p q old new said = CompleteDoes m p q old new said.line.items said.status
-
 -- ---- the status that the two files call for, faults and out of memory aside
--- for a table of a problem `MISSING` where it is absent, `TOO_LONG` where it is too long, `DONE` where a feasible plan has its quantities and setups, and else `FAULTY`
+-- for a table of a problem `DONE` where a feasible plan has its quantities and setups, and else `FAULTY`
 abbrev pub TableCallsFor : Problem → Option (List ℕ) → ℕ → Type 0
-TableCallsFor problem None status = status ≡ MISSING
-TableCallsFor problem (Some bytes) status =
-    ((file_limit < length bytes) × (status ≡ TOO_LONG))
-    ⊎ ((length bytes ≤ file_limit)
-    × ((AreQuantities problem bytes (HasPlan problem) × (status ≡ DONE))
+TableCallsFor problem = ByFile (λ bytes status.
+    (AreQuantities problem bytes (HasPlan problem) × (status ≡ DONE))
     ⊎ ((AreQuantities problem bytes (HasNoPlan problem) × (status ≡ FAULTY))
-    ⊎ ((fault : QuantityFault) × AreNoTable problem bytes fault × (status ≡ FAULTY)))))
+    ⊎ ((fault : QuantityFault) × AreNoTable problem bytes fault × (status ≡ FAULTY))))
 
 abbrev pub CompleteCallsFor : Option (List ℕ) → Option (List ℕ) → ℕ → Type 0
-CompleteCallsFor None table status = status ≡ MISSING
-CompleteCallsFor (Some bytes) table status =
-    ((file_limit < length bytes) × (status ≡ TOO_LONG))
-    ⊎ ((length bytes ≤ file_limit)
-    × (((fault : ModelFault) × BytesMean bytes (Err fault) × (status ≡ REFUSED)) ⊎ ((problem : Problem) × BytesMean bytes (Ok problem) × TableCallsFor problem table status)))
+CompleteCallsFor model table = ByModel BytesMean (λ problem. TableCallsFor problem table) model
 
 -- ---- what each status says
 -- the new file holds a feasible plan with the quantities and setups of the table, none with them costs less, and the line has its cost
-pub record Completes (before after : Files) (model_file table_file plan_file : List ℕ) (out_old out_new : Printed) : Type 0 where
-  pub amount : ℕ
-  pub holds : OfTable before model_file table_file (WritesCompleted after plan_file amount)
-  pub line : Gains (complete_line (completed amount)) out_old out_new
+abbrev pub Completes : (before after : Files) (model_file table_file plan_file : List ℕ) → Printed → Printed → Type 0
+Completes before after m p q = Tells ℕ (λ amount. OfTable before m p (WritesCompleted after q amount)) (λ amount. complete_line (completed amount))
 
 -- no feasible plan has the quantities and setups of the table, and the line has the first rule that is broken
-pub record FindsIncomplete (before : Files) (model_file table_file : List ℕ) (out_old out_new : Printed) : Type 0 where
-  pub rule : Broken
-  pub holds : OfTable before model_file table_file (AreIncomplete rule)
-  pub line : Gains (complete_line (broken rule)) out_old out_new
+abbrev pub FindsIncomplete : Files → (model_file table_file : List ℕ) → Printed → Printed → Type 0
+FindsIncomplete before m p = Tells Broken (λ rule. OfTable before m p (AreIncomplete rule)) (λ rule. complete_line (broken rule))
 
 -- the table's file holds no table, and the line names the first fault
-pub record FindsNoTable (before : Files) (model_file table_file : List ℕ) (out_old out_new : Printed) : Type 0 where
-  pub fault : QuantityFault
-  pub holds : OfNoTable before model_file table_file fault
-  pub line : Gains (table_line (no_table fault)) out_old out_new
+abbrev pub FindsNoTable : Files → (model_file table_file : List ℕ) → Printed → Printed → Type 0
+FindsNoTable before m p = Tells QuantityFault (OfNoTable before m p) (λ fault. table_line (no_table fault))
 
 -- some feasible plan has them, the new file could not be written, and the line names it
-pub record FailsToComplete (old new : Shelved) (model_file table_file plan_file : List ℕ) (out_old out_new : Printed) : Type 0 where
-  pub holds : IsTrue old.told → OfTable old.file model_file table_file HasPlan
-  pub failed : Rose old.write_faults new.write_faults
-  pub line : Gains (unwritten_line plan_file) out_old out_new
+abbrev pub FailsToComplete : Shelved → Shelved → (model_file table_file plan_file : List ℕ) → Printed → Printed → Type 0
+FailsToComplete old new m p q = NamesUnwritten (OfTable old.file m p HasPlan) q old new
 
 -- ---- the command
 abbrev pub complete_meaning : (model_file table_file plan_file : List ℕ) → Meaning
-complete_meaning m p q = record {
-  does = CompleteDoes m p q;
-  reads = m ∷ p ∷ [];
-  passes = [];
-  writes = q ∷ [];
-  stops = FilesStop m p;
-  overlong = λ old. ⊥;
-  calls_for = λ file. CompleteCallsFor (file m) (file p);
-  may_be_left = λ file. ⊥;
-}
+complete_meaning m p q = whole_meaning (CompleteDoes m p q) (m ∷ p ∷ []) (q ∷ []) (FilesStop m p) (λ file. CompleteCallsFor (file m) (file p))

@@ -1,5 +1,5 @@
 -- What `draw` answers, and why.
-use Rattle.std.specs.Prelude.{◌≡◌, ◌≢◌, ◌⊎◌, ◌<◌, ◌≤◌, ◌-◌, ℕ, List, [], ◌∷◌, length, codes, IsTrue, Option, Some, None, ⊤}
+use Rattle.std.specs.Prelude.{◌≡◌, ◌≢◌, ◌⊎◌, ◌<◌, ◌≤◌, ℕ, List, [], ◌∷◌, length, codes, IsTrue, Option, Some, None, ⊤}
 use Rattle.lot_sizing.specs.Problem.{Problem}
 use Rattle.lot_sizing.specs.Plan.{IsFeasible, Plan}
 use Rattle.lot_sizing.specs.Best.{IsBest, IsFloor}
@@ -8,31 +8,29 @@ use Rattle.plan_rules.specs.Held.{plan_of}
 use Rattle.plan_rules.specs.declared.plan.Plan.{Plan as Grids}
 use Rattle.cert_lines.specs.declared.parts.Claim.{Claim}
 use Rattle.cert_lines.specs.declared.parts.Claim.TheVariants.{Optimal, Infeasible, Bound as BoundOf}
-use Rattle.certificate.specs.declared.fault.CertTextFault.{CertTextFault}
 use Rattle.certificate.specs.declared.fault.CertTextFault.TheVariants as text
 use Rattle.certificate.specs.Faults.{IsCertTextFault}
-use Rattle.certificate.specs.Limits.{IsTextOf}
 use Rattle.certificate.specs.Shapes.{Shape}
 use Rattle.acceptance.specs.Accepts.{IsTrueOf}
 use Rattle.cert_checker.specs.declared.fault.Why.{Why}
 use Rattle.cert_checker.specs.Cuts.{OfProblem}
 use Rattle.cert_checker.specs.Checks.{IsCertified, IsCheckFault}
-use Rattle.stream_check.specs.Streams.{OfBytes, OfCertificate, too_many}
+use Rattle.stream_check.specs.Streams.{OfBytes, OfCertificate}
 use Rattle.plan_page.specs.Page.{page_text}
 use Rattle.plan_page.specs.declared.limits.TheConstants.{MAX_PAGE}
 use Rattle.plan_page.specs.declared.proving.Proved.{Proved}
 use Rattle.plan_page.specs.declared.proving.Proved.TheVariants as proved
-use Rattle.lotplan.specs.Checking.{AllAre, CertificateExplains, CheckAnswer, check_meant, accepted, no_certificate, no_plan, rejected, no_input, check_line, check_status}
+use Rattle.lotplan.specs.Checking.{AllAre, ByCertificate, CertificateExplains, CheckAnswer, check_meant, accepted, no_certificate, no_plan, rejected, no_input, check_line, check_status}
 use Rattle.lotplan.specs.Extracting.{WritesAndSays, counted_line}
 use Rattle.lotplan.specs.Judging.{AnyPlan, FindsFault, FindsNone, HoldsBoth, JudgeAnswer, JudgeCallsFor, JudgeExplains, OfFeasible, judge_line, judge_meant, judge_status}
 use Rattle.lotplan.specs.Meaning.{Meaning, long_page_line}
 use Rattle.lotplan.specs.Reading.{FilesStop, ReadAnswer}
-use Rattle.lotplan.specs.Saying.{Answered, Gains, IsSaid}
-use Rattle.lotplan.specs.Writing.{StartsAmong, unwritten_line}
+use Rattle.lotplan.specs.Saying.{Answered, Gains, IsSaid, Tells}
+use Rattle.lotplan.specs.Writing.{NamesUnwritten, StartsAmong, unwritten_line}
 use Rattle.lotplan.specs.declared.commands.draw.NotDrawn.{NotDrawn}
 use Rattle.lotplan.specs.declared.commands.draw.NotDrawn.TheVariants as stop
 use Rattle.lotplan.specs.declared.said.Said.{Said}
-use Rattle.lotplan.specs.declared.status.TheConstants.{DONE, FAULTY, MISSING, TOO_LONG}
+use Rattle.lotplan.specs.declared.status.TheConstants.{DONE, FAULTY, TOO_LONG}
 use Rattle.lotplan.specs.declared.status.Status.{Status}
 use Rattle.lotplan.specs.declared.status.Status.TheVariants as status
 
@@ -173,9 +171,6 @@ DrawExplains m p h c old new (unproved answer) = HasNoProof old new m p c answer
 abbrev pub DrawDoes : (model_file plan_file page_file : List ℕ) → (certificate_file : Option (List ℕ)) → Shelved → Shelved → List ℕ → Status → Type 0
 DrawDoes m p h c old new = Answered DrawAnswer (DrawExplains m p h c old new) draw_line draw_status
 
-abbrev pub DrawSays : (model_file plan_file page_file : List ℕ) → (certificate_file : Option (List ℕ)) → Shelved → Shelved → Said → Type 0
-DrawSays m p h c old new said = DrawDoes m p h c old new said.line.items said.status
-
 -- nothing is shown of what is proved, for this cause; out of memory needs none
 abbrev pub ExplainsNoProof : Problem → Grids → (certificate_file : Option (List ℕ)) → Shelved → Shelved → NotDrawn → Type 0
 ExplainsNoProof problem grids c old new (stop.Judged answer) = ⊥
@@ -214,14 +209,9 @@ ShapeCallsFor problem grids certificate claim status =
     (OfProblem problem (λ total weight. IsCertified problem total weight certificate (plan_for claim grids)) × PageCallsFor problem (plan_of grids) (proved_of claim) status)
     ⊎ ((line : ℕ) × (w : Why) × OfProblem problem (λ total weight. IsCheckFault problem total weight certificate (plan_for claim grids) line w) × (status ≡ FAULTY))
 
--- for its file `MISSING` where it is absent, `TOO_LONG` where it is too long, and `FAULTY` where it holds no certificate
+-- for its file, where it holds one
 abbrev pub ProofCallsFor : Problem → Grids → Option (List ℕ) → ℕ → Type 0
-ProofCallsFor problem grids None status = status ≡ MISSING
-ProofCallsFor problem grids (Some bytes) status =
-    ((too_many - 1 < length bytes) × (status ≡ TOO_LONG))
-    ⊎ ((length bytes < too_many)
-    × (((fault : CertTextFault) × (fault ≢ text.Memory) × IsCertTextFault bytes fault × (status ≡ FAULTY))
-    ⊎ ((certificate : Shape) × IsTextOf bytes certificate × ShapeCallsFor problem grids certificate certificate.claim status)))
+ProofCallsFor problem grids = ByCertificate (λ certificate. ShapeCallsFor problem grids certificate certificate.claim)
 
 -- for a feasible plan, where a certificate may be asked for
 abbrev pub DrawingCallsFor : Files → (certificate_file : Option (List ℕ)) → Problem → Grids → ℕ → Type 0
@@ -248,20 +238,16 @@ pub record Draws (before after : Files) (model_file plan_file page_file : List �
   pub line : Gains (counted_line drawn_word count) out_old out_new
 
 -- the certificate isn't accepted with the feasible plan, and the line has the first fault of it
-pub record FindsProofFault (old new : Shelved) (model_file plan_file : List ℕ) (certificate_file : Option (List ℕ)) (out_old out_new : Printed) : Type 0 where
-  pub answer : CheckAnswer
-  pub holds : HasNoProof old new model_file plan_file certificate_file answer
-  pub line : Gains (check_line answer) out_old out_new
+abbrev pub FindsProofFault : Shelved → Shelved → (model_file plan_file : List ℕ) → (certificate_file : Option (List ℕ)) → Printed → Printed → Type 0
+FindsProofFault old new m p c = Tells CheckAnswer (HasNoProof old new m p c) check_line
 
 -- the plan file holds no plan or one that breaks a rule, or the certificate isn't accepted
 abbrev pub FindsDrawFault : Shelved → Shelved → (model_file plan_file : List ℕ) → (certificate_file : Option (List ℕ)) → Printed → Printed → Type 0
 FindsDrawFault old new m p c out_old out_new = FindsFault old.file m p out_old out_new ⊎ FindsProofFault old new m p c out_old out_new
 
 -- the plan file holds a feasible plan, the page could not be written, and the line names its file
-pub record FailsToDraw (old new : Shelved) (model_file plan_file page_file : List ℕ) (certificate_file : Option (List ℕ)) (out_old out_new : Printed) : Type 0 where
-  pub holds : IsTrue old.told → HasDrawing old.file model_file plan_file certificate_file
-  pub failed : Rose old.write_faults new.write_faults
-  pub line : Gains (unwritten_line page_file) out_old out_new
+abbrev pub FailsToDraw : Shelved → Shelved → (model_file plan_file page_file : List ℕ) → (certificate_file : Option (List ℕ)) → Printed → Printed → Type 0
+FailsToDraw old new m p h c = NamesUnwritten (HasDrawing old.file m p c) h old new
 
 -- ---- the command
 abbrev pub draw_meaning : (model_file plan_file page_file : List ℕ) → (certificate_file : Option (List ℕ)) → Meaning

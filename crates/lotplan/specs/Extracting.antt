@@ -4,10 +4,10 @@ use Rattle.lot_sizing.specs.Problem.{Problem}
 use Rattle.lot_sizing.specs.Plan.{Plan}
 use Rattle.lot_io.specs.Outside.{Files, OnlyReads, Printed, Rose, Shelved}
 use Rattle.lotplan.specs.Judging.{AnyPlan, FindsNone, JudgeAnswer, JudgeCallsFor, JudgeExplains, OfFeasible, judge_line, judge_status}
-use Rattle.lotplan.specs.Meaning.{Meaning}
+use Rattle.lotplan.specs.Meaning.{Meaning, whole_meaning}
 use Rattle.lotplan.specs.Reading.{FilesStop}
-use Rattle.lotplan.specs.Writing.{IsUnwritten, IsWritten, StartsAmong, unwritten_line}
-use Rattle.lotplan.specs.Saying.{Answered, Gains, IsSaid}
+use Rattle.lotplan.specs.Writing.{NamesUnwritten, IsUnwritten, IsWritten, StartsAmong, unwritten_line}
+use Rattle.lotplan.specs.Saying.{Answered, IsSaid, Tells}
 use Rattle.lotplan.specs.declared.said.Said.{Said}
 use Rattle.lotplan.specs.declared.status.Status.{Status}
 use Rattle.lotplan.specs.declared.status.Status.TheVariants as status
@@ -68,31 +68,15 @@ ExtractExplains Writes m p s old new (judged answer) = FindsNone answer × Judge
 abbrev pub ExtractDoes : Extract → List ℕ → (model_file plan_file file : List ℕ) → Shelved → Shelved → List ℕ → Status → Type 0
 ExtractDoes Writes word m p s old new = Answered ExtractAnswer (ExtractExplains Writes m p s old new) (extract_line word) extract_status
 
-abbrev pub ExtractSays : Extract → List ℕ → (model_file plan_file file : List ℕ) → Shelved → Shelved → Said → Type 0
-ExtractSays Writes word m p s old new said = ExtractDoes Writes word m p s old new said.line.items said.status
-
 -- ---- what each status says
 -- the plan file holds a feasible plan, the extract of it was written, and the line has the number of its entries
-pub record WritesExtract (Writes : Extract) (word : List ℕ) (before after : Files) (model_file plan_file : List ℕ) (out_old out_new : Printed) : Type 0 where
-  pub count : ℕ
-  pub holds : OfFeasible before model_file plan_file (λ problem plan. Writes after problem plan count)
-  pub line : Gains (counted_line word count) out_old out_new
+abbrev pub WritesExtract : Extract → (word : List ℕ) → (before after : Files) (model_file plan_file : List ℕ) → Printed → Printed → Type 0
+WritesExtract Writes word before after m p = Tells ℕ (λ count. OfFeasible before m p (λ problem plan. Writes after problem plan count)) (counted_line word)
 
 -- it holds one, the extract could not be written, and the line names its file
-pub record FailsToExtract (old new : Shelved) (model_file plan_file file : List ℕ) (out_old out_new : Printed) : Type 0 where
-  pub holds : IsTrue old.told → OfFeasible old.file model_file plan_file AnyPlan
-  pub failed : Rose old.write_faults new.write_faults
-  pub line : Gains (unwritten_line file) out_old out_new
+abbrev pub FailsToExtract : Shelved → Shelved → (model_file plan_file file : List ℕ) → Printed → Printed → Type 0
+FailsToExtract old new m p s = NamesUnwritten (OfFeasible old.file m p AnyPlan) s old new
 
 -- ---- the command
 abbrev pub extract_meaning : Extract → List ℕ → (model_file plan_file file : List ℕ) → Meaning
-extract_meaning Writes word m p s = record {
-  does = ExtractDoes Writes word m p s;
-  reads = m ∷ p ∷ [];
-  passes = [];
-  writes = s ∷ [];
-  stops = FilesStop m p;
-  overlong = λ old. ⊥;
-  calls_for = λ file. JudgeCallsFor (file m) (file p);
-  may_be_left = λ file. ⊥;
-}
+extract_meaning Writes word m p s = whole_meaning (ExtractDoes Writes word m p s) (m ∷ p ∷ []) (s ∷ []) (FilesStop m p) (λ file. JudgeCallsFor (file m) (file p))

@@ -6,12 +6,11 @@ use Rattle.instance_reader.specs.Model.{BytesMean}
 use Rattle.own_plan.specs.OwnPeriod.{HasOwnPeriod}
 use Rattle.report.specs.Generated.{generated, generated_table}
 use Rattle.lotplan.specs.Writing.{StartsAmong, unwritten_line, written_line}
-use Rattle.lotplan.specs.Meaning.{Meaning}
+use Rattle.lotplan.specs.Meaning.{Meaning, fixed_meaning}
 use Rattle.lotplan.specs.Saying.{Answered, Gains}
 use Rattle.lotplan.specs.declared.status.TheConstants.{DONE}
 use Rattle.lotplan.specs.declared.commands.generate.GenerateAnswer.{GenerateAnswer as HeldAnswer}
 use Rattle.lotplan.specs.declared.commands.generate.GenerateAnswer.TheVariants as held
-use Rattle.lotplan.specs.declared.said.Said.{Said}
 use Rattle.lotplan.specs.declared.status.Status.{Status}
 use Rattle.lotplan.specs.declared.status.Status.TheVariants as status
 
@@ -59,9 +58,6 @@ GenerateExplains seed items periods m old new (unwritten file) =
 abbrev pub GenerateDoes : (seed items periods : ℕ) → List ℕ → Shelved → Shelved → List ℕ → Status → Type 0
 GenerateDoes seed items periods m old new = Answered GenerateAnswer (GenerateExplains seed items periods m old new) generate_line generate_status
 
-abbrev pub GenerateSays : (seed items periods : ℕ) → List ℕ → Shelved → Shelved → Said → Type 0
-GenerateSays seed items periods m old new said = GenerateDoes seed items periods m old new said.line.items said.status
-
 -- ---- what each status says
 -- the model file holds the generated model, and the line names it
 pub record Generates (after : Files) (seed items periods : ℕ) (model_file : List ℕ) (out_old out_new : Printed) : Type 0 where
@@ -75,13 +71,4 @@ pub record FailsToGenerate (old new : Shelved) (model_file : List ℕ) (out_old 
 
 -- ---- the command, which calls for `DONE` whatever files there are
 abbrev pub generate_meaning : (seed items periods : ℕ) → List ℕ → Meaning
-generate_meaning seed items periods m = record {
-  does = GenerateDoes seed items periods m;
-  reads = [];
-  passes = [];
-  writes = m ∷ [];
-  stops = λ old new why. ⊥;
-  overlong = λ old. ⊥;
-  calls_for = λ file status. status ≡ DONE;
-  may_be_left = λ file. ⊥;
-}
+generate_meaning seed items periods m = fixed_meaning (GenerateDoes seed items periods m) (m ∷ []) DONE

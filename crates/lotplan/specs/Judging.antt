@@ -1,9 +1,8 @@
 -- What `judge` answers, and why.
-use Rattle.std.specs.Prelude.{◌≡◌, ◌⊎◌, ◌<◌, ◌≤◌, ℕ, List, [], ◌∷◌, ◌++◌, length, codes, decimal, IsTrue, Option, Some, None, Ok, Err, ⊤}
+use Rattle.std.specs.Prelude.{◌≡◌, ◌⊎◌, ℕ, List, [], ◌∷◌, ◌++◌, codes, decimal, IsTrue, Option, ⊤}
 use Rattle.lot_sizing.specs.Problem.{Problem}
 use Rattle.lot_sizing.specs.Plan.{IsFeasible, Plan, cost}
 use Rattle.lot_io.specs.Outside.{Files, OnlyReads, Printed, Shelved}
-use Rattle.lot_draft.specs.declared.fault.ModelFault.{ModelFault}
 use Rattle.instance_reader.specs.Model.{BytesMean}
 use Rattle.plan_rules.specs.Broken.{IsBroken}
 use Rattle.plan_rules.specs.Texts.{broken_text}
@@ -12,15 +11,14 @@ use Rattle.plan_rules.specs.declared.broken.Broken.{Broken}
 use Rattle.plan_rules.specs.declared.plan.Plan.{Plan as Grids}
 use Rattle.plan_file.specs.Records.{IsPlanOf, records_of}
 use Rattle.plan_file.specs.declared.fault.PlanFault.{PlanFault}
-use Rattle.lotplan.specs.Reading.{AreNoPlan, FilesStop, HoldsPlan, HoldsProblem, read_meant, FileExplains, OfFile, OfModel, ReadAnswer, file_limit, no_plan_line, read_line, read_status}
-use Rattle.lotplan.specs.Meaning.{Meaning}
-use Rattle.lotplan.specs.Saying.{Answered, Gains}
+use Rattle.lotplan.specs.Reading.{ByFile, ByModel, AreNoPlan, FilesStop, HoldsPlan, HoldsProblem, read_meant, FileExplains, OfFile, OfModel, ReadAnswer, no_plan_line, read_line, read_status}
+use Rattle.lotplan.specs.Meaning.{Meaning, whole_meaning}
+use Rattle.lotplan.specs.Saying.{Answered, Tells, TellsAs}
 use Rattle.lotplan.specs.declared.commands.judge.JudgeAnswer.{JudgeAnswer as HeldAnswer}
 use Rattle.lotplan.specs.declared.commands.judge.JudgeAnswer.TheVariants as held
 use Rattle.lotplan.specs.declared.commands.judge.NotFeasible.{NotFeasible}
 use Rattle.lotplan.specs.declared.commands.judge.NotFeasible.TheVariants as stop
-use Rattle.lotplan.specs.declared.said.Said.{Said}
-use Rattle.lotplan.specs.declared.status.TheConstants.{DONE, FAULTY, REFUSED, MISSING, TOO_LONG}
+use Rattle.lotplan.specs.declared.status.TheConstants.{DONE, FAULTY}
 use Rattle.lotplan.specs.declared.status.Status.{Status}
 use Rattle.lotplan.specs.declared.status.Status.TheVariants as status
 
@@ -55,12 +53,16 @@ judge_line (broken rule) = broken_text rule ++ codes "\n"
 judge_line (no_input why) = read_line why
 
 -- ---- causes
--- bytes hold a feasible plan, which costs this
-pub record AreFeasible (problem : Problem) (bytes : List ℕ) (amount : ℕ) : Type 0 where
+-- bytes hold a feasible plan, of which this holds
+pub record AreFeasiblePlan (problem : Problem) (bytes : List ℕ) (P : Plan → Type 0) : Type 0 where
   pub plan : Plan
   pub is : IsPlanOf problem (records_of bytes) plan
   pub feasible : IsFeasible problem plan
-  pub costs : cost problem plan ≡ amount
+  pub holds : P plan
+
+-- they hold one which costs this
+abbrev pub AreFeasible : Problem → List ℕ → (amount : ℕ) → Type 0
+AreFeasible problem bytes amount = AreFeasiblePlan problem bytes (λ plan. cost problem plan ≡ amount)
 
 -- they hold a plan that breaks this rule first
 pub record AreBroken (problem : Problem) (bytes : List ℕ) (rule : Broken) : Type 0 where
@@ -106,13 +108,6 @@ pub record HoldsBoth (before : Files) (model_file plan_file : List ℕ) (problem
   pub model : HoldsProblem before model_file problem
   pub plan : HoldsPlan before plan_file problem grids
 
--- bytes hold a feasible plan, of which this holds
-pub record AreFeasiblePlan (problem : Problem) (bytes : List ℕ) (P : Plan → Type 0) : Type 0 where
-  pub plan : Plan
-  pub is : IsPlanOf problem (records_of bytes) plan
-  pub feasible : IsFeasible problem plan
-  pub holds : P plan
-
 -- the model file means a problem, the plan file holds a feasible plan of it, and this holds of both
 abbrev pub OfFeasible : Files → (model_file plan_file : List ℕ) → (Problem → Plan → Type 0) → Type 0
 OfFeasible before m p P = OfModel before m (λ problem. OfFile before p (λ bytes. AreFeasiblePlan problem bytes (P problem)))
@@ -138,57 +133,26 @@ ExplainsNone P stop.Memory = ⊤
 abbrev pub JudgeDoes : List ℕ → List ℕ → Shelved → Shelved → List ℕ → Status → Type 0
 JudgeDoes m p old new = Answered JudgeAnswer (λ answer. JudgeExplains m p old new answer × OnlyReads old new) judge_line judge_status
 
-abbrev pub JudgeSays : List ℕ → List ℕ → Shelved → Shelved → Said → Type 0
-JudgeSays m p old new said = JudgeDoes m p old new said.line.items said.status
-
 -- ---- the status that the two files call for, faults and out of memory aside
--- for a plan file of a problem `MISSING` where it is absent, `TOO_LONG` where it is too long, `DONE` where it holds a feasible plan, and else `FAULTY`
+-- for a plan file of a problem `DONE` where it holds a feasible plan, and else `FAULTY`
 abbrev pub PlanCallsFor : Problem → Option (List ℕ) → ℕ → Type 0
-PlanCallsFor problem None status = status ≡ MISSING
-PlanCallsFor problem (Some bytes) status =
-    ((file_limit < length bytes) × (status ≡ TOO_LONG))
-    ⊎ ((length bytes ≤ file_limit)
-    × (((amount : ℕ) × AreFeasible problem bytes amount × (status ≡ DONE))
+PlanCallsFor problem = ByFile (λ bytes status.
+    ((amount : ℕ) × AreFeasible problem bytes amount × (status ≡ DONE))
     ⊎ (((rule : Broken) × AreBroken problem bytes rule × (status ≡ FAULTY))
-    ⊎ ((fault : PlanFault) × AreNoPlan problem bytes fault × (status ≡ FAULTY)))))
+    ⊎ ((fault : PlanFault) × AreNoPlan problem bytes fault × (status ≡ FAULTY))))
 
 abbrev pub JudgeCallsFor : Option (List ℕ) → Option (List ℕ) → ℕ → Type 0
-JudgeCallsFor None plan status = status ≡ MISSING
-JudgeCallsFor (Some bytes) plan status =
-    ((file_limit < length bytes) × (status ≡ TOO_LONG))
-    ⊎ ((length bytes ≤ file_limit)
-    × (((fault : ModelFault) × BytesMean bytes (Err fault) × (status ≡ REFUSED)) ⊎ ((problem : Problem) × BytesMean bytes (Ok problem) × PlanCallsFor problem plan status)))
+JudgeCallsFor model plan = ByModel BytesMean (λ problem. PlanCallsFor problem plan) model
 
 -- ---- what each status says
 -- the plan file holds a feasible plan, and the line has its cost
-pub record FindsFeasible (before : Files) (model_file plan_file : List ℕ) (out_old out_new : Printed) : Type 0 where
-  pub amount : ℕ
-  pub holds : FilesAre before model_file plan_file (feasible amount)
-  pub line : Gains (judge_line (feasible amount)) out_old out_new
-
--- the answer names the fault of a plan file
-abbrev pub IsFault : JudgeAnswer → Type 0
-IsFault (feasible amount) = ⊥
-IsFault (no_plan fault) = ⊤
-IsFault (broken rule) = ⊤
-IsFault (no_input why) = ⊥
+abbrev pub FindsFeasible : Files → (model_file plan_file : List ℕ) → Printed → Printed → Type 0
+FindsFeasible before m p = Tells ℕ (λ amount. FilesAre before m p (feasible amount)) (λ amount. judge_line (feasible amount))
 
 -- the plan file holds no plan, or one that breaks a rule, and the line names the first fault
-pub record FindsFault (before : Files) (model_file plan_file : List ℕ) (out_old out_new : Printed) : Type 0 where
-  pub answer : JudgeAnswer
-  pub fault : IsFault answer
-  pub holds : FilesAre before model_file plan_file answer
-  pub line : Gains (judge_line answer) out_old out_new
+abbrev pub FindsFault : Files → (model_file plan_file : List ℕ) → Printed → Printed → Type 0
+FindsFault before m p = TellsAs status.Faulty JudgeAnswer judge_status (FilesAre before m p) judge_line
 
 -- ---- the command
 abbrev pub judge_meaning : List ℕ → List ℕ → Meaning
-judge_meaning m p = record {
-  does = JudgeDoes m p;
-  reads = m ∷ p ∷ [];
-  passes = [];
-  writes = [];
-  stops = FilesStop m p;
-  overlong = λ old. ⊥;
-  calls_for = λ file. JudgeCallsFor (file m) (file p);
-  may_be_left = λ file. ⊥;
-}
+judge_meaning m p = whole_meaning (JudgeDoes m p) (m ∷ p ∷ []) [] (FilesStop m p) (λ file. JudgeCallsFor (file m) (file p))

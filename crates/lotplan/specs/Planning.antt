@@ -1,11 +1,10 @@
 -- What `plan` answers, why, and what it leaves.
-use Rattle.std.specs.Prelude.{◌≡◌, ◌≢◌, ◌⊎◌, ◌<◌, ◌≤◌, ℕ, false, List, [], ◌∷◌, ◌++◌, length, codes, decimal, IsTrue, Option, Some, None, Ok, Err, is_some}
+use Rattle.std.specs.Prelude.{◌≡◌, ◌≢◌, ◌⊎◌, ◌<◌, ◌≤◌, ℕ, false, List, [], ◌∷◌, ◌++◌, codes, decimal, IsTrue, Option, Some, None, Ok, is_some}
 use Rattle.lot_sizing.specs.Problem.{IsUncoupled, Problem}
 use Rattle.lot_sizing.specs.Plan.{IsFeasible, Plan, cost}
 use Rattle.lot_sizing.specs.Best.{IsBest, IsFloor, IsImpossible}
 use Rattle.lot_sizing.specs.Texts.{optimal_line, plan_text}
 use Rattle.lot_io.specs.Outside.{Files, OnlyReads, Printed, Rose, Shelved}
-use Rattle.lot_draft.specs.declared.fault.ModelFault.{ModelFault}
 use Rattle.instance_reader.specs.Model.{BytesMean}
 use Rattle.plan_rules.specs.declared.plan.Plan.{Plan as Grids}
 use Rattle.plan_file.specs.Records.{IsPlanOf, records_of}
@@ -24,16 +23,16 @@ use Rattle.branch_and_cut.specs.Search.{HasBudgetForAll, cost_of}
 use Rattle.lotplan.specs.Writing.{StartsAmong, unwritten_line}
 use Rattle.command_line.specs.Words.{Search}
 use Rattle.lotplan.specs.Judging.{FindsFault, FindsNone, JudgeAnswer, JudgeCallsFor, JudgeExplains, OfFeasible, judge_line, judge_status}
-use Rattle.lotplan.specs.Reading.{FilesStop, read_meant, ModelExplains, OfModel, ReadAnswer, file_limit, read_line, read_status}
+use Rattle.lotplan.specs.Reading.{ByModel, FilesStop, read_meant, ModelExplains, OfModel, ReadAnswer, read_line, read_status}
 use Rattle.lotplan.specs.Proving.{HoldsProof}
 use Rattle.lotplan.specs.Finding.{IsFound, PlanCosts}
 use Rattle.lotplan.specs.Meaning.{Meaning}
-use Rattle.lotplan.specs.Saying.{Answered, Gains, IsSaid}
+use Rattle.lotplan.specs.Saying.{Answered, Gains, IsSaid, TellsAs}
 use Rattle.lotplan.specs.declared.commands.plan.PlanAnswer.{PlanAnswer as HeldAnswer}
 use Rattle.lotplan.specs.declared.commands.plan.PlanAnswer.TheVariants as held
 use Rattle.lotplan.specs.declared.said.Said.{Said}
 use Rattle.lotplan.specs.declared.sought.Sought.{Sought}
-use Rattle.lotplan.specs.declared.status.TheConstants.{DONE, NO_PLAN, UNDECIDED, REFUSED, MISSING, TOO_LONG}
+use Rattle.lotplan.specs.declared.status.TheConstants.{DONE, NO_PLAN, UNDECIDED}
 use Rattle.lotplan.specs.declared.status.Status.{Status}
 use Rattle.lotplan.specs.declared.status.Status.TheVariants as status
 
@@ -201,19 +200,28 @@ FailsAt Of p c old new file =
     ⊎ (((file ≡ c) × Of (λ problem. (amount : ℕ) × WritesFeasible new.file problem p amount) × StartsAmong (p ∷ c ∷ []) 2 old new)
     ⊎ ((file ≡ c) × Of HasNone × StartsAmong (c ∷ []) 1 old new))
 
--- why planning a problem ends in this answer, and what it leaves
+-- what an answer to a search says was written
+abbrev pub WritesFound : (before after : Files) (plan_file certificate_file : List ℕ) → PlanAnswer → Problem → Sought → Type 0
+WritesFound before after p c (optimal says nodes amount) problem sought = WritesOptimal after problem p c sought says nodes amount
+WritesFound before after p c (infeasible says nodes) problem sought = WritesInfeasible before after problem p c sought says nodes
+WritesFound before after p c (between says nodes bound amount) problem sought = WritesBetween after problem p c sought says nodes bound amount
+WritesFound before after p c (above says nodes bound) problem sought = WritesAbove before after problem p c sought says nodes bound
+WritesFound before after p c (unwritten file) problem sought = ⊥
+WritesFound before after p c (no_input why) problem sought = ⊥
+
+-- why a search, of whose problem this holds, ends in this answer, and what it leaves; a file that can't be written, or gives no problem, has these causes
+abbrev pub SearchExplains : ((Problem → Sought → Type 0) → Type 0) → (List ℕ → Type 0) → (ReadAnswer → Type 0) → (plan_file certificate_file : List ℕ) → Shelved → Shelved → PlanAnswer → Type 0
+SearchExplains Of Fails Stops p c old new (optimal says nodes amount) = (IsTrue old.told → Of (WritesFound old.file new.file p c (optimal says nodes amount))) × StartsAmong (p ∷ c ∷ []) 2 old new
+SearchExplains Of Fails Stops p c old new (infeasible says nodes) = (IsTrue old.told → Of (WritesFound old.file new.file p c (infeasible says nodes))) × StartsAmong (c ∷ []) 1 old new
+SearchExplains Of Fails Stops p c old new (between says nodes bound amount) = (IsTrue old.told → Of (WritesFound old.file new.file p c (between says nodes bound amount))) × StartsAmong (p ∷ c ∷ []) 2 old new
+SearchExplains Of Fails Stops p c old new (above says nodes bound) = (IsTrue old.told → Of (WritesFound old.file new.file p c (above says nodes bound))) × StartsAmong (c ∷ []) 1 old new
+SearchExplains Of Fails Stops p c old new (unwritten file) = Rose old.write_faults new.write_faults × Fails file
+SearchExplains Of Fails Stops p c old new (no_input why) = Stops why
+
+-- of a problem
 abbrev pub WriteExplains : Problem → Sought → List ℕ → List ℕ → Shelved → Shelved → PlanAnswer → Type 0
-WriteExplains problem sought p c old new (optimal says nodes amount) =
-    (IsTrue old.told → WritesOptimal new.file problem p c sought says nodes amount) × StartsAmong (p ∷ c ∷ []) 2 old new
-WriteExplains problem sought p c old new (infeasible says nodes) =
-    (IsTrue old.told → WritesInfeasible old.file new.file problem p c sought says nodes) × StartsAmong (c ∷ []) 1 old new
-WriteExplains problem sought p c old new (between says nodes bound amount) =
-    (IsTrue old.told → WritesBetween new.file problem p c sought says nodes bound amount) × StartsAmong (p ∷ c ∷ []) 2 old new
-WriteExplains problem sought p c old new (above says nodes bound) =
-    (IsTrue old.told → WritesAbove old.file new.file problem p c sought says nodes bound) × StartsAmong (c ∷ []) 1 old new
-WriteExplains problem sought p c old new (unwritten file) =
-    Rose old.write_faults new.write_faults × FailsAt (λ P. IsTrue old.told → P problem) p c old new file
-WriteExplains problem sought p c old new (no_input why) = ⊥
+WriteExplains problem sought p c old new =
+    SearchExplains (λ P. P problem sought) (FailsAt (λ P. IsTrue old.told → P problem) p c old new) (λ why. ⊥) p c old new
 
 -- ---- what the words give to the search
 -- of these words, from a plan of this cost or from none
@@ -235,17 +243,9 @@ start_files (Some start) = start ∷ []
 
 -- why planning these files, the search of which was begun if there is a problem, ends in this answer, and what it leaves
 abbrev pub PlanExplains : List ℕ → List ℕ → List ℕ → Search → Shelved → Shelved → PlanAnswer → Type 0
-PlanExplains m p c search old new (optimal says nodes amount) =
-    (IsTrue old.told → OfSearch old.file m search (λ problem sought. WritesOptimal new.file problem p c sought says nodes amount)) × StartsAmong (p ∷ c ∷ []) 2 old new
-PlanExplains m p c search old new (infeasible says nodes) =
-    (IsTrue old.told → OfSearch old.file m search (λ problem sought. WritesInfeasible old.file new.file problem p c sought says nodes)) × StartsAmong (c ∷ []) 1 old new
-PlanExplains m p c search old new (between says nodes bound amount) =
-    (IsTrue old.told → OfSearch old.file m search (λ problem sought. WritesBetween new.file problem p c sought says nodes bound amount)) × StartsAmong (p ∷ c ∷ []) 2 old new
-PlanExplains m p c search old new (above says nodes bound) =
-    (IsTrue old.told → OfSearch old.file m search (λ problem sought. WritesAbove old.file new.file problem p c sought says nodes bound)) × StartsAmong (c ∷ []) 1 old new
-PlanExplains m p c search old new (unwritten file) =
-    Rose old.write_faults new.write_faults × FailsAt (λ P. IsTrue old.told → OfModel old.file m P) p c old new file
-PlanExplains m p c search old new (no_input why) = (search.start ≡ None) × ModelExplains m old new why × OnlyReads old new
+PlanExplains m p c search old new =
+    SearchExplains (OfSearch old.file m search) (FailsAt (λ P. IsTrue old.told → OfModel old.file m P) p c old new)
+    (λ why. (search.start ≡ None) × ModelExplains m old new why × OnlyReads old new) p c old new
 
 -- what a run of `plan` comes to
 pub data PlanOutcome : Type 0 where
@@ -276,9 +276,6 @@ WriteSays problem sought p c old new said = (answer : PlanAnswer) × WriteExplai
 abbrev pub PlanDoes : List ℕ → List ℕ → List ℕ → Search → Shelved → Shelved → List ℕ → Status → Type 0
 PlanDoes m p c search old new = Answered PlanOutcome (OutcomeExplains m p c search old new) outcome_line outcome_status
 
-abbrev pub PlanSays : List ℕ → List ℕ → List ℕ → Search → Shelved → Shelved → Said → Type 0
-PlanSays m p c search old new said = PlanDoes m p c search old new said.line.items said.status
-
 -- ---- the status that the files call for, faults and out of memory aside
 -- the search may leave the problem open: it is coupled, and the budget isn't enough for all choices, or the search may end before that
 pub record MayBeLeft (problem : Problem) (sought : Sought) : Type 0 where
@@ -290,14 +287,8 @@ abbrev pub ProblemCallsFor : Problem → Sought → ℕ → Type 0
 ProblemCallsFor problem sought status =
     ((status ≡ DONE) × (p : Plan) × IsFeasible problem p) ⊎ (((status ≡ NO_PLAN) × IsImpossible problem) ⊎ ((status ≡ UNDECIDED) × MayBeLeft problem sought))
 
-abbrev pub BytesCallFor : List ℕ → Sought → ℕ → Type 0
-BytesCallFor bytes sought status =
-    ((problem : Problem) × BytesMean bytes (Ok problem) × ProblemCallsFor problem sought status)
-    ⊎ ((fault : ModelFault) × BytesMean bytes (Err fault) × (status ≡ REFUSED))
-
 abbrev pub FileCallsFor : Option (List ℕ) → Sought → ℕ → Type 0
-FileCallsFor None sought status = status ≡ MISSING
-FileCallsFor (Some bytes) sought status = ((file_limit < length bytes) × (status ≡ TOO_LONG)) ⊎ ((length bytes ≤ file_limit) × BytesCallFor bytes sought status)
+FileCallsFor model sought = ByModel BytesMean (λ problem. ProblemCallsFor problem sought) model
 
 -- where a file to start from is named: what `judge` calls for of it, if that isn't `DONE`; and else what the model file calls for
 abbrev pub PlanCallFor : List ℕ → Sought → Option (List ℕ) → Files → ℕ → Type 0
@@ -336,20 +327,9 @@ pub record FindsNoPlan (before after : Files) (model_file plan_file certificate_
   pub holds : OfSearch before model_file search (λ problem sought. WritesInfeasible before after problem plan_file certificate_file sought says nodes)
   pub lines : Gains (three_lines says nodes infeasible_line) out_old out_new
 
--- the best cost was left open: between the bound and what the plan in the plan file costs, or above the bound
-abbrev pub IsLeftOpen : Files → Files → Problem → List ℕ → List ℕ → Sought → PlanAnswer → Type 0
-IsLeftOpen before after problem p c sought (optimal says nodes amount) = ⊥
-IsLeftOpen before after problem p c sought (infeasible says nodes) = ⊥
-IsLeftOpen before after problem p c sought (between says nodes bound amount) = WritesBetween after problem p c sought says nodes bound amount
-IsLeftOpen before after problem p c sought (above says nodes bound) = WritesAbove before after problem p c sought says nodes bound
-IsLeftOpen before after problem p c sought (unwritten file) = ⊥
-IsLeftOpen before after problem p c sought (no_input why) = ⊥
-
--- the best cost of the problem in the model file was left open, the certificate file proves the bound, and the lines say so
-pub record LeavesOpen (before after : Files) (model_file plan_file certificate_file : List ℕ) (search : Search) (out_old out_new : Printed) : Type 0 where
-  pub answer : PlanAnswer
-  pub holds : OfSearch before model_file search (λ problem sought. IsLeftOpen before after problem plan_file certificate_file sought answer)
-  pub lines : Gains (plan_line answer) out_old out_new
+-- the best cost of the problem in the model file was left open, between the bound and what the plan in the plan file costs, or above the bound; the certificate file proves the bound, and the lines say so
+abbrev pub LeavesOpen : (before after : Files) (model_file plan_file certificate_file : List ℕ) → Search → Printed → Printed → Type 0
+LeavesOpen before after m p c search = TellsAs status.Undecided PlanAnswer plan_status (λ answer. OfSearch before m search (WritesFound before after p c answer)) plan_line
 
 -- the file to start from held a feasible plan, and the plan file holds one that costs no more
 abbrev pub KeepsStart : Files → Files → (model_file plan_file start_file : List ℕ) → Type 0

@@ -1,5 +1,5 @@
 -- What the files that a command reads hold, and why they may give nothing to go on with.
-use Rattle.std.specs.Prelude.{◌≡◌, ◌≢◌, ◌⊎◌, ◌<◌, ◌≤◌, ◌+◌, ℕ, List, ◌++◌, length, codes, IsTrue, Some, None, Ok, Err, ⊤}
+use Rattle.std.specs.Prelude.{◌≡◌, ◌≢◌, ◌⊎◌, ◌<◌, ◌≤◌, ◌+◌, ℕ, List, ◌++◌, length, codes, IsTrue, Option, Some, None, Result, Ok, Err, ⊤}
 use Rattle.lot_sizing.specs.Problem.{Problem}
 use Rattle.lot_io.specs.Outside.{Files, Rose, RoseBy, Shelved}
 use Rattle.lot_draft.specs.declared.fault.ModelFault.{ModelFault}
@@ -19,6 +19,7 @@ use Rattle.lotplan.specs.declared.model_file.ReadAnswer.{ReadAnswer as HeldAnswe
 use Rattle.lotplan.specs.declared.model_file.ReadAnswer.TheVariants as held
 use Rattle.lotplan.specs.declared.model_file.Stop.{Stop}
 use Rattle.lotplan.specs.declared.model_file.Stop.TheVariants as stop
+use Rattle.lotplan.specs.declared.status.TheConstants.{REFUSED, MISSING, TOO_LONG}
 use Rattle.lotplan.specs.declared.status.Status.{Status}
 use Rattle.lotplan.specs.declared.status.Status.TheVariants as status
 
@@ -30,37 +31,32 @@ file_limit = MAX_FILE
 abbrev pub OfFile : Files → List ℕ → (List ℕ → Type 0) → Type 0
 OfFile before file P = (bytes : List ℕ) × (before file ≡ Some bytes) × (length bytes ≤ file_limit) × P bytes
 
--- the model file means the problem
-pub record HoldsProblem (before : Files) (model_file : List ℕ) (problem : Problem) : Type 0 where
+-- and so as a record
+pub record Holds (before : Files) (file : List ℕ) (P : List ℕ → Type 0) : Type 0 where
   pub bytes : List ℕ
-  pub read : before model_file ≡ Some bytes
+  pub read : before file ≡ Some bytes
   pub short : length bytes ≤ file_limit
-  pub means : BytesMean bytes (Ok problem)
+  pub means : P bytes
+
+-- the model file means the problem
+abbrev pub HoldsProblem : Files → (model_file : List ℕ) → Problem → Type 0
+HoldsProblem before m problem = Holds before m (λ bytes. BytesMean bytes (Ok problem))
 
 -- it means a problem of which this holds
 abbrev pub OfModel : Files → List ℕ → (Problem → Type 0) → Type 0
 OfModel before model_file P = (problem : Problem) × HoldsProblem before model_file problem × P problem
 
 -- it means no problem, for this fault
-pub record HoldsNone (before : Files) (model_file : List ℕ) (fault : ModelFault) : Type 0 where
-  pub bytes : List ℕ
-  pub read : before model_file ≡ Some bytes
-  pub short : length bytes ≤ file_limit
-  pub means : BytesMean bytes (Err fault)
+abbrev pub HoldsNone : Files → (model_file : List ℕ) → ModelFault → Type 0
+HoldsNone before m fault = Holds before m (λ bytes. BytesMean bytes (Err fault))
 
 -- the model file is one of the first version, and means the problem
-pub record HoldsFirst (before : Files) (model_file : List ℕ) (problem : Problem) : Type 0 where
-  pub bytes : List ℕ
-  pub read : before model_file ≡ Some bytes
-  pub short : length bytes ≤ file_limit
-  pub means : FirstVersionMeans bytes (Ok problem)
+abbrev pub HoldsFirst : Files → (model_file : List ℕ) → Problem → Type 0
+HoldsFirst before m problem = Holds before m (λ bytes. FirstVersionMeans bytes (Ok problem))
 
 -- as one of the first version it means no problem, for this fault
-pub record HoldsNoFirst (before : Files) (model_file : List ℕ) (fault : ModelFault) : Type 0 where
-  pub bytes : List ℕ
-  pub read : before model_file ≡ Some bytes
-  pub short : length bytes ≤ file_limit
-  pub means : FirstVersionMeans bytes (Err fault)
+abbrev pub HoldsNoFirst : Files → (model_file : List ℕ) → ModelFault → Type 0
+HoldsNoFirst before m fault = Holds before m (λ bytes. FirstVersionMeans bytes (Err fault))
 
 -- the plan file holds a plan, which these grids hold
 pub record HoldsPlan (before : Files) (plan_file : List ℕ) (problem : Problem) (plan : Plan) : Type 0 where
@@ -121,12 +117,23 @@ read_line (too_long file) = codes "refused long " ++ (file ++ codes "\n")
 abbrev pub no_plan_line : PlanFault → List ℕ
 no_plan_line fault = plan_fault_text fault ++ codes "\n"
 
--- why the reading of a file ends in this answer
+-- why the reading of a file ends in this answer; that it is refused is this, of the fault
+abbrev pub StopExplains : (ModelFault → Type 0) → List ℕ → Shelved → Shelved → ReadAnswer → Type 0
+StopExplains Refused name old new (refused fault) = Refused fault
+StopExplains Refused name old new (missing file) = (file ≡ name) × Rose old.misses new.misses × (IsTrue old.told → old.file name ≡ None)
+StopExplains Refused name old new (unread file) = (file ≡ name) × Rose old.faults new.faults
+StopExplains Refused name old new (too_long file) = (file ≡ name) × RoseBy (file_limit + 1) old.given new.given × (IsTrue old.told → IsTooLong old.file name)
+
+-- a file that is no model
 abbrev pub FileExplains : List ℕ → Shelved → Shelved → ReadAnswer → Type 0
-FileExplains name old new (refused fault) = ⊥
-FileExplains name old new (missing file) = (file ≡ name) × Rose old.misses new.misses × (IsTrue old.told → old.file name ≡ None)
-FileExplains name old new (unread file) = (file ≡ name) × Rose old.faults new.faults
-FileExplains name old new (too_long file) = (file ≡ name) × RoseBy (file_limit + 1) old.given new.given × (IsTrue old.told → IsTooLong old.file name)
+FileExplains = StopExplains (λ fault. ⊥)
+
+-- a model, and one of the first version
+abbrev pub ModelExplains : List ℕ → Shelved → Shelved → ReadAnswer → Type 0
+ModelExplains m old new = StopExplains (λ fault. IsTrue old.told → HoldsNone old.file m fault) m old new
+
+abbrev pub FirstExplains : List ℕ → Shelved → Shelved → ReadAnswer → Type 0
+FirstExplains m old new = StopExplains (λ fault. IsTrue old.told → HoldsNoFirst old.file m fault) m old new
 
 -- why the reading of a plan file of a problem gives no plan; out of memory needs no cause
 abbrev pub ExplainsPlanStop : Problem → List ℕ → Shelved → Shelved → PlanStop → Type 0
@@ -134,20 +141,16 @@ ExplainsPlanStop problem p old new (plan_stop.NoPlan fault) = IsTrue old.told �
 ExplainsPlanStop problem p old new (plan_stop.Answered why) = FileExplains p old new (read_meant why)
 ExplainsPlanStop problem p old new plan_stop.Memory = ⊤
 
--- why the reading of a model ends in this answer
-abbrev pub ModelExplains : List ℕ → Shelved → Shelved → ReadAnswer → Type 0
-ModelExplains m old new (refused fault) = IsTrue old.told → HoldsNone old.file m fault
-ModelExplains m old new (missing file) = FileExplains m old new (missing file)
-ModelExplains m old new (unread file) = FileExplains m old new (unread file)
-ModelExplains m old new (too_long file) = FileExplains m old new (too_long file)
-
--- why the reading of a model of the first version ends in this answer
-abbrev pub FirstExplains : List ℕ → Shelved → Shelved → ReadAnswer → Type 0
-FirstExplains m old new (refused fault) = IsTrue old.told → HoldsNoFirst old.file m fault
-FirstExplains m old new (missing file) = FileExplains m old new (missing file)
-FirstExplains m old new (unread file) = FileExplains m old new (unread file)
-FirstExplains m old new (too_long file) = FileExplains m old new (too_long file)
-
 -- why the reading of a model file and a plan file ends in this answer: by the model file, or by the plan file of the problem that it means
 abbrev pub FilesStop : List ℕ → List ℕ → Shelved → Shelved → ReadAnswer → Type 0
 FilesStop m p old new why = ModelExplains m old new why ⊎ ((problem : Problem) × (IsTrue old.told → HoldsProblem old.file m problem) × FileExplains p old new why)
+
+-- ---- the status that a file calls for
+-- `MISSING` where it is absent, `TOO_LONG` where it is too long, and else what its bytes call for
+abbrev pub ByFile : (List ℕ → ℕ → Type 0) → Option (List ℕ) → ℕ → Type 0
+ByFile Calls None status = status ≡ MISSING
+ByFile Calls (Some bytes) status = ((file_limit < length bytes) × (status ≡ TOO_LONG)) ⊎ ((length bytes ≤ file_limit) × Calls bytes status)
+
+-- a model file, by what its bytes mean: `REFUSED` where that is no problem, and else what the problem calls for
+abbrev pub ByModel : (List ℕ → Result Problem ModelFault → Type 0) → (Problem → ℕ → Type 0) → Option (List ℕ) → ℕ → Type 0
+ByModel Mean Calls = ByFile (λ bytes status. ((fault : ModelFault) × Mean bytes (Err fault) × (status ≡ REFUSED)) ⊎ ((problem : Problem) × Mean bytes (Ok problem) × Calls problem status))

@@ -1,10 +1,9 @@
 -- What `replan` answers, why, and what it leaves.
-use Rattle.std.specs.Prelude.{◌≡◌, ◌⊎◌, ◌<◌, ◌≤◌, ◌+◌, ℕ, List, [], ◌∷◌, ◌++◌, length, codes, decimal, IsTrue, Option, Some, None, Ok, Err, ⊤}
+use Rattle.std.specs.Prelude.{◌≡◌, ◌⊎◌, ◌<◌, ◌≤◌, ◌+◌, ℕ, List, [], ◌∷◌, ◌++◌, length, codes, decimal, IsTrue, Option, Some, None, Ok, ⊤}
 use Rattle.lot_sizing.specs.Problem.{Problem}
 use Rattle.lot_sizing.specs.Plan.{Plan}
 use Rattle.lot_sizing.specs.Texts.{optimal_line}
 use Rattle.lot_io.specs.Outside.{Files, OnlyReads, Printed, Rose, Shelved}
-use Rattle.lot_draft.specs.declared.fault.ModelFault.{ModelFault}
 use Rattle.instance_reader.specs.Model.{BytesMean}
 use Rattle.instance_reader.specs.Written.{IsModelText}
 use Rattle.plan_file.specs.Records.{IsPlanOf, records_of}
@@ -21,20 +20,20 @@ use Rattle.replan.specs.declared.fault.RestFault.{RestFault}
 use Rattle.replan.specs.declared.fault.RestFault.TheVariants.{First, Lead, Draft, Memory}
 use Rattle.replan.specs.declared.found.Rest.{Rest}
 use Rattle.lotplan.specs.Writing.{IsUnwritten, IsWritten, StartsAmong, unwritten_line}
-use Rattle.lotplan.specs.Reading.{AreNoPlan, FilesStop, OfFile, OfModel, ReadAnswer, file_limit, no_plan_line, read_line, read_meant, read_status}
+use Rattle.lotplan.specs.Reading.{ByFile, ByModel, AreNoPlan, FilesStop, OfFile, OfModel, ReadAnswer, file_limit, no_plan_line, read_line, read_meant, read_status}
 use Rattle.lotplan.specs.Finding.{only}
 use Rattle.lotplan.specs.Upgrading.{WritesModel}
 use Rattle.lotplan.specs.Planning.{HasNone, HasPlan, IsAnswerTo, MayBeLeft, PlanAnswer, ProblemCallsFor, WriteExplains, WritesAbove, WritesBetween, WritesFeasible, WritesInfeasible, WritesOptimal, above, above_line, between, between_line, infeasible, infeasible_line, optimal, plan_status, three_lines, unwritten}
 use Rattle.lotplan.specs.Planning.{no_input as no_model}
 use Rattle.lotplan.specs.Checking.{CallsForDone}
 use Rattle.lotplan.specs.Meaning.{Meaning}
-use Rattle.lotplan.specs.Saying.{Answered, Gains, IsSaid}
+use Rattle.lotplan.specs.Saying.{Answered, Gains, IsSaid, Tells}
 use Rattle.lotplan.specs.declared.commands.replanning.ReplanAnswer.{ReplanAnswer as HeldAnswer}
 use Rattle.lotplan.specs.declared.commands.replanning.ReplanAnswer.TheVariants as held
 use Rattle.lotplan.specs.declared.model_file.PlanStop.{PlanStop}
 use Rattle.lotplan.specs.declared.model_file.PlanStop.TheVariants as plan_stop
 use Rattle.lotplan.specs.declared.said.Said.{Said}
-use Rattle.lotplan.specs.declared.status.TheConstants.{NO_PLAN, FAULTY, REFUSED, MISSING, TOO_LONG, NO_REST}
+use Rattle.lotplan.specs.declared.status.TheConstants.{NO_PLAN, FAULTY, NO_REST}
 use Rattle.lotplan.specs.declared.status.Status.{Status}
 use Rattle.lotplan.specs.declared.status.Status.TheVariants as status
 
@@ -238,9 +237,6 @@ ReplanExplains m p first n q c budget old new (no_input why) = FilesStop m p old
 abbrev pub ReplanDoes : (model_file plan_file : List ℕ) (first : ℕ) (new_model_file new_plan_file certificate_file : List ℕ) (budget : ℕ) → Shelved → Shelved → List ℕ → Status → Type 0
 ReplanDoes m p first n q c budget old new = Answered ReplanAnswer (ReplanExplains m p first n q c budget old new) replan_line replan_status
 
-abbrev pub ReplanSays : (model_file plan_file : List ℕ) (first : ℕ) (new_model_file new_plan_file certificate_file : List ℕ) (budget : ℕ) → Shelved → Shelved → Said → Type 0
-ReplanSays m p first n q c budget old new said = ReplanDoes m p first n q c budget old new said.line.items said.status
-
 -- ---- the status that the two files call for, faults and out of memory aside
 -- the start stands, and the later periods, written as a model of their own, mean this problem
 pub record IsRestMeant (problem : Problem) (plan : Plan) (first : ℕ) (rest : Problem) : Type 0 where
@@ -254,21 +250,14 @@ StartCallsFor problem plan first budget status =
     ⊎ ((MayGoOn problem first × (StartStands problem plan first → ⊥) × (status ≡ NO_PLAN))
     ⊎ ((rest : Problem) × IsRestMeant problem plan first rest × ProblemCallsFor rest (only budget) status))
 
--- for a plan file of a problem `MISSING` where it is absent, `TOO_LONG` where it is too long, and `FAULTY` where it holds no plan
+-- for a plan file of a problem `FAULTY` where it holds no plan
 abbrev pub GivenCallsFor : Problem → (first budget : ℕ) → Option (List ℕ) → ℕ → Type 0
-GivenCallsFor problem first budget None status = status ≡ MISSING
-GivenCallsFor problem first budget (Some bytes) status =
-    ((file_limit < length bytes) × (status ≡ TOO_LONG))
-    ⊎ ((length bytes ≤ file_limit)
-    × (((fault : PlanFault) × AreNoPlan problem bytes fault × (status ≡ FAULTY))
-    ⊎ ((plan : Plan) × IsPlanOf problem (records_of bytes) plan × StartCallsFor problem plan first budget status)))
+GivenCallsFor problem first budget = ByFile (λ bytes status.
+    ((fault : PlanFault) × AreNoPlan problem bytes fault × (status ≡ FAULTY))
+    ⊎ ((plan : Plan) × IsPlanOf problem (records_of bytes) plan × StartCallsFor problem plan first budget status))
 
 abbrev pub ReplanCallsFor : (first budget : ℕ) → Option (List ℕ) → Option (List ℕ) → ℕ → Type 0
-ReplanCallsFor first budget None plan status = status ≡ MISSING
-ReplanCallsFor first budget (Some bytes) plan status =
-    ((file_limit < length bytes) × (status ≡ TOO_LONG))
-    ⊎ ((length bytes ≤ file_limit)
-    × (((fault : ModelFault) × BytesMean bytes (Err fault) × (status ≡ REFUSED)) ⊎ ((problem : Problem) × BytesMean bytes (Ok problem) × GivenCallsFor problem first budget plan status)))
+ReplanCallsFor first budget model plan = ByModel BytesMean (λ problem. GivenCallsFor problem first budget plan) model
 
 -- there is a rest after the start of the plan in these bytes, which the search may leave open
 pub record MayLeaveRest (problem : Problem) (first budget : ℕ) (bytes : List ℕ) : Type 0 where
@@ -324,16 +313,12 @@ pub record LeavesRestOpen (before after : Files) (model_file plan_file : List �
   pub lines : Gains (searched_line spent answer) out_old out_new
 
 -- no later periods can be planned, and the line says why
-pub record FindsNoRest (before : Files) (model_file plan_file : List ℕ) (first : ℕ) (out_old out_new : Printed) : Type 0 where
-  pub fault : RestFault
-  pub holds : OfPlan before model_file plan_file (λ problem plan. IsNoRest problem plan first fault)
-  pub line : Gains (no_rest_line fault) out_old out_new
+abbrev pub FindsNoRest : Files → (model_file plan_file : List ℕ) → (first : ℕ) → Printed → Printed → Type 0
+FindsNoRest before m p first = Tells RestFault (λ fault. OfPlan before m p (λ problem plan. IsNoRest problem plan first fault)) no_rest_line
 
 -- the plan file holds no plan, and the line names the first fault
-pub record FindsPlanFault (before : Files) (model_file plan_file : List ℕ) (out_old out_new : Printed) : Type 0 where
-  pub fault : PlanFault
-  pub holds : OfNoPlan before model_file plan_file fault
-  pub line : Gains (no_plan_line fault) out_old out_new
+abbrev pub FindsPlanFault : Files → (model_file plan_file : List ℕ) → Printed → Printed → Type 0
+FindsPlanFault before m p = Tells PlanFault (OfNoPlan before m p) no_plan_line
 
 -- a file could not be written, and the line names it
 pub record FailsToReplan (old new : Shelved) (model_file plan_file : List ℕ) (first : ℕ) (new_model_file new_plan_file certificate_file : List ℕ) (out_old out_new : Printed) : Type 0 where

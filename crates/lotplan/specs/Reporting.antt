@@ -9,10 +9,9 @@ use Rattle.report.specs.Summary.{summary_text}
 use Rattle.plan_report.specs.Full.{full_text}
 use Rattle.plan_report.specs.Tables.{table_text}
 use Rattle.lotplan.specs.Judging.{FindsNone, JudgeAnswer, JudgeCallsFor, JudgeExplains, OfFeasible, judge_line, judge_status}
-use Rattle.lotplan.specs.Meaning.{Meaning}
+use Rattle.lotplan.specs.Meaning.{Meaning, whole_meaning}
 use Rattle.lotplan.specs.Reading.{FilesStop}
-use Rattle.lotplan.specs.Saying.{Answered, Gains}
-use Rattle.lotplan.specs.declared.said.Said.{Said}
+use Rattle.lotplan.specs.Saying.{Answered, Tells}
 use Rattle.lotplan.specs.declared.status.Status.{Status}
 use Rattle.lotplan.specs.declared.status.Status.TheVariants as status
 
@@ -51,25 +50,11 @@ ReportExplains m p form old new (judged answer) = FindsNone answer × JudgeExpla
 abbrev pub ReportDoes : List ℕ → List ℕ → ReportForm → Shelved → Shelved → List ℕ → Status → Type 0
 ReportDoes m p form old new = Answered ReportAnswer (λ answer. ReportExplains m p form old new answer × OnlyReads old new) report_line report_status
 
-abbrev pub ReportSays : List ℕ → List ℕ → ReportForm → Shelved → Shelved → Said → Type 0
-ReportSays m p form old new said = ReportDoes m p form old new said.line.items said.status
-
 -- ---- what `DONE` says
 -- the plan in the plan file is feasible, and what is printed is what is told of it in this form
-pub record SumsUp (before : Files) (model_file plan_file : List ℕ) (form : ReportForm) (out_old out_new : Printed) : Type 0 where
-  pub text : List ℕ
-  pub holds : OfFeasible before model_file plan_file (IsReport form text)
-  pub line : Gains text out_old out_new
+abbrev pub SumsUp : Files → (model_file plan_file : List ℕ) → ReportForm → Printed → Printed → Type 0
+SumsUp before m p form = Tells (List ℕ) (λ text. OfFeasible before m p (IsReport form text)) (λ text. text)
 
 -- ---- the command
 abbrev pub report_meaning : List ℕ → List ℕ → ReportForm → Meaning
-report_meaning m p form = record {
-  does = ReportDoes m p form;
-  reads = m ∷ p ∷ [];
-  passes = [];
-  writes = [];
-  stops = FilesStop m p;
-  overlong = λ old. ⊥;
-  calls_for = λ file. JudgeCallsFor (file m) (file p);
-  may_be_left = λ file. ⊥;
-}
+report_meaning m p form = whole_meaning (ReportDoes m p form) (m ∷ p ∷ []) [] (FilesStop m p) (λ file. JudgeCallsFor (file m) (file p))

@@ -6,7 +6,7 @@ use Rattle.command_line.specs.Words.{Request, version, planning, judging, checki
 use Rattle.lotplan.specs.Status.{code_of}
 use Rattle.lotplan.specs.Saying.{Gains, Prints}
 use Rattle.lotplan.specs.Reading.{ReadAnswer, file_limit, read_line}
-use Rattle.lotplan.specs.Meaning.{Meaning, long_page_line}
+use Rattle.lotplan.specs.Meaning.{Meaning, fixed_meaning, long_page_line}
 use Rattle.lotplan.specs.Planning.{plan_meaning}
 use Rattle.lotplan.specs.Judging.{judge_meaning}
 use Rattle.lotplan.specs.Checking.{check_meaning}
@@ -39,16 +39,7 @@ pub record VersionDoes (old new : Shelved) (line : List ℕ) (status : Status) :
   pub ends : status ≡ Done
 
 abbrev pub version_meaning : Meaning
-version_meaning = record {
-  does = VersionDoes;
-  reads = [];
-  passes = [];
-  writes = [];
-  stops = λ old new why. ⊥;
-  overlong = λ old. ⊥;
-  calls_for = λ file status. status ≡ DONE;
-  may_be_left = λ file. ⊥;
-}
+version_meaning = fixed_meaning VersionDoes [] DONE
 
 -- words that are no command, a call for help among them; the text is left open
 pub record NothingDone (old new : Shelved) (line : List ℕ) (status : Status) : Type 0 where
@@ -56,16 +47,7 @@ pub record NothingDone (old new : Shelved) (line : List ℕ) (status : Status) :
   pub ends : status ≡ NoCommand
 
 abbrev pub no_meaning : Meaning
-no_meaning = record {
-  does = NothingDone;
-  reads = [];
-  passes = [];
-  writes = [];
-  stops = λ old new why. ⊥;
-  overlong = λ old. ⊥;
-  calls_for = λ file status. status ≡ NO_COMMAND;
-  may_be_left = λ file. ⊥;
-}
+no_meaning = fixed_meaning NothingDone [] NO_COMMAND
 
 abbrev pub meaning_of : Option Request → Meaning
 meaning_of None = no_meaning

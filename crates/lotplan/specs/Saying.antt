@@ -27,6 +27,19 @@ abbrev pub Ends : Result Said AllocError → ℕ → Printed → Printed → Typ
 Ends (Ok said) code old new = Prints said.line.items said.status code old new
 Ends (Err e) code old new = (code ≡ code_of NoMemory) × (new ≡ old)
 
+-- this holds of something, and the line, or the lines, tell it
+pub record Tells (A : Type 0) (Holds : A → Type 0) (line_of : A → List ℕ) (out_old out_new : Printed) : Type 0 where
+  pub what : A
+  pub holds : Holds what
+  pub line : Gains (line_of what) out_old out_new
+
+-- so it is with an answer that has this status
+pub record TellsAs (ending : Status) (A : Type 0) (status_of : A → Status) (Holds : A → Type 0) (line_of : A → List ℕ) (out_old out_new : Printed) : Type 0 where
+  pub answer : A
+  pub ends : status_of answer ≡ ending
+  pub holds : Holds answer
+  pub line : Gains (line_of answer) out_old out_new
+
 -- an answer has its cause, and gives this line, or these lines, and this status
 pub record Answered (A : Type 0) (Why : A → Type 0) (line_of : A → List ℕ) (status_of : A → Status) (line : List ℕ) (status : Status) : Type 0 where
   pub answer : A

@@ -1,5 +1,5 @@
 -- What `schedule` writes, and what `schedcheck` answers, and why.
-use Rattle.std.specs.Prelude.{◌≡◌, ◌≢◌, ◌⊎◌, ◌<◌, ◌≤◌, ℕ, List, [], ◌∷◌, ◌++◌, length, codes, IsTrue, Option, Some, None, ⊤}
+use Rattle.std.specs.Prelude.{◌≡◌, ◌≢◌, ◌⊎◌, ℕ, List, [], ◌∷◌, ◌++◌, length, codes, IsTrue, Option, Some, ⊤}
 use Rattle.lot_sizing.specs.Problem.{Problem}
 use Rattle.lot_sizing.specs.Plan.{Plan}
 use Rattle.lot_io.specs.Outside.{Files, OnlyReads, Printed, Shelved}
@@ -16,13 +16,13 @@ use Rattle.lot_schedule.specs.declared.fault.SlotFault.{SlotFault}
 use Rattle.lot_schedule.specs.declared.fault.SlotFault.TheVariants as slot_fault
 use Rattle.lotplan.specs.Extracting.{Extract, extract_meaning}
 use Rattle.lotplan.specs.Judging.{AnyPlan, FindsNone, JudgeAnswer, JudgeCallsFor, JudgeExplains, OfFeasible, judge_line, judge_status}
-use Rattle.lotplan.specs.Meaning.{Meaning}
-use Rattle.lotplan.specs.Reading.{FileExplains, FilesStop, OfFile, ReadAnswer, file_limit, read_line, read_meant, read_status}
-use Rattle.lotplan.specs.Saying.{Answered, Gains, IsSaid}
+use Rattle.lotplan.specs.Meaning.{Meaning, whole_meaning}
+use Rattle.lotplan.specs.Reading.{ByFile, FileExplains, FilesStop, OfFile, ReadAnswer, read_line, read_meant, read_status}
+use Rattle.lotplan.specs.Saying.{Answered, Gains, IsSaid, TellsAs}
 use Rattle.lotplan.specs.declared.commands.schedcheck.SchedcheckAnswer.{SchedcheckAnswer as HeldAnswer}
 use Rattle.lotplan.specs.declared.commands.schedcheck.SchedcheckAnswer.TheVariants as held
 use Rattle.lotplan.specs.declared.said.Said.{Said}
-use Rattle.lotplan.specs.declared.status.TheConstants.{DONE, FAULTY, MISSING, TOO_LONG}
+use Rattle.lotplan.specs.declared.status.TheConstants.{DONE, FAULTY}
 use Rattle.lotplan.specs.declared.status.Status.{Status}
 use Rattle.lotplan.specs.declared.status.Status.TheVariants as status
 
@@ -146,21 +146,14 @@ SlotFileSays problem plan s old new said =
 abbrev pub SchedcheckDoes : (model_file plan_file schedule_file : List ℕ) → Shelved → Shelved → List ℕ → Status → Type 0
 SchedcheckDoes m p s old new = Answered SchedcheckAnswer (λ answer. SchedcheckExplains m p s old new answer × OnlyReads old new) schedcheck_line schedcheck_status
 
-abbrev pub SchedcheckSays : (model_file plan_file schedule_file : List ℕ) → Shelved → Shelved → Said → Type 0
-SchedcheckSays m p s old new said = SchedcheckDoes m p s old new said.line.items said.status
-
 -- why the files of `schedcheck` gave nothing to go on with: the model or the plan file, as in `judge`, or the schedule file of a feasible plan
 abbrev pub SchedcheckStops : (model_file plan_file schedule_file : List ℕ) → Shelved → Shelved → ReadAnswer → Type 0
 SchedcheckStops m p s old new why = FilesStop m p old new why ⊎ ((IsTrue old.told → OfFeasible old.file m p AnyPlan) × FileExplains s old new why)
 
 -- ---- the status that the files call for, faults and out of memory aside
--- for a schedule file of a feasible plan `MISSING` where it is absent, `TOO_LONG` where it is too long, `DONE` exactly where it holds a schedule, and else `FAULTY`
+-- for a schedule file of a feasible plan `DONE` exactly where it holds a schedule, and else `FAULTY`
 abbrev pub SlotsCallFor : Problem → Plan → Option (List ℕ) → ℕ → Type 0
-SlotsCallFor problem plan None status = status ≡ MISSING
-SlotsCallFor problem plan (Some bytes) status =
-    ((file_limit < length bytes) × (status ≡ TOO_LONG))
-    ⊎ ((length bytes ≤ file_limit)
-    × ((AreSchedule problem plan bytes × (status ≡ DONE)) ⊎ ((AreSchedule problem plan bytes → ⊥) × (status ≡ FAULTY))))
+SlotsCallFor problem plan = ByFile (λ bytes status. (AreSchedule problem plan bytes × (status ≡ DONE)) ⊎ ((AreSchedule problem plan bytes → ⊥) × (status ≡ FAULTY)))
 
 -- that of the schedule file where the plan is feasible, and else what `judge` calls for
 abbrev pub SchedcheckCallsFor : Files → (model_file plan_file schedule_file : List ℕ) → ℕ → Type 0
@@ -178,33 +171,13 @@ pub record AcceptsSchedule (before : Files) (model_file plan_file schedule_file 
   pub holds : OfFeasible before model_file plan_file (ScheduleFileIs before schedule_file accepted)
   pub line : Gains accepted_line out_old out_new
 
--- the answer names the fault of a schedule file
-abbrev pub IsSlotsFault : SchedcheckAnswer → Type 0
-IsSlotsFault accepted = ⊥
-IsSlotsFault (no_slots fault) = ⊤
-IsSlotsFault (rejected broken) = ⊤
-IsSlotsFault (no_plan_for answer) = ⊥
-IsSlotsFault (no_input why) = ⊥
-
 -- the plan file holds a feasible plan, the schedule file holds no slots, or slots that are no schedule of it, and the line names the first fault
-pub record FindsSlotsFault (before : Files) (model_file plan_file schedule_file : List ℕ) (out_old out_new : Printed) : Type 0 where
-  pub answer : SchedcheckAnswer
-  pub fault : IsSlotsFault answer
-  pub holds : OfFeasible before model_file plan_file (ScheduleFileIs before schedule_file answer)
-  pub line : Gains (schedcheck_line answer) out_old out_new
+abbrev pub FindsSlotsFault : Files → (model_file plan_file schedule_file : List ℕ) → Printed → Printed → Type 0
+FindsSlotsFault before m p s = TellsAs status.Faulty SchedcheckAnswer schedcheck_status (λ answer. OfFeasible before m p (ScheduleFileIs before s answer)) schedcheck_line
 
 -- ---- the commands
 abbrev pub schedule_meaning : (model_file plan_file schedule_file : List ℕ) → Meaning
 schedule_meaning m p s = extract_meaning (Laid s) scheduled_word m p s
 
 abbrev pub schedcheck_meaning : (model_file plan_file schedule_file : List ℕ) → Meaning
-schedcheck_meaning m p s = record {
-  does = SchedcheckDoes m p s;
-  reads = m ∷ p ∷ s ∷ [];
-  passes = [];
-  writes = [];
-  stops = SchedcheckStops m p s;
-  overlong = λ old. ⊥;
-  calls_for = λ file. SchedcheckCallsFor file m p s;
-  may_be_left = λ file. ⊥;
-}
+schedcheck_meaning m p s = whole_meaning (SchedcheckDoes m p s) (m ∷ p ∷ s ∷ []) [] (SchedcheckStops m p s) (λ file. SchedcheckCallsFor file m p s)

@@ -10,26 +10,20 @@ use Rattle.branching.specs.declared.found.RootSays.TheVariants as at_root
 use Rattle.report.specs.Generated.{generated}
 use Rattle.lotplan.specs.Finding.{IsFound, only}
 use Rattle.lotplan.specs.Planning.{IsAnswerTo, IsWithinOwn, PlanAnswer, above, between, infeasible, optimal, plan_line, no_input, unwritten}
-use Rattle.lotplan.specs.Meaning.{Meaning}
-use Rattle.lotplan.specs.Saying.{Gains}
+use Rattle.lotplan.specs.Meaning.{Meaning, fixed_meaning}
+use Rattle.lotplan.specs.Saying.{Tells}
 use Rattle.lotplan.specs.declared.commands.demo.TheConstants.{COUPLED_BUDGET, COUPLED_ITEMS, COUPLED_PERIODS, FREE_BUDGET, FREE_ITEMS, FREE_PERIODS}
 use Rattle.lotplan.specs.declared.said.Said.{Said}
 use Rattle.lotplan.specs.declared.status.TheConstants.{DONE}
 use Rattle.lotplan.specs.declared.status.Status.{Status}
 use Rattle.lotplan.specs.declared.status.Status.TheVariants.{Done}
 
--- ---- the two models of a seed, and the most nodes that the tree of a certificate of each may have
+-- ---- the two models of a seed
 abbrev pub free_problem : ℕ → Problem
 free_problem seed = generated seed FREE_ITEMS FREE_PERIODS false
 
-abbrev pub free_budget : ℕ
-free_budget = FREE_BUDGET
-
 abbrev pub coupled_problem : ℕ → Problem
 coupled_problem seed = generated seed COUPLED_ITEMS COUPLED_PERIODS true
-
-abbrev pub coupled_budget : ℕ
-coupled_budget = COUPLED_BUDGET
 
 -- ---- what is shown of a model
 -- a best plan costs this
@@ -90,21 +84,19 @@ pub record IsShown (problem : Problem) (budget : ℕ) (answer : PlanAnswer) : Ty
 abbrev pub two_groups : PlanAnswer → PlanAnswer → List ℕ
 two_groups free coupled = codes "free\n" ++ (plan_line free ++ (codes "coupled\n" ++ plan_line coupled))
 
--- the lines show what was found of the two models of a seed, the uncoupled one first
+-- the lines show what was found of the two models of a seed within their budgets, the uncoupled one first
 pub record ShowsBoth (seed : ℕ) (text : List ℕ) : Type 0 where
   pub free : PlanAnswer
-  pub free_shown : IsShown (free_problem seed) free_budget free
+  pub free_shown : IsShown (free_problem seed) FREE_BUDGET free
   pub alone : IsBestAlone free
   pub coupled : PlanAnswer
-  pub coupled_shown : IsShown (coupled_problem seed) coupled_budget coupled
-  pub spent : IsSpent coupled_budget coupled
+  pub coupled_shown : IsShown (coupled_problem seed) COUPLED_BUDGET coupled
+  pub spent : IsSpent COUPLED_BUDGET coupled
   pub lines : text ≡ two_groups free coupled
 
 -- ---- what `DONE` says
-pub record Shows (seed : ℕ) (out_old out_new : Printed) : Type 0 where
-  pub text : List ℕ
-  pub shows : ShowsBoth seed text
-  pub line : Gains text out_old out_new
+abbrev pub Shows : (seed : ℕ) → Printed → Printed → Type 0
+Shows seed = Tells (List ℕ) (ShowsBoth seed) (λ text. text)
 
 -- ---- the command
 -- it touches no file, and the lines are these
@@ -117,13 +109,4 @@ abbrev pub DemoSays : ℕ → Said → Type 0
 DemoSays seed said = (files : Shelved) → DemoDoes seed files files said.line.items said.status
 
 abbrev pub demo_meaning : ℕ → Meaning
-demo_meaning seed = record {
-  does = DemoDoes seed;
-  reads = [];
-  passes = [];
-  writes = [];
-  stops = λ old new why. ⊥;
-  overlong = λ old. ⊥;
-  calls_for = λ file status. status ≡ DONE;
-  may_be_left = λ file. ⊥;
-}
+demo_meaning seed = fixed_meaning (DemoDoes seed) [] DONE

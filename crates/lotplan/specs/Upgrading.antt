@@ -1,18 +1,17 @@
 -- What `upgrade` answers, why, and what it leaves.
-use Rattle.std.specs.Prelude.{◌≡◌, ◌⊎◌, ◌<◌, ◌≤◌, ℕ, List, [], ◌∷◌, length, IsTrue, Option, Some, None, Ok, Err}
+use Rattle.std.specs.Prelude.{◌≡◌, ℕ, List, [], ◌∷◌, IsTrue, Option, Some, Ok}
 use Rattle.lot_sizing.specs.Problem.{Problem}
 use Rattle.lot_io.specs.Outside.{Files, OnlyReads, Printed, Rose, Shelved}
-use Rattle.lot_draft.specs.declared.fault.ModelFault.{ModelFault}
 use Rattle.instance_reader.specs.Model.{BytesMean, FirstVersionMeans}
 use Rattle.instance_reader.specs.Written.{IsModelText}
-use Rattle.lotplan.specs.Reading.{read_meant, FirstExplains, HoldsFirst, HoldsProblem, ReadAnswer, file_limit, read_line, read_status}
-use Rattle.lotplan.specs.Writing.{StartsAmong, unwritten_line, written_line}
-use Rattle.lotplan.specs.Meaning.{Meaning}
+use Rattle.lotplan.specs.Reading.{ByModel, read_meant, FirstExplains, HoldsFirst, HoldsProblem, ReadAnswer, read_line, read_status}
+use Rattle.lotplan.specs.Writing.{NamesUnwritten, StartsAmong, unwritten_line, written_line}
+use Rattle.lotplan.specs.Meaning.{Meaning, whole_meaning}
 use Rattle.lotplan.specs.Saying.{Answered, Gains, IsSaid}
 use Rattle.lotplan.specs.declared.commands.upgrade.UpgradeAnswer.{UpgradeAnswer as HeldAnswer}
 use Rattle.lotplan.specs.declared.commands.upgrade.UpgradeAnswer.TheVariants as held
 use Rattle.lotplan.specs.declared.said.Said.{Said}
-use Rattle.lotplan.specs.declared.status.TheConstants.{DONE, REFUSED, MISSING, TOO_LONG}
+use Rattle.lotplan.specs.declared.status.TheConstants.{DONE}
 use Rattle.lotplan.specs.declared.status.Status.{Status}
 use Rattle.lotplan.specs.declared.status.Status.TheVariants as status
 
@@ -80,17 +79,10 @@ RewriteSays problem n old new said = (answer : UpgradeAnswer) × RewriteExplains
 abbrev pub UpgradeDoes : List ℕ → List ℕ → Shelved → Shelved → List ℕ → Status → Type 0
 UpgradeDoes m n old new = Answered UpgradeAnswer (UpgradeExplains m n old new) upgrade_line upgrade_status
 
-abbrev pub UpgradeSays : List ℕ → List ℕ → Shelved → Shelved → Said → Type 0
-UpgradeSays m n old new said = UpgradeDoes m n old new said.line.items said.status
-
 -- ---- the status that the model file calls for, faults and out of memory aside
--- `DONE` for a model of the first version, `REFUSED` for one that is refused as such, `MISSING` where it is absent, `TOO_LONG` where it is too long
+-- `DONE` for a model of the first version
 abbrev pub UpgradeCallsFor : Option (List ℕ) → ℕ → Type 0
-UpgradeCallsFor None status = status ≡ MISSING
-UpgradeCallsFor (Some bytes) status =
-    ((file_limit < length bytes) × (status ≡ TOO_LONG))
-    ⊎ ((length bytes ≤ file_limit)
-    × (((problem : Problem) × FirstVersionMeans bytes (Ok problem) × (status ≡ DONE)) ⊎ ((fault : ModelFault) × FirstVersionMeans bytes (Err fault) × (status ≡ REFUSED))))
+UpgradeCallsFor = ByModel FirstVersionMeans (λ problem status. status ≡ DONE)
 
 -- ---- what each status says
 -- the new file means the problem of the model file, which is one of the first version, and the line names it
@@ -99,20 +91,9 @@ pub record Upgrades (before after : Files) (model_file new_file : List ℕ) (out
   pub line : Gains (written_line new_file) out_old out_new
 
 -- the model file is one of the first version, the new file could not be written, and the line names it
-pub record FailsToUpgrade (old new : Shelved) (model_file new_file : List ℕ) (out_old out_new : Printed) : Type 0 where
-  pub holds : IsTrue old.told → HoldsSomeFirst old.file model_file
-  pub failed : Rose old.write_faults new.write_faults
-  pub line : Gains (unwritten_line new_file) out_old out_new
+abbrev pub FailsToUpgrade : Shelved → Shelved → (model_file new_file : List ℕ) → Printed → Printed → Type 0
+FailsToUpgrade old new m n = NamesUnwritten (HoldsSomeFirst old.file m) n old new
 
 -- ---- the command
 abbrev pub upgrade_meaning : List ℕ → List ℕ → Meaning
-upgrade_meaning m n = record {
-  does = UpgradeDoes m n;
-  reads = m ∷ [];
-  passes = [];
-  writes = n ∷ [];
-  stops = FirstExplains m;
-  overlong = λ old. ⊥;
-  calls_for = λ file. UpgradeCallsFor (file m);
-  may_be_left = λ file. ⊥;
-}
+upgrade_meaning m n = whole_meaning (UpgradeDoes m n) (m ∷ []) (n ∷ []) (FirstExplains m) (λ file. UpgradeCallsFor (file m))

@@ -1,6 +1,7 @@
 -- How files are written, and the lines that name them.
 use Rattle.std.specs.Prelude.{◌≡◌, ◌≢◌, ◌≤◌, ◌+◌, ℕ, zero, suc, List, [], ◌∷◌, ◌++◌, length, codes, IsTrue, Some, ⊤}
-use Rattle.lot_io.specs.Outside.{Files, GrewBy, Rose, Shelved}
+use Rattle.lot_io.specs.Outside.{Files, GrewBy, Printed, Rose, Shelved}
+use Rattle.lotplan.specs.Saying.{Gains}
 use Rattle.lotplan.specs.declared.writing.Output.{Output}
 
 -- it was written, or could not be
@@ -55,3 +56,9 @@ abbrev pub StopsAt : ℕ → List (List ℕ × List ℕ) → Shelved → Shelved
 StopsAt place [] old new = ⊥
 StopsAt zero (output ∷ outputs) old new = IsUnwritten output.0 old new
 StopsAt (suc place) (output ∷ outputs) old new = (mid : Shelved) × IsWritten output.0 output.1 old mid × StopsAt place outputs mid new
+
+-- this holds where told, a write failed, and the line names the file
+pub record NamesUnwritten (Holds : Type 0) (file : List ℕ) (old new : Shelved) (out_old out_new : Printed) : Type 0 where
+  pub holds : IsTrue old.told → Holds
+  pub failed : Rose old.write_faults new.write_faults
+  pub line : Gains (unwritten_line file) out_old out_new

@@ -12,7 +12,7 @@ ghost use Rattle.lotplan.specs.Reading.{missing, refused, too_long, unread};
 ghost use Rattle.lotplan.specs.Writing.{StartsAmong, StartsAtMost};
 ghost use Rattle.lotplan.specs.Planning.{FailsToWrite, FindsNoPlan, FindsStartFault, KeepsStart, LeavesOpen, PlansBest};
 ghost use Rattle.lotplan.specs.Judging.{FindsFault, FindsFeasible};
-ghost use Rattle.lotplan.specs.Checking.{Accepts, CallsForDone, FindsRefused};
+ghost use Rattle.lotplan.specs.Checking.{Accepts, AcceptsCertificate, CallsForDone, FindsRefused};
 ghost use Rattle.lotplan.specs.Upgrading.{FailsToUpgrade, Upgrades};
 ghost use Rattle.lotplan.specs.Bounding.{FindsBound, FindsNoBound, FindsNoPoint};
 ghost use Rattle.lotplan.specs.Reporting.{SumsUp};
@@ -141,12 +141,17 @@ pub fn run<S: Shelf, K: Sink, P: Proposer, H: Heuristic<P::Hint>, W: Watch>(
         → IsTrue (S.shown shelf.old).told
         → FindsFault (S.shown shelf.old).file m p (K.shown out.old) (K.shown out.new) }
 
-    // After `check` with status `DONE` the certificate is accepted, and the claim on the line is true of the
-    // problem, whoever wrote the file: the plan file's plan is best and costs what is claimed, no plan
-    // is feasible, or none costs less than is claimed. With `FAULTY` the line names the first fault.
+    // After `check` with status `DONE` the claim on the line is true of the problem, whoever wrote the certificate: the plan
+    // file's plan is best and costs what is claimed, no plan is feasible, or none costs less than is claimed.
     ensures checked { (m p c : List ℕ) → command_of (map string_bytes words.now)
         ≡ Some (checking m p c) → result ≡ DONE → IsTrue (S.shown shelf.old).told
-        → Accepts (S.shown shelf.old).file m p c (K.shown out.old) (K.shown out.new) }
+        → Accepts (S.shown shelf.old).file m p (K.shown out.old) (K.shown out.new) }
+
+    // And the certificate in the certificate file claims it, and is accepted. With `FAULTY` the line names the first fault.
+    ensures certified { (m p c : List ℕ)
+        → command_of (map string_bytes words.now) ≡ Some (checking m p c) → result ≡ DONE
+        → IsTrue (S.shown shelf.old).told
+        → AcceptsCertificate (S.shown shelf.old).file m p c (K.shown out.old) (K.shown out.new) }
     ensures check_faulty { (m p c : List ℕ)
         → command_of (map string_bytes words.now) ≡ Some (checking m p c) → result ≡ FAULTY
         → IsTrue (S.shown shelf.old).told

@@ -1,7 +1,8 @@
 // `bound`: the bound of the linear relaxation without cuts of the model in a file.
 ghost use Rattle.std.specs.Prelude.{◌≡◌, ◌≤◌, ◌+◌, string_bytes, IfOk};
 ghost use Rattle.lot_io.specs.Outside.{OnlyReads, piece_size};
-ghost use Rattle.lotplan.specs.Bounding.{BoundIsSaid, MayBeBoundAnswer, bound_line, bound_meant, bound_status};
+ghost use Rattle.lotplan.specs.Meaning.{Says};
+ghost use Rattle.lotplan.specs.Bounding.{bound_meaning, MayBeBoundAnswer, bound_line, bound_meant, bound_status};
 ghost use Rattle.lotplan.specs.Reading.{file_limit};
 ghost use Rattle.lotplan.specs.Saying.{IsSaid};
 
@@ -77,7 +78,7 @@ fn bound_instance(alloc: Global, instance: &Instance) -> Result<BoundAnswer<'sta
 
 /// Bounds the cost of all plans of the model in a file.
 pub fn bound_files<S: Shelf>(alloc: Global, model: &str, shelf: &mut S) -> Result<Said, AllocError>
-    ensures said { IfOk result (BoundIsSaid model.now (S.shown shelf.old) (S.shown shelf.new)) }
+    ensures said { IfOk result (Says (bound_meaning model.now) (S.shown shelf.old) (S.shown shelf.new)) }
     ensures reads { OnlyReads (S.shown shelf.old) (S.shown shelf.new) }
     ensures given { (S.shown shelf.new).given
         ≤ (S.shown shelf.old).given + (file_limit + piece_size) }

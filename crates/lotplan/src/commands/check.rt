@@ -2,7 +2,8 @@
 ghost use Rattle.std.specs.Prelude.{◌≡◌, ◌≤◌, ◌+◌, ◌*◌, string_bytes, IfOk, option_copied};
 ghost use Rattle.lot_io.specs.Outside.{OnlyReads, piece_size};
 ghost use Rattle.stream_check.specs.Streams.{pass_size};
-ghost use Rattle.lotplan.specs.Checking.{CheckSays, GivenExplains, IsRefusal, PlannedExplains, ProofExplains, accepted_line, check_line, check_meant, check_status, no_certificate_line, rejected_line};
+ghost use Rattle.lotplan.specs.Meaning.{Says};
+ghost use Rattle.lotplan.specs.Checking.{check_meaning, GivenExplains, IsRefusal, PlannedExplains, ProofExplains, accepted_line, check_line, check_meant, check_status, no_certificate_line, rejected_line};
 ghost use Rattle.lotplan.specs.Drawing.{WithPlanExplains};
 ghost use Rattle.lotplan.specs.Reading.{file_limit};
 ghost use Rattle.lotplan.specs.Saying.{IsSaid};
@@ -233,7 +234,7 @@ pub fn check_files<S: Shelf>(
     certificate: &str,
     shelf: &mut S,
 ) -> Result<Said, AllocError>
-    ensures said { IfOk result (CheckSays model.now plan.now certificate.now (S.shown shelf.old)
+    ensures said { IfOk result (Says (check_meaning model.now plan.now certificate.now) (S.shown shelf.old)
         (S.shown shelf.new)) }
     ensures reads { OnlyReads (S.shown shelf.old) (S.shown shelf.new) }
     ensures given { (S.shown shelf.new).given

@@ -4,7 +4,8 @@ ghost use Rattle.lot_io.specs.Outside.{OnlyReads, piece_size};
 ghost use Rattle.plan_rules.specs.Cells.{table_of};
 ghost use Rattle.plan_rules.specs.Held.{AllFit};
 ghost use Rattle.lot_quantities.specs.Numbers.{BothFit};
-ghost use Rattle.lotplan.specs.Completing.{CompleteSays, ExplainsNoTable, GridsSay, HoldsTable, HoldsTables, PutsAndSays, TableExplains, TablesExplain, complete_line, complete_meant, complete_status, table_line, table_meant, table_status};
+ghost use Rattle.lotplan.specs.Meaning.{Says};
+ghost use Rattle.lotplan.specs.Completing.{complete_meaning, ExplainsNoTable, GridsSay, HoldsTable, HoldsTables, PutsAndSays, TableExplains, TablesExplain, complete_line, complete_meant, complete_status, table_line, table_meant, table_status};
 ghost use Rattle.lotplan.specs.Reading.{file_limit};
 ghost use Rattle.lotplan.specs.Saying.{IsSaid};
 
@@ -227,7 +228,7 @@ pub fn complete_files<'a, S: Shelf>(
     file: &str,
     shelf: &mut S,
 ) -> Result<Said, AllocError>
-    ensures said { IfOk result (CompleteSays model.entry.now table.entry.now file.now
+    ensures said { IfOk result (Says (complete_meaning model.entry.now table.entry.now file.now)
         (S.shown shelf.old) (S.shown shelf.new)) }
     ensures memory { OnErr result (OnlyReads (S.shown shelf.old) (S.shown shelf.new)) }
     ensures given { (S.shown shelf.new).given

@@ -5,8 +5,9 @@ ghost use Rattle.lot_io.specs.Outside.{OnlyReads, piece_size};
 ghost use Rattle.lot_sizing.specs.Plan.{IsFeasible};
 ghost use Rattle.plan_rules.specs.Held.{AllFit, plan_of};
 ghost use Rattle.stream_check.specs.Streams.{pass_size};
+ghost use Rattle.lotplan.specs.Meaning.{Says};
 ghost use Rattle.lotplan.specs.Checking.{check_meant};
-ghost use Rattle.lotplan.specs.Drawing.{DrawSays, ExplainsNotDrawn, ExplainsNoProof, IsShown, IsSo, PageSays, WithPlanExplains, proof_files, proved_of};
+ghost use Rattle.lotplan.specs.Drawing.{draw_meaning, ExplainsNotDrawn, ExplainsNoProof, IsShown, IsSo, PageSays, WithPlanExplains, proof_files, proved_of};
 ghost use Rattle.lotplan.specs.Judging.{HoldFeasible, HoldsBoth};
 ghost use Rattle.lotplan.specs.Reading.{file_limit};
 
@@ -160,8 +161,8 @@ pub fn draw_files<S: Shelf>(
     certificate: Option<&str>,
     shelf: &mut S,
 ) -> Result<Said, AllocError>
-    ensures said { IfOk result (DrawSays names.entry.model.now names.entry.plan.now
-        names.entry.page.now (option_map (λ c. c.now) certificate.entry) (S.shown shelf.old)
+    ensures said { IfOk result (Says (draw_meaning names.entry.model.now names.entry.plan.now
+        names.entry.page.now (option_map (λ c. c.now) certificate.entry)) (S.shown shelf.old)
         (S.shown shelf.new)) }
     ensures memory { OnErr result (OnlyReads (S.shown shelf.old) (S.shown shelf.new)) }
     ensures given { (S.shown shelf.new).given

@@ -1,7 +1,8 @@
 // `gen`: writes a generated model to a file.
 ghost use Rattle.std.specs.Prelude.{◌≡◌, string_bytes, IfOk, OnErr};
 ghost use Rattle.report.specs.Generated.{IsModelSize};
-ghost use Rattle.lotplan.specs.Generating.{GenerateSays, IsGenerated, generate_line, generate_meant, generate_status};
+ghost use Rattle.lotplan.specs.Meaning.{Says};
+ghost use Rattle.lotplan.specs.Generating.{generate_meaning, IsGenerated, generate_line, generate_meant, generate_status};
 ghost use Rattle.lotplan.specs.Saying.{IsSaid};
 
 use crate::said::Said;
@@ -74,7 +75,7 @@ pub fn generate_file<S: Shelf>(
     shelf: &mut S,
 ) -> Result<Said, AllocError>
     requires { IsModelSize items periods }
-    ensures said { IfOk result (GenerateSays seed items periods model.now (S.shown shelf.old)
+    ensures said { IfOk result (Says (generate_meaning seed items periods model.now) (S.shown shelf.old)
         (S.shown shelf.new)) }
     ensures memory { OnErr result (S.shown shelf.new ≡ S.shown shelf.old) }
     ensures given { (S.shown shelf.new).given ≡ (S.shown shelf.old).given }

@@ -1,7 +1,8 @@
 // `judge`: judges the plan in a file, by the model in another.
 ghost use Rattle.std.specs.Prelude.{◌≡◌, ◌≤◌, ◌+◌, ◌*◌, string_bytes, IsTrue, IfOk, IfErr};
 ghost use Rattle.lot_io.specs.Outside.{OnlyReads, piece_size};
-ghost use Rattle.lotplan.specs.Judging.{ExplainsNone, HoldFeasible, HoldsBoth, JudgeExplains, JudgeSays, PlanFileExplains, judge_line, judge_meant, judge_status};
+ghost use Rattle.lotplan.specs.Meaning.{Says};
+ghost use Rattle.lotplan.specs.Judging.{ExplainsNone, HoldFeasible, HoldsBoth, JudgeExplains, judge_meaning, PlanFileExplains, judge_line, judge_meant, judge_status};
 ghost use Rattle.lotplan.specs.Reading.{HoldsPlan, file_limit};
 ghost use Rattle.lotplan.specs.Saying.{IsSaid};
 
@@ -151,7 +152,7 @@ pub fn judge_files<S: Shelf>(
     plan: &str,
     shelf: &mut S,
 ) -> Result<Said, AllocError>
-    ensures said { IfOk result (JudgeSays model.now plan.now (S.shown shelf.old)
+    ensures said { IfOk result (Says (judge_meaning model.now plan.now) (S.shown shelf.old)
         (S.shown shelf.new)) }
     ensures reads { OnlyReads (S.shown shelf.old) (S.shown shelf.new) }
     ensures given { (S.shown shelf.new).given

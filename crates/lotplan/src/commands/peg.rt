@@ -3,7 +3,8 @@ ghost use Rattle.std.specs.Prelude.{◌≡◌, ◌≤◌, ◌+◌, ◌*◌, IfOk
 ghost use Rattle.lot_io.specs.Outside.{OnlyReads, piece_size};
 ghost use Rattle.lot_sizing.specs.Plan.{IsFeasible};
 ghost use Rattle.plan_rules.specs.Held.{AllFit, plan_of};
-ghost use Rattle.lotplan.specs.Extracting.{ExtractSays, GivenSays};
+ghost use Rattle.lotplan.specs.Meaning.{Says};
+ghost use Rattle.lotplan.specs.Extracting.{extract_meaning, GivenSays};
 ghost use Rattle.lotplan.specs.Pegging.{Pegged, pegged_word};
 ghost use Rattle.lotplan.specs.Reading.{file_limit};
 
@@ -51,8 +52,8 @@ pub fn peg_files<S: Shelf>(
     file: &str,
     shelf: &mut S,
 ) -> Result<Said, AllocError>
-    ensures said { IfOk result (ExtractSays
-        (Pegged file.now) pegged_word model.now plan.now file.now (S.shown shelf.old)
+    ensures said { IfOk result (Says (extract_meaning
+        (Pegged file.now) pegged_word model.now plan.now file.now) (S.shown shelf.old)
         (S.shown shelf.new)) }
     ensures memory { OnErr result (OnlyReads (S.shown shelf.old) (S.shown shelf.new)) }
     ensures given { (S.shown shelf.new).given

@@ -5,8 +5,9 @@ ghost use Rattle.cert_lines.specs.declared.limits.TheConstants.{LOTS_CERT_VERSIO
 ghost use Rattle.lot_io.specs.Outside.{OnlyReads, piece_size};
 ghost use Rattle.branch_and_cut.specs.Search.{IsGoodPlan, cost_of};
 ghost use Rattle.command_line.specs.Meant.{search_by};
+ghost use Rattle.lotplan.specs.Meaning.{Says};
 ghost use Rattle.lotplan.specs.Finding.{IsFound};
-ghost use Rattle.lotplan.specs.Planning.{IsAnswerTo, PlanSays, WriteSays, plan_line, plan_meant, plan_status, root_line, start_files};
+ghost use Rattle.lotplan.specs.Planning.{IsAnswerTo, plan_meaning, WriteSays, plan_line, plan_meant, plan_status, root_line, start_files};
 ghost use Rattle.lotplan.specs.Reading.{file_limit};
 ghost use Rattle.lotplan.specs.Saying.{IsSaid};
 
@@ -363,8 +364,8 @@ fn plan_model<S: Shelf, P: Proposer, H: Heuristic<P::Hint>, W: Watch>(
     requires latest { search.newest ≤ MAX_CERT_VERSION }
     requires start { search.start ≡ None }
     requires apart { names.plan.now ≢ names.certificate.now }
-    ensures said { IfOk result (PlanSays names.entry.model.now names.entry.plan.now
-        names.entry.certificate.now (search_by search.entry) (S.shown shelf.old)
+    ensures said { IfOk result (Says (plan_meaning names.entry.model.now names.entry.plan.now
+        names.entry.certificate.now (search_by search.entry)) (S.shown shelf.old)
         (S.shown shelf.new)) }
     ensures memory { OnErr result (OnlyReads (S.shown shelf.old) (S.shown shelf.new)) }
     ensures given { (S.shown shelf.new).given
@@ -403,8 +404,8 @@ fn plan_from<S: Shelf, P: Proposer, H: Heuristic<P::Hint>, W: Watch>(
     requires latest { search.newest ≤ MAX_CERT_VERSION }
     requires start { option_map (λ f. f.now) search.start ≡ Some start.now }
     requires apart { names.plan.now ≢ names.certificate.now }
-    ensures said { IfOk result (PlanSays names.entry.model.now names.entry.plan.now
-        names.entry.certificate.now (search_by search.entry) (S.shown shelf.old)
+    ensures said { IfOk result (Says (plan_meaning names.entry.model.now names.entry.plan.now
+        names.entry.certificate.now (search_by search.entry)) (S.shown shelf.old)
         (S.shown shelf.new)) }
     ensures memory { OnErr result (OnlyReads (S.shown shelf.old) (S.shown shelf.new)) }
     ensures given { (S.shown shelf.new).given
@@ -446,8 +447,8 @@ pub fn plan_files<S: Shelf, P: Proposer, H: Heuristic<P::Hint>, W: Watch>(
     requires oldest { LOTS_CERT_VERSION ≤ search.newest }
     requires latest { search.newest ≤ MAX_CERT_VERSION }
     requires apart { names.plan.now ≢ names.certificate.now }
-    ensures said { IfOk result (PlanSays names.entry.model.now names.entry.plan.now
-        names.entry.certificate.now (search_by search.entry) (S.shown shelf.old)
+    ensures said { IfOk result (Says (plan_meaning names.entry.model.now names.entry.plan.now
+        names.entry.certificate.now (search_by search.entry)) (S.shown shelf.old)
         (S.shown shelf.new)) }
     ensures memory { OnErr result (OnlyReads (S.shown shelf.old) (S.shown shelf.new)) }
     ensures given { (S.shown shelf.new).given

@@ -6,10 +6,11 @@ ghost use Rattle.plan_rules.specs.Held.{AllFit, plan_of};
 ghost use Rattle.command_line.specs.Words.{AreApart};
 ghost use Rattle.replan.specs.Whole.{total_claimed};
 ghost use Rattle.branch_and_cut.specs.Search.{IsGoodPlan};
+ghost use Rattle.lotplan.specs.Meaning.{Says};
 ghost use Rattle.lotplan.specs.Finding.{IsFound, only};
 ghost use Rattle.lotplan.specs.Judging.{HoldsBoth};
 ghost use Rattle.lotplan.specs.Reading.{file_limit};
-ghost use Rattle.lotplan.specs.Replanning.{ExplainsGivenStop, IsFoundLine, NextSays, ReplanSays, StartSays, replan_line, replan_meant, replan_status, whole_line};
+ghost use Rattle.lotplan.specs.Replanning.{ExplainsGivenStop, IsFoundLine, NextSays, replan_meaning, StartSays, replan_line, replan_meant, replan_status, whole_line};
 ghost use Rattle.lotplan.specs.Saying.{IsSaid};
 
 use crate::commands::plan::{PlanAnswer, answer_of};
@@ -315,8 +316,8 @@ pub fn replan_files<S: Shelf, P: Proposer, H: Heuristic<P::Hint>, W: Watch>(
 ) -> Result<Said, AllocError>
     requires budget { 1 ≤ budget }
     requires apart { AreApart names.next_model.now names.next_plan.now names.certificate.now }
-    ensures said { IfOk result (ReplanSays names.entry.model.now names.entry.plan.now first
-        names.entry.next_model.now names.entry.next_plan.now names.entry.certificate.now budget
+    ensures said { IfOk result (Says (replan_meaning names.entry.model.now names.entry.plan.now first
+        names.entry.next_model.now names.entry.next_plan.now names.entry.certificate.now budget)
         (S.shown shelf.old) (S.shown shelf.new)) }
     ensures memory { OnErr result (OnlyReads (S.shown shelf.old) (S.shown shelf.new)) }
     ensures given { (S.shown shelf.new).given

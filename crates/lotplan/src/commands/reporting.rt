@@ -3,8 +3,9 @@ ghost use Rattle.std.specs.Prelude.{◌≤◌, ◌+◌, ◌*◌, IfOk};
 ghost use Rattle.lot_sizing.specs.Plan.{IsFeasible};
 ghost use Rattle.lot_io.specs.Outside.{OnlyReads, piece_size};
 ghost use Rattle.plan_rules.specs.Held.{AllFit, plan_of};
+ghost use Rattle.lotplan.specs.Meaning.{Says};
 ghost use Rattle.lotplan.specs.Reading.{file_limit};
-ghost use Rattle.lotplan.specs.Reporting.{ReportSays, report_text};
+ghost use Rattle.lotplan.specs.Reporting.{report_meaning, report_text};
 ghost use Rattle.lotplan.specs.Saying.{IsSaid};
 ghost use Rattle.lotplan.specs.declared.status.Status.TheVariants.{Done};
 
@@ -58,7 +59,7 @@ pub fn report_files<S: Shelf>(
     form: ReportForm,
     shelf: &mut S,
 ) -> Result<Said, AllocError>
-    ensures said { IfOk result (ReportSays model.now plan.now form (S.shown shelf.old)
+    ensures said { IfOk result (Says (report_meaning model.now plan.now form) (S.shown shelf.old)
         (S.shown shelf.new)) }
     ensures reads { OnlyReads (S.shown shelf.old) (S.shown shelf.new) }
     ensures given { (S.shown shelf.new).given

@@ -3,9 +3,10 @@ ghost use Rattle.std.specs.Prelude.{◌≡◌, ◌≤◌, ◌+◌, ◌*◌, stri
 ghost use Rattle.lot_io.specs.Outside.{OnlyReads, piece_size};
 ghost use Rattle.lot_sizing.specs.Plan.{IsFeasible};
 ghost use Rattle.plan_rules.specs.Held.{AllFit, plan_of};
+ghost use Rattle.lotplan.specs.Meaning.{Says};
 ghost use Rattle.lotplan.specs.Reading.{file_limit};
 ghost use Rattle.lotplan.specs.Saying.{IsSaid};
-ghost use Rattle.lotplan.specs.Scheduling.{SchedcheckSays, SlotBytesSay, SlotFileSays, schedcheck_line, schedcheck_meant, schedcheck_status};
+ghost use Rattle.lotplan.specs.Scheduling.{schedcheck_meaning, SlotBytesSay, SlotFileSays, schedcheck_line, schedcheck_meant, schedcheck_status};
 
 use crate::commands::judge::{NotFeasible, read_feasible};
 use crate::model_file::{ReadAnswer, Stop, read_bytes};
@@ -119,7 +120,7 @@ pub fn schedcheck_files<S: Shelf>(
     file: &str,
     shelf: &mut S,
 ) -> Result<Said, AllocError>
-    ensures said { IfOk result (SchedcheckSays model.now plan.now file.now (S.shown shelf.old)
+    ensures said { IfOk result (Says (schedcheck_meaning model.now plan.now file.now) (S.shown shelf.old)
         (S.shown shelf.new)) }
     ensures reads { OnlyReads (S.shown shelf.old) (S.shown shelf.new) }
     ensures given { (S.shown shelf.new).given

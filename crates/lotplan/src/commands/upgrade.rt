@@ -3,9 +3,10 @@ ghost use Rattle.std.specs.Prelude.{◌≡◌, ◌≤◌, ◌+◌, ℕ, List, Ok
 ghost use Rattle.instance_reader.specs.Model.{BytesMean};
 ghost use Rattle.instance_reader.specs.Written.{IsModelText};
 ghost use Rattle.lot_io.specs.Outside.{OnlyReads, piece_size};
+ghost use Rattle.lotplan.specs.Meaning.{Says};
 ghost use Rattle.lotplan.specs.Reading.{file_limit};
 ghost use Rattle.lotplan.specs.Saying.{IsSaid};
-ghost use Rattle.lotplan.specs.Upgrading.{RewriteSays, UpgradeSays, upgrade_line, upgrade_meant, upgrade_status};
+ghost use Rattle.lotplan.specs.Upgrading.{RewriteSays, upgrade_meaning, upgrade_line, upgrade_meant, upgrade_status};
 
 use crate::model_file::{ReadAnswer, Stop, read_first_model};
 use crate::said::Said;
@@ -97,7 +98,7 @@ pub fn upgrade_files<S: Shelf>(
     upgraded: &str,
     shelf: &mut S,
 ) -> Result<Said, AllocError>
-    ensures said { IfOk result (UpgradeSays model.now upgraded.now (S.shown shelf.old)
+    ensures said { IfOk result (Says (upgrade_meaning model.now upgraded.now) (S.shown shelf.old)
         (S.shown shelf.new)) }
     ensures memory { OnErr result (OnlyReads (S.shown shelf.old) (S.shown shelf.new)) }
     ensures given { (S.shown shelf.new).given

@@ -1,7 +1,7 @@
 use Rattle.std.proofs.Common.{map, string_bytes}
 use Rattle.command_line.specs.Words.{command_of}
 use Rattle.lotplan.proofs.Explained.{called, ended, fails_to_read, generate_only, idle, is_long, is_run, misses, no_command, only_reads, quiet, refused_words, refuses, silent, tells, unprinted, writes, wrote}
-use Rattle.lotplan.proofs.Clauses.{completed, complete_faulty, complete_unwritten, drawn, draw_faulty, draw_unwritten, bound_infeasible, bound_undecided, bounded, check_faulty, checked, checks, generate_unwritten, generated, judge_faulty, judged, no_rest, optimal, peg_faulty, peg_unwritten, pegged, plan_faulty, plan_infeasible, plan_kept, plan_undecided, plan_unwritten, replan_checks, replan_faulty, replan_infeasible, replan_undecided, replan_unwritten, replan_wrote_some, replan_wrote_two, replanned, report_faulty, schedcheck_faulty, schedule_checked, schedule_faulty, schedule_unwritten, scheduled, showed, summed, upgrade_unwritten, upgraded, wrote_certificate, wrote_some}
+use Rattle.lotplan.proofs.Clauses.{completed, complete_faulty, complete_unwritten, drawn, draw_faulty, draw_unwritten, bound_infeasible, bound_undecided, bounded, certified, check_faulty, checked, checks, generate_unwritten, generated, judge_faulty, judged, no_rest, optimal, peg_faulty, peg_unwritten, pegged, plan_faulty, plan_infeasible, plan_kept, plan_undecided, plan_unwritten, replan_checks, replan_faulty, replan_infeasible, replan_undecided, replan_unwritten, replan_wrote_some, replan_wrote_two, replanned, report_faulty, schedcheck_faulty, schedule_checked, schedule_faulty, schedule_unwritten, scheduled, showed, summed, upgrade_unwritten, upgraded, wrote_certificate, wrote_some}
 use Rattle.lotplan.proofs.running.run.Goals as goal
 
 pub returns-clause-run : goal.returns-clause-run
@@ -42,6 +42,9 @@ returns-clause-judge_faulty g c = judge_faulty (command_of (map string_bytes c.a
 
 pub returns-clause-checked : goal.returns-clause-checked
 returns-clause-checked g c = checked (command_of (map string_bytes c.args.words.now)) c.end_with.result (g.S.Shelf.shown c.args.shelf.now) (g.S.Shelf.shown c.said-said.new.shelf) (g.K.Sink.shown c.args.out.now) (g.K.Sink.shown c.end_with.new.out) (is_run (command_of (map string_bytes c.args.words.now)) c.end_with.result (g.S.Shelf.shown c.args.shelf.now) (g.S.Shelf.shown c.said-said.new.shelf) (g.K.Sink.shown c.args.out.now) (g.K.Sink.shown c.end_with.new.out) c.said-said.result c.said-said.ensures.said c.said-said.ensures.memory c.end_with.ensures.ends)
+
+pub returns-clause-certified : goal.returns-clause-certified
+returns-clause-certified g c = certified (command_of (map string_bytes c.args.words.now)) c.end_with.result (g.S.Shelf.shown c.args.shelf.now) (g.S.Shelf.shown c.said-said.new.shelf) (g.K.Sink.shown c.args.out.now) (g.K.Sink.shown c.end_with.new.out) (is_run (command_of (map string_bytes c.args.words.now)) c.end_with.result (g.S.Shelf.shown c.args.shelf.now) (g.S.Shelf.shown c.said-said.new.shelf) (g.K.Sink.shown c.args.out.now) (g.K.Sink.shown c.end_with.new.out) c.said-said.result c.said-said.ensures.said c.said-said.ensures.memory c.end_with.ensures.ends)
 
 pub returns-clause-check_faulty : goal.returns-clause-check_faulty
 returns-clause-check_faulty g c = check_faulty (command_of (map string_bytes c.args.words.now)) c.end_with.result (g.S.Shelf.shown c.args.shelf.now) (g.S.Shelf.shown c.said-said.new.shelf) (g.K.Sink.shown c.args.out.now) (g.K.Sink.shown c.end_with.new.out) (is_run (command_of (map string_bytes c.args.words.now)) c.end_with.result (g.S.Shelf.shown c.args.shelf.now) (g.S.Shelf.shown c.said-said.new.shelf) (g.K.Sink.shown c.args.out.now) (g.K.Sink.shown c.end_with.new.out) c.said-said.result c.said-said.ensures.said c.said-said.ensures.memory c.end_with.ensures.ends)
