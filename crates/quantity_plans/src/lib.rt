@@ -13,6 +13,7 @@
 //! Nothing is claimed of costs and plans. What is proved is that the calls are safe and return.
 #![tactic(auto)]
 
+mod bands;
 mod numbers;
 mod plans;
 mod rows;

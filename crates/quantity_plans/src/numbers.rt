@@ -16,16 +16,6 @@ pub(crate) fn within(number: i64) -> i64 {
     number.max(0).min(NONE)
 }
 
-// The sum, at most `NONE`.
-pub(crate) fn plus(a: i64, b: i64) -> i64 {
-    a.saturating_add(b).min(NONE)
-}
-
-// The product, at most `NONE`; 0 where one of them is 0.
-pub(crate) fn times(a: i64, b: i64) -> i64 {
-    a.saturating_mul(b).min(NONE)
-}
-
 // A quantity as a place in a row.
 pub(crate) fn place(quantity: i64) -> usize {
     usize::try_from(quantity).unwrap_or(0)
@@ -41,4 +31,11 @@ pub(crate) fn part(list: &[i64], from: usize, count: usize) -> &[i64] {
     let start = from.min(list.len());
     let stop = start.saturating_add(count).min(list.len());
     &list[start..stop]
+}
+
+// The same, to be changed.
+pub(crate) fn part_mut(list: &mut [i64], from: usize, count: usize) -> &mut [i64] {
+    let start = from.min(list.len());
+    let stop = start.saturating_add(count).min(list.len());
+    &mut list[start..stop]
 }

@@ -1,5 +1,8 @@
 // What lots of an item cost, and what is asked of it.
-use crate::numbers::{NONE, at, within};
+use crate::numbers::{NONE, at, place, quantity, within};
+
+// The prices of all units together are at most so small a part of all costs.
+const PARTS: i64 = 4;
 
 /// What lots of an item cost, and what is asked of it: lists with an entry for each period, of which those of `fee` say how many
 /// there are. Numbers below 0 are read as 0.
@@ -39,17 +42,21 @@ fn greatest(list: &[i64]) -> i64 {
     most
 }
 
+// Terms as they are planned: prices are so low that no sum of them is past all costs.
+#[derive(Clone, Copy)]
+pub(crate) struct Task<'a> {
+    pub(crate) terms: Terms<'a>,
+    // How many quantities there are, from none on.
+    pub(crate) width: usize,
+    // The largest quantity.
+    most: i64,
+    // The largest price of a unit.
+    price: i64,
+    // A setup that costs so much or more is none.
+    dear: i64,
+}
+
 impl Terms<'_> {
-    // How many periods there are.
-    pub(crate) fn periods(&self) -> usize {
-        self.fee.len()
-    }
-
-    // All that must have been started or is asked.
-    pub(crate) fn most(&self) -> i64 {
-        greatest(self.need).max(greatest(self.asked))
-    }
-
     // Those of a period, counted from 0.
     pub(crate) fn of(&self, period: usize) -> Term {
         Term {
@@ -63,9 +70,56 @@ impl Terms<'_> {
     }
 }
 
+impl<'a> Task<'a> {
+    // Lots cost less than `dear`.
+    pub(crate) fn of(terms: Terms<'a>, dear: i64) -> Task<'a> {
+        let most = greatest(terms.need).max(greatest(terms.asked));
+        let parts = most.saturating_add(1).saturating_mul(PARTS);
+        Task {
+            terms,
+            width: place(most).saturating_add(1),
+            most,
+            price: NONE.checked_div(parts).unwrap_or(0),
+            dear,
+        }
+    }
+
+    // How many periods there are.
+    pub(crate) fn periods(&self) -> usize {
+        self.terms.fee.len()
+    }
+
+    // What must have been started in the end.
+    pub(crate) fn last_need(&self) -> i64 {
+        within(at(self.terms.need, self.periods().saturating_sub(1)))
+    }
+
+    // The terms of a period, counted from 0. Where there is no lot the largest one is 0.
+    pub(crate) fn term(&self, period: usize) -> Term {
+        let mut term = self.terms.of(period);
+        term.largest = term.largest.min(self.most);
+        if term.fee >= self.dear || term.unit >= NONE {
+            term.largest = 0;
+        }
+        term.unit = term.unit.min(self.price);
+        term.share = term.share.min(self.price);
+        term
+    }
+}
+
 impl Term {
-    // Whether nothing can be made.
-    pub(crate) fn is_closed(&self) -> bool {
-        self.fee >= NONE || self.unit >= NONE || self.largest <= 0
+    // The most units that a setup makes, as a place in a row.
+    pub(crate) fn lot(&self) -> usize {
+        place(self.largest)
+    }
+
+    // What falls short of what is asked, where so much has been started.
+    pub(crate) fn short(&self, started: usize) -> i64 {
+        self.asked.saturating_sub(quantity(started)).max(0)
+    }
+
+    // What that costs.
+    pub(crate) fn short_cost(&self, started: usize) -> i64 {
+        self.share.wrapping_mul(self.short(started))
     }
 }

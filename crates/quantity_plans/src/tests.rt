@@ -99,6 +99,20 @@ fn plans_by_hand(rt: HostRuntime) -> Result<(), Fail> {
     );
     assert_eq!(rt; plans.made(), [0, 4, 0].as_slice());
     assert_eq!(rt; plans.short(), [2, 0, 0].as_slice());
+    // A setup that a path closes is made where there is no plan without, and only there.
+    let closed = Terms {
+        fee: &[10, 100_000_000_000, 10],
+        ..terms
+    };
+    assert_eq!(rt; plans.plan(closed)?, 10 + 4 + 10 + 15);
+    assert_eq!(rt; plans.made(), [4, 0, 3].as_slice());
+    assert_eq!(rt;
+        plans.plan(Terms {
+            need: &[2, 5, 7],
+            ..closed
+        })?,
+        100_000_000_017
+    );
     // Lots are too small.
     assert_eq!(rt;
         plans.plan(Terms {

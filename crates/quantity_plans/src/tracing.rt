@@ -1,6 +1,7 @@
 // The plan behind a least cost, from the last period back.
-use crate::numbers::{NONE, at, part, place, plus, quantity, times};
-use crate::terms::{Term, Terms};
+use crate::bands::{Band, band_at};
+use crate::numbers::{NONE, at, part, quantity};
+use crate::terms::{Task, Term};
 use std::alloc::{AllocError, Global};
 
 /// What a plan makes of an item: an entry for each period.
@@ -11,24 +12,38 @@ pub(crate) struct Made {
     pub(crate) short: Vec<i64>,
 }
 
-// What a lot makes in a period at least cost, where it brings what has been started to a quantity; 0 where nothing is made.
-fn best_lot(before: &[i64], term: Term, to: usize) -> usize {
-    if term.is_closed() {
+// Rows of least costs, each as wide, and their bands.
+#[derive(Clone, Copy)]
+pub(crate) struct Rows<'a> {
+    pub(crate) costs: &'a [i64],
+    pub(crate) bands: &'a [Band],
+    pub(crate) width: usize,
+}
+
+impl Rows<'_> {
+    // The row after so many periods.
+    fn row(&self, periods: usize) -> &[i64] {
+        part(self.costs, periods.saturating_mul(self.width), self.width)
+    }
+}
+
+// What the largest lot makes that brings what has been started to a quantity at this cost; 0 where there is none, or nothing is made.
+fn lot_at(before: &[i64], from: Band, term: Term, to: usize, cost: i64) -> usize {
+    if term.largest == 0 || (to >= from.low && at(before, to) <= cost) {
         return 0;
     }
-    let mut best = 0usize;
-    let mut least = at(before, to);
-    let low = to.saturating_sub(place(term.largest));
+    let low = from.low.max(to.saturating_sub(term.lot()));
     let mut units = to.saturating_sub(low);
-    for cost in part(before, low, units) {
-        let made = plus(plus(*cost, term.fee), times(term.unit, quantity(units)));
-        if made < least {
-            least = made;
-            best = units;
+    let all = term.unit.wrapping_mul(quantity(units));
+    let mut paid = term.fee.wrapping_add(all);
+    for other in part(before, low, units) {
+        if other.wrapping_add(paid) == cost {
+            return units;
         }
+        paid = paid.wrapping_sub(term.unit);
         units = units.saturating_sub(1);
     }
-    best
+    0
 }
 
 // An entry of a list is written, if there is one.
@@ -70,27 +85,28 @@ impl Made {
         if units > 0 {
             write(&mut self.setups, period, 1);
         }
-        let short = term.asked.saturating_sub(quantity(to)).max(0);
-        write(&mut self.short, period, short);
+        write(&mut self.short, period, term.short(to));
     }
 
-    // Writes a cheapest plan by rows of least costs, each so wide, where there is one, back from what it has started in all.
+    // Writes a cheapest plan by rows of least costs, where there is one, back from what it has started in all.
     pub(crate) fn trace(
         &mut self,
-        rows: &[i64],
-        width: usize,
-        last: usize,
-        terms: Terms<'_>,
+        rows: Rows<'_>,
+        last: Last,
+        task: Task<'_>,
     ) -> Result<(), AllocError> {
-        self.begin(terms.periods())?;
-        let mut to = last;
-        for later in 0..terms.periods() {
-            let period = terms.periods().saturating_sub(later).saturating_sub(1);
-            let term = terms.of(period);
-            let before = part(rows, period.saturating_mul(width), width);
-            let units = best_lot(before, term, to);
+        self.begin(task.periods())?;
+        let mut to = last.quantity;
+        let mut cost = last.cost;
+        for later in 0..task.periods() {
+            let period = task.periods().saturating_sub(later).saturating_sub(1);
+            let term = task.term(period);
+            let before = rows.row(period);
+            cost = cost.wrapping_sub(term.short_cost(to));
+            let units = lot_at(before, band_at(rows.bands, period), term, to, cost);
             self.put(period, term, to, units);
             to = to.saturating_sub(units);
+            cost = at(before, to);
         }
         Ok(())
     }
@@ -103,13 +119,13 @@ pub(crate) struct Last {
     pub(crate) cost: i64,
 }
 
-// The cheapest quantity of a row.
-pub(crate) fn least_of(row: &[i64]) -> Last {
+// The cheapest quantity of a row, the first of which has so much.
+pub(crate) fn least_of(row: &[i64], first: usize) -> Last {
     let mut least = Last {
-        quantity: 0,
+        quantity: first,
         cost: NONE,
     };
-    let mut quantity = 0usize;
+    let mut quantity = first;
     for cost in row {
         if *cost < least.cost {
             least = Last {
@@ -120,9 +136,4 @@ pub(crate) fn least_of(row: &[i64]) -> Last {
         quantity = quantity.saturating_add(1);
     }
     least
-}
-
-// Whether a cost is that of a plan.
-pub(crate) fn is_plan(cost: i64) -> bool {
-    cost < NONE
 }
