@@ -1,8 +1,9 @@
 // Quantities, setups, stocks and backlogs of single-item plans.
 use integer_grids::numbers::{UNIT, at, less, plus, times, write};
 use integer_grids::{IntegerGrid, clear};
+use lot_model::Instance;
 use path_setups::{Fixed, Held};
-use priced_items::{Item, Served};
+use priced_items::{Item, Pricing, Served};
 use std::alloc::{AllocError, Global};
 
 /// Averages of single-item plans, by item and period, in units of 1/`UNIT`.
@@ -10,7 +11,7 @@ use std::alloc::{AllocError, Global};
 pub struct Average {
     pub(crate) units: IntegerGrid,
     pub(crate) setups: IntegerGrid,
-    // Stocks and backlogs of echelons; in groups what falls short of what is on time.
+    // Stocks and backlogs of echelons; in groups what falls short of what is on time. A grid has no lines where nothing reads it.
     pub(crate) stocks: IntegerGrid,
     pub(crate) owed: IntegerGrid,
 }
@@ -91,6 +92,27 @@ impl Average {
             setups: IntegerGrid::zero(alloc, items, periods)?,
             stocks: IntegerGrid::zero(alloc, items, periods)?,
             owed: IntegerGrid::zero(alloc, items, periods)?,
+        })
+    }
+
+    // The same, where stocks are kept of items that are planned by themselves alone, and backlogs where there may be any.
+    pub(crate) fn of(
+        alloc: Global,
+        instance: &Instance,
+        pricing: &Pricing,
+    ) -> Result<Average, AllocError> {
+        let (items, periods) = (instance.items(), instance.periods());
+        let stocked = match pricing.grouping() {
+            Some(_) => 0,
+            None => items,
+        };
+        let may_lack = pricing.may_owe() || pricing.late_grouping().is_some();
+        let owed = if may_lack { items } else { 0 };
+        Ok(Average {
+            units: IntegerGrid::zero(alloc, items, periods)?,
+            setups: IntegerGrid::zero(alloc, items, periods)?,
+            stocks: IntegerGrid::zero(alloc, stocked, periods)?,
+            owed: IntegerGrid::zero(alloc, owed, periods)?,
         })
     }
 

@@ -181,9 +181,8 @@ impl Rounds {
             pricing,
             ..
         } = node;
-        let (items, periods) = (instance.items(), instance.periods());
         let mut planning = Planning::new(alloc);
-        let mut best_plan = Average::zero(alloc, items, periods)?;
+        let mut best_plan = Average::of(alloc, instance, pricing)?;
         let number = planning.value(node, &prices, &mut best_plan)?;
         let (average, step) = match average {
             Some(average) => (average, NODE_STEP),
@@ -199,7 +198,7 @@ impl Rounds {
             stood: 0,
             since: 0,
             is_tried: false,
-            plan: Average::zero(alloc, items, periods)?,
+            plan: Average::of(alloc, instance, pricing)?,
             slopes: Slopes::zero(alloc, instance, pricing)?,
             others: Slopes::zero(alloc, instance, pricing)?,
             loads: Loads::new(alloc, instance, pricing)?,

@@ -92,18 +92,24 @@ fn linked_items(instance: &Instance, pricing: &Pricing) -> u32 {
 }
 
 impl Slopes {
+    // At no prices: those of backlogs, of what falls short and of least and largest lots have no directions where there are none.
     pub(crate) fn zero(
         alloc: Global,
         instance: &Instance,
         pricing: &Pricing,
     ) -> Result<Slopes, AllocError> {
-        let periods = instance.periods();
+        let (items, periods) = (instance.items(), instance.periods());
+        let owed = if pricing.may_owe() { items } else { 0 };
+        let late = match pricing.late_grouping() {
+            Some(_) => items,
+            None => 0,
+        };
         Ok(Slopes {
             capacity: IntegerGrid::zero(alloc, instance.resources(), periods)?,
-            stock: IntegerGrid::zero(alloc, instance.items(), periods)?,
-            back: IntegerGrid::zero(alloc, instance.items(), periods)?,
-            share: IntegerGrid::zero(alloc, instance.items(), periods)?,
-            lot: IntegerGrid::zero(alloc, instance.items(), periods)?,
+            stock: IntegerGrid::zero(alloc, items, periods)?,
+            back: IntegerGrid::zero(alloc, owed, periods)?,
+            share: IntegerGrid::zero(alloc, late, periods)?,
+            lot: IntegerGrid::zero(alloc, late, periods)?,
             link: IntegerGrid::zero(alloc, linked_items(instance, pricing), periods)?,
             steps: Steps::of(alloc, instance, pricing)?,
         })
@@ -417,10 +423,12 @@ impl Slopes {
         add_times(line, plan.setups.line(item), most);
         stay_positive(line, prices.link.line(item));
         for period in 1..instance.periods() + 1 {
+            if self.link.get(item, period) <= 0 {
+                continue;
+            }
             let price = prices.link.get(item, period);
             if price >= prices.most_link(instance, item, period) {
-                let slope = self.link.get(item, period);
-                self.link.put(item, period, slope.min(0));
+                self.link.put(item, period, 0);
             }
         }
     }

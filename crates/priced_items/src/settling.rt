@@ -254,8 +254,11 @@ fn bound_links(instance: &Instance, pricing: &Pricing, prices: &mut DualPrices, 
         return;
     }
     for period in 1..instance.periods() + 1 {
-        let most = prices.most_link(instance, item, period);
         let price = prices.link.get(item, period);
+        if price == 0 {
+            continue;
+        }
+        let most = prices.most_link(instance, item, period);
         prices.link.put(item, period, price.max(0).min(most));
     }
 }
