@@ -21,17 +21,57 @@ const TOLLS: u32 = 8;
 
 const TOLL_PERIODS: u32 = 3;
 
+// Of a long horizon so many periods are made anew at most, but in one of so many moves.
+const WINDOW: u32 = 16;
+
+const LONG: u32 = 32;
+
+const WHOLE_EACH: u32 = 16;
+
+/// An item that breaks a rule, and a period in which it does, or in which what it lacks had to be made.
+#[derive(Clone, Copy)]
+pub(crate) struct Trouble {
+    pub(crate) item: u32,
+    pub(crate) period: u32,
+}
+
 // Marks an item.
 fn mark_any(shop: &Shop, words: &mut Lcg64Xsh32, marks: &mut [bool]) {
     let item = below(words, shop.items).wrapping_add(1);
     mark(marks, item, true);
 }
 
-// Marks some more items.
-fn mark_others(shop: &Shop, words: &mut Lcg64Xsh32, marks: &mut [bool]) {
+// Whether two items take time of the same resource.
+fn share_time(product: &Product, other: &Product) -> bool {
+    for load in product.loads.iter() {
+        if other.loads.iter().any(|it| it.resource == load.resource) {
+            return true;
+        }
+    }
+    false
+}
+
+// The first item from a random one on that isn't marked and takes time of the same resource as a marked one.
+fn mark_rival(shop: &Shop, product: &Product, words: &mut Lcg64Xsh32, marks: &mut [bool]) {
+    let first = below(words, shop.items);
+    for step in 0..shop.items {
+        let place = first.wrapping_add(step) % shop.items;
+        if let Some(other) = shop.products.get(place as usize) {
+            if !is_marked(marks, other.number) && share_time(product, other) {
+                return mark(marks, other.number, true);
+            }
+        }
+    }
+}
+
+// Marks some more items that take time of the same resource.
+fn mark_others(shop: &Shop, first: u32, words: &mut Lcg64Xsh32, marks: &mut [bool]) {
     let many = below(words, OTHERS).wrapping_add(1);
     for _other in 0..many {
-        mark_any(shop, words, marks);
+        match shop.product(first) {
+            Some(product) if !product.loads.is_empty() => mark_rival(shop, product, words, marks),
+            _ => mark_any(shop, words, marks),
+        }
     }
 }
 
@@ -84,17 +124,22 @@ fn mark_below(shop: &Shop, words: &mut Lcg64Xsh32, marks: &mut [bool]) {
     }
 }
 
-/// Marks of some items: of one, one and a few others, or one and some that it goes into, with none, some or all of their components. The
+/// Marks of some items: of one, which may be given, one and a few others, or one and some that it goes into, with none, some or all of their components. The
 /// error is that memory ran out.
 pub(crate) fn drawn_marks(
     alloc: Global,
     shop: &Shop,
     words: &mut Lcg64Xsh32,
+    aim: Option<Trouble>,
 ) -> Result<Vec<bool>, AllocError> {
     let mut marks = vec![in alloc; false; shop.items as usize]?;
-    mark_any(shop, words, &mut marks);
+    let first = match aim {
+        Some(aim) => aim.item,
+        None => below(words, shop.items).wrapping_add(1),
+    };
+    mark(&mut marks, first, true);
     match below(words, 4) {
-        0 => mark_others(shop, words, &mut marks),
+        0 => mark_others(shop, first, words, &mut marks),
         1 => mark_users(shop, words, &mut marks),
         _ => {}
     }
@@ -147,18 +192,41 @@ pub(crate) struct Span {
     pub(crate) last: u32,
 }
 
-/// All periods, or some of at most about a half of them, drawn at random.
-pub(crate) fn drawn_span(shop: &Shop, words: &mut Lcg64Xsh32) -> Span {
+// How many periods are made anew; None for all of them.
+fn drawn_length(shop: &Shop, words: &mut Lcg64Xsh32) -> Option<u32> {
+    if shop.periods > LONG && below(words, WHOLE_EACH) > 0 {
+        return Some(below(words, WINDOW).wrapping_add(1));
+    }
     if below(words, 2) == 0 {
-        return Span {
+        return None;
+    }
+    Some(below(words, shop.periods / 2).wrapping_add(1))
+}
+
+// The first of so many periods, so that a given one is among them.
+fn drawn_first(shop: &Shop, words: &mut Lcg64Xsh32, length: u32, aim: Option<Trouble>) -> u32 {
+    match aim {
+        Some(aim) => aim
+            .period
+            .saturating_sub(below(words, length.saturating_add(1)))
+            .max(1),
+        None => below(words, shop.periods).wrapping_add(1),
+    }
+}
+
+/// All periods, or some of at most about a half of them, drawn at random; of a long horizon mostly few. A given one is among them.
+pub(crate) fn drawn_span(shop: &Shop, words: &mut Lcg64Xsh32, aim: Option<Trouble>) -> Span {
+    match drawn_length(shop, words) {
+        Some(length) => {
+            let first = drawn_first(shop, words, length, aim);
+            Span {
+                first,
+                last: first.saturating_add(length).min(shop.periods),
+            }
+        }
+        None => Span {
             first: 1,
             last: shop.periods,
-        };
-    }
-    let more = below(words, shop.periods / 2).wrapping_add(1);
-    let first = below(words, shop.periods).wrapping_add(1);
-    Span {
-        first,
-        last: first.saturating_add(more).min(shop.periods),
+        },
     }
 }

@@ -113,6 +113,44 @@ impl Lots {
     }
 }
 
+// What it costs to have made so much by the end of a period: in stock or owed when the lots then arrived, outside the bounds of the end
+// stock, and in components.
+#[derive(Clone, Copy)]
+struct Stage {
+    hold: i64,
+    owed: i64,
+    needed: i64,
+    end_min: i64,
+    end_max: i64,
+    outside: i64,
+    saved: i64,
+    allowed: i64,
+    missing: i64,
+}
+
+impl Stage {
+    // What a level costs.
+    fn cost(&self, level: i64) -> i64 {
+        let stock = less(level, self.needed);
+        let rate = if stock < 0 {
+            less(0, self.owed)
+        } else {
+            self.hold
+        };
+        let mut cost = less(times(rate, stock), times(self.saved, level));
+        if level > self.allowed {
+            cost = plus(cost, times(self.missing, less(level, self.allowed)));
+        }
+        if stock < self.end_min {
+            cost = plus(cost, times(self.outside, less(self.end_min, stock)));
+        }
+        if stock > self.end_max {
+            cost = plus(cost, times(self.outside, less(stock, self.end_max)));
+        }
+        cost
+    }
+}
+
 /// What an item has to make in some periods, and what that costs. The lists have an entry for each period, counted from 1.
 #[derive(Drop)]
 pub(crate) struct Task {
@@ -143,29 +181,21 @@ pub(crate) struct Task {
 }
 
 impl Task {
-    // What it costs to have so much in stock at the end of a period, or so much owed, where it is below 0.
-    fn stock_cost(&self, period: u32, stock: i64) -> i64 {
-        let held = times(at(&self.hold, period), stock.max(0));
-        let owed = times(at(&self.owed, period), less(0, stock).max(0));
-        let cost = plus(held, owed);
-        if period != self.periods {
-            return cost;
-        }
-        let wanting = less(self.end_min, stock).max(0);
-        let surplus = less(stock, self.end_max).max(0);
-        plus(cost, times(self.outside, plus(wanting, surplus)))
-    }
-
-    // What it costs to have made so much by the end of a period: the lots then arrived, and the components.
-    fn stage_cost(&self, period: u32, level: i64) -> i64 {
+    // What it costs to have made so much by the end of a period.
+    fn stage(&self, period: u32) -> Stage {
         let arrival = period.saturating_add(self.lead);
-        let stock = less(level, at(&self.needed, arrival));
-        let more = less(level, at(&self.allowed, period)).max(0);
-        let parts = less(
-            times(self.missing, more),
-            times(at(&self.saved, period), level),
-        );
-        plus(self.stock_cost(arrival, stock), parts)
+        let is_last = arrival == self.periods;
+        Stage {
+            hold: at(&self.hold, arrival),
+            owed: at(&self.owed, arrival),
+            needed: at(&self.needed, arrival),
+            end_min: if is_last { self.end_min } else { less(0, FAR) },
+            end_max: if is_last { self.end_max } else { FAR },
+            outside: self.outside,
+            saved: at(&self.saved, period),
+            allowed: at(&self.allowed, period),
+            missing: self.missing,
+        }
     }
 
     // The costs of all levels after a period, and the places of the levels before, which are added to a list.
@@ -179,6 +209,7 @@ impl Task {
     ) -> Result<Vec<i64>, AllocError> {
         let mut list = Vec::with_capacity(alloc, costs.len())?;
         let mut lots = Lots::new(alloc, offer);
+        let stage = self.stage(period);
         for (place, (level, cost)) in self.levels.iter().zip(costs.iter()).enumerate() {
             let stay = Way {
                 cost: *cost,
@@ -186,9 +217,9 @@ impl Task {
             };
             let near = lots.within(&self.levels, costs, *level, stay)?;
             let way = lots.past(&self.levels, costs, *level, near)?;
-            let stage = self.stage_cost(period, *level);
+            let more = stage.cost(*level);
             list.push(if way.cost < FAR {
-                plus(way.cost, stage)
+                plus(way.cost, more)
             } else {
                 FAR
             })?;

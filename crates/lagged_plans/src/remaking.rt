@@ -2,7 +2,8 @@
 use crate::levels::{Wanted, levels_of};
 use crate::recursion::{Offer, Task};
 use crate::shop::{FAR, Line, Product, Shop};
-use crate::taking::{arriving, asked, is_marked, room_for};
+use crate::standing::Stand;
+use crate::taking::{arriving, asked, is_marked};
 use integer_grids::IntegerGrid;
 use integer_grids::numbers::{at, less, plus, times, write};
 use std::alloc::{AllocError, Global};
@@ -22,9 +23,8 @@ const LEVELS_OF_PERIOD: u64 = 20;
 /// What making an item anew goes by.
 #[derive(Clone, Copy)]
 pub(crate) struct Manner<'a> {
-    /// Items whose lots will be made anew after this one's, and those of them whose lots are taken out until then.
+    /// Items whose lots will be made anew after this one's.
     pub(crate) open: &'a [bool],
-    pub(crate) out: &'a [bool],
     /// So many parts of all of the penalties are taken.
     pub(crate) strict: i64,
     /// So many parts of a whole of what a setup costs.
@@ -163,7 +163,7 @@ fn missing_of(shop: &Shop, product: &Product, manner: &Manner<'_>) -> i64 {
 // What a lot of a period costs, and how large it may be, under the time that the others leave.
 fn offer_of(
     shop: &Shop,
-    make: &IntegerGrid,
+    used: &IntegerGrid,
     product: &Product,
     manner: &Manner<'_>,
     period: u32,
@@ -179,14 +179,8 @@ fn offer_of(
     };
     for load in product.loads.iter() {
         if let Some(machine) = shop.machine(load.resource) {
-            let room = room_for(
-                shop,
-                make,
-                manner.out,
-                product.number,
-                machine.number,
-                period,
-            );
+            let taken = used.get(machine.number, period);
+            let room = less(at(&machine.time, period), taken).max(0);
             let penalty = manner.penalty(machine.penalty);
             let setup = manner.toll(period, machine.penalty, load.setup);
             let unit = manner.toll(period, machine.penalty, load.unit);
@@ -210,14 +204,14 @@ fn offer_of(
 fn offers_of(
     alloc: Global,
     shop: &Shop,
-    make: &IntegerGrid,
+    used: &IntegerGrid,
     product: &Product,
     manner: &Manner<'_>,
     last: u32,
 ) -> Result<Vec<Offer>, AllocError> {
     let mut list = Vec::new(alloc);
     for period in manner.first..last.saturating_add(1) {
-        list.push(offer_of(shop, make, product, manner, period))?;
+        list.push(offer_of(shop, used, product, manner, period))?;
     }
     Ok(list)
 }
@@ -251,11 +245,12 @@ fn made_up_to(
 fn task_of(
     alloc: Global,
     shop: &Shop,
-    make: &IntegerGrid,
+    stand: &Stand,
     product: &Product,
     manner: &Manner<'_>,
     last: u32,
 ) -> Result<Task, AllocError> {
+    let make = &stand.make;
     let needed = needed_of(alloc, shop, make, product)?;
     let free = last.saturating_add(product.lead) >= shop.periods;
     let begun = made_before(make, product, manner.first);
@@ -271,7 +266,7 @@ fn task_of(
         made: &made,
         allowed: &allowed,
     };
-    let levels = levels_of(alloc, product, &needed, shop.periods, wanted, begun, end)?;
+    let levels = levels_of(alloc, product, &needed, wanted, begun, end)?;
     Ok(Task {
         periods: shop.periods,
         lead: product.lead,
@@ -287,7 +282,7 @@ fn task_of(
         saved: saved_of(alloc, shop, product, manner)?,
         allowed,
         missing: missing_of(shop, product, manner),
-        offers: offers_of(alloc, shop, make, product, manner, last)?,
+        offers: offers_of(alloc, shop, &stand.used, product, manner, last)?,
     })
 }
 
@@ -299,21 +294,21 @@ fn work_of(shop: &Shop, task: &Task) -> u64 {
     steps.saturating_add(cells)
 }
 
-/// Makes the lots of an item anew: those that cost least while the others stay, where a way was found. It gives what that took,
-/// in levels and periods. The error is that memory ran out.
+/// Makes the lots of an item anew, whose lots that stand take no time: those that cost least while the others stay, where a way was
+/// found. It gives what that took, in levels and periods. The error is that memory ran out.
 pub(crate) fn remake(
     alloc: Global,
     shop: &Shop,
-    make: &mut IntegerGrid,
+    stand: &mut Stand,
     product: &Product,
     manner: &Manner<'_>,
 ) -> Result<u64, AllocError> {
     let last = shop.periods.saturating_sub(product.lead).min(manner.last);
-    let task = task_of(alloc, shop, make, product, manner, last)?;
+    let task = task_of(alloc, shop, stand, product, manner, last)?;
     if let Some(lots) = task.lots(alloc)? {
         let mut period = manner.first;
         for lot in lots {
-            make.put(product.number, period, lot);
+            stand.make.put(product.number, period, lot);
             period = period.saturating_add(1);
         }
     }

@@ -298,6 +298,11 @@ impl Shop {
         self.machines.get((resource as usize).wrapping_sub(1))
     }
 
+    /// How many resources there are.
+    pub(crate) fn resources(&self) -> u32 {
+        u32::try_from(self.machines.len()).unwrap_or(0)
+    }
+
     /// The time of a resource in a period, and 0 where there is none.
     pub(crate) fn time(&self, resource: u32, period: u32) -> i64 {
         match self.machine(resource) {

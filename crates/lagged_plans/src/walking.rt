@@ -1,11 +1,15 @@
 // Walks from plan to plan, over some that break rules.
-use crate::drawing::{Span, below, count_marks, drawn_marks, drawn_span, drawn_tolls, least_rank};
+use crate::drawing::{
+    Span, Trouble, below, count_marks, drawn_marks, drawn_span, drawn_tolls, least_rank,
+};
 use crate::remaking::{Manner, STRICT, WHOLE, remake};
 use crate::shop::{Product, Shop};
+use crate::standing::Stand;
 use crate::taking::{is_marked, mark};
-use crate::worth::{Worth, worth_of};
+use crate::troubles::drawn_trouble;
+use crate::worth::Worth;
 use integer_grids::IntegerGrid;
-use integer_grids::numbers::{less, plus, times};
+use integer_grids::numbers::{less, over, plus, times};
 use rand_pcg::Lcg64Xsh32;
 use std::alloc::{AllocError, Global};
 
@@ -14,6 +18,9 @@ const MOVES: u32 = 60;
 
 // A worse plan is taken if it costs at most one part more of so many, and less and less towards the end.
 const SLACK_PARTS: i64 = 75;
+
+// While no plan is found it goes on up to so many times as long.
+const TIMES: u64 = 3;
 
 // Thousandths of what may be done.
 const THOUSAND: u64 = 1000;
@@ -32,6 +39,9 @@ const MOST_STRICT: i64 = STRICT * 64;
 
 const STRICT_PARTS: i64 = 32;
 
+// Where rules are broken one of so many moves begins with an item and a period in which one is.
+const AIM_EACH: u32 = 2;
+
 // The lots of components are made anew so many periods earlier for each rank.
 const EARLIER: u32 = 3;
 
@@ -45,6 +55,15 @@ const COARSE: i64 = 150;
 
 const FINE_EACH: u32 = 4;
 
+// These numbers are of a model with so many items times periods, and are greater for larger ones.
+const CELLS: i64 = 120;
+
+// So many parts, of a model with more items times periods more of them.
+fn scaled(parts: i64, shop: &Shop) -> i64 {
+    let cells = times(i64::from(shop.items), i64::from(shop.periods));
+    times(parts, cells).wrapping_div(CELLS).max(parts)
+}
+
 // How many levels a move looks at.
 fn drawn_levels(words: &mut Lcg64Xsh32) -> i64 {
     if below(words, FINE_EACH) == 0 {
@@ -57,7 +76,7 @@ fn drawn_levels(words: &mut Lcg64Xsh32) -> i64 {
 // Items that are made anew in one move.
 #[derive(Drop)]
 struct Round {
-    // Those that still are, and those of them whose lots are taken out until then.
+    // Those that still are, and those of them whose lots take no time until then.
     open: Vec<bool>,
     out: Vec<bool>,
     strict: i64,
@@ -78,12 +97,14 @@ impl Round {
         &mut self,
         alloc: Global,
         shop: &Shop,
-        make: &mut IntegerGrid,
+        stand: &mut Stand,
         product: &Product,
         words: &mut Lcg64Xsh32,
     ) -> Result<(), AllocError> {
         mark(&mut self.open, product.number, false);
-        mark(&mut self.out, product.number, false);
+        if !is_marked(&self.out, product.number) {
+            stand.take_out(product);
+        }
         let setup = if self.noisy {
             plus(i64::from(below(words, 24)), 8)
         } else {
@@ -93,7 +114,6 @@ impl Round {
         let earlier = ranks.saturating_mul(EARLIER);
         let manner = Manner {
             open: &self.open,
-            out: &self.out,
             strict: self.strict,
             setup,
             credit: times(i64::from(below(words, 5)), 4),
@@ -102,7 +122,8 @@ impl Round {
             last: self.span.last,
             levels: self.levels,
         };
-        let work = remake(alloc, shop, make, product, &manner)?;
+        let work = remake(alloc, shop, stand, product, &manner)?;
+        stand.put_in(product);
         self.work = self.work.saturating_add(work);
         Ok(())
     }
@@ -112,7 +133,7 @@ impl Round {
         &mut self,
         alloc: Global,
         shop: &Shop,
-        make: &mut IntegerGrid,
+        stand: &mut Stand,
         rank: u32,
         words: &mut Lcg64Xsh32,
     ) -> Result<(), AllocError> {
@@ -121,7 +142,7 @@ impl Round {
             let place = first.wrapping_add(step) % shop.items;
             if let Some(product) = shop.products.get(place as usize) {
                 if product.rank == rank && is_marked(&self.open, product.number) {
-                    self.remake_item(alloc, shop, make, product, words)?;
+                    self.remake_item(alloc, shop, stand, product, words)?;
                 }
             }
         }
@@ -133,11 +154,12 @@ impl Round {
         &mut self,
         alloc: Global,
         shop: &Shop,
-        make: &mut IntegerGrid,
+        stand: &mut Stand,
         words: &mut Lcg64Xsh32,
     ) -> Result<(), AllocError> {
+        stand.take_out_all(shop, &self.out);
         for rank in 0..shop.depth {
-            self.remake_rank(alloc, shop, make, rank, words)?;
+            self.remake_rank(alloc, shop, stand, rank, words)?;
         }
         Ok(())
     }
@@ -154,8 +176,7 @@ pub(crate) struct Best {
 #[derive(Drop)]
 struct Walk<'a> {
     shop: &'a Shop,
-    make: IntegerGrid,
-    worth: Worth,
+    stand: Stand,
     best: Option<Best>,
     words: Lcg64Xsh32,
     strict: i64,
@@ -179,11 +200,10 @@ impl<'a> Walk<'a> {
         make: IntegerGrid,
         seed: u64,
     ) -> Result<Walk<'a>, AllocError> {
-        let worth = worth_of(shop, &make);
+        let stand = Stand::of(alloc, shop, make)?;
         let mut walk = Walk {
             shop,
-            make,
-            worth,
+            stand,
             best: None,
             words: Lcg64Xsh32::new(seed, STREAM),
             strict: STRICT,
@@ -191,7 +211,7 @@ impl<'a> Walk<'a> {
             idle: 0,
             quiet: 0,
         };
-        walk.note(alloc, worth)?;
+        walk.note(alloc)?;
         Ok(walk)
     }
 
@@ -205,14 +225,15 @@ impl<'a> Walk<'a> {
     }
 
     // Notes the lots where it stands, if they are the best.
-    fn note(&mut self, alloc: Global, worth: Worth) -> Result<(), AllocError> {
+    fn note(&mut self, alloc: Global) -> Result<(), AllocError> {
+        let worth = self.stand.worth;
         self.idle = self.idle.saturating_add(1);
         self.quiet = self.quiet.saturating_add(1);
         if self.is_best(worth) {
             self.idle = 0;
             self.quiet = 0;
             self.best = Some(Best {
-                make: self.make.copy(alloc)?,
+                make: self.stand.make.copy(alloc)?,
                 cost: worth.cost,
             });
         }
@@ -233,23 +254,23 @@ impl<'a> Walk<'a> {
                 last: self.shop.periods,
             },
             rank: 0,
-            levels: FINE,
+            levels: COARSE,
             work: 0,
         };
-        round.remake_all(alloc, self.shop, &mut self.make, &mut self.words)?;
+        round.remake_all(alloc, self.shop, &mut self.stand, &mut self.words)?;
         self.work = self.work.saturating_add(round.work);
-        self.worth = worth_of(self.shop, &self.make);
-        self.note(alloc, self.worth)
+        self.stand.judge_all(self.shop);
+        self.note(alloc)
     }
 
     // How much more lots may cost that are taken, where so many thousandths are left to do.
     fn slack(&mut self, left: u64) -> i64 {
         let cost = match &self.best {
             Some(best) => best.cost,
-            None => self.worth.cost,
+            None => value_of(self.stand.worth, self.strict),
         };
         let part = i64::from(below(&mut self.words, 1000));
-        let most = times(cost.wrapping_div(SLACK_PARTS), part).wrapping_div(1000);
+        let most = times(over(cost, scaled(SLACK_PARTS, self.shop)), part).wrapping_div(1000);
         let share = i64::try_from(left).unwrap_or(0);
         times(most, share).wrapping_div(1000)
     }
@@ -257,11 +278,7 @@ impl<'a> Walk<'a> {
     // Goes back to the best lots.
     fn go_back(&mut self, alloc: Global) -> Result<(), AllocError> {
         if let Some(best) = &self.best {
-            self.make = best.make.copy(alloc)?;
-            self.worth = Worth {
-                cost: best.cost,
-                broken: 0,
-            };
+            self.stand = Stand::of(alloc, self.shop, best.make.copy(alloc)?)?;
             self.idle = 0;
         }
         Ok(())
@@ -269,8 +286,8 @@ impl<'a> Walk<'a> {
 
     // Takes penalties more strictly while rules are broken, and else less.
     fn adjust(&mut self) {
-        let part = self.strict.wrapping_div(STRICT_PARTS);
-        self.strict = if self.worth.broken == 0 {
+        let part = over(self.strict, scaled(STRICT_PARTS, self.shop)).max(1);
+        self.strict = if self.stand.worth.broken == 0 {
             less(self.strict, part).max(LEAST_STRICT)
         } else if self.strict < MOST_STRICT {
             plus(plus(self.strict, part), 1)
@@ -279,9 +296,18 @@ impl<'a> Walk<'a> {
         };
     }
 
+    // What breaks a rule, for some of the moves.
+    fn drawn_aim(&mut self) -> Option<Trouble> {
+        if self.stand.worth.broken == 0 || below(&mut self.words, AIM_EACH) > 0 {
+            return None;
+        }
+        drawn_trouble(self.shop, &self.stand, &mut self.words)
+    }
+
     // Lots with some items made anew.
-    fn neighbour(&mut self, alloc: Global) -> Result<IntegerGrid, AllocError> {
-        let marks = drawn_marks(alloc, self.shop, &mut self.words)?;
+    fn neighbour(&mut self, alloc: Global) -> Result<Stand, AllocError> {
+        let aim = self.drawn_aim();
+        let marks = drawn_marks(alloc, self.shop, &mut self.words, aim)?;
         let many = count_marks(&marks) > 1;
         let out = if below(&mut self.words, 2) == 0 {
             marks.as_slice().to_vec(alloc)?
@@ -295,34 +321,33 @@ impl<'a> Walk<'a> {
         };
         let rank = least_rank(self.shop, &marks);
         let mut round = Round {
-            open: marks,
+            open: marks.as_slice().to_vec(alloc)?,
             out,
             strict: self.strict,
             noisy: many && below(&mut self.words, 2) == 0,
             tolls,
-            span: drawn_span(self.shop, &mut self.words),
+            span: drawn_span(self.shop, &mut self.words, aim),
             rank,
             levels: drawn_levels(&mut self.words),
             work: 0,
         };
-        let mut make = self.make.copy(alloc)?;
-        round.remake_all(alloc, self.shop, &mut make, &mut self.words)?;
+        let mut stand = self.stand.copy(alloc)?;
+        round.remake_all(alloc, self.shop, &mut stand, &mut self.words)?;
         self.work = self.work.saturating_add(round.work);
-        Ok(make)
+        stand.judge(self.shop, &marks);
+        Ok(stand)
     }
 
     // Makes some items anew, and takes the lots if they are better, or not much worse.
     fn go(&mut self, alloc: Global, left: u64) -> Result<(), AllocError> {
-        let make = self.neighbour(alloc)?;
-        let worth = worth_of(self.shop, &make);
-        let most = plus(value_of(self.worth, self.strict), self.slack(left));
-        if value_of(worth, self.strict) <= most || self.is_best(worth) {
-            self.make = make;
-            self.worth = worth;
+        let next = self.neighbour(alloc)?;
+        let most = plus(value_of(self.stand.worth, self.strict), self.slack(left));
+        if value_of(next.worth, self.strict) <= most || self.is_best(next.worth) {
+            self.stand = next;
         }
-        self.note(alloc, self.worth)?;
+        self.note(alloc)?;
         self.adjust();
-        if self.idle > PATIENCE && self.worth.broken > 0 {
+        if self.idle > PATIENCE && self.stand.worth.broken > 0 {
             self.go_back(alloc)?;
         }
         Ok(())
@@ -331,6 +356,17 @@ impl<'a> Walk<'a> {
     // Whether nothing better than the best lots was found for long.
     fn is_quiet(&self, cells: u32) -> bool {
         self.best.is_some() && self.quiet > cells.saturating_mul(QUIET)
+    }
+
+    // Moves while there is room for work, and some times as often while no lots keep all rules.
+    fn go_until_found(&mut self, alloc: Global, work: u64) -> Result<(), AllocError> {
+        for time in 1..TIMES + 1 {
+            self.go_on(alloc, work.saturating_mul(time))?;
+            if self.best.is_some() {
+                return Ok(());
+            }
+        }
+        Ok(())
     }
 
     // Moves while there is room for work.
@@ -350,7 +386,7 @@ impl<'a> Walk<'a> {
 }
 
 /// The best lots that a walk from these finds, where all items are made anew first or not. It takes so much work, in levels
-/// of items and periods. None where it finds none that keep all rules. The error is that memory ran out.
+/// of items and periods, and goes on for some times as much while it has found none that keep all rules. None where it finds none that keep all rules. The error is that memory ran out.
 pub(crate) fn walk_from(
     alloc: Global,
     shop: &Shop,
@@ -368,7 +404,7 @@ pub(crate) fn walk_from(
         walk.begin(alloc)?;
     }
     if !loose {
-        walk.go_on(alloc, work)?;
+        walk.go_until_found(alloc, work)?;
     }
     Ok(walk.best)
 }

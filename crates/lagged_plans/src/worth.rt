@@ -1,6 +1,6 @@
 // What a plan costs, and by how much it breaks rules.
 use crate::shop::{Machine, Product, Shop};
-use crate::taking::{arriving, asked, time_taken};
+use crate::taking::{arriving, asked};
 use integer_grids::IntegerGrid;
 use integer_grids::numbers::{at, less, plus, times};
 
@@ -12,7 +12,8 @@ pub(crate) struct Worth {
 }
 
 impl Worth {
-    fn add(&mut self, other: Worth) {
+    /// What another one costs and breaks is added.
+    pub(crate) fn add(&mut self, other: Worth) {
         self.cost = plus(self.cost, other.cost);
         self.broken = plus(self.broken, other.broken);
     }
@@ -57,8 +58,8 @@ fn end_worth(product: &Product, stock: i64) -> Worth {
     }
 }
 
-// An item.
-fn item_worth(shop: &Shop, make: &IntegerGrid, product: &Product) -> Worth {
+/// What an item costs, and by how much it breaks rules.
+pub(crate) fn item_worth(shop: &Shop, make: &IntegerGrid, product: &Product) -> Worth {
     let mut worth = Worth { cost: 0, broken: 0 };
     let mut stock = product.opening;
     for period in 1..shop.periods.saturating_add(1) {
@@ -71,25 +72,12 @@ fn item_worth(shop: &Shop, make: &IntegerGrid, product: &Product) -> Worth {
     worth
 }
 
-// The time of a resource that is used too much.
-fn time_worth(shop: &Shop, make: &IntegerGrid, machine: &Machine) -> Worth {
+/// By how much so much time in each period is more than there is of a resource.
+pub(crate) fn time_worth(used: &[i64], machine: &Machine) -> Worth {
     let mut broken = 0;
-    for period in 1..shop.periods.saturating_add(1) {
-        let taken = time_taken(shop, make, machine.number, period);
-        let over = less(taken, at(&machine.time, period)).max(0);
+    for (taken, time) in used.iter().zip(machine.time.iter()) {
+        let over = less(*taken, *time).max(0);
         broken = plus(broken, times(machine.penalty, over));
     }
     Worth { cost: 0, broken }
-}
-
-/// What lots cost, and the penalties of what they break.
-pub(crate) fn worth_of(shop: &Shop, make: &IntegerGrid) -> Worth {
-    let mut worth = Worth { cost: 0, broken: 0 };
-    for product in shop.products.iter() {
-        worth.add(item_worth(shop, make, product));
-    }
-    for machine in shop.machines.iter() {
-        worth.add(time_worth(shop, make, machine));
-    }
-    worth
 }
