@@ -21,15 +21,20 @@ use work_clock::Deadline;
 // The random changes of the walks before the first node are begun with these seeds.
 const FIRST_SEED: u64 = 1;
 
-const SECOND_SEED: u64 = 2;
-
 const THIRD_SEED: u64 = 3;
 
 const LAST_SEED: u64 = 4;
 
-// What each of the first walks may take for each item and period, the last one before the first node, one in the tree, and
-// one that begins with the lots of rounds of prices.
-const FIRST_WORK: u64 = 40_000;
+// Where an item has a lead time or bounds on its lots, further walks from no lots are begun with these.
+const FURTHER_SEED: u64 = 5;
+
+const FURTHEST_SEED: u64 = 7;
+
+// What each of the first walks may take for each item and period, of a plain model and of another one, the last one before the first
+// node, one in the tree, and one that begins with the lots of rounds of prices.
+const PLAIN_WORK: u64 = 40_000;
+
+const FIRST_WORK: u64 = 160_000;
 
 const LAST_WORK: u64 = 160_000;
 
@@ -43,13 +48,31 @@ const FIRST_MARK: u64 = 14_695_981_039_346_656_037;
 const MARK_FACTOR: u64 = 1_099_511_628_211;
 
 // The most that a walk may take.
-const MOST_WORK: u64 = 20_000_000;
+const MOST_WORK: u64 = 150_000_000;
+
+// A model is large where a first walk might take more than so much.
+const LARGE_WORK: u64 = 30_000_000;
 
 // Of the work of a walk so much is taken to need a millisecond, which is less than it does in one.
 const MILLI_WORK: u64 = 10_000;
 
 // What a walk may take at least, however little time is left.
 const LEAST_WORK: u64 = 1_000_000;
+
+// What each of the first walks may take for each item and period.
+fn first_work(instance: &Instance) -> u64 {
+    if is_plain(instance) {
+        PLAIN_WORK
+    } else {
+        FIRST_WORK
+    }
+}
+
+// Whether a walk goes on better from the best plan, if there is one, than from no lots: where the model is large.
+fn is_large(instance: &Instance) -> bool {
+    let cells = u64::from(instance.items() * instance.periods());
+    cells.saturating_mul(first_work(instance)) > LARGE_WORK
+}
 
 // What a walk may take, by what it may for each item and period, and by the time that is left.
 fn work_of(instance: &Instance, each: u64, until: Deadline) -> u64 {
@@ -61,7 +84,7 @@ fn work_of(instance: &Instance, each: u64, until: Deadline) -> u64 {
     }
 }
 
-// Walks from no lots where it isn't time to end or there is no plan yet, and keeps what is found, if it lies within the ranges.
+// Walks from no lots where there is no plan yet, or the model isn't large and it isn't time to end, and keeps what is found, if it lies within the ranges.
 fn walk_anew(
     alloc: Global,
     instance: &Instance,
@@ -74,10 +97,10 @@ fn walk_anew(
     ensures { OnOk result (IsNoWorseBest instance.now ranges.now best.new best.old) }
 {
     let until = limit(until, best);
-    if best.is_some() && until.is_past() {
+    if best.is_some() && (until.is_past() || is_large(instance)) {
         return Ok(());
     }
-    let work = work_of(instance, FIRST_WORK, until);
+    let work = work_of(instance, first_work(instance), until);
     let found = lagged_plan(alloc, instance, seed, work)?;
     keep_within(instance, ranges, best, found);
     Ok(())
@@ -113,7 +136,7 @@ fn plan_by_plain(
 {
     match cheapest_of(alloc, plain, until)? {
         Some(made) => {
-            let work = work_of(instance, FIRST_WORK, until);
+            let work = work_of(instance, first_work(instance), until);
             repaired(alloc, instance, &made.plan.make, FIRST_SEED, work)
         }
         None => Ok(None),
@@ -195,8 +218,24 @@ fn walk_further(
     Ok(())
 }
 
-// Walks twice from no lots.
+// Walks twice from no lots, with a seed and the next one.
 fn walk_twice(
+    alloc: Global,
+    instance: &Instance,
+    ranges: &Ranges,
+    seed: u64,
+    until: Deadline,
+    best: &mut Option<Planned>,
+) -> Result<(), AllocError>
+    requires { IsBestSoFar instance.now ranges.now best.old }
+    ensures { OnOk result (IsNoWorseBest instance.now ranges.now best.new best.old) }
+{
+    walk_anew(alloc, instance, ranges, seed, until, best)?;
+    walk_anew(alloc, instance, ranges, seed.wrapping_add(1), until, best)
+}
+
+// Walks four times more from no lots, where the model isn't plain.
+fn walk_often(
     alloc: Global,
     instance: &Instance,
     ranges: &Ranges,
@@ -206,8 +245,11 @@ fn walk_twice(
     requires { IsBestSoFar instance.now ranges.now best.old }
     ensures { OnOk result (IsNoWorseBest instance.now ranges.now best.new best.old) }
 {
-    walk_anew(alloc, instance, ranges, FIRST_SEED, until, best)?;
-    walk_anew(alloc, instance, ranges, SECOND_SEED, until, best)
+    if is_plain(instance) {
+        return Ok(());
+    }
+    walk_twice(alloc, instance, ranges, FURTHER_SEED, until, best)?;
+    walk_twice(alloc, instance, ranges, FURTHEST_SEED, until, best)
 }
 
 /// Walks from no lots and from the best plan, and keeps what is found, if it lies within the ranges.
@@ -222,9 +264,11 @@ pub(crate) fn lag_at_start(
     ensures { OnOk result (IsNoWorseBest instance.now ranges.now best.new best.old) }
 {
     walk_by_plain(alloc, instance, ranges, until, best)?;
-    walk_twice(alloc, instance, ranges, until, best)?;
+    walk_twice(alloc, instance, ranges, FIRST_SEED, until, best)?;
+    walk_often(alloc, instance, ranges, until, best)?;
     let end = limit(until, best);
-    walk_further(alloc, instance, ranges, THIRD_SEED, FIRST_WORK, end, best)
+    let each = first_work(instance);
+    walk_further(alloc, instance, ranges, THIRD_SEED, each, end, best)
 }
 
 /// Walks from the best plan once more before the first node.
