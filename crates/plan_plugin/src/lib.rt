@@ -4,8 +4,8 @@
 //! `Plans` is a `Heuristic` of `search_plugins`, whose hint is the average over rounds of prices. Its state, an `Effort`, has what
 //! finding plans may still take and what was tried.
 //!
-//! Family: plugins. It stands on `search_plugins`, whose trait it implements, on `first_plans`, `lagged_plans`, `built_plans` and
-//! `fixed_setups`, which make plans, on `price_rounds` for averages, on `work_clock` for the time, and on `incumbent`, which keeps the best plan; `lotplan_main` names it, and
+//! Family: plugins. It stands on `search_plugins`, whose trait it implements, on `first_plans`, `lagged_plans`, `built_plans`,
+//! `fixed_setups` and `setup_walks`, which make plans, on `price_rounds` for averages, on `work_clock` for the time, and on `incumbent`, which keeps the best plan; `lotplan_main` names it, and
 //! nothing of the search stands on it.
 #![tactic(auto)]
 
@@ -13,6 +13,7 @@ mod effort;
 mod lagging;
 mod plans;
 mod programs;
+mod setup_walking;
 mod shares;
 mod starting;
 mod trying;

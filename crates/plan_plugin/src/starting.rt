@@ -6,6 +6,7 @@ ghost use Rattle.search_ranges.specs.Within.{HaveShape, given_ranges};
 
 use crate::lagging::{lag_after_programs, lag_at_start};
 use crate::programs::{look, walk_at_start};
+use crate::setup_walking::walk_over_setups;
 use crate::shares::FIRST_SHARE;
 use first_plans::candidates;
 use incumbent::keep_within;
@@ -62,6 +63,7 @@ fn walk_from_best(
     requires { IsBestSoFar instance.now ranges.now best.old }
     ensures { OnOk result (IsNoWorseBest instance.now ranges.now best.new best.old) }
 {
+    walk_over_setups(alloc, instance, ranges, until, best)?;
     walk_at_start(alloc, instance, ranges, until, best)?;
     lag_after_programs(alloc, instance, ranges, until, best)
 }

@@ -1,7 +1,7 @@
 //! Tests of the crates of search: first plans, plans by given setups, searches, leaves of prices and the root, with certificates
 //! that are read again and checked; and of the models that `report` draws, whose items `wagner_whitin` plans.
 //!
-//! Family: tests. It stands on `own_plan`, `built_plans`, `first_plans`, `lagged_plans`, `report`, `branch_and_bound`, `fixed_setups`,
+//! Family: tests. It stands on `own_plan`, `built_plans`, `first_plans`, `lagged_plans`, `report`, `branch_and_bound`, `fixed_setups`, `setup_walks`,
 //! `priced_leaves`, `branching`, `root_rounds` and `branch_and_cut` with its plugins (`search_plugins`, `price_plugin`, `plan_plugin`), and calls them
 //! as any other crate does; nothing stands on it.
 //!
@@ -27,5 +27,6 @@ mod priced_leaves_tests;
 mod report_generating_tests;
 #[cfg(test)]
 mod root_rounds_tests;
+mod setup_walks_tests;
 #[cfg(test)]
 mod weak;
