@@ -52,7 +52,34 @@ fn keep_candidate(
     Ok(())
 }
 
-// Walks from the best plan: over setups by programs, and then over the lots of items.
+// What a plan costs, if there is one.
+fn cost_of(best: &Option<Planned>) -> Option<u128> {
+    match best {
+        Some(made) => Some(made.cost),
+        None => None,
+    }
+}
+
+// Walks over setups by programs in fixed point, and then over the lots of items where that found something.
+fn walk_and_lag(
+    alloc: Global,
+    instance: &Instance,
+    ranges: &Ranges,
+    until: Deadline,
+    best: &mut Option<Planned>,
+) -> Result<(), AllocError>
+    requires { IsBestSoFar instance.now ranges.now best.old }
+    ensures { OnOk result (IsNoWorseBest instance.now ranges.now best.new best.old) }
+{
+    let before = cost_of(best);
+    walk_over_setups(alloc, instance, ranges, until, best)?;
+    if cost_of(best) == before {
+        return Ok(());
+    }
+    lag_after_programs(alloc, instance, ranges, until, best)
+}
+
+// Walks from the best plan: over setups by programs, over the lots of items, and once more over both.
 fn walk_from_best(
     alloc: Global,
     instance: &Instance,
@@ -63,13 +90,13 @@ fn walk_from_best(
     requires { IsBestSoFar instance.now ranges.now best.old }
     ensures { OnOk result (IsNoWorseBest instance.now ranges.now best.new best.old) }
 {
-    walk_over_setups(alloc, instance, ranges, until, best)?;
     walk_at_start(alloc, instance, ranges, until, best)?;
-    lag_after_programs(alloc, instance, ranges, until, best)
+    lag_after_programs(alloc, instance, ranges, until, best)?;
+    walk_and_lag(alloc, instance, ranges, until, best)
 }
 
 /// Plans before the first node: those that are made without a search, walks over the lots of items, where there is no plan yet one
-/// by the program with all setups or by a plunge, and walks from the best one, over setups and once more over lots. The best plan,
+/// by the program with all setups or by a plunge, and walks from the best one, over setups and over lots. The best plan,
 /// with its cost in money, is kept, of those that lie within the ranges. Where there is a time at which the search ends, a half of it is
 /// taken at most once there is a plan.
 ///
