@@ -1,8 +1,15 @@
 // What rounds of prices came to at nodes, for those below them. Nothing is claimed of it.
 use crate::choosing::Choice;
 use lin_rows::Bound;
+use lot_model::Instance;
 use priced_leaves::{Average, DualPrices};
 use std::alloc::{AllocError, Global};
+
+// The most numbers, of 8 bytes each, that the notes of all open nodes have together: half a gigabyte.
+const MOST_NUMBERS: usize = 67_108_864;
+
+// The most grids by item and period that a note has: six of prices, and four of averages.
+const GRIDS: usize = 10;
 
 /// What rounds of prices came to at a node.
 #[derive(Debug, Drop)]
@@ -15,19 +22,31 @@ pub struct Note {
     pub choice: Option<Choice>,
 }
 
-/// Notes by their places, counted from 0.
+/// Notes by their places, counted from 0. Together they take half a gigabyte at most: where there is no room, a node has no note.
 #[derive(Debug, Drop)]
 pub struct Notes {
     notes: Vec<Option<Note>>,
+    // How many there may be at a time, and how many there are.
+    most: usize,
+    kept: usize,
+}
+
+// How many numbers a note of a model has at most.
+fn numbers_of(instance: &Instance) -> usize {
+    let items = (instance.items() as usize).saturating_mul(GRIDS);
+    let lines = items.saturating_add(instance.resources() as usize);
+    lines.saturating_mul(instance.periods() as usize)
 }
 
 impl Notes {
-    /// Nothing is noted.
+    /// Nothing is noted of a model.
     ///
     /// It takes no memory yet.
-    pub fn new(alloc: Global) -> Notes {
+    pub fn new(alloc: Global, instance: &Instance) -> Notes {
         Notes {
             notes: Vec::new(alloc),
+            most: MOST_NUMBERS / numbers_of(instance).max(1),
+            kept: 0,
         }
     }
 
@@ -45,10 +64,14 @@ impl Notes {
     // The note is taken out of its place.
     fn take(&mut self, place: Option<usize>) -> Option<Note> {
         let place = place?;
-        match self.notes.get_mut(place) {
+        let taken = match self.notes.get_mut(place) {
             Some(found) => found.take(),
             None => None,
+        };
+        if taken.is_some() {
+            self.kept = self.kept.saturating_sub(1);
         }
+        taken
     }
 
     // The note once more.
@@ -79,12 +102,17 @@ impl Notes {
         }
     }
 
-    /// Remembers a note, and gives its place.
+    /// Remembers a note, and gives its place; None where there are as many as may be. A node without a note begins with the first
+    /// prices.
     ///
     /// The error is that memory ran out.
-    pub fn put(&mut self, note: Note) -> Result<usize, AllocError> {
+    pub fn put(&mut self, note: Note) -> Result<Option<usize>, AllocError> {
+        if self.kept >= self.most {
+            return Ok(None);
+        }
         let place = self.notes.len();
         self.notes.push(Some(note))?;
-        Ok(place)
+        self.kept = self.kept.saturating_add(1);
+        Ok(Some(place))
     }
 }

@@ -452,8 +452,13 @@ fn next_bound(node: &Node) -> u32 {
     count.saturating_add(1)
 }
 
-// Remembers what rounds came to and the setup on which a node is to be branched, and gives the place of the note.
-fn note_of(notes: &mut Notes, rounds: Rounds, choice: Option<Choice>) -> Result<usize, AllocError> {
+// Remembers what rounds came to and the setup on which a node is to be branched, and gives the place of the note, if there is room for
+// one.
+fn note_of(
+    notes: &mut Notes,
+    rounds: Rounds,
+    choice: Option<Choice>,
+) -> Result<Option<usize>, AllocError> {
     let Improved { prices, average } = rounds.into_improved();
     notes.put(Note {
         prices,
@@ -477,7 +482,7 @@ impl Proposer for Prices {
         choose_grouping(alloc, instance, &mut pricing, self.until)?;
         Ok(Pricings {
             pricing,
-            notes: Notes::new(alloc),
+            notes: Notes::new(alloc, instance),
             gains: Gains::new(alloc, instance)?,
         })
     }
@@ -597,7 +602,7 @@ impl Proposer for Prices {
             };
             branch_at(alloc, trials, &mut held, &mut state.gains)?
         };
-        Ok(Some(note_of(&mut state.notes, rounds, choice)?))
+        note_of(&mut state.notes, rounds, choice)
     }
 
     fn branch(
