@@ -13,7 +13,7 @@ use setup_walks::walked_setups;
 use std::alloc::{AllocError, Global};
 use work_clock::Deadline;
 
-// Walks before the first node, each with a seed of its own.
+// The most walks before the first node, each with a seed of its own. One that finds nothing cheaper is the last.
 const WALKS: u64 = 3;
 
 // What a walk may take, where a step takes the square of items times periods, and its most steps.
@@ -21,7 +21,7 @@ const WALK_WORK: u64 = 26_000_000;
 
 const MOST_STEPS: u64 = 10_000;
 
-// So many steps for a walk.
+// The steps of a walk.
 fn steps_for(instance: &Instance) -> u32 {
     let cells = u64::from(instance.items()) * u64::from(instance.periods());
     let steps = WALK_WORK / cells.saturating_mul(cells).max(1);
@@ -50,7 +50,16 @@ fn walked_from(
     }
 }
 
-/// Walks over setups from the best plan before the first node, and keeps what is found, if it lies within the ranges.
+/// What the best plan costs, if there is one.
+pub(crate) fn best_cost(best: &Option<Planned>) -> Option<u128> {
+    match best {
+        Some(made) => Some(made.cost),
+        None => None,
+    }
+}
+
+/// Walks over setups from the best plan before the first node, and keeps what is found, if it lies within the ranges. Walks go on while
+/// they find something cheaper.
 pub(crate) fn walk_over_setups(
     alloc: Global,
     instance: &Instance,
@@ -63,8 +72,12 @@ pub(crate) fn walk_over_setups(
 {
     let end = limit(until, best);
     for seed in 1..WALKS + 1 {
+        let before = best_cost(best);
         let found = walked_from(alloc, instance, best, seed, end)?;
         keep_within(instance, ranges, best, found);
+        if best_cost(best) == before {
+            return Ok(());
+        }
     }
     Ok(())
 }

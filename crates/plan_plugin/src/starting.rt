@@ -6,7 +6,7 @@ ghost use Rattle.search_ranges.specs.Within.{HaveShape, given_ranges};
 
 use crate::lagging::{lag_after_programs, lag_at_start};
 use crate::programs::{look, walk_at_start};
-use crate::setup_walking::walk_over_setups;
+use crate::setup_walking::{best_cost, walk_over_setups};
 use crate::shares::FIRST_SHARE;
 use first_plans::candidates;
 use incumbent::keep_within;
@@ -52,14 +52,6 @@ fn keep_candidate(
     Ok(())
 }
 
-// What a plan costs, if there is one.
-fn cost_of(best: &Option<Planned>) -> Option<u128> {
-    match best {
-        Some(made) => Some(made.cost),
-        None => None,
-    }
-}
-
 // Walks over setups by programs in fixed point, and then over the lots of items where that found something.
 fn walk_and_lag(
     alloc: Global,
@@ -71,9 +63,9 @@ fn walk_and_lag(
     requires { IsBestSoFar instance.now ranges.now best.old }
     ensures { OnOk result (IsNoWorseBest instance.now ranges.now best.new best.old) }
 {
-    let before = cost_of(best);
+    let before = best_cost(best);
     walk_over_setups(alloc, instance, ranges, until, best)?;
-    if cost_of(best) == before {
+    if best_cost(best) == before {
         return Ok(());
     }
     lag_after_programs(alloc, instance, ranges, until, best)
