@@ -391,7 +391,7 @@ pub mod rand_pcg {
     }
 }
 
-use branch_and_cut::{Found, Plugins, Wanted, search_all};
+use branching::{Found, Plugins, Wanted, search_all};
 use certificate::Claim;
 use lot_model::{Draft, DraftItem, DraftNeed, DraftRefusal, DraftResource, DraftUse, Instance};
 use shim::{Global, String as Text, Vec as List};
@@ -575,7 +575,7 @@ fn try_one(name: &str, word: &str, nodes: u64, keep: Option<&str>) {
     let until = work_clock::Deadline::none();
     let plugins = Plugins {
         proposer: &price_plugin::Prices { until },
-        heuristic: &plan_plugin::Plans { until },
+        heuristic: &heur_plugin::Plans { until },
     };
     let start = seconds();
     let found = search_all(Global, &plugins, (), &instance, Wanted::with_budget(nodes)).expect("memory");

@@ -17,16 +17,16 @@ use Rattle.lin_rows.specs.declared.base.RowName.{RowName}
 use Rattle.lin_rows.specs.declared.base.RowName.TheVariants.{Balance, Link, Capacity, EndMin, EndMax, Top, Least, Late, Path, Cut}
 use Rattle.lin_rows.specs.Base.{HasRow}
 use Rattle.lin_rows.specs.Rows.{LinRow}
-use Rattle.acceptance.specs.Named.{IsNamed, row_named}
+use Rattle.cert_meaning.specs.Named.{IsNamed, row_named}
 use Rattle.tableau.specs.Program.{Inequality, Program}
-use Rattle.root_rows.specs.declared.limits.TheConstants.{MAX_CELLS}
-use Rattle.root_rows.specs.Names.{BaseNamesAreAll, base_names, round_names}
-use Rattle.root_rows.specs.Rounds.{at_root}
-use Rattle.root_rows.specs.Says.{EmptyIsSaid, LeastIsSaid, sides_named}
-use Rattle.root_rows.specs.Sides.{all_sides, program_rows, side_inequality, sides_of, turned_row}
-use Rattle.base_bound.specs.Bounds.{BaseBoundsAreFloors, EmptyIsImpossible, IsBaseProgram, cell_count}
-use Rattle.base_bound.specs.Solved.{IsRoundedBest}
-use Rattle.base_bound.proofs.Points.{bounds, none}
+use Rattle.lp_relaxation.specs.declared.limits.TheConstants.{MAX_CELLS}
+use Rattle.lp_relaxation.specs.Names.{BaseNamesAreAll, base_names, round_names}
+use Rattle.lp_relaxation.specs.Rounds.{at_root}
+use Rattle.lp_relaxation.specs.Says.{EmptyIsSaid, LeastIsSaid, sides_named}
+use Rattle.lp_relaxation.specs.Sides.{all_sides, program_rows, side_inequality, sides_of, turned_row}
+use Rattle.lp_bounds.specs.Bounds.{BaseBoundsAreFloors, EmptyIsImpossible, IsBaseProgram, cell_count}
+use Rattle.lp_bounds.specs.Solved.{IsRoundedBest}
+use Rattle.lp_bounds.proofs.BasePoints.{bounds, none}
 use Rattle.existence.specs.Runs.{HasProvedBest, HasProvedNone, RunsComeOut}
 use Rattle.answers_exist.specs.Bounding.{BoundsComeOut, HasBound, IsEmpty, Passes}
 use Rattle.answers_exist.proofs.Costing.{are_costs, costs}

@@ -22,12 +22,12 @@ use Rattle.cert_lines.specs.declared.parts.Claim.TheVariants.{Optimal, Infeasibl
 use Rattle.cert_lines.specs.Shapes.{BlockCut, CutShape, EndLine, FarkasLeaf, LinearLeaf, LsCut, PointLeaf, PriceCut, ReducedLeaf, RoundCut}
 use Rattle.certificate.specs.Shapes.{End, Shape, Split, TreeShape}
 use Rattle.certificate.specs.Values.{AreLines, Values, all_cut_values, cut_values, tree_values}
-use Rattle.split_trees.specs.Laws.{PlansAreWithin}
-use Rattle.split_trees.specs.Paths.{AreChoices}
-use Rattle.split_trees.specs.Ranges.{IsChoice, whole_ranges}
-use Rattle.split_trees.specs.Trees.{EachLeaf, high_path, low_path}
-use Rattle.acceptance.specs.Named.{names}
-use Rattle.acceptance.specs.Accepts.{GoesWith, IsSmallLeaf, SaysEnough}
+use Rattle.cert_trees.specs.Laws.{PlansAreWithin}
+use Rattle.cert_trees.specs.Paths.{AreChoices}
+use Rattle.cert_trees.specs.Ranges.{IsChoice, whole_ranges}
+use Rattle.cert_trees.specs.Trees.{EachLeaf, high_path, low_path}
+use Rattle.cert_meaning.specs.Named.{names}
+use Rattle.cert_meaning.specs.Accepts.{GoesWith, IsSmallLeaf, SaysEnough}
 use Rattle.cert_checker.specs.declared.fault.Why.{Why}
 use Rattle.cert_checker.specs.declared.fault.Why.TheVariants as why
 use Rattle.cert_checker.specs.Cuts.{HasDivisor, OfProblem}

@@ -10,7 +10,7 @@ use Rattle.lin_rows.specs.declared.column.Column.{Column}
 use Rattle.lin_rows.specs.declared.column.Column.TheVariants.{X, Y, S, R}
 use Rattle.lin_rows.specs.Columns.{IsCell, IsColumn, cell_count, cell_number, column_cost, number_of, owes, owing_count}
 use Rattle.lin_rows.proofs.Ranks.{cell_in}
-use Rattle.root_rows.specs.Costs.{AreCosts}
+use Rattle.lp_relaxation.specs.Costs.{AreCosts}
 use Rattle.answers_exist.proofs.Listing.{list_is, list_of, list_size}
 
 -- ---- lists by their places

@@ -30,14 +30,14 @@ use Rattle.backlog_dp.specs.Broken.{HoldsOver, IsFirstBroken}
 use Rattle.cert_lines.specs.declared.parts.Part.{Part}
 use Rattle.cert_lines.specs.Shapes.{BlockCut, BlockLists, CutShape, LsCut, PriceCut, PriceLists, RoundCut}
 use Rattle.certificate.specs.Values.{all_cut_values}
-use Rattle.split_trees.specs.Paths.{AreChoices}
-use Rattle.split_trees.specs.Ranges.{IsChoice, WithTotals}
+use Rattle.cert_trees.specs.Paths.{AreChoices}
+use Rattle.cert_trees.specs.Ranges.{IsChoice, WithTotals}
 use Rattle.lin_rows.specs.declared.bound.Bound.{Bound}
-use Rattle.acceptance.specs.Named.{names}
-use Rattle.acceptance.specs.Parts.{rows_of, times_of}
-use Rattle.acceptance.specs.CutRows.{AreCutRows, HasEchelon, IsCutRow}
-use Rattle.acceptance.specs.Accepts.{AreSmallCuts, IsSmallCut}
-use Rattle.acceptance.specs.Laws.{CutRowsGoOn, CutsHold, EchelonRowsAreOne, SmallCutsGoOn}
+use Rattle.cert_meaning.specs.Named.{names}
+use Rattle.cert_meaning.specs.Parts.{rows_of, times_of}
+use Rattle.cert_meaning.specs.CutRows.{AreCutRows, HasEchelon, IsCutRow}
+use Rattle.cert_meaning.specs.Accepts.{AreSmallCuts, IsSmallCut}
+use Rattle.cert_meaning.specs.Laws.{CutRowsGoOn, CutsHold, EchelonRowsAreOne, SmallCutsGoOn}
 use Rattle.cert_checker.specs.declared.fault.Why.{Why}
 use Rattle.cert_checker.specs.declared.fault.Why.TheVariants as why
 use Rattle.cert_checker.specs.Cuts.{HasDivisor, IsBlockForm, IsCutFault, IsItem, IsLsForm, IsPriceForm, OfProblem, single_priced}

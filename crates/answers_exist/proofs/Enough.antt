@@ -6,9 +6,9 @@ use Rattle.std.proofs.Math.Nat.{mul-le-mul_right}
 use Rattle.algebra.proofs.Order.{linear}
 use Rattle.cert_lines.specs.declared.parts.Claim.{Claim}
 use Rattle.cert_lines.specs.declared.parts.Claim.TheVariants.{Optimal, Infeasible, Bound as BoundOf}
-use Rattle.acceptance.specs.declared.says.LeafSays.TheVariants.{NoPlan, AtLeast}
-use Rattle.acceptance.specs.Says.{IsRoundedUp}
-use Rattle.acceptance.specs.Accepts.{IsEnough}
+use Rattle.cert_meaning.specs.declared.says.LeafSays.TheVariants.{NoPlan, AtLeast}
+use Rattle.cert_meaning.specs.Says.{IsRoundedUp}
+use Rattle.cert_meaning.specs.Accepts.{IsEnough}
 use Rattle.existence.proofs.Deciding.{Decided, all_or_first, le_or_not, lt_or_not}
 use Rattle.answers_exist.proofs.Sums.{le_z_or_not}
 

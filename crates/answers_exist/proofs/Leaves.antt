@@ -21,14 +21,14 @@ use Rattle.cert_lines.specs.declared.parts.Part.{Part}
 use Rattle.cert_lines.specs.Shapes.{FarkasLeaf, LeafShape, LinearLeaf, PointLeaf, ReducedLeaf}
 use Rattle.certificate.specs.Shapes.{End, Split, TreeShape}
 use Rattle.certificate.specs.Values.{tree_values}
-use Rattle.split_trees.specs.Spans.{Span}
-use Rattle.split_trees.specs.Ranges.{IsChoice, WithTotals, whole_ranges}
-use Rattle.split_trees.specs.Paths.{AreChoices, at_least, at_most, left_by, left_to}
-use Rattle.split_trees.specs.Trees.{IsSplit, high_path, low_path}
-use Rattle.acceptance.specs.declared.says.LeafSays.TheVariants.{NoPlan, AtLeast}
-use Rattle.acceptance.specs.Named.{Named, names}
-use Rattle.acceptance.specs.Parts.{sum_of_right, times_of}
-use Rattle.acceptance.specs.Says.{HasOneValue, IsRoundedUp, Says, point_make, point_setup}
+use Rattle.cert_trees.specs.Spans.{Span}
+use Rattle.cert_trees.specs.Ranges.{IsChoice, WithTotals, whole_ranges}
+use Rattle.cert_trees.specs.Paths.{AreChoices, at_least, at_most, left_by, left_to}
+use Rattle.cert_trees.specs.Trees.{IsSplit, high_path, low_path}
+use Rattle.cert_meaning.specs.declared.says.LeafSays.TheVariants.{NoPlan, AtLeast}
+use Rattle.cert_meaning.specs.Named.{Named, names}
+use Rattle.cert_meaning.specs.Parts.{sum_of_right, times_of}
+use Rattle.cert_meaning.specs.Says.{HasOneValue, IsRoundedUp, Says, point_make, point_setup}
 use Rattle.cert_checker.specs.declared.fault.Why.{Why}
 use Rattle.cert_checker.specs.declared.fault.Why.TheVariants as why
 use Rattle.cert_checker.specs.Leaves.{HasDenominator, IsFarkasFault, IsSumFault, farkas_most}

@@ -33,14 +33,14 @@ use Rattle.group_existence.specs.Laws.{GroupsAreJudged, IsPastFirst, NumbersExis
 use Rattle.cert_lines.specs.declared.parts.Claim.{Claim}
 use Rattle.cert_lines.specs.declared.parts.Part.{Part}
 use Rattle.cert_lines.specs.Shapes.{ListShape, ReducedLeaf}
-use Rattle.split_trees.specs.Paths.{AreChoices}
-use Rattle.split_trees.specs.Ranges.{WithTotals, whole_ranges}
-use Rattle.acceptance.specs.declared.says.LeafSays.TheVariants.{NoPlan, AtLeast}
-use Rattle.acceptance.specs.Named.{Named, names}
-use Rattle.acceptance.specs.Parts.{AreParts, IsPart, rows_of, times_of}
-use Rattle.acceptance.specs.Lists.{AreListed, all_parts, parts_of_list}
-use Rattle.acceptance.specs.Says.{GroupLacksChoice, IsRanked, IsSumOf, Says}
-use Rattle.acceptance.specs.Accepts.{IsSmallLeaf}
+use Rattle.cert_trees.specs.Paths.{AreChoices}
+use Rattle.cert_trees.specs.Ranges.{WithTotals, whole_ranges}
+use Rattle.cert_meaning.specs.declared.says.LeafSays.TheVariants.{NoPlan, AtLeast}
+use Rattle.cert_meaning.specs.Named.{Named, names}
+use Rattle.cert_meaning.specs.Parts.{AreParts, IsPart, rows_of, times_of}
+use Rattle.cert_meaning.specs.Lists.{AreListed, all_parts, parts_of_list}
+use Rattle.cert_meaning.specs.Says.{GroupLacksChoice, IsRanked, IsSumOf, Says}
+use Rattle.cert_meaning.specs.Accepts.{IsSmallLeaf}
 use Rattle.cert_checker.specs.declared.fault.Why.{Why}
 use Rattle.cert_checker.specs.declared.fault.Why.TheVariants as why
 use Rattle.cert_checker.specs.Leaves.{IsGoodSum, IsGroupsFault, IsList, IsWrongList, no_list}

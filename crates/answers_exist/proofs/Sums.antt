@@ -26,10 +26,10 @@ use Rattle.lin_rows.proofs.Terms.{all_one}
 use Rattle.round_cuts.specs.Merging.{ceiling}
 use Rattle.round_cuts.specs.Rounding.{IsCeiling, IsRounded, column_amount, right_amount}
 use Rattle.cert_lines.specs.declared.parts.Part.{Part}
-use Rattle.split_trees.specs.Paths.{AreChoices, no_bound}
-use Rattle.split_trees.specs.Ranges.{IsChoice, WithTotals}
-use Rattle.acceptance.specs.Named.{IsNamed, Named, names, no_row, row_named}
-use Rattle.acceptance.specs.Parts.{AreParts, AreSmall, IsPart, rows_of, times_of}
+use Rattle.cert_trees.specs.Paths.{AreChoices, no_bound}
+use Rattle.cert_trees.specs.Ranges.{IsChoice, WithTotals}
+use Rattle.cert_meaning.specs.Named.{IsNamed, Named, names, no_row, row_named}
+use Rattle.cert_meaning.specs.Parts.{AreParts, AreSmall, IsPart, rows_of, times_of}
 use Rattle.cert_checker.specs.declared.fault.Why.{Why}
 use Rattle.cert_checker.specs.declared.fault.Why.TheVariants as why
 use Rattle.cert_checker.specs.Leaves.{IsFirstWrong, IsGoodSum, IsSumFault, IsWrongPart, no_part}

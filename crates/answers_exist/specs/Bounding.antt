@@ -5,7 +5,7 @@ use Rattle.lot_sizing.specs.Best.{IsFloor, IsImpossible}
 use Rattle.lot_sizing.specs.Totals.{IsRanking}
 use Rattle.existence.specs.Runs.{HasUnfitNumber}
 use Rattle.tableau.specs.Program.{Program}
-use Rattle.base_bound.specs.Bounds.{HasFewCells, HasManyCells, HasNoBasePoint, IsBaseBound, IsBaseProgram}
+use Rattle.lp_bounds.specs.Bounds.{HasFewCells, HasManyCells, HasNoBasePoint, IsBaseBound, IsBaseProgram}
 
 -- some number is the base bound, and no plan costs less
 abbrev pub HasBound : Problem → Type 0

@@ -1,7 +1,7 @@
 //! Laws of existence for `bound` and `check`: the base bound of each problem comes to something, each text is a
 //! certificate's or has a first fault, and each certificate is accepted or refused.
 //!
-//! Family: search. It stands on `base_bound`, `cert_checker`, `cert_stream`, `existence` and `group_existence`; `lotplan`
+//! Family: search. It stands on `lp_bounds`, `cert_checker`, `cert_stream`, `existence` and `group_existence`; `lotplan`
 //! stands on it.
 //!
 //! The laws of `existence` speak of models, plans and exact runs, those of `group_existence` of the groups of leaves, and
@@ -13,17 +13,17 @@
 ghost use Rattle.answers_exist.specs.Bounding.{BoundsComeOut};
 ghost use Rattle.answers_exist.specs.Checking.{CertificatesComeOut, PlansAreHeld, TextsComeOut};
 
-use acceptance::{cut_rows_go_on, cuts_hold, echelon_rows_are_one};
-use base_bound::base_bounds_are_floors;
 use bill::totals_exist;
+use cert_meaning::{cut_rows_go_on, cuts_hold, echelon_rows_are_one};
 use cert_stream::taken_are_bodies;
+use cert_trees::plans_are_within;
 use existence::{plans_are_judged, runs_come_out};
 use group_existence::{groups_are_judged, numbers_exist};
 use late_starts::charges_cover;
 use lot_sizing::{least_stocks_are_best, totals_are_one, weights_are_one};
+use lp_bounds::base_bounds_are_floors;
+use lp_relaxation::{base_names_are_all, empty_is_said, least_is_said};
 use reduced_leaf::{known_exists, reduced_by_both, reduced_sums_are_one};
-use root_rows::{base_names_are_all, empty_is_said, least_is_said};
-use split_trees::plans_are_within;
 
 /// A problem in which no item is its own component has a program of its base rows. Its tableau has too many cells;
 /// or there is a base bound, no point meets the base rows, or the exact run comes to a number that doesn't fit 128 bits.

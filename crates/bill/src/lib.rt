@@ -1,7 +1,7 @@
 //! Bills of materials: which items are components of which, over any number of lines, and how much of
 //! them goes into one unit.
 //!
-//! Family: models. It stands on `lot_sizing`; `lot_model`, `echelon`, `existence`, `cert_checker`, `root_rounds`,
+//! Family: models. It stands on `lot_sizing`; `lot_model`, `echelon`, `existence`, `cert_checker`, `lp_root`,
 //! `answers_exist` and `lotplan` stand on it.
 //!
 //! `BillLines` lends the list of each item's components. `Ranking` gives each item a number above those

@@ -1,3 +1,10 @@
-pub mod Found
-pub mod Blocks
-pub mod NoRoom
+pub mod Search
+pub mod SearchWithin
+pub mod Leaves
+pub mod Begun
+pub mod Beginning
+pub mod Adding
+pub mod Knowing
+pub mod Finishing
+pub mod Answer
+pub mod Branching

@@ -1,24 +1,38 @@
-//! Plans with certificates.
+//! The search of every model: branching on quantities and setups, with cuts, and a certificate of what is found.
 //!
-//! Family: search. It stands on `uncoupled`, which plans items by themselves, and on `acceptance` and
-//! `cert_checker`, which say what a certificate has to be; `root_rounds`, `branch_and_cut` and
-//! `lotplan` stand on it.
+//! `search_all` searches the plans of a model, and `search` those within `Ranges` that are given. Each gives a `Found`: a plan,
+//! if there is one, and a certificate of what is claimed. Both are given what proposes leaves, branches and plans (`Plugins`), and
+//! what is told of the search and may end it (`search_plugins`); what they promise holds for any. `Wanted` has the budget, a plan to
+//! begin with, the newest version that the certificate may have, and the `Limits`, which say where a search may end though its plan
+//! isn't shown to be best.
 //!
-//! What a search finds is a `Found`: a certificate, the plan that goes with it, what was said at the root, and
-//! the number of nodes. `plan_uncoupled` plans instances whose items have nothing to do with each other: its
-//! certificate has a block cut of each item and one leaf, which takes each cut once and says the plan's cost; or,
-//! where an item has no room for what is left of its opening stock, a leaf by Farkas' lemma.
-//!
-//! `block_leaves_are_certified` and `no_room_is_certified` are the laws that these two certificates are accepted.
+//! Family: search. It stands on `tree_search` for the tree, on `node_domains` for the ranges, on `lp_root`, `item_bound` and
+//! `lp_bounds` for cuts and leaves, on `incumbent` for the best plan, on `search_plugins` for what is plugged in, on
+//! `uncoupled` for uncoupled models, and on `leaf_growth`, `cert_checker` and `cert_meaning` for what certificates are; `lotplan`
+//! stands on it. No plugin is below it.
 #![tactic(auto)]
 
-mod blocks;
-mod found;
-mod laws;
-mod no_room;
-mod uncoupled_plans;
+mod adding;
+mod asking;
+mod beginning;
+mod finishing;
+mod guiding;
+mod impossible;
+mod judging;
+mod knowing;
+mod plugged;
+mod pointing;
+mod pricing;
+mod searching;
+mod splitting;
+mod versions;
+mod wanted;
+mod whole;
 
-pub use found::{Found, PassedAt, RootSays};
-pub use laws::{block_leaves_are_certified, echelons_are_items};
-pub use no_room::no_room_is_certified;
-pub use uncoupled_plans::plan_uncoupled;
+pub use lp_root::{Root, root};
+pub use node_domains::Ranges;
+pub use plugged::Plugins;
+pub use search_result::{Found, PassedAt, RootSays};
+pub use searching::{search, search_all};
+pub use tree_search::Limits;
+pub use wanted::Wanted;

@@ -2,9 +2,9 @@
 ghost use Rattle.std.specs.Prelude.{false, None, []};
 ghost use Rattle.lot_io.specs.Outside.{Printed, Shelved};
 
+use heur_plugin::Plans;
 use lot_io::{MemoryShelf, MemorySink, Shelf, ShelfFault, Sink, SinkFailed, WriteFailed};
 use lotplan::run;
-use plan_plugin::Plans;
 use price_plugin::Prices;
 use std::alloc::{AllocError, Global};
 use std::collections::BTreeMap;

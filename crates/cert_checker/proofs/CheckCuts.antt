@@ -14,11 +14,11 @@ use Rattle.lin_rows.specs.Rows.{HoldsAt, HoldsIn, LinPoint, LinRow, whole_point}
 use Rattle.cert_lines.specs.declared.parts.Cut.{Cut}
 use Rattle.cert_lines.specs.Shapes.{CutShape, cut_shape}
 use Rattle.certificate.specs.Values.{all_cut_values, cut_values}
-use Rattle.split_trees.specs.Ranges.{WithTotals}
-use Rattle.acceptance.specs.Accepts.{IsSmallCut}
-use Rattle.acceptance.specs.CutRows.{IsCutRow}
-use Rattle.acceptance.specs.Laws.{CutRowsGoOn, HoldAtPlans, SmallCutsGoOn}
-use Rattle.acceptance.proofs.Rows.{hold_push, of_push}
+use Rattle.cert_trees.specs.Ranges.{WithTotals}
+use Rattle.cert_meaning.specs.Accepts.{IsSmallCut}
+use Rattle.cert_meaning.specs.CutRows.{IsCutRow}
+use Rattle.cert_meaning.specs.Laws.{CutRowsGoOn, HoldAtPlans, SmallCutsGoOn}
+use Rattle.cert_meaning.proofs.Rows.{hold_push, of_push}
 use Rattle.cert_checker.specs.declared.fault.CheckFault.{CheckFault}
 use Rattle.cert_checker.specs.declared.fault.Why.{Why}
 use Rattle.cert_checker.specs.Leaves.{IfRejected}

@@ -11,10 +11,10 @@ use Rattle.lin_rows.specs.declared.column.Column.{Column}
 use Rattle.backlog_dp.specs.Broken.{IsFirstBroken}
 use Rattle.cert_lines.specs.declared.parts.Part.{Part}
 use Rattle.cert_lines.specs.Shapes.{BlockLists}
-use Rattle.split_trees.specs.Ranges.{Ranges}
-use Rattle.acceptance.specs.Named.{IsNamed, Named, row_named}
-use Rattle.acceptance.specs.Parts.{AreParts, AreSmall}
-use Rattle.acceptance.specs.Says.{IsPoint}
+use Rattle.cert_trees.specs.Ranges.{Ranges}
+use Rattle.cert_meaning.specs.Named.{IsNamed, Named, row_named}
+use Rattle.cert_meaning.specs.Parts.{AreParts, AreSmall}
+use Rattle.cert_meaning.specs.Says.{IsPoint}
 use Rattle.cert_checker.specs.declared.fault.Why.{Why}
 use Rattle.cert_checker.specs.declared.fault.Why.TheVariants as why
 use Rattle.cert_checker.specs.Cuts.{HasSteps, IsBlockCutFault, IsBlockForm, IsFormFault, IsRoundFault, single_priced}

@@ -15,16 +15,16 @@ use Rattle.cert_lines.specs.declared.parts.Part.{Part}
 use Rattle.cert_lines.specs.Shapes.{BlockCut, BlockLists, CutShape, FarkasLeaf, LeafShape, LinearLeaf, LsCut, PointLeaf, PriceCut, ReducedLeaf, RoundCut}
 use Rattle.certificate.specs.Shapes.{End, Shape, Split, TreeShape}
 use Rattle.certificate.specs.Values.{all_cut_values, tree_values}
-use Rattle.split_trees.specs.Ranges.{Ranges}
-use Rattle.split_trees.specs.Trees.{EachLeaf, IsSplitTree, high_path, low_path}
-use Rattle.acceptance.specs.declared.says.LeafSays.{LeafSays}
-use Rattle.acceptance.specs.declared.says.LeafSays.TheVariants.{NoPlan, AtLeast}
-use Rattle.acceptance.specs.Named.{Named, names, no_row}
-use Rattle.acceptance.specs.Parts.{AreParts, AreSmall}
-use Rattle.acceptance.specs.Says.{IsFarkas, IsPoint, Says}
-use Rattle.acceptance.specs.CutRows.{AreCutRows, IsBlockCut, IsCutRow}
-use Rattle.acceptance.specs.Accepts.{AreSmallCuts, IsEnough, IsSmallCut, IsSmallLeaf, SaysEnough}
-use Rattle.acceptance.specs.Laws.{CutRowsAreOne, CutRowsByPlaces}
+use Rattle.cert_trees.specs.Ranges.{Ranges}
+use Rattle.cert_trees.specs.Trees.{EachLeaf, IsSplitTree, high_path, low_path}
+use Rattle.cert_meaning.specs.declared.says.LeafSays.{LeafSays}
+use Rattle.cert_meaning.specs.declared.says.LeafSays.TheVariants.{NoPlan, AtLeast}
+use Rattle.cert_meaning.specs.Named.{Named, names, no_row}
+use Rattle.cert_meaning.specs.Parts.{AreParts, AreSmall}
+use Rattle.cert_meaning.specs.Says.{IsFarkas, IsPoint, Says}
+use Rattle.cert_meaning.specs.CutRows.{AreCutRows, IsBlockCut, IsCutRow}
+use Rattle.cert_meaning.specs.Accepts.{AreSmallCuts, IsEnough, IsSmallCut, IsSmallLeaf, SaysEnough}
+use Rattle.cert_meaning.specs.Laws.{CutRowsAreOne, CutRowsByPlaces}
 use Rattle.cert_checker.specs.declared.fault.CheckFault.{CheckFault}
 use Rattle.cert_checker.specs.declared.fault.CheckFault.TheVariants as fault
 use Rattle.cert_checker.specs.declared.fault.Why.{Why}

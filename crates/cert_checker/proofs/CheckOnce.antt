@@ -18,13 +18,13 @@ use Rattle.cert_lines.specs.declared.parts.Claim.TheVariants.{Optimal, Infeasibl
 use Rattle.cert_lines.specs.Shapes.{BlockCut, BlockLists, CutShape, FarkasLeaf, LeafShape, LinearLeaf, LsCut, PointLeaf, PriceCut, ReducedLeaf, RoundCut}
 use Rattle.certificate.specs.Shapes.{End, Shape, Split, TreeShape}
 use Rattle.certificate.specs.Values.{all_cut_values, tree_values}
-use Rattle.split_trees.specs.Ranges.{Ranges}
-use Rattle.split_trees.specs.Trees.{high_path, low_path}
-use Rattle.acceptance.specs.declared.says.LeafSays.TheVariants.{AtLeast}
-use Rattle.acceptance.specs.Named.{Named, names}
-use Rattle.acceptance.specs.Accepts.{AreSmallCuts}
-use Rattle.acceptance.specs.CutRows.{AreCutRows}
-use Rattle.acceptance.specs.Laws.{CutRowsAreOne, CutRowsByPlaces}
+use Rattle.cert_trees.specs.Ranges.{Ranges}
+use Rattle.cert_trees.specs.Trees.{high_path, low_path}
+use Rattle.cert_meaning.specs.declared.says.LeafSays.TheVariants.{AtLeast}
+use Rattle.cert_meaning.specs.Named.{Named, names}
+use Rattle.cert_meaning.specs.Accepts.{AreSmallCuts}
+use Rattle.cert_meaning.specs.CutRows.{AreCutRows}
+use Rattle.cert_meaning.specs.Laws.{CutRowsAreOne, CutRowsByPlaces}
 use Rattle.cert_checker.specs.declared.fault.Why.{Why}
 use Rattle.cert_checker.specs.declared.fault.Why.TheVariants as why
 use Rattle.cert_checker.specs.Cuts.{IsCutFault, IsFormFault, IsLsForm, IsPriceForm, single_priced}

@@ -12,13 +12,13 @@ use Rattle.cert_lines.specs.declared.parts.Claim.TheVariants.{Optimal, Infeasibl
 use Rattle.lin_rows.specs.declared.bound.Bound.{Bound}
 use Rattle.certificate.specs.Shapes.{End, Shape, Split, TreeShape}
 use Rattle.certificate.specs.Values.{all_cut_values}
-use Rattle.split_trees.specs.Laws.{PlansAreWithin}
-use Rattle.split_trees.specs.Ranges.{WithTotals, whole_ranges}
-use Rattle.split_trees.specs.Trees.{EachLeaf, high_path, low_path}
+use Rattle.cert_trees.specs.Laws.{PlansAreWithin}
+use Rattle.cert_trees.specs.Ranges.{WithTotals, whole_ranges}
+use Rattle.cert_trees.specs.Trees.{EachLeaf, high_path, low_path}
 use Rattle.bill.specs.Laws.{WeightsExist}
-use Rattle.acceptance.specs.Accepts.{GoesWith, IsSmallLeaf, IsTrueOf, SaysEnough}
-use Rattle.acceptance.specs.Laws.{AcceptedIsTrue}
-use Rattle.acceptance.specs.Named.{names}
+use Rattle.cert_meaning.specs.Accepts.{GoesWith, IsSmallLeaf, IsTrueOf, SaysEnough}
+use Rattle.cert_meaning.specs.Laws.{AcceptedIsTrue}
+use Rattle.cert_meaning.specs.Named.{names}
 use Rattle.cert_checker.specs.declared.fault.CheckFault.{CheckFault}
 use Rattle.cert_checker.specs.declared.fault.Why.{Why}
 use Rattle.cert_checker.specs.Cuts.{OfProblem}

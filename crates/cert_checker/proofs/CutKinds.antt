@@ -22,8 +22,8 @@ use Rattle.facility_form.specs.PriceRow.{IsPriceFault, price_row_of}
 use Rattle.backlog_dp.specs.Broken.{IsFirstBroken}
 use Rattle.backlog_dp.specs.BlockRow.{IsAllowed, IsBlockFault, block_row_of, priced_by}
 use Rattle.cert_lines.specs.Shapes.{BlockCut, CutShape, LsCut, PriceCut, block_lists, price_lists}
-use Rattle.acceptance.specs.CutRows.{HasEchelon, echelon_at}
-use Rattle.acceptance.specs.Laws.{EchelonRowsAreOne}
+use Rattle.cert_meaning.specs.CutRows.{HasEchelon, echelon_at}
+use Rattle.cert_meaning.specs.Laws.{EchelonRowsAreOne}
 use Rattle.cert_checker.specs.declared.fault.CheckFault.{CheckFault}
 use Rattle.cert_checker.specs.Cuts.{HoldsAfter, HoldsAlways, IsBlockForm, IsCutEchelon, IsFaultOfCut, IsItem, IsLsForm, IsPriceForm, IsRowOfCut, fault_on}
 

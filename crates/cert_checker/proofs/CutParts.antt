@@ -25,10 +25,10 @@ use Rattle.round_cuts.specs.Rounding.{IsCeiling, IsRounded, IsTooLarge, column_a
 use Rattle.round_cuts.specs.declared.rounding.TheConstants.{MAX_DIVISOR}
 use Rattle.cert_lines.specs.declared.parts.Part.{Part}
 use Rattle.cert_lines.specs.Shapes.{RoundCut}
-use Rattle.acceptance.specs.Named.{HasName, Named, names, no_row, row_named}
-use Rattle.acceptance.specs.Parts.{AreParts, AreSmall, IsPart, rows_of, times_of}
-use Rattle.acceptance.specs.CutRows.{IsCutRow}
-use Rattle.acceptance.proofs.Rows.{columns_at, hold_at, hold_push, of_push, parts_signed}
+use Rattle.cert_meaning.specs.Named.{HasName, Named, names, no_row, row_named}
+use Rattle.cert_meaning.specs.Parts.{AreParts, AreSmall, IsPart, rows_of, times_of}
+use Rattle.cert_meaning.specs.CutRows.{IsCutRow}
+use Rattle.cert_meaning.proofs.Rows.{columns_at, hold_at, hold_push, of_push, parts_signed}
 use Rattle.cert_checker.specs.declared.fault.Why.{Why}
 use Rattle.cert_checker.specs.declared.fault.Why.TheVariants as why
 use Rattle.cert_checker.specs.Leaves.{IsFirstWrong, no_part}

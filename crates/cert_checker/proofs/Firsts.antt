@@ -8,7 +8,7 @@ use Rattle.lin_rows.specs.declared.column.Column.TheVariants.{X, Y, S, R}
 use Rattle.lin_rows.specs.Columns.{IsCell, IsColumn, order_of}
 use Rattle.lin_rows.specs.Sums.{Summed, item_of, kind_of, period_of}
 use Rattle.lin_rows.proofs.Below.{one_by_parts}
-use Rattle.acceptance.proofs.Columns.{one_column, order_is}
+use Rattle.cert_meaning.proofs.Columns.{one_column, order_is}
 use Rattle.cert_checker.specs.Named.{IsAny, IsFirstLarge, IsLarge, IsOfItem, IsOfKind, IsWithinCost, place_of}
 use Rattle.cert_checker.specs.declared.columns.Kind.{Kind}
 use Rattle.cert_checker.specs.declared.columns.Kind.TheVariants as kinds

@@ -7,7 +7,7 @@ use Rattle.std.proofs.lemmas.Grind.{div_ceil_times}
 use Rattle.std.proofs.Math.Nat.{mul-le-mul_left}
 use Rattle.algebra.proofs.Integers.{mul_zero}
 use Rattle.algebra.proofs.Order.{linear}
-use Rattle.acceptance.specs.Says.{IsRoundedUp}
+use Rattle.cert_meaning.specs.Says.{IsRoundedUp}
 
 least_quotient : (d a n k : ℕ) → n * d < a + d → a ≤ d * k → n ≤ k
 least_quotient d a n k high most =

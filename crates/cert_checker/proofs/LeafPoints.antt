@@ -9,10 +9,10 @@ use Rattle.lin_rows.specs.declared.column.Column.{Column}
 use Rattle.lin_rows.specs.declared.column.Column.TheVariants.{X, Y, S, R}
 use Rattle.lin_rows.specs.Rows.{LinRow}
 use Rattle.plan_rules.specs.Rows.{HasNoPlan, IsLeastWith}
-use Rattle.split_trees.specs.Paths.{left_by}
-use Rattle.split_trees.specs.Ranges.{IsChoice, whole_ranges}
-use Rattle.acceptance.specs.Named.{names}
-use Rattle.acceptance.specs.Says.{HasNone, HasOneValue, IsLeastCost, IsPoint, point_make, point_setup}
+use Rattle.cert_trees.specs.Paths.{left_by}
+use Rattle.cert_trees.specs.Ranges.{IsChoice, whole_ranges}
+use Rattle.cert_meaning.specs.Named.{names}
+use Rattle.cert_meaning.specs.Says.{HasNone, HasOneValue, IsLeastCost, IsPoint, point_make, point_setup}
 use Rattle.cert_checker.specs.Leaves.{HasOpenChoice, IsLeftOne, IsPointAt}
 
 open_at : (m : Problem) (total : ℕ → ℕ) (cuts : List LinRow) (path : List Bound) (c : Column) → IsChoice m c → (HasOneValue (left_by (whole_ranges total) path c) → ⊥) → IsPoint (names m total cuts path) (whole_ranges total) → ⊥

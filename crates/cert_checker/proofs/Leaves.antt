@@ -8,9 +8,9 @@ use Rattle.lin_rows.specs.declared.column.Column.{Column}
 use Rattle.lin_rows.specs.Columns.{column_cost}
 use Rattle.lin_rows.specs.Sums.{Summed}
 use Rattle.cert_lines.specs.declared.parts.Part.{Part}
-use Rattle.acceptance.specs.Named.{IsNamed, Named}
-use Rattle.acceptance.specs.Parts.{AreParts, AreSmall, IsPart, sum_of_column, sum_of_right}
-use Rattle.acceptance.specs.Says.{IsFarkas, IsLinear, IsRoundedUp}
+use Rattle.cert_meaning.specs.Named.{IsNamed, Named}
+use Rattle.cert_meaning.specs.Parts.{AreParts, AreSmall, IsPart, sum_of_column, sum_of_right}
+use Rattle.cert_meaning.specs.Says.{IsFarkas, IsLinear, IsRoundedUp}
 use Rattle.cert_checker.specs.declared.fault.CheckFault.{CheckFault}
 use Rattle.cert_checker.specs.declared.fault.CheckFault.TheVariants.{Memory, Rejected}
 use Rattle.cert_checker.specs.declared.fault.Why.{Why}

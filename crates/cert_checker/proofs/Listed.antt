@@ -10,9 +10,9 @@ use Rattle.cert_lines.specs.declared.parts.ListKind.{ListKind}
 use Rattle.cert_lines.specs.declared.parts.Part.{Part}
 use Rattle.cert_lines.specs.declared.parts.PartList.{PartList}
 use Rattle.cert_lines.specs.Shapes.{ListShape, list_shape}
-use Rattle.acceptance.specs.Named.{Named}
-use Rattle.acceptance.specs.Parts.{AreParts, IsPart}
-use Rattle.acceptance.specs.Lists.{AreListed, HasEach, all_parts, list_row, parts_from, parts_of_list}
+use Rattle.cert_meaning.specs.Named.{Named}
+use Rattle.cert_meaning.specs.Parts.{AreParts, IsPart}
+use Rattle.cert_meaning.specs.Lists.{AreListed, HasEach, all_parts, list_row, parts_from, parts_of_list}
 use Rattle.cert_checker.specs.declared.fault.Why.{Why}
 use Rattle.cert_checker.specs.Laws.{IsSameFault}
 use Rattle.cert_checker.specs.Leaves.{IsFirstWrongList, IsList, IsWrongList, no_list}

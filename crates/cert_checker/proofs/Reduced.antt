@@ -19,14 +19,14 @@ use Rattle.reduced_leaf.specs.Laws.{ChoicesAreOne, SumsAreOne}
 use Rattle.reduced_leaf.specs.Leaf.{IsAnswerOf, IsSmallSum}
 use Rattle.cert_lines.specs.declared.parts.Part.{Part}
 use Rattle.cert_lines.specs.Shapes.{LeafShape, ListShape, ReducedLeaf}
-use Rattle.split_trees.specs.Ranges.{Ranges, WithTotals, whole_ranges}
-use Rattle.acceptance.specs.declared.says.LeafSays.{LeafSays}
-use Rattle.acceptance.specs.declared.says.LeafSays.TheVariants.{AtLeast, NoPlan}
-use Rattle.acceptance.specs.Named.{Named, names}
-use Rattle.acceptance.specs.Parts.{AreParts, AreSmall, rows_of, times_of}
-use Rattle.acceptance.specs.Lists.{all_parts}
-use Rattle.acceptance.specs.Says.{GroupLacksChoice, IsRanked, IsSumOf, Says}
-use Rattle.acceptance.specs.Accepts.{IsSmallLeaf}
+use Rattle.cert_trees.specs.Ranges.{Ranges, WithTotals, whole_ranges}
+use Rattle.cert_meaning.specs.declared.says.LeafSays.{LeafSays}
+use Rattle.cert_meaning.specs.declared.says.LeafSays.TheVariants.{AtLeast, NoPlan}
+use Rattle.cert_meaning.specs.Named.{Named, names}
+use Rattle.cert_meaning.specs.Parts.{AreParts, AreSmall, rows_of, times_of}
+use Rattle.cert_meaning.specs.Lists.{all_parts}
+use Rattle.cert_meaning.specs.Says.{GroupLacksChoice, IsRanked, IsSumOf, Says}
+use Rattle.cert_meaning.specs.Accepts.{IsSmallLeaf}
 use Rattle.cert_checker.specs.declared.fault.CheckFault.{CheckFault}
 use Rattle.cert_checker.specs.declared.fault.Why.{Why}
 use Rattle.cert_checker.specs.Leaves.{HasLine, IfRejected, IsFaultOfLeaf, IsFirstWrong, IsFirstWrongList, IsGoodSum, IsLeafFault, IsList, IsReducedFault, IsRefusedAs, IsSaidBy, IsShortBy, IsShortReduced, IsSumFault, LeafIsSmall, LeafSaysThis, WithNames, linear_most}

@@ -13,15 +13,15 @@ use Rattle.reduced_leaf.specs.Laws.{ChoicesAreOne, FaultsAreOne, FaultsExclude, 
 use Rattle.reduced_leaf.specs.Leaf.{AreGroupsFor, IsAnswerOf, IsSmallSum}
 use Rattle.cert_lines.specs.declared.parts.Part.{Part}
 use Rattle.cert_lines.specs.Shapes.{ListShape, ReducedLeaf}
-use Rattle.split_trees.specs.Ranges.{Ranges}
-use Rattle.acceptance.specs.declared.says.LeafSays.{LeafSays}
-use Rattle.acceptance.specs.declared.says.LeafSays.TheVariants.{AtLeast, NoPlan}
-use Rattle.acceptance.specs.Named.{Named}
-use Rattle.acceptance.specs.Parts.{AreSmall, rows_of, times_of}
-use Rattle.acceptance.specs.Lists.{AreListed, all_parts}
-use Rattle.acceptance.specs.Says.{GroupLacksChoice, IsRanked, IsSumOf, Says}
-use Rattle.acceptance.specs.Accepts.{IsSmallLeaf}
-use Rattle.acceptance.specs.Laws.{SaysAreOne}
+use Rattle.cert_trees.specs.Ranges.{Ranges}
+use Rattle.cert_meaning.specs.declared.says.LeafSays.{LeafSays}
+use Rattle.cert_meaning.specs.declared.says.LeafSays.TheVariants.{AtLeast, NoPlan}
+use Rattle.cert_meaning.specs.Named.{Named}
+use Rattle.cert_meaning.specs.Parts.{AreSmall, rows_of, times_of}
+use Rattle.cert_meaning.specs.Lists.{AreListed, all_parts}
+use Rattle.cert_meaning.specs.Says.{GroupLacksChoice, IsRanked, IsSumOf, Says}
+use Rattle.cert_meaning.specs.Accepts.{IsSmallLeaf}
+use Rattle.cert_meaning.specs.Laws.{SaysAreOne}
 use Rattle.cert_checker.specs.declared.fault.Why.{Why}
 use Rattle.cert_checker.specs.Leaves.{AreWithinMost, IsGroupsFault, IsReducedFault, IsRefusedAs, IsShortReduced, linear_most}
 use Rattle.cert_checker.proofs.Listed.{listed_lists, listed_parts, no_first_wrong_list}

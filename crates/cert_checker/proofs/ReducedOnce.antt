@@ -10,10 +10,10 @@ use Rattle.reduced_leaf.specs.declared.sums.ReducedSum.TheVariants.{Sum}
 use Rattle.reduced_leaf.specs.Faults.{IsReducedFaultOf}
 use Rattle.cert_lines.specs.declared.parts.Part.{Part}
 use Rattle.cert_lines.specs.Shapes.{ListShape}
-use Rattle.acceptance.specs.Named.{Named}
-use Rattle.acceptance.specs.Parts.{AreParts, rows_of, times_of}
-use Rattle.acceptance.specs.Lists.{all_parts}
-use Rattle.acceptance.specs.Says.{IsRanked, IsSumOf}
+use Rattle.cert_meaning.specs.Named.{Named}
+use Rattle.cert_meaning.specs.Parts.{AreParts, rows_of, times_of}
+use Rattle.cert_meaning.specs.Lists.{all_parts}
+use Rattle.cert_meaning.specs.Says.{IsRanked, IsSumOf}
 use Rattle.cert_checker.specs.declared.fault.Why.{Why}
 use Rattle.cert_checker.specs.declared.fault.Why.TheVariants as why
 use Rattle.cert_checker.specs.Laws.{IsSameFault}

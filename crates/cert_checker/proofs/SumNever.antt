@@ -5,8 +5,8 @@ use Rattle.std.proofs.lemmas.List.Elements.{All-get_or}
 use Rattle.algebra.proofs.Order.{linear}
 use Rattle.lin_rows.specs.declared.column.Column.{Column}
 use Rattle.cert_lines.specs.declared.parts.Part.{Part}
-use Rattle.acceptance.specs.Named.{Named}
-use Rattle.acceptance.specs.Parts.{AreParts, AreSmall, IsPart}
+use Rattle.cert_meaning.specs.Named.{Named}
+use Rattle.cert_meaning.specs.Parts.{AreParts, AreSmall, IsPart}
 use Rattle.cert_checker.specs.declared.fault.Why.{Why}
 use Rattle.cert_checker.specs.Leaves.{AreWithinMost, IsFirstWrong, IsSumFault, IsWrongPart, no_part}
 use Rattle.cert_checker.proofs.CheckKinds.{part_kind, sum_kind}

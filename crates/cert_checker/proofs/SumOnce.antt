@@ -9,9 +9,9 @@ use Rattle.lot_sizing.specs.Problem.{IsWithinLimits, Problem, item_count}
 use Rattle.lin_rows.specs.declared.column.Column.{Column}
 use Rattle.lin_rows.specs.Columns.{IsColumn, order_of}
 use Rattle.cert_lines.specs.declared.parts.Part.{Part}
-use Rattle.acceptance.specs.Named.{Named}
-use Rattle.acceptance.specs.Parts.{AreParts, IsPart}
-use Rattle.acceptance.proofs.Columns.{column_small, one_place}
+use Rattle.cert_meaning.specs.Named.{Named}
+use Rattle.cert_meaning.specs.Parts.{AreParts, IsPart}
+use Rattle.cert_meaning.proofs.Columns.{column_small, one_place}
 use Rattle.cert_checker.specs.declared.fault.Why.{Why}
 use Rattle.cert_checker.specs.declared.fault.Why.TheVariants as why
 use Rattle.cert_checker.specs.Leaves.{IsFirstColumn, IsFirstWrong, IsSumFault, IsWrongPart, farkas_most, no_part}

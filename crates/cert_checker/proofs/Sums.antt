@@ -20,9 +20,9 @@ use Rattle.lin_rows.specs.Rows.{LinRow}
 use Rattle.lin_rows.specs.Sums.{PassesWith, Summed, coefficient, no_total, total_of, with_more}
 use Rattle.round_cuts.specs.Rounding.{amount_of}
 use Rattle.cert_lines.specs.declared.parts.Part.{Part}
-use Rattle.split_trees.specs.Ranges.{IsChoice}
-use Rattle.acceptance.specs.Named.{Named, names, no_row, row_named}
-use Rattle.acceptance.specs.Parts.{AreSmall, rows_of, times_of}
+use Rattle.cert_trees.specs.Ranges.{IsChoice}
+use Rattle.cert_meaning.specs.Named.{Named, names, no_row, row_named}
+use Rattle.cert_meaning.specs.Parts.{AreSmall, rows_of, times_of}
 use Rattle.cert_checker.specs.Named.{AddsPart, AddsWithin, AreSumsOf, PassesPart, total_of_parts}
 
 -- the multiple of a number that a part takes

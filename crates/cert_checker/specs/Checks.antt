@@ -15,13 +15,13 @@ use Rattle.cert_lines.specs.Shapes.{CutShape, LeafShape, LsCut}
 use Rattle.certificate.specs.declared.line_numbers.TheConstants.{CLAIM_LINE, FIRST_CUT_LINE}
 use Rattle.certificate.specs.Shapes.{End, Shape, Split, TreeShape}
 use Rattle.certificate.specs.Values.{all_cut_values, body_values, tree_values}
-use Rattle.split_trees.specs.Ranges.{Ranges, WithTotals, whole_ranges}
-use Rattle.split_trees.specs.Trees.{EachLeaf, IsSplit, IsSplitTree, high_path, low_path}
-use Rattle.acceptance.specs.declared.says.LeafSays.TheVariants.{AtLeast}
-use Rattle.acceptance.specs.Named.{names}
-use Rattle.acceptance.specs.Says.{Says}
-use Rattle.acceptance.specs.CutRows.{AreCutRows}
-use Rattle.acceptance.specs.Accepts.{AreSmallCuts, Fits, IsAccepted, IsEnough, IsSmallLeaf, SaysEnough}
+use Rattle.cert_trees.specs.Ranges.{Ranges, WithTotals, whole_ranges}
+use Rattle.cert_trees.specs.Trees.{EachLeaf, IsSplit, IsSplitTree, high_path, low_path}
+use Rattle.cert_meaning.specs.declared.says.LeafSays.TheVariants.{AtLeast}
+use Rattle.cert_meaning.specs.Named.{names}
+use Rattle.cert_meaning.specs.Says.{Says}
+use Rattle.cert_meaning.specs.CutRows.{AreCutRows}
+use Rattle.cert_meaning.specs.Accepts.{AreSmallCuts, Fits, IsAccepted, IsEnough, IsSmallLeaf, SaysEnough}
 use Rattle.cert_checker.specs.declared.fault.CheckFault.{CheckFault}
 use Rattle.cert_checker.specs.declared.fault.CheckFault.TheVariants as fault
 use Rattle.cert_checker.specs.declared.fault.Why.{Why}

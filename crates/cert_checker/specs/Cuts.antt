@@ -22,10 +22,10 @@ use Rattle.echelon_rows.specs.Rows.{ArePriced, priced}
 use Rattle.backlog_dp.specs.Broken.{IsFirstBroken}
 use Rattle.cert_lines.specs.declared.parts.Part.{Part}
 use Rattle.cert_lines.specs.Shapes.{BlockLists, CutShape, LsCut, PriceCut, BlockCut, RoundCut, PriceLists}
-use Rattle.split_trees.specs.Ranges.{WithTotals}
-use Rattle.acceptance.specs.Named.{Named, names, row_named}
-use Rattle.acceptance.specs.Parts.{AreParts, AreSmall, rows_of}
-use Rattle.acceptance.specs.CutRows.{IsCutRow, echelon_at}
+use Rattle.cert_trees.specs.Ranges.{WithTotals}
+use Rattle.cert_meaning.specs.Named.{Named, names, row_named}
+use Rattle.cert_meaning.specs.Parts.{AreParts, AreSmall, rows_of}
+use Rattle.cert_meaning.specs.CutRows.{IsCutRow, echelon_at}
 use Rattle.cert_checker.specs.declared.fault.Why.{Why}
 use Rattle.cert_checker.specs.declared.fault.Why.TheVariants as why
 use Rattle.cert_checker.specs.declared.fault.CheckFault.{CheckFault}

@@ -17,16 +17,16 @@ use Rattle.reduced_leaf.specs.Faults.{IsReducedFaultOf}
 use Rattle.cert_lines.specs.declared.parts.ListKind.TheVariants as kind
 use Rattle.cert_lines.specs.declared.parts.Part.{Part}
 use Rattle.cert_lines.specs.Shapes.{LeafShape, LinearLeaf, FarkasLeaf, ListShape, PointLeaf, ReducedLeaf}
-use Rattle.split_trees.specs.Paths.{AreMet, left_by}
-use Rattle.split_trees.specs.Ranges.{IsChoice, Ranges, WithTotals, whole_ranges}
-use Rattle.acceptance.specs.declared.says.LeafSays.{LeafSays}
-use Rattle.acceptance.specs.declared.says.LeafSays.TheVariants.{AtLeast, NoPlan}
-use Rattle.acceptance.specs.Named.{IsNamed, Named, names, row_named}
-use Rattle.acceptance.specs.Parts.{AreParts, AreSmall, rows_of, sum_of_column, sum_of_right, times_of}
-use Rattle.acceptance.specs.Lists.{HasEach, all_parts, parts_of_list}
-use Rattle.acceptance.specs.Says.{HasOneValue, IsPoint, IsRanked, IsRoundedUp, IsSoOf, IsSumOf, Says}
-use Rattle.acceptance.specs.Accepts.{IsSmallLeaf}
-use Rattle.acceptance.specs.Laws.{HoldAtPlans}
+use Rattle.cert_trees.specs.Paths.{AreMet, left_by}
+use Rattle.cert_trees.specs.Ranges.{IsChoice, Ranges, WithTotals, whole_ranges}
+use Rattle.cert_meaning.specs.declared.says.LeafSays.{LeafSays}
+use Rattle.cert_meaning.specs.declared.says.LeafSays.TheVariants.{AtLeast, NoPlan}
+use Rattle.cert_meaning.specs.Named.{IsNamed, Named, names, row_named}
+use Rattle.cert_meaning.specs.Parts.{AreParts, AreSmall, rows_of, sum_of_column, sum_of_right, times_of}
+use Rattle.cert_meaning.specs.Lists.{HasEach, all_parts, parts_of_list}
+use Rattle.cert_meaning.specs.Says.{HasOneValue, IsPoint, IsRanked, IsRoundedUp, IsSoOf, IsSumOf, Says}
+use Rattle.cert_meaning.specs.Accepts.{IsSmallLeaf}
+use Rattle.cert_meaning.specs.Laws.{HoldAtPlans}
 use Rattle.cert_checker.specs.declared.fault.Why.{Why}
 use Rattle.cert_checker.specs.declared.fault.Why.TheVariants as why
 use Rattle.cert_checker.specs.declared.fault.CheckFault.{CheckFault}

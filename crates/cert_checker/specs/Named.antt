@@ -13,8 +13,8 @@ use Rattle.lin_rows.specs.Rows.{LinRow}
 use Rattle.lin_rows.specs.Sums.{AddsRow, HasRoomFor, PassesWith, Summed, coefficient, item_of, kind_of, period_of, total_of}
 use Rattle.round_cuts.specs.Rounding.{amount_of}
 use Rattle.cert_lines.specs.declared.parts.Part.{Part}
-use Rattle.acceptance.specs.Named.{Named, row_named}
-use Rattle.acceptance.specs.Parts.{rows_of, times_of}
+use Rattle.cert_meaning.specs.Named.{Named, row_named}
+use Rattle.cert_meaning.specs.Parts.{rows_of, times_of}
 use Rattle.cert_checker.specs.declared.columns.Kind.{Kind}
 use Rattle.cert_checker.specs.declared.columns.Kind.TheVariants as kinds
 use Rattle.cert_checker.specs.declared.named.NamedRow.{NamedRow}

@@ -7,23 +7,23 @@ ghost use Rattle.cert_lines.specs.Shapes.{cut_shape};
 ghost use Rattle.certificate.specs.Limits.{IsWritable};
 ghost use Rattle.certificate.specs.Shapes.{shape_of};
 ghost use Rattle.certificate.specs.Values.{all_cut_values};
-ghost use Rattle.acceptance.specs.Accepts.{IsTrueOf};
-ghost use Rattle.acceptance.specs.Laws.{HoldAtPlans};
+ghost use Rattle.cert_meaning.specs.Accepts.{IsTrueOf};
+ghost use Rattle.cert_meaning.specs.Laws.{HoldAtPlans};
 ghost use Rattle.cert_checker.specs.Cuts.{HasDivisor};
 ghost use Rattle.cert_checker.specs.Checks.{CutsHaveFault, HasFault, HaveGoodRows, IsGoodCertificate, IsNeverRefused, first_line, line_count, plan_given};
 
 use crate::claims::judge_claim;
 use crate::walk::walk;
 use crate::{CheckFault, NamedSums, cut_row_in};
-use acceptance::{accepted_is_true, cut_rows_are_one, cut_rows_go_on, says_are_one};
 use bill::totals_exist;
+use cert_meaning::{accepted_is_true, cut_rows_are_one, cut_rows_go_on, says_are_one};
+use cert_trees::plans_are_within;
 use certificate::{Certificate, Cut, FIRST_CUT_LINE, cut_lines_count};
 use echelon::Explosion;
 use lin_rows::Row;
 use lot_model::{Instance, an_instance_breaks_no_rule};
 use plan_rules::{Plan, judgement_is_one};
 use reduced_leaf::reduced_sums_are_one;
-use split_trees::plans_are_within;
 use std::alloc::Global;
 
 // The rows of cuts, and the line after them.
@@ -102,7 +102,7 @@ fn examine(
 /// On Ok the claim is true of all plans (`claim`): the plan that was given is feasible, costs what is claimed, and no
 /// feasible plan costs less; no plan is feasible; or every feasible plan costs at least what is claimed. Amounts
 /// are in money. Only an optimal cost asks for a plan; with another claim none is looked at. The certificate is then
-/// accepted by the definition of `acceptance`, and its sums stay below 2^127 (`certified`).
+/// accepted by the definition of `cert_meaning`, and its sums stay below 2^127 (`certified`).
 ///
 /// Otherwise it is refused with the first thing that is wrong, and its line in the certificate's text (`fault`):
 ///

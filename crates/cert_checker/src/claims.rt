@@ -1,12 +1,12 @@
 // What a claim asks for: a plan that goes with it, and leaves that say enough.
 ghost use Rattle.std.specs.Prelude.{◌≡◌, ◌↔◌, IfErr, IfSome, IsNone, IsTrue, OnOk, option_copied};
 ghost use Rattle.cert_lines.specs.declared.parts.Claim.TheVariants.{Optimal};
-ghost use Rattle.acceptance.specs.declared.says.LeafSays.TheVariants.{AtLeast};
-ghost use Rattle.acceptance.specs.Accepts.{IsEnough};
+ghost use Rattle.cert_meaning.specs.declared.says.LeafSays.TheVariants.{AtLeast};
+ghost use Rattle.cert_meaning.specs.Accepts.{IsEnough};
 ghost use Rattle.cert_checker.specs.Checks.{ComesWith, IsOptimalFault, IsPlanFault};
 
 use crate::{Rejected, Why};
-use acceptance::LeafSays;
+use cert_meaning::LeafSays;
 use certificate::{CLAIM_LINE, Claim};
 use lot_model::Instance;
 use plan_rules::{Plan, judge};

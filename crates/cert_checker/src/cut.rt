@@ -3,8 +3,8 @@ ghost use Rattle.std.specs.Prelude.{◌+◌, ◌<◌, ◌^◌, length, IfErr, If
 ghost use Rattle.echelon.specs.Weights.{IsExplosionOf};
 ghost use Rattle.lin_rows.specs.Combining.{AreOfProblem};
 ghost use Rattle.cert_lines.specs.Shapes.{cut_parts, cut_shape};
-ghost use Rattle.split_trees.specs.Ranges.{WithTotals};
-ghost use Rattle.acceptance.specs.Accepts.{IsSmallCut};
+ghost use Rattle.cert_trees.specs.Ranges.{WithTotals};
+ghost use Rattle.cert_meaning.specs.Accepts.{IsSmallCut};
 ghost use Rattle.cert_checker.specs.Cuts.{HasDivisor, HasItsColumns, HoldsAfter, IsFaultOfCut, IsRowOfCut};
 
 use crate::CheckFault;

@@ -8,8 +8,8 @@ ghost use Rattle.cert_checker.specs.Cuts.{HasItsColumns, HoldsAlways, IsCutEchel
 
 use crate::cut_forms::{has_block_form, has_ls_form, has_price_form};
 use crate::{CheckFault, Rejected, Why};
-use acceptance::echelon_rows_are_one;
 use backlog_dp::block_row;
+use cert_meaning::echelon_rows_are_one;
 use echelon::{EchelonItem, Explosion, echelon_of, lead_free};
 use facility_form::price_row;
 use lin_rows::{CutFault, Potentials, Prices, Row, RowFault};

@@ -24,7 +24,7 @@ fn is_price_list(list: &[u64], periods: u32) -> bool
     list.len() == periods as usize && are_prices(list)
 }
 
-// The same of the prices of units, stocks and backlogs.
+// Whether the prices of units, stocks and backlogs each have an entry for each period, none past the largest price.
 fn are_priced(unit: &[u64], hold: &[u64], back: &[u64], periods: u32) -> bool
     ensures { IsTrue result ↔ ArePriced periods unit.now hold.now back.now }
 {

@@ -5,9 +5,9 @@ ghost use Rattle.lot_model.specs.Views.{IsInstance};
 ghost use Rattle.lin_rows.specs.Combining.{AreOfProblem};
 ghost use Rattle.round_cuts.specs.declared.rounding.TheConstants.{MAX_DIVISOR};
 ghost use Rattle.cert_lines.specs.Shapes.{RoundCut};
-ghost use Rattle.split_trees.specs.Ranges.{WithTotals};
-ghost use Rattle.acceptance.specs.Named.{HasName, names};
-ghost use Rattle.acceptance.specs.Parts.{AreParts, AreSmall, times_of};
+ghost use Rattle.cert_trees.specs.Ranges.{WithTotals};
+ghost use Rattle.cert_meaning.specs.Named.{HasName, names};
+ghost use Rattle.cert_meaning.specs.Parts.{AreParts, AreSmall, times_of};
 ghost use Rattle.cert_checker.specs.declared.fault.CheckFault.TheVariants.{Memory};
 ghost use Rattle.cert_checker.specs.Cuts.{AreRowsOf, HasItsColumns, HoldsAfter, IsFaultOfCut, IsRowNamed, IsRowOfCut};
 

@@ -1,8 +1,8 @@
 // Laws about checks, each the contract of a function that does nothing.
 ghost use Rattle.cert_checker.specs.Laws.{CertifiedIsNotRefused, ChecksAreOne, GoodIsNotFaulty, LinesAreBytes};
 
-use acceptance::{cut_rows_are_one, cut_rows_go_on, says_are_one};
 use bill::totals_exist;
+use cert_meaning::{cut_rows_are_one, cut_rows_go_on, says_are_one};
 use plan_rules::judgement_is_one;
 use reduced_leaf::reduced_sums_are_one;
 

@@ -3,7 +3,7 @@ ghost use Rattle.std.specs.Prelude.{◌+◌, ◌<◌, ◌^◌, length, IfErr, If
 ghost use Rattle.lin_rows.specs.Combining.{AreOfProblem};
 ghost use Rattle.cert_lines.specs.Shapes.{leaf_shape};
 ghost use Rattle.certificate.specs.Values.{leaf_values};
-ghost use Rattle.split_trees.specs.Paths.{AreChoices};
+ghost use Rattle.cert_trees.specs.Paths.{AreChoices};
 ghost use Rattle.cert_checker.specs.Named.{IsReadyFor};
 ghost use Rattle.cert_checker.specs.Leaves.{HasDenominator, IsFaultOfLeaf, IsSoOfPlans, LeafIsSmall, LeafSaysThis};
 
@@ -11,11 +11,11 @@ use crate::leaf_point::point_leaf;
 use crate::leaf_reduced::reduced_leaf;
 use crate::leaf_sum::{farkas_leaf, linear_leaf};
 use crate::{CheckFault, NamedSums};
-use acceptance::{LeafSays, leaves_bound};
+use cert_meaning::{LeafSays, leaves_bound};
+use cert_trees::plans_are_within;
 use certificate::Leaf;
 use lin_rows::{Bound, Row};
 use lot_model::{Instance, an_instance_breaks_no_rule};
-use split_trees::plans_are_within;
 use std::alloc::Global;
 
 // What a leaf says, or why it says nothing.

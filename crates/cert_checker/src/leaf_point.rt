@@ -7,18 +7,18 @@ ghost use Rattle.lin_rows.specs.Rows.{LinRow};
 ghost use Rattle.plan_rules.specs.Cells.{Fits, SameApart, table_of};
 ghost use Rattle.plan_rules.specs.Rows.{OtherRowsSame};
 ghost use Rattle.cert_lines.specs.Shapes.{PointLeaf};
-ghost use Rattle.split_trees.specs.Paths.{left_by};
-ghost use Rattle.split_trees.specs.Ranges.{IsChoice, WithTotals, whole_ranges};
-ghost use Rattle.acceptance.specs.Named.{names};
-ghost use Rattle.acceptance.specs.Says.{HasOneValue, Says};
+ghost use Rattle.cert_trees.specs.Paths.{left_by};
+ghost use Rattle.cert_trees.specs.Ranges.{IsChoice, WithTotals, whole_ranges};
+ghost use Rattle.cert_meaning.specs.Named.{names};
+ghost use Rattle.cert_meaning.specs.Says.{HasOneValue, Says};
 ghost use Rattle.cert_checker.specs.Leaves.{HasOpenChoice, IfRejected, IsLeftOne, IsPointAt, IsPointFault};
 
 use crate::{CheckFault, Rejected, Why};
-use acceptance::LeafSays;
+use cert_meaning::LeafSays;
+use cert_trees::branch_range;
 use lin_rows::{Bound, Column};
 use lot_model::Instance;
 use plan_rules::{Grid, complete_at_cost};
-use split_trees::branch_range;
 use std::alloc::Global;
 
 // The value that a path leaves to a quantity or a setup, if it is one.
@@ -64,7 +64,7 @@ fn fill_cell(
     true
 }
 
-// The same of each period of an item.
+// Puts the values of an item in each period into the grids, if the path leaves one of each.
 fn fill_item(
     instance: &Instance,
     path: &[Bound],
@@ -93,7 +93,7 @@ fn fill_item(
     true
 }
 
-// The same of each item and period.
+// Puts the values of each item and period into the grids, if the path leaves one of each.
 fn fill(instance: &Instance, path: &[Bound], make: &mut Grid, setup: &mut Grid) -> bool
     requires make { Fits instance.now make.old }
     requires setup { Fits instance.now setup.old }

@@ -3,9 +3,9 @@ ghost use Rattle.std.specs.Prelude.{◌≡◌, ◌+◌, ◌<◌, ◌^◌, ℕ, l
 ghost use Rattle.std.specs.List.{All};
 ghost use Rattle.lin_rows.specs.Combining.{AreOfProblem};
 ghost use Rattle.cert_lines.specs.Shapes.{ReducedLeaf, list_shape};
-ghost use Rattle.split_trees.specs.Paths.{AreChoices};
-ghost use Rattle.acceptance.specs.Named.{names};
-ghost use Rattle.acceptance.specs.Lists.{all_parts, list_row, parts_of_list};
+ghost use Rattle.cert_trees.specs.Paths.{AreChoices};
+ghost use Rattle.cert_meaning.specs.Named.{names};
+ghost use Rattle.cert_meaning.specs.Lists.{all_parts, list_row, parts_of_list};
 ghost use Rattle.cert_checker.specs.Named.{IsReadyFor};
 ghost use Rattle.cert_checker.specs.Cuts.{rejected};
 ghost use Rattle.cert_checker.specs.Leaves.{HasLine, IfRejected, IsFaultOfLeaf, IsFirstWrongList, IsList, IsRefusedAs, IsSaidBy, IsShortBy, IsWrongList, LeafIsSmall, LeafSaysThis};
@@ -13,7 +13,7 @@ ghost use Rattle.cert_checker.specs.Leaves.{HasLine, IfRejected, IsFaultOfLeaf, 
 use crate::leaf_sum::{rounded_up, sum_within_costs};
 use crate::parts::test_parts;
 use crate::{CheckFault, NamedSums, Rejected, Why};
-use acceptance::LeafSays;
+use cert_meaning::LeafSays;
 use certificate::{Group, ListKind, Part, PartList};
 use lin_rows::{Bound, Column, Row, RowName};
 use lot_model::{Instance, an_instance_breaks_no_rule};

@@ -3,10 +3,10 @@ ghost use Rattle.std.specs.Prelude.{◌≡◌, ◌+◌, ◌<◌, ◌^◌, ◌≤
 ghost use Rattle.lin_rows.specs.declared.column.Column.{Column};
 ghost use Rattle.lin_rows.specs.Combining.{AreOfProblem};
 ghost use Rattle.cert_lines.specs.Shapes.{FarkasLeaf, LinearLeaf};
-ghost use Rattle.split_trees.specs.Paths.{AreChoices};
-ghost use Rattle.acceptance.specs.Named.{names};
-ghost use Rattle.acceptance.specs.Parts.{AreParts, sum_of_right};
-ghost use Rattle.acceptance.specs.Says.{IsRoundedUp};
+ghost use Rattle.cert_trees.specs.Paths.{AreChoices};
+ghost use Rattle.cert_meaning.specs.Named.{names};
+ghost use Rattle.cert_meaning.specs.Parts.{AreParts, sum_of_right};
+ghost use Rattle.cert_meaning.specs.Says.{IsRoundedUp};
 ghost use Rattle.cert_checker.specs.Named.{AreSumsOf, IsReadyFor, IsWithinCost};
 ghost use Rattle.cert_checker.specs.Leaves.{IsFaultOfLeaf, IsGoodSum, LeafIsSmall, LeafSaysThis, WithNames, linear_most};
 
@@ -14,7 +14,7 @@ use crate::columns::first_large;
 use crate::named::AddFault;
 use crate::parts::test_parts;
 use crate::{CheckFault, NamedSums, Rejected, Why};
-use acceptance::LeafSays;
+use cert_meaning::LeafSays;
 use certificate::Part;
 use lin_rows::{Bound, Row};
 use lot_model::Instance;

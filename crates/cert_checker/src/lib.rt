@@ -1,6 +1,6 @@
 //! The checker of certificates: what a leaf says, the row of a cut, and whether a certificate is accepted.
 //!
-//! Family: proofs. It stands on `acceptance`, which says what all of it means, on `split_trees` for the ranges that a
+//! Family: proofs. It stands on `cert_meaning`, which says what all of it means, on `cert_trees` for the ranges that a
 //! branch splits, on the cuts' crates for their rows, and on `plan_rules` for the plan that goes with an optimal
 //! cost; the checker of certificates in files and the search stand on it.
 //!
@@ -33,6 +33,8 @@ mod named;
 mod parts;
 mod walk;
 
+pub use cert_meaning::LeafSays;
+pub use cert_trees::branch_range;
 pub use checking::check;
 pub use claims::{judge_claim, shortfall};
 pub use cut::{cut_row, cut_row_in};
@@ -40,4 +42,5 @@ pub use cut_echelons::echelon_for;
 pub use fault::{CheckFault, Rejected, Why};
 pub use laws::{certified_is_not_refused, checks_are_one, good_is_not_faulty, lines_are_bytes};
 pub use leaf::{leaf_bound, leaf_bound_in};
+pub use lin_rows::Bound;
 pub use named::NamedSums;

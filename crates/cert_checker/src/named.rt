@@ -7,10 +7,10 @@ ghost use Rattle.lin_rows.specs.Base.{HasRow, row_of};
 ghost use Rattle.lin_rows.specs.Columns.{IsColumn};
 ghost use Rattle.lin_rows.specs.Combining.{AreOfProblem};
 ghost use Rattle.lin_rows.specs.Sums.{PassesWith};
-ghost use Rattle.split_trees.specs.Paths.{AreChoices};
-ghost use Rattle.split_trees.specs.Ranges.{WithTotals};
-ghost use Rattle.acceptance.specs.Named.{HasName, names};
-ghost use Rattle.acceptance.specs.Parts.{AreSmall};
+ghost use Rattle.cert_trees.specs.Paths.{AreChoices};
+ghost use Rattle.cert_trees.specs.Ranges.{WithTotals};
+ghost use Rattle.cert_meaning.specs.Named.{HasName, names};
+ghost use Rattle.cert_meaning.specs.Parts.{AreSmall};
 ghost use Rattle.cert_checker.specs.declared.named.AddFault.TheVariants.{TooLarge};
 ghost use Rattle.cert_checker.specs.Named.{AddsPart, AddsWithin, AreSumsFor, AreSumsOf, IsMade, IsReadyFor, IsRowOf, PassesPart};
 

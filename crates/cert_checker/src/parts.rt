@@ -3,8 +3,8 @@ ghost use Rattle.std.specs.Prelude.{◌≡◌, ◌↔◌, ◌+◌, ◌≤◌, �
 ghost use Rattle.lot_sizing.specs.Problem.{Problem};
 ghost use Rattle.lin_rows.specs.declared.base.RowName.TheVariants.{Cut};
 ghost use Rattle.lin_rows.specs.declared.bound.Bound.{Bound};
-ghost use Rattle.acceptance.specs.Named.{HasName, names, row_named};
-ghost use Rattle.acceptance.specs.Parts.{AreParts, IsPart};
+ghost use Rattle.cert_meaning.specs.Named.{HasName, names, row_named};
+ghost use Rattle.cert_meaning.specs.Parts.{AreParts, IsPart};
 ghost use Rattle.cert_checker.specs.Leaves.{IsFirstWrong, IsWrongPart};
 
 use crate::{Rejected, Why};

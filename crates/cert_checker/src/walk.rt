@@ -5,17 +5,17 @@ ghost use Rattle.lin_rows.specs.Combining.{AreOfProblem};
 ghost use Rattle.cert_lines.specs.Shapes.{leaf_shape};
 ghost use Rattle.certificate.specs.Shapes.{tree_shape};
 ghost use Rattle.certificate.specs.Values.{leaf_values, tree_values};
-ghost use Rattle.split_trees.specs.Paths.{AreChoices};
+ghost use Rattle.cert_trees.specs.Paths.{AreChoices};
 ghost use Rattle.cert_checker.specs.Named.{IsReadyFor};
 ghost use Rattle.cert_checker.specs.Leaves.{HasDenominator};
 ghost use Rattle.cert_checker.specs.Checks.{HaveDenominators, LeafHasFault, LeafIsGood, TreeHasFault, TreeIsGood};
 
 use crate::claims::shortfall;
 use crate::{CheckFault, NamedSums, Rejected, Why, leaf_bound_in};
+use cert_trees::is_split;
 use certificate::{Claim, Leaf, Tree, leaf_lines_count};
 use lin_rows::{Bound, Column, Row};
 use lot_model::Instance;
-use split_trees::is_split;
 use std::alloc::{AllocError, Global};
 
 // Goes down to one side of a branch.

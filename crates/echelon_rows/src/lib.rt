@@ -1,7 +1,7 @@
 //! What the rows of all cuts of an echelon share.
 //!
 //! Family: cuts. It stands on `algebra`, `lot_sizing`, `echelon`, `lin_rows` and `valid_inequalities`; `ls_cuts`,
-//! `facility_form` and `backlog_dp`, the proofs (`acceptance`, `cert_checker`) and the search stand on it.
+//! `facility_form` and `backlog_dp`, the proofs (`cert_meaning`, `cert_checker`) and the search stand on it.
 //!
 //! A cut is a row over the columns of the linear model that is made from an `EchelonItem` alone, and that holds at
 //! every feasible plan of any problem whose lead-free item has this echelon (`specs/Plans`). `specs/Rows` has the

@@ -1,6 +1,6 @@
 //! The facility location form of an item by itself, and the price rows that it gives.
 //!
-//! Family: cuts. It stands on `lot_sizing`, `echelon`, `lin_rows`, `valid_inequalities` and `echelon_rows`; `acceptance`,
+//! Family: cuts. It stands on `lot_sizing`, `echelon`, `lin_rows`, `valid_inequalities` and `echelon_rows`; `cert_meaning`,
 //! `answers_exist` and the checker of certificates, which makes price rows of a certificate's prices, stand on it.
 //!
 //! `assign` lays what is made and what is asked for along the same line, in the order of time; what lies over each

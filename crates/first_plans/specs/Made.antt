@@ -6,7 +6,7 @@ use Rattle.plan_rules.specs.Held.{plan_of}
 use Rattle.plan_rules.specs.declared.plan.Planned.{Planned}
 use Rattle.own_plan.specs.OwnPeriod.{IsOwnPeriod}
 pub use Rattle.own_plan.specs.Made.{IsMade, CostsAsOwn}
-pub use Rattle.item_lots.specs.Improved.{IsNoDearer}
+pub use Rattle.heur_items.specs.Improved.{IsNoDearer}
 
 -- the own-period plan, which costs no more than any plan that has its numbers
 pub record IsOwnMade (m : Problem) (q : Plan) (made : Planned) : Type 0 where

@@ -7,7 +7,7 @@ ghost use Rattle.first_plans.specs.Made.{IsMade, IsNoDearer};
 use crate::families::{Families, Lots, family_alone, give_rows, take_rows};
 use crate::improving::{Improving, improved_so};
 use crate::kicks::kicked;
-use item_lots::copy_grid;
+use heur_items::copy_grid;
 use lot_model::Instance;
 use plan_rules::{Grid, Planned, complete_at_cost};
 use std::alloc::{AllocError, Global};

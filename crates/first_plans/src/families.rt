@@ -62,7 +62,7 @@ impl Families {
         }
     }
 
-    // The same for all items.
+    // Gives each item and its components the least of their marks.
     fn tie(&mut self, instance: &Instance) {
         for item in 1..instance.items() + 1 {
             self.tie_item(instance, item);

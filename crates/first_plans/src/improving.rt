@@ -6,8 +6,8 @@ ghost use Rattle.first_plans.specs.Made.{IsMade, IsNoDearer};
 ghost use Rattle.first_plans.specs.Trials.{IsImproved, IsImproving, IsTrial};
 
 use crate::trials::{Trial, change, is_worth_trying};
-use built_plans::built_plan;
-use item_lots::{copy_grid, improve_by_items};
+use heur_build::built_plan;
+use heur_items::{copy_grid, improve_by_items};
 use lot_model::Instance;
 use plan_rules::{Grid, Planned};
 use std::alloc::{AllocError, Global};

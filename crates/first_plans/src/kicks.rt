@@ -7,8 +7,8 @@ ghost use Rattle.first_plans.specs.Trials.{IsTrial};
 
 use crate::improving::{Improving, improved_so};
 use crate::trials::{Trial, change};
-use built_plans::built_plan;
-use item_lots::copy_grid;
+use heur_build::built_plan;
+use heur_items::copy_grid;
 use lot_model::Instance;
 use plan_rules::{Grid, Planned};
 use rand_core::utils::NextWord;

@@ -9,7 +9,7 @@ ghost use Rattle.first_plans.specs.Made.{HasOwn, IsEmptyUnlessPlain, IsGrown, Is
 use crate::by_families::{improved_by_families, tries_within};
 use crate::improving::improved;
 use crate::kicks::kicked;
-use built_plans::{PARTS, built_plan, wanted_apart, wanted_spread};
+use heur_build::{PARTS, built_plan, wanted_apart, wanted_spread};
 use lot_model::{Instance, is_plain};
 use own_plan::own_period_plan;
 use plan_rules::{Grid, Planned};
@@ -23,19 +23,19 @@ pub const BUILDING_WORK: u32 = 4_000_000;
 // is compared with the other items and periods.
 const KICK_WORK: u64 = 400_000_000;
 
-// So often that is done at most with the plan of a whole model.
+// How often the plan of a whole model is changed at random and improved again, at most.
 const MODEL_KICKS: u32 = 100;
 
-// That is done where so many plans may be built for each item and period.
+// Plans are changed at random only where this many plans may be built for each item and period.
 const KICK_SWEEPS: u32 = 32;
 
 // A pattern of setups by which a plan is built.
 #[derive(Clone, Copy)]
 enum Pattern {
-    // Those that items want by themselves, where so many quarters of what their components cost in stock are taken off of what
-    // they cost there.
+    // The setups of a cheapest way to serve each item by itself, where so many quarters of what its components cost in stock are
+    // taken off of what it costs there.
     Apart(u64),
-    // Those of each item in one of so many periods, the items in turn.
+    // A setup of each item in one of so many periods, the items in turn.
     Every(u64),
 }
 
@@ -87,7 +87,7 @@ fn setups_of(alloc: Global, instance: &Instance, pattern: Pattern) -> Result<Gri
     }
 }
 
-// The same with the setups of a pattern.
+// Puts the plan to a list that is built with the setups of a pattern, if there is one.
 fn keep_pattern(
     alloc: Global,
     instance: &Instance,
@@ -101,7 +101,7 @@ fn keep_pattern(
     keep_built(alloc, instance, &wanted, list)
 }
 
-// The same with setups everywhere.
+// Puts the plan to a list that is built with setups everywhere, if there is one.
 fn keep_everywhere(
     alloc: Global,
     instance: &Instance,

@@ -8,9 +8,9 @@ use Rattle.plan_rules.specs.declared.plan.Planned.{Planned}
 use Rattle.plan_rules.specs.Held.{plan_of}
 use Rattle.own_plan.specs.Made.{CostsAsOwn, IsMade}
 use Rattle.own_plan.specs.OwnPeriod.{HasOwnPeriod}
-use Rattle.branch_and_bound.proofs.Endless.{at_most-trans}
-use Rattle.search_ranges.specs.declared.within.Ranges.{Ranges as Given}
-use Rattle.search_ranges.specs.Within.{AllLieWithin, given_ranges}
+use Rattle.tree_search.proofs.Endless.{at_most-trans}
+use Rattle.node_domains.specs.declared.within.Ranges.{Ranges as Given}
+use Rattle.node_domains.specs.Within.{AllLieWithin, given_ranges}
 use Rattle.incumbent.specs.Good.{cost_of}
 use Rattle.incumbent.specs.Kept.{CostsNoMore, IsFirstBest, IsNoWorse, IsNoWorseBest, IsNoWorseIfWithin, KeepsGiven, KeepsOwnMade, cost_kept}
 

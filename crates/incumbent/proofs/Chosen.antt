@@ -11,11 +11,11 @@ use Rattle.plan_rules.specs.Held.{AllFit, plan_of}
 use Rattle.plan_rules.specs.Rows.{HasChosen, HasNoPlan, IfFound, IfNoneFound, IsLeastWith}
 use Rattle.plan_rules.specs.declared.plan.Planned.{Planned}
 use Rattle.lin_rows.specs.Columns.{cell_count}
-use Rattle.acceptance.specs.Says.{HasNone, IsLeastCost}
+use Rattle.cert_meaning.specs.Says.{HasNone, IsLeastCost}
 use Rattle.own_plan.specs.Made.{IsMade}
-use Rattle.branch_and_bound.specs.declared.node.Range.{Range}
-use Rattle.branch_and_bound.specs.Ranges.{range_at}
-use Rattle.search_ranges.specs.Nodes.{cell_place, least_make, least_setup}
+use Rattle.tree_search.specs.declared.node.Range.{Range}
+use Rattle.tree_search.specs.Ranges.{range_at}
+use Rattle.node_domains.specs.Nodes.{cell_place, least_make, least_setup}
 
 -- ---- tables with the same numbers
 choice_on : (m : Problem) (a b c d : Table) (p : terms.Plan) → SameCells m a b → SameCells m c d → HasChoice m a c p → HasChoice m b d p

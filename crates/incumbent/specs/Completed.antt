@@ -3,9 +3,9 @@ use Rattle.std.specs.Prelude.{ℕ, List}
 use Rattle.lot_sizing.specs.Least.{HasChoice}
 use Rattle.lot_sizing.specs.Problem.{Problem}
 use Rattle.lot_sizing.specs.Plan.{Plan}
-use Rattle.acceptance.specs.Says.{HasNone, IsLeastCost}
-use Rattle.branch_and_bound.specs.declared.node.Range.{Range}
-use Rattle.search_ranges.specs.Nodes.{least_make, least_setup}
+use Rattle.cert_meaning.specs.Says.{HasNone, IsLeastCost}
+use Rattle.tree_search.specs.declared.node.Range.{Range}
+use Rattle.node_domains.specs.Nodes.{least_make, least_setup}
 
 -- the plan has them, its quantities and its setups
 abbrev pub HasLeastNumbers : Problem → List Range → Plan → Type 0

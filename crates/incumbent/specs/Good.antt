@@ -4,7 +4,7 @@ use Rattle.lot_sizing.specs.Problem.{Problem}
 use Rattle.lot_sizing.specs.Plan as terms
 use Rattle.plan_rules.specs.declared.plan.Plan.{Plan}
 use Rattle.plan_rules.specs.Held.{AllFit, plan_of}
-use Rattle.split_trees.specs.Ranges.{IsWithin, Ranges}
+use Rattle.cert_trees.specs.Ranges.{IsWithin, Ranges}
 
 -- a feasible plan with a number for each item and period of the problem
 pub record IsGoodPlan (m : Problem) (p : Plan) : Type 0 where

@@ -5,12 +5,12 @@ use Rattle.lot_sizing.specs.Plan as terms
 use Rattle.plan_rules.specs.declared.plan.Plan.{Plan}
 use Rattle.plan_rules.specs.declared.plan.Planned.{Planned}
 use Rattle.plan_rules.specs.Held.{plan_of}
-use Rattle.split_trees.specs.Ranges.{IsWithin, Ranges}
+use Rattle.cert_trees.specs.Ranges.{IsWithin, Ranges}
 use Rattle.own_plan.specs.Made.{IsMade}
 use Rattle.own_plan.specs.OwnPeriod.{IsOwnPeriod}
-use Rattle.branch_and_bound.specs.Costs.{IsAtMost}
-use Rattle.search_ranges.specs.declared.within.Ranges.{Ranges as Given}
-use Rattle.search_ranges.specs.Within.{AllLieWithin, HaveShape, given_ranges}
+use Rattle.tree_search.specs.Costs.{IsAtMost}
+use Rattle.node_domains.specs.declared.within.Ranges.{Ranges as Given}
+use Rattle.node_domains.specs.Within.{AllLieWithin, HaveShape, given_ranges}
 use Rattle.incumbent.specs.Good.{IsGoodWithin, cost_of}
 
 -- ---- plans that were made

@@ -3,14 +3,14 @@ ghost use Rattle.std.specs.Prelude.{◌≡◌, length};
 ghost use Rattle.plan_rules.specs.Held.{plan_of};
 ghost use Rattle.plan_rules.specs.Rows.{IfFound, IfNoneFound};
 ghost use Rattle.own_plan.specs.Made.{IsMade};
-ghost use Rattle.search_ranges.specs.Nodes.{choice_count};
+ghost use Rattle.node_domains.specs.Nodes.{choice_count};
 ghost use Rattle.incumbent.specs.Completed.{HasLeastNumbers, IsLeastCostOfLeast, NoneHasLeast};
 
-use branch_and_bound::Range;
 use lot_model::Instance;
+use node_domains::least_grid;
 use plan_rules::{Planned, complete_at_cost};
-use search_ranges::least_grid;
 use std::alloc::{AllocError, Global};
+use tree_search::Range;
 
 /// A cheapest plan that has the least numbers of a list of ranges, quantities in units and setups, with its cost in money; None
 /// where no feasible plan has them.

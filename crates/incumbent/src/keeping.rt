@@ -1,14 +1,14 @@
 // The best plan so far, and which plans are kept.
 ghost use Rattle.std.specs.Prelude.{◌≡◌, ◌⊎◌, IfOk, IfSome, Some};
 ghost use Rattle.own_plan.specs.Made.{IsMade};
-ghost use Rattle.search_ranges.specs.Within.{given_ranges};
+ghost use Rattle.node_domains.specs.Within.{given_ranges};
 ghost use Rattle.incumbent.specs.Good.{IsGoodWithin};
 ghost use Rattle.incumbent.specs.Kept.{IsBestSoFar, IsFirstBest, IsFirstWithin, IsMadeWithin, IsNoWorse, IsNoWorseBest, IsNoWorseIfWithin, KeepsGiven, cost_kept, plan_kept};
 
 use lot_model::Instance;
+use node_domains::{Ranges, is_within};
 use own_plan::own_period_plan;
 use plan_rules::{Plan, Planned, judge};
-use search_ranges::{Ranges, is_within};
 use std::alloc::{AllocError, Global};
 
 /// The cost of the best plan, in money; None where there is no plan.

@@ -4,9 +4,9 @@
 //! that was found where it lies within the ranges and costs less than the best so far; `best_cost` and `best_plan` give that
 //! one's cost and the plan alone. `plan_at` gives a cheapest plan with the least quantities and setups of a list of ranges.
 //!
-//! Family: search. It stands on `search_ranges` for the ranges, on `own_plan`, which makes the own-period plan, on `plan_rules`,
-//! which judges plans, on the costs of `branch_and_bound`, and on `split_trees` and `acceptance`, by whose definitions a plan is
-//! a cheapest one within ranges; `search_plugins` and `branch_and_cut` stand on it.
+//! Family: search. It stands on `node_domains` for the ranges, on `own_plan`, which makes the own-period plan, on `plan_rules`,
+//! which judges plans, on the costs of `tree_search`, and on `cert_trees` and `cert_meaning`, by whose definitions a plan is
+//! a cheapest one within ranges; `search_plugins` and `branching` stand on it.
 #![tactic(auto)]
 
 mod completing;

@@ -3,7 +3,7 @@
 //! `IntegerGrid` has a number for each line and period: a line is an item or a resource. `numbers` has sums, products and rates
 //! that stay at the largest or the least number where they don't fit.
 //!
-//! Family: plugins. It stands on nothing; `priced_items`, `price_rounds` and `lagged_plans` count in it.
+//! Family: plugins. It stands on nothing; `price_items`, `price_rounds` and `heur_lags` count in it.
 //!
 //! Nothing is claimed of what is counted. What is proved is that the calls are safe and return.
 #![tactic(auto)]

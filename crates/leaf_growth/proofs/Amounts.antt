@@ -6,11 +6,11 @@ use Rattle.lin_rows.specs.Combining.{sum_of}
 use Rattle.lin_rows.specs.Rows.{LinRow}
 use Rattle.round_cuts.specs.Rounding.{amount_of}
 use Rattle.cert_lines.specs.Shapes.{FarkasLeaf, LeafShape, LinearLeaf, PointLeaf, ReducedLeaf}
-use Rattle.split_trees.specs.Ranges.{Ranges}
-use Rattle.acceptance.specs.declared.says.LeafSays.TheVariants.{AtLeast}
-use Rattle.acceptance.specs.Named.{Named}
-use Rattle.acceptance.specs.Parts.{rows_of, times_of}
-use Rattle.acceptance.specs.Says.{IsRoundedUp}
+use Rattle.cert_trees.specs.Ranges.{Ranges}
+use Rattle.cert_meaning.specs.declared.says.LeafSays.TheVariants.{AtLeast}
+use Rattle.cert_meaning.specs.Named.{Named}
+use Rattle.cert_meaning.specs.Parts.{rows_of, times_of}
+use Rattle.cert_meaning.specs.Says.{IsRoundedUp}
 use Rattle.leaf_growth.specs.Growth.{IsOfRows, SaysAt}
 
 below_abs : (z : ℤ) → z ≤ℤ pos (unsigned_abs z)

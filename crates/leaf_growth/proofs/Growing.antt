@@ -17,15 +17,15 @@ use Rattle.reduced_groups.specs.Floors.{shape_of}
 use Rattle.reduced_leaf.specs.Leaf.{IsReducedSum, IsSmallSum, LacksOneChoice}
 use Rattle.cert_lines.specs.declared.parts.Part.{Part}
 use Rattle.cert_lines.specs.Shapes.{FarkasLeaf, LeafShape, LinearLeaf, ListShape, PointLeaf, ReducedLeaf}
-use Rattle.split_trees.specs.Paths.{no_bound}
-use Rattle.split_trees.specs.Ranges.{Ranges, whole_ranges}
-use Rattle.acceptance.specs.declared.says.LeafSays.{LeafSays}
-use Rattle.acceptance.specs.declared.says.LeafSays.TheVariants.{NoPlan, AtLeast}
-use Rattle.acceptance.specs.Named.{IsNamed, names, no_row, row_named}
-use Rattle.acceptance.specs.Parts.{AreParts, AreSmall, IsPart, rows_of, times_of}
-use Rattle.acceptance.specs.Lists.{AreListed, all_parts}
-use Rattle.acceptance.specs.Says.{GroupLacksChoice, IsFarkas, IsLinear, IsReducedBound, IsReducedRefuted, IsSumOf}
-use Rattle.acceptance.specs.Accepts.{IsSmallWith}
+use Rattle.cert_trees.specs.Paths.{no_bound}
+use Rattle.cert_trees.specs.Ranges.{Ranges, whole_ranges}
+use Rattle.cert_meaning.specs.declared.says.LeafSays.{LeafSays}
+use Rattle.cert_meaning.specs.declared.says.LeafSays.TheVariants.{NoPlan, AtLeast}
+use Rattle.cert_meaning.specs.Named.{IsNamed, names, no_row, row_named}
+use Rattle.cert_meaning.specs.Parts.{AreParts, AreSmall, IsPart, rows_of, times_of}
+use Rattle.cert_meaning.specs.Lists.{AreListed, all_parts}
+use Rattle.cert_meaning.specs.Says.{GroupLacksChoice, IsFarkas, IsLinear, IsReducedBound, IsReducedRefuted, IsSumOf}
+use Rattle.cert_meaning.specs.Accepts.{IsSmallWith}
 use Rattle.leaf_growth.specs.Growth.{IsOfRows, LeafSaysSmall, SaysAt}
 
 -- what stands at a place is there when more follows

@@ -10,7 +10,7 @@ use Rattle.lin_rows.specs.declared.column.Column.TheVariants.{X, Y, S, R}
 use Rattle.lin_rows.specs.Texts.{column_text, one_text, two_text}
 use Rattle.cert_lines.specs.Line.{HasForm, HasLine}
 use Rattle.cert_lines.specs.Shapes.{BranchLine}
-use Rattle.split_trees.specs.Ranges.{IsChoice}
+use Rattle.cert_trees.specs.Ranges.{IsChoice}
 
 -- ---- how long numbers are
 one_short : (k n : ℕ) → 0 < k → n < 10 ^ k → n < 10 ^ 64 → length (one_text n) ≤ k + 1

@@ -15,10 +15,10 @@ use Rattle.certificate.specs.Limits.{IsWritable}
 use Rattle.certificate.specs.Shapes.{End, Shape, Split, TreeShape}
 use Rattle.certificate.specs.Values.{AreLines, all_cut_values, cut_values, group_values, leaf_values, list_values, part_values, tree_values}
 use Rattle.certificate.proofs.Shorts.{end_line, lines_join, lines_split}
-use Rattle.split_trees.specs.Spans.{Span}
-use Rattle.split_trees.specs.Ranges.{IsChoice, whole_ranges}
-use Rattle.split_trees.specs.Paths.{cut_span, left_to, narrowed}
-use Rattle.split_trees.specs.Trees.{EachLeaf, IsSplitTree, high_path, low_path}
+use Rattle.cert_trees.specs.Spans.{Span}
+use Rattle.cert_trees.specs.Ranges.{IsChoice, whole_ranges}
+use Rattle.cert_trees.specs.Paths.{cut_span, left_to, narrowed}
+use Rattle.cert_trees.specs.Trees.{EachLeaf, IsSplitTree, high_path, low_path}
 use Rattle.cert_checker.specs.Checks.{line_count}
 use Rattle.leaf_growth.specs.declared.limits.TheConstants.{MAX_NODES}
 use Rattle.leaf_growth.specs.Written.{AreSmallTotals, IsMadeOf, LeafHasLines}

@@ -4,12 +4,12 @@ use Rattle.lot_sizing.specs.Problem.{Problem}
 use Rattle.lin_rows.specs.declared.bound.Bound.{Bound}
 use Rattle.lin_rows.specs.Rows.{LinRow}
 use Rattle.cert_lines.specs.Shapes.{LeafShape, LinearLeaf, FarkasLeaf, PointLeaf, ReducedLeaf}
-use Rattle.split_trees.specs.Ranges.{Ranges}
-use Rattle.acceptance.specs.declared.says.LeafSays.{LeafSays}
-use Rattle.acceptance.specs.declared.says.LeafSays.TheVariants.{AtLeast}
-use Rattle.acceptance.specs.Named.{Named, names}
-use Rattle.acceptance.specs.Says.{Says}
-use Rattle.acceptance.specs.Accepts.{IsSmallLeaf}
+use Rattle.cert_trees.specs.Ranges.{Ranges}
+use Rattle.cert_meaning.specs.declared.says.LeafSays.{LeafSays}
+use Rattle.cert_meaning.specs.declared.says.LeafSays.TheVariants.{AtLeast}
+use Rattle.cert_meaning.specs.Named.{Named, names}
+use Rattle.cert_meaning.specs.Says.{Says}
+use Rattle.cert_meaning.specs.Accepts.{IsSmallLeaf}
 use Rattle.cert_checker.specs.Leaves.{LeafIsSmall, LeafSaysThis}
 
 -- a leaf that takes rows by their names

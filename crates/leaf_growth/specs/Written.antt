@@ -10,8 +10,8 @@ use Rattle.certificate.specs.Counts.{longest_path, node_count}
 use Rattle.certificate.specs.Limits.{IsWritable}
 use Rattle.certificate.specs.Shapes.{Shape, TreeShape}
 use Rattle.certificate.specs.Values.{AreLines, all_cut_values, leaf_values, tree_values}
-use Rattle.split_trees.specs.Ranges.{whole_ranges}
-use Rattle.split_trees.specs.Trees.{EachLeaf, IsSplitTree}
+use Rattle.cert_trees.specs.Ranges.{whole_ranges}
+use Rattle.cert_trees.specs.Trees.{EachLeaf, IsSplitTree}
 use Rattle.cert_checker.specs.Checks.{line_count}
 use Rattle.leaf_growth.specs.declared.limits.TheConstants.{MAX_NODES}
 

@@ -1,7 +1,7 @@
 //! Leaves of certificates while a search goes on: laws alone, and no code that runs.
 //!
-//! Family: search. It stands on `acceptance` and `cert_checker`, which say what a leaf says, and on `certificate`,
-//! which says what a text has to be; `branch_and_cut` stands on it.
+//! Family: search. It stands on `cert_meaning` and `cert_checker`, which say what a leaf says, and on `certificate`,
+//! which says what a text has to be; `branching` stands on it.
 //!
 //! A leaf takes rows by their names. Cuts and the bounds of a path are counted, and more of them follow those that
 //! are there; so what a leaf says at a node it says with more cuts and at each node below, where it takes no single

@@ -1,6 +1,6 @@
 //! Runs of the dual simplex by the least-index rule end (Bland 1977).
 //!
-//! Family: numbers. It stands on `algebra`, `rational`, `frac128` and `tableau`; `base_bound` and `existence` stand
+//! Family: numbers. It stands on `algebra`, `rational`, `frac128` and `tableau`; `lp_bounds` and `existence` stand
 //! on it.
 //!
 //! A run of `tableau` goes from dictionary to dictionary. The variables that are basic in one are its basis, which says

@@ -1,7 +1,7 @@
 -- The model file calls for a status of `bound`, and for one, but where the run may pass.
 use Rattle.std.proofs.Common.{◌≡◌, ◌⊎◌, ◌≤◌, ◌∙◌, ⊎_elim, inl, inr, ℕ, sym, subst, arith, List, Option, Some, None, refl, length}
 use Rattle.std.specs.Prelude.{Ok, Err, Result}
-use Rattle.base_bound.specs.Bounds.{HasFewCells, HasManyCells}
+use Rattle.lp_bounds.specs.Bounds.{HasFewCells, HasManyCells}
 use Rattle.lot_sizing.specs.Problem.{Problem}
 use Rattle.lot_draft.specs.declared.fault.ModelFault.{ModelFault}
 use Rattle.instance_reader.specs.Model.{BytesMean}

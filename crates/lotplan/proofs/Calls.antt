@@ -4,7 +4,7 @@ use Rattle.std.specs.Prelude.{Ok, Err}
 use Rattle.bill.specs.Laws.{TotalsExist, WeightsExist}
 use Rattle.certificate.specs.Laws.{TextsMeanOneThing}
 use Rattle.cert_checker.specs.Laws.{CertifiedIsNotRefused}
-use Rattle.base_bound.specs.Bounds.{BaseBoundsAreOne, CellsAreOne}
+use Rattle.lp_bounds.specs.Bounds.{BaseBoundsAreOne, CellsAreOne}
 use Rattle.lot_sizing.specs.Problem.{Problem}
 use Rattle.lot_sizing.specs.Plan.{Plan}
 use Rattle.lot_sizing.proofs.Same.{SamePlan}

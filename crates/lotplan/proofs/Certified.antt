@@ -21,9 +21,9 @@ use Rattle.lin_rows.specs.declared.column.Column.TheVariants.{X, Y}
 use Rattle.cert_lines.specs.declared.parts.Claim.{Claim}
 use Rattle.cert_lines.specs.declared.parts.Claim.TheVariants.{Optimal, Infeasible, Bound as BoundOf}
 use Rattle.certificate.specs.Shapes.{Shape}
-use Rattle.split_trees.specs.Spans.{IsIn}
-use Rattle.split_trees.specs.Ranges.{IsWithin, Ranges, whole_ranges}
-use Rattle.acceptance.specs.Accepts.{GoesWith}
+use Rattle.cert_trees.specs.Spans.{IsIn}
+use Rattle.cert_trees.specs.Ranges.{IsWithin, Ranges, whole_ranges}
+use Rattle.cert_meaning.specs.Accepts.{GoesWith}
 use Rattle.cert_checker.specs.Laws.{CertifiedIsNotRefused}
 use Rattle.cert_checker.specs.Checks.{ComesWith, IsCertified}
 use Rattle.lotplan.specs.Checking.{GivenCallsFor}

@@ -8,7 +8,7 @@ use Rattle.lot_sizing.specs.Plan.{Plan as Chosen}
 use Rattle.plan_rules.specs.declared.plan.Plan.{Plan}
 use Rattle.plan_rules.specs.Held.{plan_of}
 use Rattle.plan_file.specs.Records.{IsPlanOf, records_of}
-use Rattle.acceptance.specs.Accepts.{IsTrueOf}
+use Rattle.cert_meaning.specs.Accepts.{IsTrueOf}
 use Rattle.cert_lines.specs.declared.parts.Claim.{Claim}
 use Rattle.cert_lines.specs.declared.parts.Claim.TheVariants.{Optimal, Infeasible, Bound as BoundOf}
 use Rattle.certificate.specs.declared.fault.CertTextFault.TheVariants as text

@@ -17,8 +17,8 @@ use Rattle.cert_lines.specs.declared.parts.Claim.TheVariants.{Optimal, Infeasibl
 use Rattle.certificate.specs.Limits.{IsTextOf}
 use Rattle.certificate.specs.Shapes.{shape_of}
 use Rattle.stream_check.specs.Streams.{too_many}
-use Rattle.branching.specs.declared.found.Found.{Found}
-use Rattle.branching.specs.declared.found.RootSays.{RootSays}
+use Rattle.search_result.specs.declared.found.Found.{Found}
+use Rattle.search_result.specs.declared.found.RootSays.{RootSays}
 use Rattle.frozen_start.specs.Starts.{IsFloorAfter}
 use Rattle.frozen_start.specs.Laws.{BestGoOn, FloorsGoOn, JoinsAreFeasible, NoneAgrees}
 use Rattle.command_line.specs.Words.{AreApart}

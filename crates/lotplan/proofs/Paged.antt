@@ -11,7 +11,7 @@ use Rattle.cert_lines.specs.declared.parts.Claim.{Claim}
 use Rattle.cert_lines.specs.declared.parts.Claim.TheVariants.{Optimal, Infeasible, Bound as BoundOf}
 use Rattle.certificate.specs.Faults.{IsCertTextFault}
 use Rattle.certificate.specs.Laws.{TextsMeanOneThing}
-use Rattle.acceptance.specs.Accepts.{IsTrueOf}
+use Rattle.cert_meaning.specs.Accepts.{IsTrueOf}
 use Rattle.cert_checker.specs.Cuts.{OfProblem}
 use Rattle.cert_checker.specs.Checks.{IsCertified, IsCheckFault, plan_given}
 use Rattle.stream_check.specs.declared.fault.StreamFault.{StreamFault}

@@ -8,8 +8,8 @@ use Rattle.lot_sizing.specs.Plan.{Plan, cost}
 use Rattle.plan_rules.specs.declared.plan.Plan.{Plan as Grids}
 use Rattle.cert_lines.specs.declared.parts.Claim.{Claim}
 use Rattle.cert_lines.specs.declared.parts.Claim.TheVariants.{Optimal, Infeasible, Bound as BoundOf}
-use Rattle.branching.specs.declared.found.Found.{Found}
-use Rattle.branch_and_cut.specs.Search.{CostsAtMost, IsDecided}
+use Rattle.search_result.specs.declared.found.Found.{Found}
+use Rattle.branching.specs.Search.{CostsAtMost, IsDecided}
 use Rattle.command_line.specs.Words.{AreApart, Search}
 use Rattle.lotplan.specs.Meaning.{Says}
 use Rattle.lotplan.specs.declared.said.Said.{Said}

@@ -14,14 +14,14 @@ use Rattle.cert_lines.specs.declared.parts.Claim.{Claim}
 use Rattle.cert_lines.specs.declared.parts.Claim.TheVariants.{Optimal, Infeasible, Bound as BoundOf}
 use Rattle.certificate.specs.Limits.{IsTextOf}
 use Rattle.certificate.specs.Shapes.{shape_of}
-use Rattle.split_trees.specs.Ranges.{whole_ranges}
-use Rattle.acceptance.specs.Accepts.{GoesWith, IsTrueOf}
+use Rattle.cert_trees.specs.Ranges.{whole_ranges}
+use Rattle.cert_meaning.specs.Accepts.{GoesWith, IsTrueOf}
 use Rattle.cert_checker.specs.Checks.{ComesWith, IsGoodCertificate, plan_given}
 use Rattle.stream_check.specs.Streams.{too_many}
 use Rattle.own_plan.specs.OwnPeriod.{HasOwnPeriod}
-use Rattle.branching.specs.declared.found.Found.{Found}
-use Rattle.branching.specs.declared.found.RootSays.TheVariants as at_root
-use Rattle.branch_and_cut.specs.Search.{GoesTogether, IsDecided, IsGoodPlan, KeepsOwn, UsesRoot, cost_of}
+use Rattle.search_result.specs.declared.found.Found.{Found}
+use Rattle.search_result.specs.declared.found.RootSays.TheVariants as at_root
+use Rattle.branching.specs.Search.{GoesTogether, IsDecided, IsGoodPlan, KeepsOwn, UsesRoot, cost_of}
 use Rattle.lotplan.specs.declared.said.Said.{Said}
 use Rattle.lotplan.specs.declared.sought.Sought.{Sought}
 use Rattle.lotplan.specs.Proving.{IsGiven}

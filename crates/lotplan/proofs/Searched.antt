@@ -6,9 +6,9 @@ use Rattle.plan_rules.specs.declared.plan.Plan.{Plan}
 use Rattle.lin_rows.specs.Rows.{LinRow}
 use Rattle.cert_lines.specs.declared.parts.Claim.{Claim}
 use Rattle.cert_lines.specs.declared.parts.Claim.TheVariants.{Optimal, Infeasible, Bound as BoundOf}
-use Rattle.branch_and_bound.specs.declared.limits.Limits.{Limits}
-use Rattle.branching.specs.declared.found.Found.{Found}
-use Rattle.branch_and_cut.specs.Search.{DecidesSmall, IfBound, IsUndecided, KeepsFirst, WithRows, cost_of}
+use Rattle.tree_search.specs.declared.limits.Limits.{Limits}
+use Rattle.search_result.specs.declared.found.Found.{Found}
+use Rattle.branching.specs.Search.{DecidesSmall, IfBound, IsUndecided, KeepsFirst, WithRows, cost_of}
 use Rattle.lotplan.specs.Finding.{IsKept}
 
 -- it may only where it is asked

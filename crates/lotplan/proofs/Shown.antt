@@ -10,16 +10,16 @@ use Rattle.plan_rules.specs.declared.plan.Plan.{Plan}
 use Rattle.cert_lines.specs.declared.limits.TheConstants.{MAX_BRANCHES}
 use Rattle.cert_lines.specs.declared.parts.Claim.{Claim}
 use Rattle.cert_lines.specs.declared.parts.Claim.TheVariants.{Optimal, Infeasible, Bound as BoundOf}
-use Rattle.split_trees.specs.Ranges.{WithTotals}
-use Rattle.acceptance.specs.Accepts.{IsTrueOf}
+use Rattle.cert_trees.specs.Ranges.{WithTotals}
+use Rattle.cert_meaning.specs.Accepts.{IsTrueOf}
 use Rattle.cert_checker.specs.Checks.{plan_given}
 use Rattle.own_plan.specs.OwnPeriod.{HasOwnPeriod}
-use Rattle.branch_and_bound.specs.Ranges.{digits}
-use Rattle.branch_and_bound.specs.Whole.{whole_height}
-use Rattle.branch_and_bound.proofs.Halves.{digits-half, digits-zero}
-use Rattle.branching.specs.declared.found.Found.{Found}
-use Rattle.branching.specs.declared.found.RootSays.TheVariants as at_root
-use Rattle.branch_and_cut.specs.Search.{GoesTogether, IfBound, IsDecided, IsGoodPlan, IsPlanNear, IsUndecided, KeepsOwn, UsesRoot, WithRows, no_limits}
+use Rattle.tree_search.specs.Ranges.{digits}
+use Rattle.tree_search.specs.Whole.{whole_height}
+use Rattle.tree_search.proofs.Halves.{digits-half, digits-zero}
+use Rattle.search_result.specs.declared.found.Found.{Found}
+use Rattle.search_result.specs.declared.found.RootSays.TheVariants as at_root
+use Rattle.branching.specs.Search.{GoesTogether, IfBound, IsDecided, IsGoodPlan, IsPlanNear, IsUndecided, KeepsOwn, UsesRoot, WithRows, no_limits}
 use Rattle.lotplan.specs.Finding.{IsFound, only}
 use Rattle.lotplan.specs.Planning.{IsAnswerTo, PlanAnswer, optimal}
 use Rattle.lotplan.specs.Showing.{IsBestAlone, IsShort, IsShown, IsSpent, IsTrueAnswer, entry_branches}

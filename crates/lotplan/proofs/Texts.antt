@@ -1,7 +1,7 @@
 -- The three lines of a plan, as they are put together.
 use Rattle.std.proofs.Common.{◌≡◌, ℕ, List, ◌++◌, codes, decimal, sym, ap, subst, append_assoc}
 use Rattle.lot_sizing.specs.Texts.{optimal_line}
-use Rattle.branching.specs.declared.found.RootSays.{RootSays}
+use Rattle.search_result.specs.declared.found.RootSays.{RootSays}
 use Rattle.lotplan.specs.Planning.{PlanAnswer, above, above_line, between, between_line, infeasible, optimal, infeasible_line, plan_line, root_line}
 
 -- the text that is put together has these parts

@@ -7,7 +7,7 @@ use Rattle.instance_reader.specs.Model.{BytesMean}
 use Rattle.tableau.specs.declared.outcome.Outcome.TheVariants as outcome
 use Rattle.tableau.specs.Program.{Program}
 use Rattle.tableau.specs.Stepwise.{IsEndOf}
-use Rattle.base_bound.specs.Bounds.{HasFewCells, HasManyCells, HasNoBasePoint, IsBaseBound, IsBaseProgram}
+use Rattle.lp_bounds.specs.Bounds.{HasFewCells, HasManyCells, HasNoBasePoint, IsBaseBound, IsBaseProgram}
 use Rattle.lotplan.specs.Reading.{ByModel, read_meant, ModelExplains, OfModel, ReadAnswer, read_line, read_status}
 use Rattle.lotplan.specs.Meaning.{Meaning}
 use Rattle.lotplan.specs.Saying.{Answered, Gains, Tells, TellsAs}

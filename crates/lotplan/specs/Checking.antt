@@ -18,7 +18,7 @@ use Rattle.certificate.specs.declared.fault.CertTextFault.TheVariants as text
 use Rattle.certificate.specs.Faults.{IsCertTextFault}
 use Rattle.certificate.specs.Limits.{IsTextOf}
 use Rattle.certificate.specs.Shapes.{Shape}
-use Rattle.acceptance.specs.Accepts.{IsTrueOf}
+use Rattle.cert_meaning.specs.Accepts.{IsTrueOf}
 use Rattle.cert_checker.specs.declared.fault.Why.{Why}
 use Rattle.cert_checker.specs.declared.fault.Why.TheVariants as why
 use Rattle.cert_checker.specs.Cuts.{OfProblem}

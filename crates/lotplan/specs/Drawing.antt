@@ -11,7 +11,7 @@ use Rattle.cert_lines.specs.declared.parts.Claim.TheVariants.{Optimal, Infeasibl
 use Rattle.certificate.specs.declared.fault.CertTextFault.TheVariants as text
 use Rattle.certificate.specs.Faults.{IsCertTextFault}
 use Rattle.certificate.specs.Shapes.{Shape}
-use Rattle.acceptance.specs.Accepts.{IsTrueOf}
+use Rattle.cert_meaning.specs.Accepts.{IsTrueOf}
 use Rattle.cert_checker.specs.declared.fault.Why.{Why}
 use Rattle.cert_checker.specs.Cuts.{OfProblem}
 use Rattle.cert_checker.specs.Checks.{IsCertified, IsCheckFault}

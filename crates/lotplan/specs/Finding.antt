@@ -4,11 +4,11 @@ use Rattle.lot_sizing.specs.Problem.{IsUncoupled, Problem}
 use Rattle.plan_rules.specs.declared.plan.Plan.{Plan}
 use Rattle.cert_lines.specs.declared.limits.TheConstants.{MAX_CERT_VERSION}
 use Rattle.certificate.specs.Shapes.{shape_of}
-use Rattle.branching.specs.Found.{IsProved}
-use Rattle.branching.specs.declared.found.Found.{Found}
-use Rattle.branching.specs.declared.found.RootSays.TheVariants as at_root
-use Rattle.branch_and_bound.specs.declared.limits.Limits.{Limits}
-use Rattle.branch_and_cut.specs.Search.{CostsAtMost, DecidesSmall, GoesTogether, HasEvidence, IfBound, IsGoodPlan, IsNoLessThanApart, IsSaidAtRoot, IsUndecided, IsVersionOf, KeepsOwn, UsesRoot, WithRows, cost_of}
+use Rattle.search_result.specs.Found.{IsProved}
+use Rattle.search_result.specs.declared.found.Found.{Found}
+use Rattle.search_result.specs.declared.found.RootSays.TheVariants as at_root
+use Rattle.tree_search.specs.declared.limits.Limits.{Limits}
+use Rattle.branching.specs.Search.{CostsAtMost, DecidesSmall, GoesTogether, HasEvidence, IfBound, IsGoodPlan, IsNoLessThanApart, IsSaidAtRoot, IsUndecided, IsVersionOf, KeepsOwn, UsesRoot, WithRows, cost_of}
 use Rattle.lotplan.specs.declared.sought.Sought.{Sought}
 
 -- a search with a budget alone, whose certificate may have any version

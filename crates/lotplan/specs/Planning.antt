@@ -13,13 +13,13 @@ use Rattle.cert_lines.specs.declared.parts.Claim.TheVariants.{Optimal, Infeasibl
 use Rattle.certificate.specs.Counts.{node_count}
 use Rattle.certificate.specs.Limits.{IsTextOf}
 use Rattle.certificate.specs.Shapes.{shape_of}
-use Rattle.split_trees.specs.Ranges.{WithTotals}
+use Rattle.cert_trees.specs.Ranges.{WithTotals}
 use Rattle.stream_check.specs.Streams.{OfBytes}
 use Rattle.own_plan.specs.OwnPeriod.{HasOwnPeriod, IsOwnPeriod}
-use Rattle.branching.specs.declared.found.Found.{Found}
-use Rattle.branching.specs.declared.found.RootSays.{RootSays}
-use Rattle.branching.specs.declared.found.RootSays.TheVariants as at_root
-use Rattle.branch_and_cut.specs.Search.{HasBudgetForAll, cost_of}
+use Rattle.search_result.specs.declared.found.Found.{Found}
+use Rattle.search_result.specs.declared.found.RootSays.{RootSays}
+use Rattle.search_result.specs.declared.found.RootSays.TheVariants as at_root
+use Rattle.branching.specs.Search.{HasBudgetForAll, cost_of}
 use Rattle.lotplan.specs.Writing.{StartsAmong, unwritten_line}
 use Rattle.command_line.specs.Words.{Search}
 use Rattle.lotplan.specs.Judging.{FindsFault, FindsNone, JudgeAnswer, JudgeCallsFor, JudgeExplains, OfFeasible, judge_line, judge_status}

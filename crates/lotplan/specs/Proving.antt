@@ -7,7 +7,7 @@ use Rattle.cert_lines.specs.declared.parts.Claim.{Claim}
 use Rattle.cert_lines.specs.declared.parts.Claim.TheVariants.{Optimal, Infeasible, Bound as BoundOf}
 use Rattle.certificate.specs.Limits.{IsTextOf}
 use Rattle.certificate.specs.Shapes.{Shape}
-use Rattle.acceptance.specs.Accepts.{IsTrueOf}
+use Rattle.cert_meaning.specs.Accepts.{IsTrueOf}
 use Rattle.cert_checker.specs.Cuts.{OfProblem}
 use Rattle.cert_checker.specs.Checks.{IsCertified, plan_given}
 use Rattle.stream_check.specs.Streams.{OfBytes}

@@ -10,8 +10,8 @@ use Rattle.plan_file.specs.Records.{IsPlanOf, records_of}
 use Rattle.plan_file.specs.declared.fault.PlanFault.{PlanFault}
 use Rattle.cert_lines.specs.declared.parts.Claim.{Claim}
 use Rattle.cert_lines.specs.declared.parts.Claim.TheVariants.{Optimal, Infeasible, Bound as BoundOf}
-use Rattle.branching.specs.declared.found.Found.{Found}
-use Rattle.branching.specs.declared.found.RootSays.{RootSays}
+use Rattle.search_result.specs.declared.found.Found.{Found}
+use Rattle.search_result.specs.declared.found.RootSays.{RootSays}
 use Rattle.frozen_start.specs.Starts.{IsFloorAfter, NoneAgreesWith, StartStands}
 use Rattle.replan.specs.Answers.{IsFirstLead, IsRest, IsRestRefused, LeavesRest, MayGoOn, RestMeans}
 use Rattle.replan.specs.Texts.{rest_fault_text}

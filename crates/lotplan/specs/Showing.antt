@@ -5,8 +5,8 @@ use Rattle.lot_sizing.specs.Plan.{IsFeasible, Plan, cost}
 use Rattle.lot_sizing.specs.Best.{IsBest, IsFloor}
 use Rattle.lot_io.specs.Outside.{Printed, Shelved}
 use Rattle.cert_lines.specs.declared.limits.TheConstants.{MAX_BRANCHES}
-use Rattle.branching.specs.declared.found.Found.{Found}
-use Rattle.branching.specs.declared.found.RootSays.TheVariants as at_root
+use Rattle.search_result.specs.declared.found.Found.{Found}
+use Rattle.search_result.specs.declared.found.RootSays.TheVariants as at_root
 use Rattle.report.specs.Generated.{generated}
 use Rattle.lotplan.specs.Finding.{IsFound, only}
 use Rattle.lotplan.specs.Planning.{IsAnswerTo, IsWithinOwn, PlanAnswer, above, between, infeasible, optimal, plan_line, no_input, unwritten}

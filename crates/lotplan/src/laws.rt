@@ -3,7 +3,6 @@ ghost use Rattle.lotplan.specs.Laws.{StatusesAreOne, StatusesExist};
 ghost use Rattle.lotplan.specs.Scheduling.{SchedulesAreDecided};
 
 use answers_exist::{bounds_come_out, certificates_come_out, plans_are_held, texts_come_out};
-use base_bound::base_bounds_are_one;
 use bill::totals_exist;
 use cert_checker::certified_is_not_refused;
 use certificate::texts_mean_one_thing;
@@ -15,6 +14,7 @@ use lot_model::{a_model_means_one_thing, a_model_means_something};
 use lot_schedule::{
     records_mean_one_thing, records_mean_slots, same_plans_same_schedules, slots_are_judged,
 };
+use lp_bounds::base_bounds_are_one;
 
 /// No words and files call for two statuses, but for `plan` and `replan` where the search may leave a coupled model open, and for
 /// `bound` where a number of the exact run doesn't fit 128 bits: one of the two is `UNDECIDED` then.

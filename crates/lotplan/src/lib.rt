@@ -1,7 +1,7 @@
 //! `lotplan`: plans lots in whole numbers, with proof that no plan costs less.
 //!
 //! Family: commands. It stands on `command_line` for the words, on `lot_io`, `instance_reader` and `plan_file` for files, on
-//! `branch_and_cut`, `replan`, `stream_check`, `base_bound`, `lot_quantities`, `report` and `plan_page` for what is done, and on `existence` and `answers_exist` for its
+//! `branching`, `replan`, `stream_check`, `lp_bounds`, `lot_quantities`, `report` and `plan_page` for what is done, and on `existence` and `answers_exist` for its
 //! laws; `lotplan_main` and, of tests, `cases` stand on it.
 //!
 //! `run` reads the words, plans, plans on, judges, checks, reports, completes, draws, generates, upgrades or bounds, writes and prints; what each

@@ -4,7 +4,7 @@
 //! with the word `--progress` it tells on the error stream how far the search is, and with `--seconds` it ends the search when the
 //! time is over, which `Prices` and `Plans` know too. A `History` watches too, for the words.
 //!
-//! Family: commands. It stands on `lotplan` for what is done, on `price_plugin` and `plan_plugin` for what proposes, on
+//! Family: commands. It stands on `lotplan` for what is done, on `price_plugin` and `heur_plugin` for what proposes, on
 //! `search_plugins` for what watches, on `work_clock` and `command_line` for the seconds, on `explain` for words, and on `lot_io` and `safe_files` for
 //! files and output; nothing stands on it.
 #![tactic(auto)]
@@ -16,10 +16,10 @@ use crate::history::{History, Watched};
 use crate::progress::Teller;
 use command_line::seconds_asked;
 use explain::{Remembering, Seen, explain};
+use heur_plugin::Plans;
 use lot_io::{Shelf, Sink, StdSink};
 use lotplan::status::{NO_MEMORY, UNPRINTED, UNWRITTEN};
 use lotplan::{refuse_words, run};
-use plan_plugin::Plans;
 use price_plugin::Prices;
 use safe_files::{Outputs, SafeShelf, SafeSink};
 use std::alloc::{AllocError, Global};

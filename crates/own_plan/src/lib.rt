@@ -6,7 +6,7 @@
 //! been made of an item by a period.
 //!
 //! Family: search. It stands on `lot_model` and on `plan_rules`, which completes the plan and says what it costs; `incumbent`,
-//! `branch_and_cut`, `report`, `lotplan` and, of plugins, all that make plans stand on it.
+//! `branching`, `report`, `lotplan` and, of plugins, all that make plans stand on it.
 #![tactic(auto)]
 
 mod laws;

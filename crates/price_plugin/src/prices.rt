@@ -3,22 +3,22 @@ ghost use Rattle.std.specs.Prelude.{◌≡◌, ◌<◌, ◌^◌, IfOk, IfSome};
 ghost use Rattle.cert_lines.specs.Shapes.{leaf_parts, leaf_shape};
 ghost use Rattle.leaf_growth.specs.Growth.{IsOfRows};
 ghost use Rattle.plan_rules.specs.Rows.{IfFound};
-ghost use Rattle.priced_leaves.specs.Proposals.{IsProposal as IsPricedProposal};
+ghost use Rattle.price_leaves.specs.Proposals.{IsProposal as IsPricedProposal};
 ghost use Rattle.search_plugins.specs.Proposals.{IsProposal};
 
-use branch_and_bound::{Node, Range};
 use cert_lines::{Leaf, Part};
 use echelon::Explosion;
-use grouped_items::Grouping;
 use lot_model::Instance;
-use node_splits::{Choice, Gains, Note, Notes, Trials, choice_for, split_of};
-use priced_leaves::{
+use node_branching::{Choice, Gains, Note, Notes, Trials, choice_for, split_of};
+use price_groups::Grouping;
+use price_leaves::{
     Average, Fixed, Grouped, Improved, NodePricing, Priced, Pricing, Reached, Rounds,
     dropped_grouped_leaf, dropped_leaf, fixed_setups, grouped_leaf, priced_leaf, split_prices,
     tune_openings,
 };
 use search_plugins::{Progress, Proposed, Proposer};
 use std::alloc::{AllocError, Global};
+use tree_search::{Node, Range};
 use work_clock::Deadline;
 
 // At the root so many times so many rounds are made, with plans in between; at another node once.
@@ -28,7 +28,7 @@ const ROOT_ROUNDS: u32 = 15;
 
 const NODE_ROUNDS: u32 = 40;
 
-// So often are rounds made at a node while what they come to grows by a part of what it lacks of the best plan's cost.
+// How often rounds are made at a node, at most: as long as each time closes a part of the gap to the incumbent.
 const NODE_TIMES: u32 = 5;
 
 const NODE_PART: i128 = 30;
@@ -274,7 +274,8 @@ fn count_at(instance: &Instance, pricing: &Pricing, node: &Node) -> u32 {
     within_work(instance, pricing, NODE_STEPS, wanted)
 }
 
-// What the rounds lack of a cost, times the scale; None where there is no cost, or where it or their number doesn't fit.
+// The gap between a plan's cost and the Lagrangean bound, times the scale; None where there is no cost, or where it or the bound
+// doesn't fit.
 fn lack(rounds: &Rounds, cost: Option<u128>) -> Option<i128> {
     let cost = i128::try_from(cost?).ok()?;
     let number = rounds.number()?;
@@ -283,7 +284,7 @@ fn lack(rounds: &Rounds, cost: Option<u128>) -> Option<i128> {
     Some(lacking.max(0))
 }
 
-// Whether what rounds lack of a cost became less by more than a part of it; not so where it wasn't known before or isn't now.
+// Whether the gap closed by more than 1/`NODE_PART` of it; false where it wasn't known before or isn't now.
 fn came_closer(before: Option<i128>, after: Option<i128>) -> bool {
     match (before, after) {
         (Some(before), Some(after)) => before.saturating_sub(after) > before / NODE_PART,
@@ -411,7 +412,7 @@ fn grouped_at(
     }
 }
 
-// The same where each item is planned by itself.
+// What is proposed by the rounds of a node where each item is planned by itself: cuts from this number on, and parts.
 fn priced_at(
     alloc: Global,
     instance: &Instance,

@@ -3,15 +3,15 @@ ghost use Rattle.std.specs.Prelude.{◌≤◌};
 ghost use Rattle.lot_sizing.specs.Problem.{item_count};
 
 use crate::lots::{Average, Spare, from_place};
-use chain_plans::{ChainPlans, Level, NONE};
-use grouped_items::{Grouping, ItemGroup, MovedCosts, Place, write_level};
 use integer_grids::IntegerGrid;
 use integer_grids::numbers::{less, of_amount, wide};
 use item_groups::ChainLink;
 use lot_model::Instance;
-use path_setups::Fixed;
-use priced_items::{DualPrices, NodePricing, Pricing};
-use quantity_plans::{QuantityPlans, Terms};
+use node_setups::Fixed;
+use price_chains::{ChainPlans, Level, NONE};
+use price_groups::{Grouping, ItemGroup, MovedCosts, Place, write_level};
+use price_items::{DualPrices, NodePricing, Pricing};
+use price_quantities::{QuantityPlans, Terms};
 use std::alloc::{AllocError, Global};
 
 /// What groups are planned with.
@@ -392,7 +392,7 @@ fn item_stock_value(instance: &Instance, pricing: &Pricing, prices: &DualPrices,
     sum.saturating_add(wide(prices.end_rest(instance, pricing, item), ended))
 }
 
-// The same of all items.
+// What stocks of all items cost that aren't moved to units, by what is there before, less what is demanded, and by the least end stocks.
 fn stock_value(instance: &Instance, pricing: &Pricing, prices: &DualPrices) -> i128 {
     let mut sum = 0i128;
     for item in 1..instance.items() + 1 {

@@ -1,7 +1,7 @@
 //! Rounds that improve prices of capacity and of stock.
 //!
-//! Family: search. It stands on `priced_items`, which plans each item by itself at prices, and on `path_setups` for what a
-//! path says of setups; `priced_leaves` makes leaves of the prices that are found.
+//! Family: search. It stands on `price_items`, which plans each item by itself at prices, and on `node_setups` for what a
+//! path says of setups; `price_leaves` makes leaves of the prices that are found.
 //!
 //! `Rounds` improve prices (a volume method: Barahona and Anbil 2000), and give the average of the single-item plans, by
 //! which a search may choose where it branches.

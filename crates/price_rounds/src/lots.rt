@@ -2,8 +2,8 @@
 use integer_grids::numbers::{UNIT, at, less, plus, times, write};
 use integer_grids::{IntegerGrid, clear};
 use lot_model::Instance;
-use path_setups::{Fixed, Held};
-use priced_items::{Item, Pricing, Served};
+use node_setups::{Fixed, Held};
+use price_items::{Item, Pricing, Served};
 use std::alloc::{AllocError, Global};
 
 /// Averages of single-item plans, by item and period, in units of 1/`UNIT`.
@@ -116,7 +116,7 @@ impl Average {
         })
     }
 
-    /// The same averages once more. The error is that memory ran out.
+    /// A copy of the averages. The error is that memory ran out.
     pub fn copy(&self, alloc: Global) -> Result<Average, AllocError> {
         Ok(Average {
             units: self.units.copy(alloc)?,

@@ -5,7 +5,7 @@ use crate::lots::Average;
 use crate::slopes::Slopes;
 use crate::valuing::Planning;
 use integer_grids::numbers::{ONE, Rate, UNIT};
-use priced_items::{DualPrices, Loads, NodePricing, settle};
+use price_items::{DualPrices, Loads, NodePricing, settle};
 use std::alloc::{AllocError, Global};
 use std::marker::Model;
 
@@ -302,7 +302,7 @@ impl Rounds {
         Ok(Reached::Open)
     }
 
-    /// So many rounds at most. They end early where the leaf of the best prices says as much as `plan_cost`, what a plan
+    /// Makes at most `count` rounds. They end early where the leaf of the best prices says as much as `plan_cost`, what a plan
     /// at hand costs, or where the same leaf without costs says that there is no plan. It can be called again, and goes
     /// on with steps and average as they are.
     ///

@@ -4,17 +4,17 @@ ghost use Rattle.lot_sizing.specs.Problem.{item_count};
 
 use crate::lots::Average;
 use crate::steps::Steps;
-use grouped_items::{Grouping, arrival_of, components_of, most_by_setup};
 use integer_grids::numbers::{Rate, UNIT, add_times, at, less, of_amount, plus, times};
 use integer_grids::{IntegerGrid, clear};
 use lot_model::{Instance, Need};
-use priced_items::{DualPrices, NodePricing, Pricing};
+use price_groups::{Grouping, arrival_of, components_of, most_by_setup};
+use price_items::{DualPrices, NodePricing, Pricing};
 use std::alloc::{AllocError, Global};
 
 // Shares and prices of least lots take so many times the steps of prices of stock.
 const FAR: i128 = 9;
 
-// By how much what the leaf says changes with each price, at plans of the items.
+// The subgradient of the Lagrangean bound: by how much it changes with each price, at plans of the items.
 #[derive(Debug, Drop)]
 pub(crate) struct Slopes {
     capacity: IntegerGrid,
@@ -306,14 +306,14 @@ impl Slopes {
         }
     }
 
-    // The same of all items.
+    // What the components of all items have in stock for them isn't their own.
     fn take_all_stocks(&mut self, instance: &Instance, plan: &Average) {
         for item in 1..instance.items() + 1 {
             self.take_stocks(instance, plan, item);
         }
     }
 
-    // What of each echelon isn't in those of the items that it goes into.
+    // The subgradient of the stock prices: what of each echelon isn't in those of the items that it goes into.
     fn write_stock(
         &mut self,
         instance: &Instance,
@@ -358,7 +358,7 @@ impl Slopes {
         }
     }
 
-    // The same of all end products.
+    // What is owed of all end products is owed of their components.
     fn take_all_owed(&mut self, instance: &Instance, pricing: &Pricing, plan: &Average) {
         for end in 1..instance.items() + 1 {
             if instance.has_backlog_cost(end) {
@@ -504,7 +504,7 @@ impl Slopes {
         }
     }
 
-    // The directions at prices and plans.
+    // Writes the subgradient of the Lagrangean bound at these prices and plans.
     pub(crate) fn write(&mut self, node: NodePricing<'_>, prices: &DualPrices, plan: &Average) {
         let NodePricing {
             instance,

@@ -2,7 +2,7 @@
 use integer_grids::IntegerGrid;
 use integer_grids::numbers::{Rate, dot, of_amount, plus, times};
 use lot_model::Instance;
-use priced_items::Pricing;
+use price_items::Pricing;
 use std::alloc::{AllocError, Global};
 
 // The steps of prices of capacity, which are as long as those of prices of stock, or shorter where a unit takes more of the time of a

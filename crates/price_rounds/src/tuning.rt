@@ -1,11 +1,11 @@
 // Prices of what is there of the lower items of chains before the first period.
 use crate::groups::{self, GroupPlanning};
 use crate::lots::Average;
-use grouped_items::{Grouping, ItemGroup};
 use integer_grids::numbers::of_amount;
 use lot_model::Instance;
-use path_setups::{Fixed, fixed_setups};
-use priced_items::{DualPrices, Pricing};
+use node_setups::{Fixed, fixed_setups};
+use price_groups::{Grouping, ItemGroup};
+use price_items::{DualPrices, Pricing};
 use std::alloc::{AllocError, Global};
 use work_clock::Deadline;
 
@@ -96,7 +96,7 @@ fn tune_item(
     Ok(())
 }
 
-// The same of the lower items of a group.
+// Finds the prices at which the lower items of a group take as much of the stock that is there as there is.
 fn tune_group(
     given: Given<'_>,
     planning: &mut GroupPlanning,

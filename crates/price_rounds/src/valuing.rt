@@ -4,11 +4,11 @@ ghost use Rattle.lot_sizing.specs.Problem.{item_count};
 
 use crate::groups::GroupPlanning;
 use crate::lots::{Average, Spare};
-use grouped_items::Grouping;
 use integer_grids::numbers::{at, dot, dot_amounts, less, wide};
 use lot_model::Instance;
-use path_setups::Held;
-use priced_items::{Costs, DualPrices, Item, NodePricing, Serving};
+use node_setups::Held;
+use price_groups::Grouping;
+use price_items::{Costs, DualPrices, Item, NodePricing, Serving};
 use std::alloc::{AllocError, Global};
 
 // The lists in which single items are planned, one after the other.

@@ -1,6 +1,6 @@
 //! What a sum of multiples of rows and the numbers of groups of items bound.
 //!
-//! Family: single items. It stands on `lin_rows`, `must_start`, `late_starts` and `reduced_groups`; `acceptance` and
+//! Family: single items. It stands on `lin_rows`, `must_start`, `late_starts` and `reduced_groups`; `cert_meaning` and
 //! `cert_checker` stand on it.
 //!
 //! A sum of multiples of rows leaves of each column's cost its reduced cost. Where none is below 0, the right sides and

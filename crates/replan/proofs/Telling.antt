@@ -8,13 +8,13 @@ use Rattle.plan_rules.specs.declared.plan.Plan.{Plan as Grids}
 use Rattle.plan_rules.specs.Held.{plan_of}
 use Rattle.cert_lines.specs.declared.parts.Claim.{Claim}
 use Rattle.cert_lines.specs.declared.parts.Claim.TheVariants.{Optimal, Infeasible, Bound as BoundOf}
-use Rattle.acceptance.specs.Accepts.{IsTrueOf}
+use Rattle.cert_meaning.specs.Accepts.{IsTrueOf}
 use Rattle.cert_checker.specs.Checks.{plan_given}
 use Rattle.frozen_start.specs.Starts.{IsFloorAfter, NoneAgreesWith, StartStands}
 use Rattle.frozen_start.specs.Rests.{IsRestOf}
 use Rattle.frozen_start.specs.Held.{start_of}
 use Rattle.frozen_start.specs.Laws.{BestGoOn, FloorsGoOn, JoinsAreFeasible, NoneAgrees}
-use Rattle.branch_and_cut.specs.Search.{IsGoodPlan}
+use Rattle.branching.specs.Search.{IsGoodPlan}
 use Rattle.replan.specs.declared.found.Rest.{Rest}
 use Rattle.replan.specs.Answers.{IsRest, LeavesRest}
 use Rattle.replan.specs.Whole.{DecidesWhole, IsJoined}

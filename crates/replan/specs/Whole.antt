@@ -6,7 +6,7 @@ use Rattle.plan_rules.specs.declared.plan.Plan.{Plan as Grids}
 use Rattle.plan_rules.specs.Held.{plan_of}
 use Rattle.cert_lines.specs.declared.parts.Claim.{Claim}
 use Rattle.cert_lines.specs.declared.parts.Claim.TheVariants.{Optimal, Infeasible, Bound as BoundOf}
-use Rattle.branching.specs.declared.found.Found.{Found}
+use Rattle.search_result.specs.declared.found.Found.{Found}
 use Rattle.frozen_start.specs.Starts.{Agrees, IsBestAfter, IsFloorAfter, NoneAgreesWith}
 use Rattle.frozen_start.specs.Rests.{join}
 use Rattle.replan.specs.declared.found.Rest.{Rest}

@@ -2,7 +2,7 @@
 //!
 //! Family: search. It stands on `frozen_start`, which says when a start stands, what it costs and what the later
 //! periods are, on `lot_draft` and `lot_model`, which make an instance of them, on `plan_rules`, and on
-//! `branch_and_cut` and `search_plugins`, which search it. No plugin is below it.
+//! `branching` and `search_plugins`, which search it. No plugin is below it.
 //!
 //! `rest` gives the instance of the later periods after a start that stands, with what the start costs, or says why
 //! there is none. `replan` does so and searches that instance: a `Replanned` has both. `total` is what is claimed of all

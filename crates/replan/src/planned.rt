@@ -1,6 +1,6 @@
 // What comes of planning on.
 use crate::Rest;
-use branching::Found;
+use search_result::Found;
 
 /// What comes of planning the later periods anew.
 #[derive(Drop)]

@@ -6,22 +6,22 @@ ghost use Rattle.plan_rules.specs.Held.{AllFit, plan_of};
 ghost use Rattle.frozen_start.specs.Starts.{NoneAgreesWith, StartStands};
 ghost use Rattle.cert_lines.specs.declared.limits.TheConstants.{MAX_CERT_VERSION};
 ghost use Rattle.certificate.specs.Shapes.{shape_of};
-ghost use Rattle.branching.specs.Found.{IsProved};
-ghost use Rattle.branching.specs.declared.found.RootSays.TheVariants.{Uncoupled};
-ghost use Rattle.branch_and_cut.specs.Search.{DecidesSmall, GoesTogether, HasEvidence, IfBound, IsGoodPlan, IsNoLessThanApart, IsSaidAtRoot, IsUndecided, IsVersionOf, KeepsOwn, UsesRoot, WithRows, no_limits};
+ghost use Rattle.search_result.specs.Found.{IsProved};
+ghost use Rattle.search_result.specs.declared.found.RootSays.TheVariants.{Uncoupled};
+ghost use Rattle.branching.specs.Search.{DecidesSmall, GoesTogether, HasEvidence, IfBound, IsGoodPlan, IsNoLessThanApart, IsSaidAtRoot, IsUndecided, IsVersionOf, KeepsOwn, UsesRoot, WithRows, no_limits};
 ghost use Rattle.replan.specs.Answers.{IsFirstLead, IsRest, IsRestRefused, MayGoOn};
 ghost use Rattle.replan.specs.Whole.{DecidesWhole, IfPlanned, IsJoined, total_claimed};
 ghost use Rattle.replan.specs.declared.fault.RestFault.TheVariants.{First, Lead, Draft, Memory};
 ghost use Rattle.replan.specs.declared.planned.Replanned.TheVariants.{NoStart};
 
 use crate::{Replanned, Rest, RestFault, rest};
-use branch_and_cut::{Limits, Plugins, Wanted, search_all};
-use branching::Found;
+use branching::{Limits, Plugins, Wanted, search_all};
 use certificate::{Claim, MAX_CERT_VERSION};
 use frozen_start::{joins_are_feasible, rests_decide};
 use lot_model::Instance;
 use plan_rules::Plan;
 use search_plugins::{Heuristic, Proposer, Unstopped, Watch};
+use search_result::Found;
 use std::alloc::Global;
 
 /// What is claimed of all plans that agree with the start, in money: what they cost at least. It is what is spent and the least

@@ -1,13 +1,13 @@
 // What proposes plans.
 ghost use Rattle.std.specs.Prelude.{◌≡◌, OnOk, length};
-ghost use Rattle.search_ranges.specs.Nodes.{choice_count};
+ghost use Rattle.node_domains.specs.Nodes.{choice_count};
 ghost use Rattle.incumbent.specs.Kept.{IsBestSoFar, IsNoWorseBest};
 
-use branch_and_bound::Range;
 use lot_model::Instance;
+use node_domains::Ranges;
 use plan_rules::Planned;
-use search_ranges::Ranges;
 use std::alloc::{AllocError, Global};
+use tree_search::Range;
 
 /// What proposes plans, by hints of type `T`. It may better the best plan, by plans that were made within the ranges alone:
 /// `incumbent::keep_within` is such a step.

@@ -12,9 +12,9 @@
 //! of each pass over the tree, and is asked before each pass and each branch whether the search is to end. `Nothing` proposes
 //! nothing, `()` watches nothing, `Unstopped` and `Limited` watch for another one.
 //!
-//! Family: search. It stands on `cert_lines` and `leaf_growth` for cuts and leaves, on `branch_and_bound` and `search_ranges` for
-//! nodes and ranges, and on `incumbent` for the best plan; `branch_and_cut` and `lotplan` take what is plugged in, and
-//! `price_plugin` and `plan_plugin` are such.
+//! Family: search. It stands on `cert_lines` and `leaf_growth` for cuts and leaves, on `tree_search` and `node_domains` for
+//! nodes and ranges, and on `incumbent` for the best plan; `branching` and `lotplan` take what is plugged in, and
+//! `price_plugin` and `heur_plugin` are such.
 #![tactic(auto)]
 
 mod heuristic;

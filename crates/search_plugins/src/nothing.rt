@@ -1,11 +1,11 @@
 // What proposes nothing.
 use crate::heuristic::Heuristic;
 use crate::proposer::{Progress, Proposed, Proposer};
-use branch_and_bound::{Node, Range};
 use lot_model::Instance;
+use node_domains::Ranges;
 use plan_rules::Planned;
-use search_ranges::Ranges;
 use std::alloc::{AllocError, Global};
+use tree_search::{Node, Range};
 
 /// What proposes no leaf, no place to branch on and no plan. A search with it has the root's leaf and the plans at nodes where
 /// all is chosen.

@@ -1,14 +1,14 @@
 // What proposes leaves and branches.
 ghost use Rattle.std.specs.Prelude.{◌≡◌, length};
-ghost use Rattle.branch_and_bound.specs.Ranges.{AreOrdered, IsPoint};
-ghost use Rattle.search_ranges.specs.Nodes.{choice_count};
+ghost use Rattle.tree_search.specs.Ranges.{AreOrdered, IsPoint};
+ghost use Rattle.node_domains.specs.Nodes.{choice_count};
 ghost use Rattle.plan_rules.specs.Rows.{IfFound};
 ghost use Rattle.search_plugins.specs.Proposals.{IsProposal};
 
-use branch_and_bound::{Node, Range};
 use cert_lines::{Cut, Leaf};
 use lot_model::Instance;
 use std::alloc::{AllocError, Global};
+use tree_search::{Node, Range};
 
 /// Cuts, and a leaf over them and over those that are there.
 #[derive(Debug, Drop)]

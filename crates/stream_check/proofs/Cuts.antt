@@ -12,7 +12,7 @@ use Rattle.lin_rows.specs.Combining.{AllHold, AreOfProblem}
 use Rattle.lin_rows.specs.Rows.{HoldsAt, HoldsIn, LinPoint, LinRow, whole_point}
 use Rattle.cert_lines.specs.Shapes.{CutShape}
 use Rattle.certificate.specs.Values.{Values, all_cut_values, cut_values}
-use Rattle.acceptance.specs.Laws.{CutRowsGoOn, HoldAtPlans, SmallCutsGoOn}
+use Rattle.cert_meaning.specs.Laws.{CutRowsGoOn, HoldAtPlans, SmallCutsGoOn}
 use Rattle.cert_checker.specs.declared.fault.Why.{Why}
 use Rattle.cert_checker.specs.Cuts.{IsCutFault, OfProblem}
 use Rattle.cert_checker.specs.Checks.{AreGoodCuts, IsCutsFault, first_line, no_cut}

@@ -9,9 +9,9 @@ use Rattle.cert_lines.specs.declared.parts.Claim.{Claim}
 use Rattle.cert_lines.specs.Shapes.{EndLine, LeafShape}
 use Rattle.certificate.specs.Shapes.{End, Split, TreeShape}
 use Rattle.certificate.specs.Values.{Values, leaf_values, tree_values}
-use Rattle.split_trees.specs.Paths.{at_least, at_most}
-use Rattle.split_trees.specs.Ranges.{WithTotals, whole_ranges}
-use Rattle.split_trees.specs.Trees.{IsSplit, high_path, low_path}
+use Rattle.cert_trees.specs.Paths.{at_least, at_most}
+use Rattle.cert_trees.specs.Ranges.{WithTotals, whole_ranges}
+use Rattle.cert_trees.specs.Trees.{IsSplit, high_path, low_path}
 use Rattle.cert_checker.specs.declared.fault.Why.{Why}
 use Rattle.cert_checker.specs.declared.fault.Why.TheVariants as why
 use Rattle.cert_checker.specs.Checks.{Ground, IsGoodLeaf, IsGoodTree, IsNodeFault, IsTreeFault, ground}

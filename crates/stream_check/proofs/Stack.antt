@@ -9,9 +9,9 @@ use Rattle.lin_rows.specs.declared.column.Column.{Column}
 use Rattle.lin_rows.specs.Columns.{value_in}
 use Rattle.lin_rows.specs.Rows.{Values}
 use Rattle.cert_lines.specs.declared.parts.Claim.{Claim}
-use Rattle.split_trees.specs.Paths.{AreChoices, AreMet, IsMet, at_least, at_most}
-use Rattle.split_trees.specs.Ranges.{IsChoice}
-use Rattle.split_trees.specs.Trees.{high_path, low_path}
+use Rattle.cert_trees.specs.Paths.{AreChoices, AreMet, IsMet, at_least, at_most}
+use Rattle.cert_trees.specs.Ranges.{IsChoice}
+use Rattle.cert_trees.specs.Trees.{high_path, low_path}
 use Rattle.stream_check.specs.Nodes.{AreCovered, AreSmall, IsSafe, MeetsOne, later, later_from, trees_due, other_side}
 
 later_from_more : (before path : List Bound) (b : Bound) → later_from before (path ++ (b ∷ [])) ≡ other_side b.most (before ++ path) b ++ later_from before path

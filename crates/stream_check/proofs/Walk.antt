@@ -12,8 +12,8 @@ use Rattle.cert_lines.specs.Shapes.{EndLine, leaf_shape}
 use Rattle.certificate.specs.Counts.{longest_path}
 use Rattle.certificate.specs.Shapes.{End, Split, TreeShape}
 use Rattle.certificate.specs.Values.{Values, leaf_values, tree_values}
-use Rattle.split_trees.specs.Ranges.{WithTotals}
-use Rattle.split_trees.specs.Trees.{low_path}
+use Rattle.cert_trees.specs.Ranges.{WithTotals}
+use Rattle.cert_trees.specs.Trees.{low_path}
 use Rattle.cert_checker.specs.declared.fault.Why.TheVariants as why
 use Rattle.cert_checker.specs.Checks.{IsGoodLeaf, IsGoodTree, IsTreeFault, ground}
 use Rattle.cert_stream.specs.declared.lines.LineReader.{LineReader}

@@ -18,9 +18,9 @@ use Rattle.cert_lines.specs.Shapes.{BranchLine, EndLine, LeafShape, ListShape, l
 use Rattle.certificate.specs.Counts.{longest_path}
 use Rattle.certificate.specs.Shapes.{End, Split, TreeShape}
 use Rattle.certificate.specs.Values.{Values, group_values, leaf_values, list_values, part_values, tree_values}
-use Rattle.split_trees.specs.Paths.{AreMet, at_least}
-use Rattle.split_trees.specs.Ranges.{WithTotals, whole_ranges}
-use Rattle.split_trees.specs.Trees.{IsSplit}
+use Rattle.cert_trees.specs.Paths.{AreMet, at_least}
+use Rattle.cert_trees.specs.Ranges.{WithTotals, whole_ranges}
+use Rattle.cert_trees.specs.Trees.{IsSplit}
 use Rattle.certificate.specs.declared.fault.CertTextFault.TheVariants.{Memory}
 use Rattle.cert_checker.specs.declared.fault.Why.{Why}
 use Rattle.cert_checker.specs.declared.fault.Why.TheVariants as why

@@ -3,9 +3,9 @@ use Rattle.std.specs.Prelude.{ℕ, List}
 use Rattle.lot_sizing.specs.Problem.{Problem}
 use Rattle.lin_rows.specs.Rows.{LinRow}
 use Rattle.cert_lines.specs.Shapes.{CutShape}
-use Rattle.split_trees.specs.Ranges.{WithTotals}
-use Rattle.acceptance.specs.Accepts.{IsSmallCut}
-use Rattle.acceptance.specs.CutRows.{IsCutRow}
+use Rattle.cert_trees.specs.Ranges.{WithTotals}
+use Rattle.cert_meaning.specs.Accepts.{IsSmallCut}
+use Rattle.cert_meaning.specs.CutRows.{IsCutRow}
 use Rattle.cert_checker.specs.declared.fault.Why.{Why}
 use Rattle.cert_checker.specs.Cuts.{IsCutFault, OfProblem}
 use Rattle.cert_checker.specs.Checks.{IsCutsFault}

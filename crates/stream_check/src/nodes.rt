@@ -11,9 +11,9 @@ ghost use Rattle.cert_lines.specs.declared.limits.TheConstants.{MAX_BRANCHES};
 ghost use Rattle.certificate.specs.Counts.{longest_path};
 ghost use Rattle.certificate.specs.Shapes.{TreeShape};
 ghost use Rattle.certificate.specs.Values.{leaf_values, tree_values};
-ghost use Rattle.split_trees.specs.Paths.{AreChoices, AreMet};
-ghost use Rattle.split_trees.specs.Trees.{low_path};
-ghost use Rattle.acceptance.specs.Laws.{HoldAtPlans};
+ghost use Rattle.cert_trees.specs.Paths.{AreChoices, AreMet};
+ghost use Rattle.cert_trees.specs.Trees.{low_path};
+ghost use Rattle.cert_meaning.specs.Laws.{HoldAtPlans};
 ghost use Rattle.cert_checker.specs.Named.{IsReadyFor};
 ghost use Rattle.cert_checker.specs.Leaves.{HasDenominator};
 ghost use Rattle.cert_checker.specs.Checks.{LeafIsGood, TreeIsGood};
@@ -25,11 +25,11 @@ use crate::StreamFault;
 use crate::units::{CertText, Node, read_node};
 use cert_checker::{NamedSums, Rejected, Why, leaf_bound_in, shortfall};
 use cert_stream::LineReader;
+use cert_trees::is_split;
 use certificate::{CertTextFault, Claim, Leaf, MAX_BRANCHES};
 use lin_rows::{Bound, Column, Row};
 use lot_io::Shelf;
 use lot_model::Instance;
-use split_trees::is_split;
 use std::alloc::{AllocError, Global};
 
 // Goes down to the low side of a branch on this line.

@@ -4,7 +4,7 @@ ghost use Rattle.cert_lines.specs.Limits.{IsVersion};
 ghost use Rattle.cert_lines.specs.Shapes.{EndLine};
 ghost use Rattle.certificate.specs.Limits.{IsTextOf};
 ghost use Rattle.certificate.specs.Shapes.{Shape};
-ghost use Rattle.acceptance.specs.Accepts.{IsTrueOf};
+ghost use Rattle.cert_meaning.specs.Accepts.{IsTrueOf};
 ghost use Rattle.cert_checker.specs.Checks.{IsGoodCertificate, first_line, plan_given};
 ghost use Rattle.cert_stream.specs.Reader.{IsSound, bytes_of, rest_in};
 ghost use Rattle.stream_check.specs.Heads.{AreHeadsOf};
@@ -17,12 +17,12 @@ use crate::rows::read_rows;
 use crate::units::{CertText, next_line};
 use cert_checker::judge_claim;
 use cert_stream::{Heads, LineReader, Value, next_value, read_heads};
+use cert_trees::plans_are_within;
 use certificate::{CertLine, CertTextFault, Claim};
 use echelon::Explosion;
 use lot_io::Shelf;
 use lot_model::Instance;
 use plan_rules::Plan;
-use split_trees::plans_are_within;
 use std::alloc::Global;
 
 // What the first three lines say.

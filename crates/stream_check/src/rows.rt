@@ -9,7 +9,7 @@ ghost use Rattle.lin_rows.specs.Rows.{HoldsIn, whole_point};
 ghost use Rattle.cert_lines.specs.Limits.{IsVersion};
 ghost use Rattle.cert_lines.specs.Shapes.{CutShape};
 ghost use Rattle.certificate.specs.Values.{Values, all_cut_values, cut_values};
-ghost use Rattle.acceptance.specs.Laws.{HoldAtPlans};
+ghost use Rattle.cert_meaning.specs.Laws.{HoldAtPlans};
 ghost use Rattle.cert_checker.specs.Checks.{HaveGoodRows, first_line};
 ghost use Rattle.cert_stream.specs.Reader.{IsSound};
 ghost use Rattle.stream_check.specs.Passes.{Gives, HasLeft, IsStep};
@@ -17,8 +17,8 @@ ghost use Rattle.stream_check.specs.Rows.{CutIsRefused, CutsAreRefused, IsRowOf}
 
 use crate::StreamFault;
 use crate::units::{CertText, read_cut};
-use acceptance::cut_rows_go_on;
 use cert_checker::cut_row_in;
+use cert_meaning::cut_rows_go_on;
 use cert_stream::LineReader;
 use echelon::Explosion;
 use lin_rows::Row;

@@ -1,7 +1,7 @@
 // Certificates in files.
 ghost use Rattle.std.specs.Prelude.{◌≡◌, ◌≤◌, ◌+◌, ◌*◌, IfErr, IfOk, IsTrue, length, option_copied};
 ghost use Rattle.lot_io.specs.Outside.{GrewBy, OnlyReads};
-ghost use Rattle.acceptance.specs.Accepts.{IsTrueOf};
+ghost use Rattle.cert_meaning.specs.Accepts.{IsTrueOf};
 ghost use Rattle.cert_checker.specs.Checks.{IsGoodCertificate, plan_given};
 ghost use Rattle.stream_check.specs.Streams.{CountsOf, GaveWhole, IsRefusedWith, IsStreamFault, OfBytes, OfCertificate, WhenRead, never_refused, pass_size};
 

@@ -96,7 +96,7 @@ fn read_part<S: Shelf>(
     }
 }
 
-// So many parts.
+// Reads `count` parts.
 fn read_parts<S: Shelf>(
     reader: &mut LineReader,
     shelf: &mut S,
@@ -147,7 +147,7 @@ fn read_list<S: Shelf>(
     }
 }
 
-// So many lists of parts.
+// Reads `count` lists of parts.
 fn read_lists<S: Shelf>(
     reader: &mut LineReader,
     shelf: &mut S,
@@ -197,7 +197,7 @@ fn read_group<S: Shelf>(
     }
 }
 
-// So many groups of items.
+// Reads `count` groups of items.
 fn read_groups<S: Shelf>(
     reader: &mut LineReader,
     shelf: &mut S,

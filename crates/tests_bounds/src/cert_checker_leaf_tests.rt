@@ -1,13 +1,13 @@
 ghost use Rattle.std.specs.Prelude.{IfOk};
-ghost use Rattle.split_trees.specs.Ranges.{IsChoice};
+ghost use Rattle.cert_trees.specs.Ranges.{IsChoice};
 
-use acceptance::LeafSays;
 use cert_checker::{CheckFault, Rejected, Why, leaf_bound};
+use cert_meaning::LeafSays;
+use cert_trees::branch_range;
 use certificate::{Leaf, Part};
 use fixtures::shop;
 use lin_rows::{Bound, Column, RowName};
 use lot_model::Instance;
-use split_trees::branch_range;
 use std::alloc::Global;
 use std::test::Fail;
 

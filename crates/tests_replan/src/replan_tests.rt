@@ -1,7 +1,6 @@
 ghost use Rattle.std.specs.Prelude.{◌≤◌, IfOk};
 ghost use Rattle.plan_rules.specs.Held.{AllFit};
 
-use branching::Found;
 use certificate::Claim;
 use fixtures::{Item, MADE, PLAIN, Resource, instance};
 use lot_model::Instance;
@@ -9,6 +8,7 @@ use lot_sizing::limits::MAX_PERIODS;
 use plan_rules::{Grid, Plan};
 use replan::{Replanned, Rest, replan, rest, total};
 use search_plugins::Nothing;
+use search_result::Found;
 use std::alloc::{AllocError, Global};
 use std::test::Fail;
 

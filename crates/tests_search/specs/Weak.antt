@@ -2,7 +2,7 @@
 use Rattle.std.specs.Prelude.{◌≡◌, ℕ, ◌+◌, ◌*◌, Option, Some, None}
 use Rattle.lin_rows.specs.declared.column.Column.{Column}
 use Rattle.lin_rows.specs.declared.column.Column.TheVariants.{X, Y, S, R}
-use Rattle.branch_and_bound.specs.Trees.{Rules}
+use Rattle.tree_search.specs.Trees.{Rules}
 
 abbrev pub number_of : Column → ℕ
 number_of (X i t) = i * 4294967296 + t

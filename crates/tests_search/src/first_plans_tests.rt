@@ -1,10 +1,10 @@
 ghost use Rattle.std.specs.Prelude.{◌≡◌};
 
-use built_plans::net_demands;
 use first_plans::{
     built_plan, candidates, improved, improved_by_families, own_period_is_one, own_period_plan,
 };
 use fixtures::{Item, PLAIN, Resource, instance};
+use heur_build::net_demands;
 use lot_model::Instance;
 use plan_rules::{Grid, Plan, Planned};
 use std::alloc::{AllocError, Global};

@@ -1,13 +1,13 @@
 // A guide that shows nothing before a point is reached, to try the search with.
 ghost use Rattle.std.specs.Prelude.{◌≡◌, ◌+◌, ◌*◌, ℕ, true, false, refl};
-ghost use Rattle.branch_and_bound.specs.Ranges.{AreOrdered, IsPoint};
-ghost use Rattle.branch_and_bound.specs.Costs.{IsAtMost, IsBelow};
+ghost use Rattle.tree_search.specs.Ranges.{AreOrdered, IsPoint};
+ghost use Rattle.tree_search.specs.Costs.{IsAtMost, IsBelow};
 ghost use Rattle.tests_search.specs.Weak.{IsWeakCost, number_of, weak_rules};
 
-use branch_and_bound::{Guide, Node, Proposal, Split, middle, open_place};
 use cert_lines::Leaf;
 use lin_rows::Column;
 use std::alloc::{AllocError, Global};
+use tree_search::{Guide, Node, Proposal, Split, middle, open_place};
 
 /// A guide under which each choice costs 1, and no leaf says so but at a point.
 #[derive(Drop)]

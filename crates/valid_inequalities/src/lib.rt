@@ -1,7 +1,7 @@
 //! Inequalities that hold of every plan of an echelon, in its own quantities.
 //!
 //! Family: single items. It stands on `lot_sizing` and `echelon`; the crates of the cuts of echelons,
-//! `acceptance`, `root_rows`, `apart` and `branching` stand on it.
+//! `cert_meaning`, `lp_relaxation`, `item_bound` and `uncoupled` stand on it.
 //!
 //! `specs/Trajectory` says how an echelon goes through the periods: quantities and setups of its item,
 //! and what it has in stock and owes. It knows no model, bill or lead time; whoever shows that an

@@ -1,8 +1,8 @@
 //! The least cost of an item by itself: which period serves which net demands, and the potentials that
 //! show that no net plan costs less.
 //!
-//! Family: single items. It stands on `lot_sizing` and `echelon`; `backlog_dp`, `uncoupled`, `apart` and
-//! `built_plans` stand on it.
+//! Family: single items. It stands on `lot_sizing` and `echelon`; `backlog_dp`, `uncoupled`, `item_bound` and
+//! `heur_build` stand on it.
 //!
 //! `solve` is for items without backlog, the problem of Wagner and Whitin (1958). For each position, a
 //! period with a net demand, it takes the least of lines, one for each period that may serve it

@@ -2,7 +2,7 @@
 //!
 //! A `Deadline` is made where the program begins, and handed to what makes plans and prices. Without a time nobody reads a clock.
 //!
-//! Family: plugins. It stands on no crate; `first_plans`, `fixed_setups`, `plan_plugin`, `price_rounds`, `price_plugin` and `lotplan_main` stand on it.
+//! Family: plugins. It stands on no crate; `first_plans`, `heur_setup_lps`, `heur_plugin`, `price_rounds`, `price_plugin` and `lotplan_main` stand on it.
 //! Nothing is claimed of what a clock says.
 #![tactic(auto)]
 

@@ -9,9 +9,9 @@ ghost use Rattle.lotplan.specs.Saying.{IsSaid};
 use crate::model_file::{ReadAnswer, Stop, read_model};
 use crate::said::Said;
 use crate::status::Status;
-use base_bound::{BoundSays, base_bound};
 use lot_io::Shelf;
 use lot_model::Instance;
+use lp_bounds::{BoundSays, base_bound};
 use std::alloc::{AllocError, Global};
 
 /// What `bound` answers.

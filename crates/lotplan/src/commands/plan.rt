@@ -3,7 +3,7 @@
 ghost use Rattle.std.specs.Prelude.{◌≡◌, ◌≢◌, ◌≤◌, ◌+◌, ◌*◌, length, string_bytes, Some, None, IfOk, IfSome, OnErr, option_map};
 ghost use Rattle.cert_lines.specs.declared.limits.TheConstants.{LOTS_CERT_VERSION, MAX_CERT_VERSION};
 ghost use Rattle.lot_io.specs.Outside.{OnlyReads, piece_size};
-ghost use Rattle.branch_and_cut.specs.Search.{IsGoodPlan, cost_of};
+ghost use Rattle.branching.specs.Search.{IsGoodPlan, cost_of};
 ghost use Rattle.command_line.specs.Meant.{search_by};
 ghost use Rattle.lotplan.specs.Meaning.{Says};
 ghost use Rattle.lotplan.specs.Finding.{IsFound};
@@ -17,8 +17,7 @@ use crate::said::Said;
 use crate::sought::{Sought, sought_by};
 use crate::status::Status;
 use crate::writing::{Output, unwritten_line, write_all};
-use branch_and_cut::{Limits, Plugins, Wanted, search_all};
-use branching::{Found, RootSays};
+use branching::{Limits, Plugins, Wanted, search_all};
 use certificate::{Claim, write_certificate};
 use command_line::{Names, Search};
 use lot_io::Shelf;
@@ -26,6 +25,7 @@ use lot_model::Instance;
 use plan_file::write_plan;
 use plan_rules::{Plan, judge};
 use search_plugins::{Heuristic, Limited, Proposer, Watch};
+use search_result::{Found, RootSays};
 use std::alloc::{AllocError, Global};
 
 /// What `plan` answers.

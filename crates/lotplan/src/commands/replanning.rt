@@ -5,7 +5,7 @@ ghost use Rattle.lot_io.specs.Outside.{OnlyReads, piece_size};
 ghost use Rattle.plan_rules.specs.Held.{AllFit, plan_of};
 ghost use Rattle.command_line.specs.Words.{AreApart};
 ghost use Rattle.replan.specs.Whole.{total_claimed};
-ghost use Rattle.branch_and_cut.specs.Search.{IsGoodPlan};
+ghost use Rattle.branching.specs.Search.{IsGoodPlan};
 ghost use Rattle.lotplan.specs.Meaning.{Says};
 ghost use Rattle.lotplan.specs.Finding.{IsFound, only};
 ghost use Rattle.lotplan.specs.Judging.{HoldsBoth};
@@ -19,7 +19,6 @@ use crate::model_file::{PlanStop, ReadAnswer, Stop, no_plan_line, read_model, re
 use crate::said::Said;
 use crate::status::Status;
 use crate::writing::{Output, write_all};
-use branching::Found;
 use certificate::{Claim, write_certificate};
 use command_line::ReplanNames;
 use frozen_start::{joins_are_feasible, rests_decide};
@@ -30,6 +29,7 @@ use plan_file::{PlanFault, write_plan};
 use plan_rules::Plan;
 use replan::{Replanned, Rest, RestFault, replan, total};
 use search_plugins::{Heuristic, Proposer, Watch};
+use search_result::Found;
 use std::alloc::{AllocError, Global};
 
 /// What `replan` answers where nothing was searched.

@@ -1,7 +1,7 @@
 use Rattle.std.specs.Prelude.{option_copied}
 use Rattle.std.proofs.lemmas.Result.{IfErr-weaker, IfOk-weaker}
 use Rattle.certificate.specs.Shapes.{shape_of}
-use Rattle.acceptance.specs.Accepts.{IsTrueOf}
+use Rattle.cert_meaning.specs.Accepts.{IsTrueOf}
 use Rattle.cert_checker.specs.Checks.{HasFault, IsGoodCertificate, IsNeverRefused, plan_given}
 use Rattle.cert_checker.proofs.CheckNever.{never}
 use Rattle.cert_checker.proofs.CheckWhole.{true_of}

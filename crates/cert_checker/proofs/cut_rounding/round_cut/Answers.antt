@@ -1,5 +1,5 @@
 use Rattle.std.proofs.Common.{[]}
-use Rattle.acceptance.specs.Named.{names}
+use Rattle.cert_meaning.specs.Named.{names}
 use Rattle.cert_checker.proofs.CutParts.{part_fault}
 use Rattle.cert_checker.proofs.cut_rounding.round_cut.Goals as goal
 

@@ -1,9 +1,9 @@
 use Rattle.std.proofs.Common.{◌≡◌, ◌∙◌, ℕ, refl, ap, Err}
 use Rattle.lin_rows.specs.Rows.{whole_point}
 use Rattle.lin_rows.specs.Columns.{value_in}
-use Rattle.acceptance.specs.Parts.{times_of}
+use Rattle.cert_meaning.specs.Parts.{times_of}
 use Rattle.cert_checker.specs.Cuts.{AreRowsOf}
-use Rattle.acceptance.proofs.Rows.{rounded_columns}
+use Rattle.cert_meaning.proofs.Rows.{rounded_columns}
 use Rattle.cert_checker.proofs.CutParts.{are_signed, are_small, have_names, not_small, rounded_is, same_length}
 use Rattle.cert_checker.proofs.cut_rounding.rounded.Goals as goal
 

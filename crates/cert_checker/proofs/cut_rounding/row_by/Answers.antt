@@ -1,7 +1,7 @@
 use Rattle.std.proofs.Common.{◌≡◌, ◌<◌, ◌-◌, ◌∙◌, sym, subst, arith, length, slice_index_or}
 use Rattle.std.proofs.lemmas.List.{get_or_default}
 use Rattle.lin_rows.specs.declared.base.RowName.TheVariants.{Cut}
-use Rattle.acceptance.specs.Named.{HasName, no_row}
+use Rattle.cert_meaning.specs.Named.{HasName, no_row}
 use Rattle.cert_checker.specs.Cuts.{IsRowNamed}
 use Rattle.cert_checker.proofs.CutParts.{base_named, earlier_named, has_row}
 use Rattle.cert_checker.proofs.cut_rounding.row_by.Goals as goal

@@ -1,5 +1,5 @@
 use Rattle.std.proofs.Common.{◌≡◌, take}
-use Rattle.acceptance.specs.Parts.{times_of}
+use Rattle.cert_meaning.specs.Parts.{times_of}
 use Rattle.cert_checker.proofs.cut_rounding.times_of.Given as goal
 
 abbrev pub invariant-loop-place : goal.invariant-loop-place

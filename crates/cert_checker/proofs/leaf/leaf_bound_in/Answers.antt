@@ -1,11 +1,11 @@
 use Rattle.lot_sizing.specs.Plan.{Plan, IsFeasible}
 use Rattle.lin_rows.specs.Columns.{value_in}
 use Rattle.cert_lines.specs.Shapes.{leaf_shape}
-use Rattle.split_trees.specs.Paths.{AreMet}
-use Rattle.split_trees.specs.Ranges.{WithTotals, whole_ranges}
-use Rattle.acceptance.specs.Named.{names}
-use Rattle.acceptance.specs.Says.{IsSoOf, Says}
-use Rattle.acceptance.specs.Laws.{HoldAtPlans}
+use Rattle.cert_trees.specs.Paths.{AreMet}
+use Rattle.cert_trees.specs.Ranges.{WithTotals, whole_ranges}
+use Rattle.cert_meaning.specs.Named.{names}
+use Rattle.cert_meaning.specs.Says.{IsSoOf, Says}
+use Rattle.cert_meaning.specs.Laws.{HoldAtPlans}
 use Rattle.cert_checker.proofs.Leaves.{if_ok_with}
 use Rattle.cert_checker.proofs.leaf.leaf_bound_in.Goals as goal
 

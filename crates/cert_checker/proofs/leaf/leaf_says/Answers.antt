@@ -5,9 +5,9 @@ use mir.Val.{SFits, of_z, to_z}
 use mir.Syntax.{w128}
 use Rattle.lin_rows.specs.Rows.{LinRow}
 use Rattle.cert_lines.specs.Shapes.{LinearLeaf, PointLeaf, ReducedLeaf, leaf_shape, list_shape}
-use Rattle.split_trees.specs.Ranges.{WithTotals, whole_ranges}
-use Rattle.acceptance.specs.Named.{names}
-use Rattle.acceptance.specs.Says.{Says}
+use Rattle.cert_trees.specs.Ranges.{WithTotals, whole_ranges}
+use Rattle.cert_meaning.specs.Named.{names}
+use Rattle.cert_meaning.specs.Says.{Says}
 use Rattle.cert_checker.specs.declared.fault.Why.{Why}
 use Rattle.cert_checker.specs.Leaves.{IfRejected, IsLeafFault, IsPointFault, IsSumFault, LeafIsSmall, linear_most}
 use Rattle.cert_checker.proofs.Leaves.{if_err_with, if_ok_with, rejected_as}

@@ -1,7 +1,7 @@
 use Rattle.std.proofs.Common.{ℕ, ◌≤◌, ◌<◌}
 use Rattle.plan_rules.specs.Cells.{Fits, table_of}
 use Rattle.plan_rules.specs.Rows.{OtherRowsSame}
-use Rattle.split_trees.specs.Ranges.{WithTotals}
+use Rattle.cert_trees.specs.Ranges.{WithTotals}
 use Rattle.cert_checker.specs.Leaves.{IsPointAt}
 use Rattle.cert_checker.proofs.leaf_point.fill_item.Given as goal
 

@@ -1,7 +1,7 @@
 use Rattle.std.proofs.Common.{rules, ◌≡◌, ◌∙◌, ℕ, inr, length, refl, subst, sym}
 use Rattle.cert_lines.specs.Shapes.{list_shape}
-use Rattle.acceptance.specs.Named.{names}
-use Rattle.acceptance.specs.Parts.{AreParts}
+use Rattle.cert_meaning.specs.Named.{names}
+use Rattle.cert_meaning.specs.Parts.{AreParts}
 use Rattle.cert_checker.specs.declared.fault.Why.{Why}
 use Rattle.cert_checker.specs.Leaves.{IfRejected, IsFirstWrong, IsWrongList}
 use Rattle.cert_checker.proofs.leaf_reduced.list_parts.Goals as goal

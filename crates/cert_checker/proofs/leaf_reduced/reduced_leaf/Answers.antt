@@ -5,10 +5,10 @@ use mir.Val.{SFits, of_z, to_z}
 use mir.Syntax.{w128}
 use Rattle.std.proofs.lemmas.List.{length-map}
 use Rattle.cert_lines.specs.Shapes.{LinearLeaf, ReducedLeaf, list_shape}
-use Rattle.split_trees.specs.Ranges.{WithTotals}
-use Rattle.acceptance.specs.Named.{names}
-use Rattle.acceptance.specs.Parts.{AreParts}
-use Rattle.acceptance.specs.Lists.{all_parts}
+use Rattle.cert_trees.specs.Ranges.{WithTotals}
+use Rattle.cert_meaning.specs.Named.{names}
+use Rattle.cert_meaning.specs.Parts.{AreParts}
+use Rattle.cert_meaning.specs.Lists.{all_parts}
 use Rattle.cert_checker.specs.declared.fault.Why.{Why}
 use Rattle.cert_checker.specs.Leaves.{IfRejected, IsFaultOfLeaf, IsFirstWrongList, IsGoodSum, IsLeafFault, IsSaidBy, IsShortBy, LeafIsSmall, LeafSaysThis, WithNames, linear_most}
 use Rattle.cert_checker.specs.Named.{AreSumsOf}

@@ -5,7 +5,7 @@ use mir.Syntax.{w128}
 use Rattle.std.specs.Prelude.{ℤ}
 use Rattle.lin_rows.specs.declared.base.RowName.{RowName}
 use Rattle.cert_lines.specs.declared.parts.Part.{Part}
-use Rattle.acceptance.specs.Lists.{list_row, parts_from}
+use Rattle.cert_meaning.specs.Lists.{list_row, parts_from}
 use Rattle.cert_checker.proofs.Listed.{parts_more}
 use Rattle.cert_checker.proofs.leaf_reduced.spread.Goals as goal
 

@@ -1,5 +1,5 @@
 use Rattle.std.proofs.Common.{◌≡◌, ◌-◌, take}
-use Rattle.acceptance.specs.Lists.{parts_from}
+use Rattle.cert_meaning.specs.Lists.{parts_from}
 use Rattle.cert_checker.proofs.leaf_reduced.spread.Given as goal
 
 abbrev pub invariant-loop-period : goal.invariant-loop-period

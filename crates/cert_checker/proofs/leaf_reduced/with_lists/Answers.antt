@@ -2,7 +2,7 @@ use Rattle.std.proofs.Common.{rules, ◌≡◌, ◌+◌, ◌<◌, ◌∙◌, ℕ
 use Rattle.std.specs.List.{All}
 use Rattle.std.proofs.lemmas.List.{length-map, take_all}
 use Rattle.cert_lines.specs.Shapes.{list_shape}
-use Rattle.acceptance.specs.Named.{names}
+use Rattle.cert_meaning.specs.Named.{names}
 use Rattle.cert_checker.specs.declared.fault.Why.{Why}
 use Rattle.cert_checker.specs.Leaves.{IfRejected, IsFirstWrongList, IsList, IsWrongList, no_list}
 use Rattle.cert_checker.proofs.CheckRefusals.{rejected_weaker}

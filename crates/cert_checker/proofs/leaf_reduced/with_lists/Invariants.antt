@@ -1,8 +1,8 @@
 use Rattle.std.proofs.Common.{◌≡◌, ℕ, map, take}
 use Rattle.std.specs.List.{All}
 use Rattle.cert_lines.specs.Shapes.{list_shape}
-use Rattle.acceptance.specs.Named.{names}
-use Rattle.acceptance.specs.Lists.{all_parts}
+use Rattle.cert_meaning.specs.Named.{names}
+use Rattle.cert_meaning.specs.Lists.{all_parts}
 use Rattle.cert_checker.specs.Leaves.{IsList}
 use Rattle.cert_checker.proofs.leaf_reduced.with_lists.Given as goal
 

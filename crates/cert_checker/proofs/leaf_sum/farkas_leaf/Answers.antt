@@ -1,7 +1,7 @@
 use Rattle.std.proofs.Common.{rules, refl}
 use Rattle.std.specs.Prelude.{pos, ◌≤ℤ◌, ◌<ℤ◌}
-use Rattle.split_trees.specs.Ranges.{WithTotals}
-use Rattle.acceptance.specs.Named.{names}
+use Rattle.cert_trees.specs.Ranges.{WithTotals}
+use Rattle.cert_meaning.specs.Named.{names}
 use Rattle.cert_checker.specs.Leaves.{IsFarkasFault, IsSumFault, linear_most}
 use Rattle.cert_checker.proofs.Leaves.{farkas_fault, farkas_is, rejected_as, short_is}
 use Rattle.cert_checker.proofs.leaf_sum.farkas_leaf.Goals as goal

@@ -2,8 +2,8 @@ use Rattle.std.proofs.Common.{rules, ◌≡◌, subst}
 use mir.Facts.{to_z-of_z}
 use mir.Val.{SFits, of_z, to_z}
 use mir.Syntax.{w128}
-use Rattle.acceptance.specs.Named.{names}
-use Rattle.acceptance.specs.Says.{IsRoundedUp}
+use Rattle.cert_meaning.specs.Named.{names}
+use Rattle.cert_meaning.specs.Says.{IsRoundedUp}
 use Rattle.cert_checker.specs.Leaves.{IsGoodSum, linear_most}
 use Rattle.cert_checker.proofs.Leaves.{linear_is}
 use Rattle.cert_checker.proofs.leaf_sum.linear_leaf.Goals as goal

@@ -4,7 +4,7 @@ use Rattle.std.specs.Int.{div_ceil}
 use mir.Facts.{to_z-of_z}
 use mir.Val.{of_z, to_z}
 use mir.Syntax.{w128}
-use Rattle.acceptance.specs.Says.{IsRoundedUp}
+use Rattle.cert_meaning.specs.Says.{IsRoundedUp}
 use Rattle.cert_checker.proofs.LeafBounds.{rounded_is}
 use Rattle.cert_checker.proofs.leaf_sum.rounded_up.Goals as goal
 

@@ -2,7 +2,7 @@ use Rattle.std.proofs.Common.{◌≡◌, ℕ, refl, ap, rules, Err}
 use mir.Facts.{to_z-of_z}
 use mir.Val.{of_z, to_z}
 use mir.Syntax.{w128}
-use Rattle.acceptance.specs.Named.{names}
+use Rattle.cert_meaning.specs.Named.{names}
 use Rattle.cert_checker.specs.Named.{IsAny, IsFirstLarge}
 use Rattle.cert_checker.proofs.Leaves.{first_column, good_sum, named_parts}
 use Rattle.cert_checker.proofs.leaf_sum.sum_within_costs.Goals as goal

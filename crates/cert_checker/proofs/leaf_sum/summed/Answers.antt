@@ -2,7 +2,7 @@ use Rattle.std.proofs.Common.{◌≡◌}
 use mir.Facts.{to_z-of_z}
 use mir.Val.{of_z, to_z}
 use mir.Syntax.{w128}
-use Rattle.acceptance.specs.Named.{names}
+use Rattle.cert_meaning.specs.Named.{names}
 use Rattle.cert_checker.specs.Leaves.{linear_most}
 use Rattle.cert_checker.proofs.Leaves.{part_fault}
 use Rattle.cert_checker.proofs.leaf_sum.summed.Goals as goal

@@ -4,7 +4,7 @@ use Rattle.lot_sizing.specs.Problem.{Problem}
 use Rattle.lin_rows.specs.declared.base.RowName.{RowName}
 use Rattle.lin_rows.specs.declared.base.RowName.TheVariants.{Balance, Link, Capacity, EndMin, EndMax, Top, Least, Late, Path, Cut}
 use Rattle.lin_rows.specs.Base.{HasRow}
-use Rattle.acceptance.specs.Named.{HasName}
+use Rattle.cert_meaning.specs.Named.{HasName}
 use Rattle.cert_checker.proofs.parts.has_name.Goals as goal
 
 -- a name of no bound and no cut is there exactly where the problem has its row

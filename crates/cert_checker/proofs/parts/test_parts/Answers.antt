@@ -1,8 +1,8 @@
 use Rattle.std.proofs.Common.{arith, subst}
 use Rattle.std.proofs.lemmas.List.{take_all}
 use Rattle.std.proofs.lemmas.List.Elements.{All-more}
-use Rattle.acceptance.specs.Named.{names}
-use Rattle.acceptance.specs.Parts.{AreParts, IsPart}
+use Rattle.cert_meaning.specs.Named.{names}
+use Rattle.cert_meaning.specs.Parts.{AreParts, IsPart}
 use Rattle.cert_checker.specs.Leaves.{no_part}
 use Rattle.cert_checker.proofs.parts.test_parts.Goals as goal
 

@@ -1,6 +1,6 @@
 use Rattle.std.proofs.Common.{ℕ, take}
-use Rattle.acceptance.specs.Named.{names}
-use Rattle.acceptance.specs.Parts.{AreParts}
+use Rattle.cert_meaning.specs.Named.{names}
+use Rattle.cert_meaning.specs.Parts.{AreParts}
 use Rattle.cert_checker.proofs.parts.test_parts.Given as goal
 
 abbrev pub invariant-loop-place : goal.invariant-loop-place

@@ -2,10 +2,10 @@ use Rattle.cert_lines.specs.declared.parts.Claim.{Claim}
 use Rattle.cert_lines.specs.declared.parts.Claim.TheVariants.{Optimal, Infeasible, Bound as BoundOf}
 use Rattle.lot_sizing.specs.Problem.{Problem}
 use Rattle.lot_sizing.specs.Plan.{Plan}
-use Rattle.acceptance.specs.declared.says.LeafSays.{LeafSays}
-use Rattle.acceptance.specs.declared.says.LeafSays.TheVariants.{NoPlan, AtLeast}
-use Rattle.acceptance.specs.Accepts.{IsEnough}
-use Rattle.acceptance.specs.Says.{IsSoOf}
+use Rattle.cert_meaning.specs.declared.says.LeafSays.{LeafSays}
+use Rattle.cert_meaning.specs.declared.says.LeafSays.TheVariants.{NoPlan, AtLeast}
+use Rattle.cert_meaning.specs.Accepts.{IsEnough}
+use Rattle.cert_meaning.specs.Says.{IsSoOf}
 use Rattle.stream_check.specs.Nodes.{IsSafe}
 use Rattle.std.proofs.Common.{arith, refl}
 use Rattle.stream_check.proofs.nodes.check_leaf.Goals as goal

@@ -1,7 +1,7 @@
 use Rattle.std.proofs.Common.{◌≡◌, Err, subst, sym, true}
 use Rattle.lot_io.specs.Outside.{Shelved}
 use Rattle.cert_lines.specs.Shapes.{leaf_shape}
-use Rattle.split_trees.specs.Ranges.{WithTotals}
+use Rattle.cert_trees.specs.Ranges.{WithTotals}
 use Rattle.cert_checker.specs.Checks.{IsGoodLeaf, ground}
 use Rattle.stream_check.specs.Nodes.{AreCovered, IsLeafStop, trees_due}
 use Rattle.stream_check.proofs.Stack.{covered_sides}

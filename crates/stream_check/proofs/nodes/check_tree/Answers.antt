@@ -1,8 +1,8 @@
 use Rattle.std.proofs.Common.{◌+◌, ◌<◌, ◌^◌, IsTrue, subst, sym, true}
 use Rattle.std.proofs.lemmas.List.Elements.{All-nil}
 use Rattle.lot_io.specs.Outside.{Shelved}
-use Rattle.split_trees.specs.Paths.{AreChoices}
-use Rattle.split_trees.specs.Ranges.{IsChoice}
+use Rattle.cert_trees.specs.Paths.{AreChoices}
+use Rattle.cert_trees.specs.Ranges.{IsChoice}
 use Rattle.stream_check.specs.Nodes.{AreCovered, AreLeft, AreSmall, trees_due}
 use Rattle.stream_check.proofs.Stack.{covered_first}
 use Rattle.stream_check.proofs.Walk.{whole_left}

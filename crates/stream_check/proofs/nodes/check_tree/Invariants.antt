@@ -4,7 +4,7 @@ use Rattle.cert_lines.specs.Shapes.{EndLine}
 use Rattle.certificate.specs.Counts.{longest_path}
 use Rattle.certificate.specs.Shapes.{TreeShape}
 use Rattle.certificate.specs.Values.{tree_values}
-use Rattle.split_trees.specs.Paths.{AreChoices}
+use Rattle.cert_trees.specs.Paths.{AreChoices}
 use Rattle.cert_checker.specs.Named.{IsReadyFor}
 use Rattle.cert_stream.specs.Reader.{left_of}
 use Rattle.stream_check.specs.Nodes.{AreCovered, AreLeft, AreSmall, trees_due}

@@ -1,5 +1,5 @@
 use Rattle.std.proofs.Common.{◌∙◌, ◌∷◌, ◌+◌, ap, refl, sym}
-use Rattle.split_trees.specs.Paths.{at_least}
+use Rattle.cert_trees.specs.Paths.{at_least}
 use Rattle.stream_check.specs.Nodes.{later}
 use Rattle.stream_check.proofs.Stack.{choices_over, choices_popped, later_high, later_low, small_popped}
 use Rattle.stream_check.proofs.nodes.go_over.Goals as goal

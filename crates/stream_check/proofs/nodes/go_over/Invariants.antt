@@ -1,6 +1,6 @@
 use Rattle.std.proofs.Common.{◌≡◌, vec_len}
 use Rattle.lot_sizing.specs.Problem.{Problem}
-use Rattle.split_trees.specs.Paths.{AreChoices}
+use Rattle.cert_trees.specs.Paths.{AreChoices}
 use Rattle.stream_check.specs.Nodes.{AreSmall, later}
 use Rattle.stream_check.proofs.nodes.go_over.Given as goal
 

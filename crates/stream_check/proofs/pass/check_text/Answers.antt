@@ -2,8 +2,8 @@ use Rattle.std.proofs.Common.{◌≡◌, ◌++◌, ◌∷◌, [], Err, subst, sy
 use Rattle.std.specs.Prelude.{option_copied}
 use Rattle.cert_lines.specs.Shapes.{EndLine}
 use Rattle.certificate.specs.Values.{tree_values}
-use Rattle.split_trees.specs.Ranges.{WithTotals}
-use Rattle.acceptance.specs.Laws.{HoldAtPlans}
+use Rattle.cert_trees.specs.Ranges.{WithTotals}
+use Rattle.cert_meaning.specs.Laws.{HoldAtPlans}
 use Rattle.cert_checker.specs.Checks.{IsGoodTree, IsTreeFault, ground}
 use Rattle.stream_check.specs.Passes.{IsRefusal}
 use Rattle.stream_check.proofs.Files.{end_on}

@@ -4,7 +4,7 @@ use Rattle.lot_sizing.specs.Single.{net_demand}
 use Rattle.echelon.specs.Views.{single_of_item}
 use Rattle.wagner_whitin.proofs.Serving.{positions_small}
 use Rattle.wagner_whitin.proofs.Summing.{IsAt, period_at}
-use Rattle.uncoupled.proofs.Blocks.{lot_more, net_at_most}
+use Rattle.uncoupled.proofs.NextBlocks.{lot_more, net_at_most}
 use Rattle.uncoupled.proofs.lots.block_lot.Goals as goal
 
 pub overflow_add-place-end : goal.overflow_add-place-end

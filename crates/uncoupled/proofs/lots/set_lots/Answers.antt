@@ -2,7 +2,7 @@ use Rattle.std.proofs.Common.{arith, slice_index_or}
 use Rattle.lot_sizing.specs.declared.Block.{Block}
 use Rattle.echelon.specs.Views.{single_of_item}
 use Rattle.wagner_whitin.proofs.Serving.{positions_small}
-use Rattle.uncoupled.proofs.Blocks.{IsNext, few_blocks, next_block, row_more, row_start}
+use Rattle.uncoupled.proofs.NextBlocks.{IsNext, few_blocks, next_block, row_more, row_start}
 use Rattle.uncoupled.proofs.lots.set_lots.Goals as goal
 
 abbrev no_block : Block

@@ -7,10 +7,10 @@ use Rattle.std.proofs.lemmas.List.{get_or_default}
 use Rattle.lin_rows.specs.Columns.{IsColumn}
 use Rattle.lin_rows.specs.Rows.{LinRow}
 use Rattle.lin_rows.specs.Base.{row_of}
-use Rattle.split_trees.specs.Ranges.{WithTotals}
-use Rattle.acceptance.specs.Named.{HasName, names, no_row, row_named}
+use Rattle.cert_trees.specs.Ranges.{WithTotals}
+use Rattle.cert_meaning.specs.Named.{HasName, names, no_row, row_named}
 use Rattle.cert_checker.specs.Named.{AddsPart, AddsWithin}
-use Rattle.acceptance.proofs.Rows.{columns_at}
+use Rattle.cert_meaning.proofs.Rows.{columns_at}
 use Rattle.cert_checker.proofs.Sums.{adds_same, base_named, if_ok, passes_same}
 use Rattle.cert_checker.proofs.named.NamedSums.add_part.Goals as goal
 

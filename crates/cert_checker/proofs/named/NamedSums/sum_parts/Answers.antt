@@ -1,6 +1,6 @@
 use Rattle.std.proofs.Common.{subst}
 use Rattle.std.proofs.lemmas.List.{take_all}
-use Rattle.acceptance.specs.Named.{names}
+use Rattle.cert_meaning.specs.Named.{names}
 use Rattle.cert_checker.specs.Leaves.{no_part}
 use Rattle.cert_checker.specs.Named.{AreSumsOf}
 use Rattle.cert_checker.proofs.Sums.{not_small, small_next, sums_next}

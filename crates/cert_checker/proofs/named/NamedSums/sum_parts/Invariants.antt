@@ -1,7 +1,7 @@
 use Rattle.std.proofs.Common.{take}
-use Rattle.split_trees.specs.Ranges.{WithTotals}
-use Rattle.acceptance.specs.Named.{names}
-use Rattle.acceptance.specs.Parts.{AreSmall}
+use Rattle.cert_trees.specs.Ranges.{WithTotals}
+use Rattle.cert_meaning.specs.Named.{names}
+use Rattle.cert_meaning.specs.Parts.{AreSmall}
 use Rattle.cert_checker.specs.Named.{AreSumsOf, IsReadyFor}
 use Rattle.cert_checker.proofs.named.NamedSums.sum_parts.Given as goal
 

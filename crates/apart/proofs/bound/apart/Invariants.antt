@@ -1,6 +1,0 @@
-use Rattle.std.proofs.Common.{◌-◌}
-use Rattle.apart.specs.Steps.{AreApartTo}
-use Rattle.apart.proofs.bound.apart.Given as goal
-
-abbrev pub invariant-loop-item : goal.invariant-loop-item
-invariant-loop-item l = AreApartTo l.instance (l.item - 1) l.found

@@ -1,4 +1,0 @@
-mod Denominators
-pub mod Points
-mod Plans
-mod Saying

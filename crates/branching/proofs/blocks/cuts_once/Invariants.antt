@@ -1,6 +1,0 @@
-use Rattle.std.proofs.Common.{◌≡◌, ◌+◌, ◌-◌, ◌++◌}
-use Rattle.branching.specs.Blocks.{each_once}
-use Rattle.branching.proofs.blocks.cuts_once.Given as goal
-
-abbrev pub invariant-loop-cut : goal.invariant-loop-cut
-invariant-loop-cut l = l.parts.items ++ each_once l.cut (l.count + 1 - l.cut) ≡ each_once 1 l.count

@@ -1,5 +1,0 @@
-use Rattle.branching.proofs.NoRoom.{no_room_certified}
-use Rattle.branching.proofs.no_room.no_room_is_certified.Goals as goal
-
-pub returns : goal.returns
-returns c = no_room_certified

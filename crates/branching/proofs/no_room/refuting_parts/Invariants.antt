@@ -1,6 +1,0 @@
-use Rattle.std.proofs.Common.{◌≡◌, ◌-◌}
-use Rattle.branching.specs.NoRoom.{balances}
-use Rattle.branching.proofs.no_room.refuting_parts.Given as goal
-
-abbrev pub invariant-loop-period : goal.invariant-loop-period
-invariant-loop-period l = l.parts.items ≡ balances l.item (l.period - 1)

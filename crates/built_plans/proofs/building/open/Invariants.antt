@@ -1,5 +1,0 @@
-use Rattle.built_plans.specs.Construction.{HasShape}
-use Rattle.built_plans.proofs.building.open.Given as goal
-
-abbrev pub invariant-loop-item : goal.invariant-loop-item
-invariant-loop-item l = HasShape l.instance l.built

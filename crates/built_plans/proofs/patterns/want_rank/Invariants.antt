@@ -1,8 +1,0 @@
-use Rattle.plan_rules.specs.Cells.{Fits}
-use Rattle.built_plans.proofs.patterns.want_rank.Given as goal
-
-abbrev pub invariant-loop-item : goal.invariant-loop-item
-invariant-loop-item l = record {
-  make : Fits l.instance l.make;
-  wanted : Fits l.instance l.wanted;
-}

@@ -1,5 +1,0 @@
-use Rattle.plan_rules.specs.Cells.{Fits}
-use Rattle.built_plans.proofs.patterns.want_spread.Given as goal
-
-abbrev pub invariant-loop-period : goal.invariant-loop-period
-invariant-loop-period l = Fits l.instance l.wanted

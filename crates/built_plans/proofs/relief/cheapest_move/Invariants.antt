@@ -1,6 +1,0 @@
-use Rattle.std.specs.Prelude.{IfSome}
-use Rattle.built_plans.specs.Relief.{IsMove}
-use Rattle.built_plans.proofs.relief.cheapest_move.Given as goal
-
-abbrev pub invariant-loop-item : goal.invariant-loop-item
-invariant-loop-item l = IfSome l.best (IsMove l.instance)

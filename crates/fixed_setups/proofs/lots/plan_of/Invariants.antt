@@ -1,6 +1,0 @@
-use Rattle.plan_rules.specs.Cells.{Fits}
-use Rattle.fixed_setups.specs.Within.{IsSetUpWithin}
-use Rattle.fixed_setups.proofs.lots.plan_of.Given as goal
-
-abbrev pub invariant-loop-item : goal.invariant-loop-item
-invariant-loop-item l = (Fits l.instance l.make × Fits l.instance l.setup) × IsSetUpWithin l.instance l.high l.setup

@@ -1,6 +1,0 @@
-use Rattle.lot_sizing.specs.Problem.{Problem}
-use Rattle.fixed_setups.specs.Plunging.{HasShape}
-use Rattle.fixed_setups.proofs.plunging.go_back.Given as goal
-
-abbrev pub invariant-loop-step : goal.invariant-loop-step
-invariant-loop-step l = (m : Problem) → HasShape m l.fn.dive → HasShape m l.dive

@@ -1,4 +1,0 @@
-use Rattle.fixed_setups.proofs.plunging.go_on.Goals as goal
-
-pub returns-in-None-clause-after : goal.returns-in-None-clause-after
-returns-in-None-clause-after c = c.go_back.ensures.after c.args.instance.now

@@ -1,5 +1,0 @@
-use Rattle.plan_rules.specs.Cells.{Fits}
-use Rattle.fixed_setups.proofs.plunging.put_some.Given as goal
-
-abbrev pub invariant-loop-period : goal.invariant-loop-period
-invariant-loop-period l = Fits l.instance l.setup

@@ -1,5 +1,0 @@
-use Rattle.plan_rules.specs.Cells.{Fits}
-use Rattle.fixed_setups.proofs.walking.change_some.Given as goal
-
-abbrev pub invariant-loop-change : goal.invariant-loop-change
-invariant-loop-change l = Fits l.instance l.setup

@@ -1,0 +1,111 @@
+// Plans before the first node, of those that are made without a search and by programs.
+ghost use Rattle.std.specs.Prelude.{OnOk};
+ghost use Rattle.plan_rules.specs.Rows.{IfFound};
+ghost use Rattle.incumbent.specs.Kept.{IsBestSoFar, IsMadeWithin, IsNoWorseBest};
+ghost use Rattle.node_domains.specs.Within.{HaveShape, given_ranges};
+
+use crate::lagging::{lag_after_programs, lag_at_start};
+use crate::programs::{look, walk_at_start};
+use crate::setup_walking::{best_cost, walk_over_setups};
+use crate::shares::FIRST_SHARE;
+use first_plans::candidates;
+use incumbent::keep_within;
+use lot_model::Instance;
+use node_domains::Ranges;
+use plan_rules::Planned;
+use std::alloc::{AllocError, Global};
+use work_clock::Deadline;
+
+// The best plan within the ranges of those that are made without a search, the later ones of the list first.
+fn best_candidate(
+    alloc: Global,
+    instance: &Instance,
+    ranges: &Ranges,
+    until: Deadline,
+) -> Result<Option<Planned>, AllocError>
+    requires { HaveShape instance.now ranges.now }
+    ensures { IfFound result (IsMadeWithin instance.now (given_ranges ranges.now)) }
+{
+    let mut best = None;
+    let mut list = candidates(alloc, instance, until.first_of(FIRST_SHARE))?;
+    while let Some(made) = list.pop() {
+        keep_within(instance, ranges, &mut best, Some(made));
+    }
+    Ok(best)
+}
+
+// Keeps the best of those plans. Of plans that cost the same it is kept rather than the one before.
+fn keep_candidate(
+    alloc: Global,
+    instance: &Instance,
+    ranges: &Ranges,
+    until: Deadline,
+    best: &mut Option<Planned>,
+) -> Result<(), AllocError>
+    requires { IsBestSoFar instance.now ranges.now best.old }
+    ensures { OnOk result (IsNoWorseBest instance.now ranges.now best.new best.old) }
+{
+    let found = best_candidate(alloc, instance, ranges, until)?;
+    let before = best.take();
+    *best = found;
+    keep_within(instance, ranges, best, before);
+    Ok(())
+}
+
+// Walks over setups by programs in fixed point, and then over the lots of items where that found something.
+fn walk_and_lag(
+    alloc: Global,
+    instance: &Instance,
+    ranges: &Ranges,
+    until: Deadline,
+    best: &mut Option<Planned>,
+) -> Result<(), AllocError>
+    requires { IsBestSoFar instance.now ranges.now best.old }
+    ensures { OnOk result (IsNoWorseBest instance.now ranges.now best.new best.old) }
+{
+    let before = best_cost(best);
+    walk_over_setups(alloc, instance, ranges, until, best)?;
+    if best_cost(best) == before {
+        return Ok(());
+    }
+    lag_after_programs(alloc, instance, ranges, until, best)
+}
+
+// Walks from the best plan: over setups by programs, over the lots of items, and once more over both.
+fn walk_from_best(
+    alloc: Global,
+    instance: &Instance,
+    ranges: &Ranges,
+    until: Deadline,
+    best: &mut Option<Planned>,
+) -> Result<(), AllocError>
+    requires { IsBestSoFar instance.now ranges.now best.old }
+    ensures { OnOk result (IsNoWorseBest instance.now ranges.now best.new best.old) }
+{
+    walk_at_start(alloc, instance, ranges, until, best)?;
+    lag_after_programs(alloc, instance, ranges, until, best)?;
+    walk_and_lag(alloc, instance, ranges, until, best)
+}
+
+/// Plans before the first node: those that are made without a search, walks over the lots of items, where there is no plan yet one
+/// by the program with all setups or by a plunge, and walks from the best one, over setups and over lots. The best plan,
+/// with its cost in money, is kept, of those that lie within the ranges. Where there is a time at which the search ends, a half of it is
+/// taken at most once there is a plan.
+///
+/// The ranges have a number for each item and period of the instance, and the best plan so far lies within them. The error is
+/// that memory ran out; it takes memory for the plans and for a tableau.
+pub(crate) fn try_at_start(
+    alloc: Global,
+    instance: &Instance,
+    ranges: &Ranges,
+    until: Deadline,
+    best: &mut Option<Planned>,
+) -> Result<(), AllocError>
+    requires { IsBestSoFar instance.now ranges.now best.old }
+    ensures { OnOk result (IsNoWorseBest instance.now ranges.now best.new best.old) }
+{
+    keep_candidate(alloc, instance, ranges, until, best)?;
+    lag_at_start(alloc, instance, ranges, until, best)?;
+    look(alloc, instance, ranges, until, best)?;
+    walk_from_best(alloc, instance, ranges, until, best)
+}

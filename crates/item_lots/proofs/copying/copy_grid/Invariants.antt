@@ -1,9 +1,0 @@
-use Rattle.plan_rules.specs.Cells.{Fits}
-use Rattle.item_lots.specs.Copied.{AreRowsSame}
-use Rattle.item_lots.proofs.copying.copy_grid.Given as goal
-
-abbrev pub invariant-loop-item : goal.invariant-loop-item
-invariant-loop-item l = record {
-  fits : Fits l.instance l.to;
-  rows : AreRowsSame l.instance l.from l.to l.item;
-}

@@ -1,0 +1,4 @@
+pub mod Path
+pub mod Steps
+pub mod Bounds
+pub mod Solved

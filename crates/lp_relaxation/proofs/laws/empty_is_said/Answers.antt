@@ -1,0 +1,5 @@
+use Rattle.lp_relaxation.proofs.Saying.{empty_is_said}
+use Rattle.lp_relaxation.proofs.laws.empty_is_said.Goals as goal
+
+pub returns : goal.returns
+returns c = empty_is_said c.sums_bound.ensures.points c.sums_refute.ensures c.leaves_prove.ensures

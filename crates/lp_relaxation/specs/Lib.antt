@@ -1,0 +1,11 @@
+pub mod Relaxation
+pub mod Worked
+pub mod Values
+pub mod Names
+pub mod Sides
+pub mod Leaves
+pub mod Costs
+pub mod Made
+pub mod Says
+pub mod Rounds
+pub mod Laws

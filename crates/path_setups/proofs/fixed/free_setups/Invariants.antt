@@ -1,6 +1,0 @@
-use Rattle.std.specs.Prelude.{◌≡◌, map, replicate}
-use Rattle.path_setups.specs.declared.fixed.Held.TheVariants.{Free}
-use Rattle.path_setups.proofs.fixed.free_setups.Given as goal
-
-abbrev pub invariant-loop : goal.invariant-loop
-invariant-loop l = map (λ line. line.items) l.all.items ≡ replicate l.counter (replicate l.periods Free)

@@ -1,5 +1,0 @@
-use Rattle.plan_rules.specs.Cells.{Fits}
-use Rattle.plan_plugin.proofs.lagging.lots_of.Given as goal
-
-abbrev pub invariant-loop-item : goal.invariant-loop-item
-invariant-loop-item l = Fits l.instance l.lots

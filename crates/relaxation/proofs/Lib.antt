@@ -1,3 +1,0 @@
-mod Plans
-mod Choices
-mod Example

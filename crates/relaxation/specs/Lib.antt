@@ -1,3 +1,0 @@
-pub mod Relaxation
-pub mod Worked
-pub mod Laws

@@ -1,6 +1,0 @@
-use Rattle.std.proofs.Common.{◌-◌}
-use Rattle.root_rounds.specs.RootSteps.{AreRounds}
-use Rattle.root_rounds.proofs.at_root.make_rounds.Given as goal
-
-abbrev pub invariant-loop-round : goal.invariant-loop-round
-invariant-loop-round l = AreRounds l.instance (l.round - 1) l.state

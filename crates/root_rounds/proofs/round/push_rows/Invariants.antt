@@ -1,6 +1,0 @@
-use Rattle.std.proofs.Common.{take}
-use Rattle.root_rounds.specs.RootSteps.{IsReady}
-use Rattle.root_rounds.proofs.round.push_rows.Given as goal
-
-abbrev pub invariant-loop-index : goal.invariant-loop-index
-invariant-loop-index l = IsReady l.instance (take l.index l.rows) l.program

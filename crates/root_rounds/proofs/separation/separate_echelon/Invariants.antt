@@ -1,8 +1,0 @@
-use Rattle.std.proofs.Common.{◌-◌}
-use Rattle.lin_rows.specs.Points.{read_at}
-use Rattle.root_rounds.specs.Rounds.{AreCutsAt, AreJoined}
-use Rattle.root_rounds.specs.RootSteps.{Puts}
-use Rattle.root_rounds.proofs.separation.separate_echelon.Given as goal
-
-abbrev pub invariant-loop-l : goal.invariant-loop-l
-invariant-loop-l l = Puts l.instance (AreJoined (l.l - 1) (AreCutsAt l.echelon (read_at l.point))) l.fn.list l.list

@@ -1,6 +1,0 @@
-use Rattle.std.proofs.Common.{◌-◌}
-use Rattle.root_rows.specs.Costs.{AreFirstCosts}
-use Rattle.root_rows.proofs.costs.column_costs.Given as goal
-
-abbrev pub invariant-loop-number : goal.invariant-loop-number
-invariant-loop-number l = AreFirstCosts l.instance (l.number - 1) l.costs.items

@@ -1,5 +1,0 @@
-use Rattle.root_rows.proofs.Closing.{rounds_refute}
-use Rattle.root_rows.proofs.laws.rounds_refute.Goals as goal
-
-pub returns : goal.returns
-returns c = rounds_refute c.empty_is_said.ensures c.cuts_hold.ensures c.relaxations_are_one.ensures.empty

@@ -1,7 +1,0 @@
-use Rattle.std.proofs.Common.{◌≡◌, take}
-use Rattle.tableau.specs.Denominators.{whole_at}
-use Rattle.root_rows.specs.Sides.{parts_of}
-use Rattle.root_rows.proofs.leaf.leaf_parts.Given as goal
-
-abbrev pub invariant-loop-index : goal.invariant-loop-index
-invariant-loop-index l = l.parts.items ≡ parts_of (take l.index l.sides) (whole_at l.times)

@@ -1,5 +1,0 @@
-use Rattle.search_ranges.proofs.InWhole.{lie_whole}
-use Rattle.search_ranges.proofs.whole.lie_in_whole.Goals as goal
-
-pub returns : goal.returns
-returns c = lie_whole c.args.instance.now c.an_instance_breaks_no_rule.ensures c.plans_are_within.ensures

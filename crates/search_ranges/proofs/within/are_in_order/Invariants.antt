@@ -1,6 +1,0 @@
-use Rattle.std.proofs.Common.{◌≤◌, ◌<◌, ℕ}
-use Rattle.search_ranges.specs.Within.{IsCellGiven, given_ranges}
-use Rattle.search_ranges.proofs.within.are_in_order.Given as goal
-
-abbrev pub invariant-loop-item : goal.invariant-loop-item
-invariant-loop-item l = (i t : ℕ) → 1 ≤ i → i < l.item → 1 ≤ t → t ≤ l.instance.periods → IsCellGiven l.instance (given_ranges l.ranges) i t

@@ -1,6 +1,0 @@
-use Rattle.std.proofs.Common.{◌≤◌, ◌<◌, ℕ}
-use Rattle.search_ranges.specs.Within.{IsCellUpTo, given_ranges}
-use Rattle.search_ranges.proofs.within.is_item_up_to.Given as goal
-
-abbrev pub invariant-loop-period : goal.invariant-loop-period
-invariant-loop-period l = (t : ℕ) → 1 ≤ t → t < l.period → IsCellUpTo (given_ranges l.ranges) l.most l.item t

@@ -1,6 +1,0 @@
-use Rattle.std.proofs.Common.{[]}
-use Rattle.split_trees.proofs.Walk.{open_leaves, whole_open}
-use Rattle.split_trees.proofs.laws.leaves_are_open.Goals as goal
-
-pub returns : goal.returns
-returns c = record { leaves = λ m ranges t is some. open_leaves m ranges [] t is some; whole = λ m total. whole_open m total }
