@@ -7,7 +7,7 @@ ghost use Rattle.late_starts.specs.Rows.{IsOnTimeOf};
 use crate::asked::{ask_besides, ask_by_starts, ask_on_time, write_on_time};
 use crate::cover::{Cover, Kind};
 use crate::groups::ItemGroup;
-use crate::lots::{Limits, LotBounds, have_least_lots};
+use crate::lots::{Limits, LotBounds};
 use crate::weights::weights_of;
 use integer_grids::IntegerGrid;
 use integer_grids::numbers::{less, of_amount, plus, times};
@@ -436,8 +436,7 @@ impl Grouping {
     }
 
     /// Groups in whole quantities: each item by itself whose lots are too small for what is asked of it, and which has few enough of
-    /// them; the others as in `of`, but none is planned alone. None where nothing may fall short, where some item has a least lot, and
-    /// where no item is in whole quantities.
+    /// them; the others as in `of`, but none is planned alone. None where no item is in whole quantities.
     ///
     /// The error is that memory ran out. It takes time in the square of the number of items times that of the periods.
     pub fn whole(
@@ -447,9 +446,6 @@ impl Grouping {
     ) -> Result<Option<Grouping>, AllocError> {
         let weights = weights_of(alloc, instance, order)?;
         let short = short_of(alloc, instance, &weights)?;
-        if !are_some(&short) || have_least_lots(instance) {
-            return Ok(None);
-        }
         let started = MustStart::of(alloc, instance)?;
         let on_time = OnTime::of(alloc, instance)?;
         let kinds = whole_kinds(alloc, instance, &started, &on_time, &short)?;

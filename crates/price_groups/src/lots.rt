@@ -21,16 +21,6 @@ const MOST_OF_ALL: i64 = 200_000;
 // A plan takes so many steps for each quantity and period.
 const STEPS: u64 = 3;
 
-// Whether some item has a least lot.
-pub(crate) fn have_least_lots(instance: &Instance) -> bool {
-    for item in 1..instance.items() + 1 {
-        if instance.min_lot(item) > 1 {
-            return true;
-        }
-    }
-    false
-}
-
 // Whether what is asked of an item in all is twice its largest lot or more, in some period.
 fn is_bound(instance: &Instance, item: u32, total: i64) -> bool
     requires low { 1 ≤ item }
