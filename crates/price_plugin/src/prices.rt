@@ -64,7 +64,7 @@ const TRIED_SIZE: u32 = 400;
 
 const TRIED_ROUNDS: u32 = 40;
 
-const TRIED_STEPS: u64 = 4_000_000;
+const TRIED_STEPS: u64 = 12_000_000;
 
 /// What prices of a model are made with, the notes of its nodes, and what branches gained that were tried.
 #[derive(Debug, Drop)]
