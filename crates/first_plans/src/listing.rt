@@ -24,7 +24,7 @@ pub const BUILDING_WORK: u32 = 4_000_000;
 const KICK_WORK: u64 = 400_000_000;
 
 // How often the plan of a whole model is changed at random and improved again, at most.
-const MODEL_KICKS: u32 = 100;
+const MODEL_KICKS: u32 = 30;
 
 // Plans are changed at random only where this many plans may be built for each item and period.
 const KICK_SWEEPS: u32 = 32;
