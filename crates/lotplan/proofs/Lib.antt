@@ -2,6 +2,7 @@ pub mod Texts
 pub mod Outputs
 pub mod Readings
 pub mod Writings
+pub mod Fetched
 pub mod Proved
 pub mod Searched
 pub mod Calls

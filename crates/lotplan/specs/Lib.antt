@@ -19,5 +19,6 @@ pub mod Completing
 pub mod Replanning
 pub mod Drawing
 pub mod Showing
+pub mod Fetching
 pub mod Run
 pub mod Laws

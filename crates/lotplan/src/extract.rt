@@ -1,5 +1,6 @@
 // Writing an extract: a file that is made of a feasible plan.
 ghost use Rattle.std.specs.Prelude.{◌≡◌, IfOk, OnErr};
+ghost use Rattle.lot_io.specs.Outside.{Finds};
 ghost use Rattle.lotplan.specs.Extracting.{WritesAndSays};
 
 use crate::said::Said;
@@ -21,6 +22,7 @@ pub fn write_extract<S: Shelf>(
     ensures said { IfOk result (WritesAndSays word.now count file.now bytes.now (S.shown shelf.old)
         (S.shown shelf.new)) }
     ensures memory { OnErr result (S.shown shelf.new ≡ S.shown shelf.old) }
+    ensures found { Finds (S.shown shelf.old) (S.shown shelf.new) }
     ensures given { (S.shown shelf.new).given ≡ (S.shown shelf.old).given }
 {
     let written = Said::of(format!(in alloc; "{word} {count}\n")?, Status::Done);

@@ -1,8 +1,9 @@
 // Reading files: the model in one, and the plan in another.
-ghost use Rattle.std.specs.Prelude.{◌≡◌, ◌≤◌, ◌+◌, length, string_bytes, IsTrue, Some, IfOk, IfErr};
-ghost use Rattle.lot_io.specs.Outside.{OnlyReads, piece_size};
+ghost use Rattle.std.specs.Prelude.{◌≡◌, ◌≤◌, ◌+◌, length, string_bytes, IsTrue, Some, IfOk, IfErr, OnOk};
+ghost use Rattle.lot_io.specs.Outside.{Finds, OnlyReads, piece_size};
 ghost use Rattle.plan_rules.specs.Held.{AllFit};
 ghost use Rattle.lotplan.specs.Reading.{FileExplains, FirstExplains, HoldsFirst, HoldsPlan, HoldsProblem, ExplainsPlanStop, ExplainsStop, ModelExplains, file_limit, no_plan_line, read_line, read_meant, read_status};
+ghost use Rattle.lotplan.specs.Fetching.{PlanStopFetches, StopFetches};
 
 use crate::status::Status;
 use instance_reader::{ReadModelFault, read_first_version, read_instance};
@@ -90,6 +91,8 @@ pub fn read_bytes<'a, S: Shelf>(
     ensures stop { IfErr result (ExplainsStop
         (FileExplains name.entry.now (S.shown shelf.old) (S.shown shelf.new))) }
     ensures reads { OnlyReads (S.shown shelf.old) (S.shown shelf.new) }
+    ensures found { OnOk result (Finds (S.shown shelf.old) (S.shown shelf.new)) }
+    ensures stopped { IfErr result (StopFetches (S.shown shelf.old) (S.shown shelf.new)) }
     ensures given { (S.shown shelf.new).given
         ≤ (S.shown shelf.old).given + (file_limit + piece_size) }
 {
@@ -113,6 +116,8 @@ pub fn read_model<'a, S: Shelf>(
     ensures stop { IfErr result (ExplainsStop
         (ModelExplains model.entry.now (S.shown shelf.old) (S.shown shelf.new))) }
     ensures reads { OnlyReads (S.shown shelf.old) (S.shown shelf.new) }
+    ensures found { OnOk result (Finds (S.shown shelf.old) (S.shown shelf.new)) }
+    ensures stopped { IfErr result (StopFetches (S.shown shelf.old) (S.shown shelf.new)) }
     ensures given { (S.shown shelf.new).given
         ≤ (S.shown shelf.old).given + (file_limit + piece_size) }
 {
@@ -138,6 +143,8 @@ pub fn read_first_model<'a, S: Shelf>(
     ensures stop { IfErr result (ExplainsStop
         (FirstExplains model.entry.now (S.shown shelf.old) (S.shown shelf.new))) }
     ensures reads { OnlyReads (S.shown shelf.old) (S.shown shelf.new) }
+    ensures found { OnOk result (Finds (S.shown shelf.old) (S.shown shelf.new)) }
+    ensures stopped { IfErr result (StopFetches (S.shown shelf.old) (S.shown shelf.new)) }
     ensures given { (S.shown shelf.new).given
         ≤ (S.shown shelf.old).given + (file_limit + piece_size) }
 {
@@ -165,6 +172,8 @@ pub fn read_plan_file<'a, S: Shelf>(
     ensures stop { IfErr result (ExplainsPlanStop instance.now plan.entry.now (S.shown shelf.old)
         (S.shown shelf.new)) }
     ensures reads { OnlyReads (S.shown shelf.old) (S.shown shelf.new) }
+    ensures found { OnOk result (Finds (S.shown shelf.old) (S.shown shelf.new)) }
+    ensures stopped { IfErr result (PlanStopFetches (S.shown shelf.old) (S.shown shelf.new)) }
     ensures given { (S.shown shelf.new).given
         ≤ (S.shown shelf.old).given + (file_limit + piece_size) }
 {

@@ -1,7 +1,7 @@
 // The top call.
 ghost use Rattle.std.specs.Prelude.{◌≡◌, ◌≢◌, ◌⊎◌, ◌≤◌, ◌+◌, ℕ, List, [], ◌∷◌, length, IsTrue, Option, Some, None, map, string_bytes, IfOk, OnErr};
 ghost use Rattle.lot_draft.specs.declared.fault.ModelFault.{ModelFault};
-ghost use Rattle.lot_io.specs.Outside.{GrewBy, OnlyReads, OnlyWrites, Rose};
+ghost use Rattle.lot_io.specs.Outside.{Fails, Finds, GrewBy, Misses, OnlyReads, OnlyWrites, Rose};
 ghost use Rattle.command_line.specs.Meant.{request_by};
 ghost use Rattle.command_line.specs.Words.{Search, AreTaken, IsAllowed, bounding, checking, command_of, completing, demonstrating, drawing, generating, judging, pegging, planning, replanning, reporting, schedule_checking, scheduling, upgrading};
 ghost use Rattle.command_line.specs.declared.commands.ReportForm.{ReportForm};
@@ -25,6 +25,7 @@ ghost use Rattle.lotplan.specs.Completing.{Completes, FailsToComplete, FindsInco
 ghost use Rattle.lotplan.specs.Drawing.{Draws, FailsToDraw, FindsDrawFault};
 ghost use Rattle.lotplan.specs.Replanning.{CallsForDoneIfShort, FailsToReplan, FindsNoRest, FindsNoStart, FindsNoneLater, FindsPlanFault, LeavesRestOpen, ReplansBest};
 ghost use Rattle.lotplan.specs.Run.{CallFor, EndsAs, HadNoFault, IsIdle, IsNoCommand, IsOverlong, IsProgramRun, Leaves, SaysFor, Stops, most_given, reads_of, refused_line, writes_of};
+ghost use Rattle.lotplan.specs.Fetching.{FailsAtMostOnce, FetchesAs};
 
 use crate::commands::bound::bound_files;
 use crate::commands::check::check_files;
@@ -406,6 +407,16 @@ pub fn run<S: Shelf, K: Sink, P: Proposer, H: Heuristic<P::Hint>, W: Watch>(
         ≤ (S.shown shelf.old).given + most_given (command_of (map string_bytes words.now)) }
     ensures told { (S.shown shelf.new).told ≡ (S.shown shelf.old).told }
 
+    // What wasn't found, and which fetches failed: one name or one fetch at most. With `MISSING` one name was not found, with
+    // `UNREAD` one fetch failed, and with every other status but `UNPRINTED` and `NO_MEMORY` each name was found and no fetch
+    // failed.
+    ensures found { result ≢ MISSING → result ≢ UNREAD → result ≢ UNPRINTED → result ≢ NO_MEMORY
+        → Finds (S.shown shelf.old) (S.shown shelf.new) }
+    ensures missed { result ≡ MISSING → Misses (S.shown shelf.old) (S.shown shelf.new) }
+    ensures failed { result ≡ UNREAD → Fails (S.shown shelf.old) (S.shown shelf.new) }
+    ensures once { result ≢ NO_MEMORY
+        → FailsAtMostOnce (S.shown shelf.old) (S.shown shelf.new) }
+
     // What is printed: nothing on `NO_MEMORY`, and else one piece.
     ensures silent { result ≡ NO_MEMORY → K.shown out.new ≡ K.shown out.old }
     ensures one_piece { result ≢ NO_MEMORY
@@ -467,6 +478,8 @@ fn said<S: Shelf, P: Proposer, H: Heuristic<P::Hint>, W: Watch>(
         → AreTaken (map string_bytes words.now) → IfOk result (IsSaid refused_line NoCommand) }
     ensures memory { OnErr result (Leaves (reads_of (command_of (map string_bytes words.now)))
         (S.shown shelf.old) (S.shown shelf.new)) }
+    ensures found { IfOk result (λ said. FetchesAs said.status (S.shown shelf.old)
+        (S.shown shelf.new)) }
     ensures given { (S.shown shelf.new).given
         ≤ (S.shown shelf.old).given + most_given (command_of (map string_bytes words.now)) }
 {
@@ -492,6 +505,8 @@ fn said_of<S: Shelf, P: Proposer, H: Heuristic<P::Hint>, W: Watch>(
         (S.shown shelf.new)) }
     ensures memory { OnErr result (Leaves (reads_of (Some (request_by command.entry)))
         (S.shown shelf.old) (S.shown shelf.new)) }
+    ensures found { IfOk result (λ said. FetchesAs said.status (S.shown shelf.old)
+        (S.shown shelf.new)) }
     ensures given { (S.shown shelf.new).given
         ≤ (S.shown shelf.old).given + most_given (Some (request_by command.entry)) }
 {

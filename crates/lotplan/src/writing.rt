@@ -1,5 +1,6 @@
 // Writing files, and the lines of one that was written and of one that could not be.
 ghost use Rattle.std.specs.Prelude.{◌≡◌, ◌<◌, length, map, string_bytes, IfOk, IfErr, OnOk};
+ghost use Rattle.lot_io.specs.Outside.{Finds};
 ghost use Rattle.lotplan.specs.Writing.{StopsAt, WritesAll, output_of, unwritten_line, written_line};
 
 use lot_io::{Shelf, write_file};
@@ -20,6 +21,7 @@ pub fn write_all<S: Shelf>(shelf: &mut S, outputs: &[Output<'_, '_>]) -> Result<
     ensures stops { IfErr result (λ place.
         StopsAt place (map output_of outputs.now) (S.shown shelf.old) (S.shown shelf.new)) }
     ensures place { IfErr result (λ place. place < length outputs.now) }
+    ensures found { Finds (S.shown shelf.old) (S.shown shelf.new) }
     ensures given { (S.shown shelf.new).given ≡ (S.shown shelf.old).given }
 {
     let Some((first, rest)) = outputs.split_first() else {

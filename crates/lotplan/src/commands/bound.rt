@@ -5,6 +5,7 @@ ghost use Rattle.lotplan.specs.Meaning.{Says};
 ghost use Rattle.lotplan.specs.Bounding.{bound_meaning, MayBeBoundAnswer, bound_line, bound_meant, bound_status};
 ghost use Rattle.lotplan.specs.Reading.{file_limit};
 ghost use Rattle.lotplan.specs.Saying.{IsSaid};
+ghost use Rattle.lotplan.specs.Fetching.{FetchesAs};
 
 use crate::model_file::{ReadAnswer, Stop, read_model};
 use crate::said::Said;
@@ -80,6 +81,8 @@ fn bound_instance(alloc: Global, instance: &Instance) -> Result<BoundAnswer<'sta
 pub fn bound_files<S: Shelf>(alloc: Global, model: &str, shelf: &mut S) -> Result<Said, AllocError>
     ensures said { IfOk result (Says (bound_meaning model.now) (S.shown shelf.old) (S.shown shelf.new)) }
     ensures reads { OnlyReads (S.shown shelf.old) (S.shown shelf.new) }
+    ensures found { IfOk result (λ said. FetchesAs said.status (S.shown shelf.old)
+        (S.shown shelf.new)) }
     ensures given { (S.shown shelf.new).given
         ≤ (S.shown shelf.old).given + (file_limit + piece_size) }
 {

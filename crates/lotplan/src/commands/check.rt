@@ -7,6 +7,7 @@ ghost use Rattle.lotplan.specs.Checking.{check_meaning, GivenExplains, IsRefusal
 ghost use Rattle.lotplan.specs.Drawing.{WithPlanExplains};
 ghost use Rattle.lotplan.specs.Reading.{file_limit};
 ghost use Rattle.lotplan.specs.Saying.{IsSaid};
+ghost use Rattle.lotplan.specs.Fetching.{FetchesAs};
 
 use crate::model_file::{PlanStop, ReadAnswer, Stop, no_plan_line, read_model, read_plan_file};
 use crate::said::Said;
@@ -148,6 +149,8 @@ fn check_given<'a, S: Shelf>(
         GivenExplains instance.now (option_copied given.entry) certificate.entry.now
         (S.shown shelf.old) (S.shown shelf.new) (check_meant answer)) }
     ensures reads { OnlyReads (S.shown shelf.old) (S.shown shelf.new) }
+    ensures found { IfOk result (λ answer. FetchesAs (check_status (check_meant answer))
+        (S.shown shelf.old) (S.shown shelf.new)) }
     ensures given { (S.shown shelf.new).given ≤ (S.shown shelf.old).given + 2 * pass_size }
 {
     match check_stream(alloc, instance, shelf, certificate, given) {
@@ -168,6 +171,8 @@ fn check_planned<'a, S: Shelf>(
         PlannedExplains instance.now plan.entry.now certificate.entry.now (S.shown shelf.old)
         (S.shown shelf.new) (check_meant answer)) }
     ensures reads { OnlyReads (S.shown shelf.old) (S.shown shelf.new) }
+    ensures found { IfOk result (λ answer. FetchesAs (check_status (check_meant answer))
+        (S.shown shelf.old) (S.shown shelf.new)) }
     ensures given { (S.shown shelf.new).given
         ≤ (S.shown shelf.old).given + ((file_limit + piece_size) + 2 * pass_size) }
 {
@@ -191,6 +196,8 @@ pub fn check_with<'a, S: Shelf>(
         WithPlanExplains instance.now plan.now certificate.entry.now (S.shown shelf.old)
         (S.shown shelf.new) (check_meant answer)) }
     ensures reads { OnlyReads (S.shown shelf.old) (S.shown shelf.new) }
+    ensures found { IfOk result (λ answer. FetchesAs (check_status (check_meant answer))
+        (S.shown shelf.old) (S.shown shelf.new)) }
     ensures given { (S.shown shelf.new).given ≤ (S.shown shelf.old).given + 3 * pass_size }
 {
     texts_mean_one_thing();
@@ -214,6 +221,8 @@ fn check_claim<'a, S: Shelf>(
         ProofExplains instance.now plan.entry.now certificate.entry.now (S.shown shelf.old)
         (S.shown shelf.new) (check_meant answer)) }
     ensures reads { OnlyReads (S.shown shelf.old) (S.shown shelf.new) }
+    ensures found { IfOk result (λ answer. FetchesAs (check_status (check_meant answer))
+        (S.shown shelf.old) (S.shown shelf.new)) }
     ensures given { (S.shown shelf.new).given
         ≤ (S.shown shelf.old).given + ((file_limit + piece_size) + 3 * pass_size) }
 {
@@ -237,6 +246,8 @@ pub fn check_files<S: Shelf>(
     ensures said { IfOk result (Says (check_meaning model.now plan.now certificate.now) (S.shown shelf.old)
         (S.shown shelf.new)) }
     ensures reads { OnlyReads (S.shown shelf.old) (S.shown shelf.new) }
+    ensures found { IfOk result (λ said. FetchesAs said.status (S.shown shelf.old)
+        (S.shown shelf.new)) }
     ensures given { (S.shown shelf.new).given
         ≤ (S.shown shelf.old).given + (2 * (file_limit + piece_size) + 3 * pass_size) }
 {

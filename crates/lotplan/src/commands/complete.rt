@@ -1,6 +1,6 @@
 // `complete`: completes the quantities in a file to a plan, by the model in another, and writes the plan to a third.
-ghost use Rattle.std.specs.Prelude.{◌≡◌, ◌≤◌, ◌+◌, ◌*◌, string_bytes, IsTrue, IfErr, IfOk, OnErr};
-ghost use Rattle.lot_io.specs.Outside.{OnlyReads, piece_size};
+ghost use Rattle.std.specs.Prelude.{◌≡◌, ◌≤◌, ◌+◌, ◌*◌, string_bytes, IsTrue, IfErr, IfOk, OnOk, OnErr};
+ghost use Rattle.lot_io.specs.Outside.{Finds, OnlyReads, piece_size};
 ghost use Rattle.plan_rules.specs.Cells.{table_of};
 ghost use Rattle.plan_rules.specs.Held.{AllFit};
 ghost use Rattle.lot_quantities.specs.Numbers.{BothFit};
@@ -8,6 +8,7 @@ ghost use Rattle.lotplan.specs.Meaning.{Says};
 ghost use Rattle.lotplan.specs.Completing.{complete_meaning, ExplainsNoTable, GridsSay, HoldsTable, HoldsTables, PutsAndSays, TableExplains, TablesExplain, complete_line, complete_meant, complete_status, table_line, table_meant, table_status};
 ghost use Rattle.lotplan.specs.Reading.{file_limit};
 ghost use Rattle.lotplan.specs.Saying.{IsSaid};
+ghost use Rattle.lotplan.specs.Fetching.{FetchesAs, NoTableFetches};
 
 use crate::model_file::{ReadAnswer, Stop, read_bytes, read_model};
 use crate::said::Said;
@@ -132,6 +133,8 @@ fn read_table<'a, S: Shelf>(
     ensures stop { IfErr result (ExplainsNoTable
         (TableExplains instance.now table.entry.now (S.shown shelf.old) (S.shown shelf.new))) }
     ensures reads { OnlyReads (S.shown shelf.old) (S.shown shelf.new) }
+    ensures found { OnOk result (Finds (S.shown shelf.old) (S.shown shelf.new)) }
+    ensures stopped { IfErr result (NoTableFetches (S.shown shelf.old) (S.shown shelf.new)) }
     ensures given { (S.shown shelf.new).given
         ≤ (S.shown shelf.old).given + (file_limit + piece_size) }
 {
@@ -161,6 +164,8 @@ fn read_tables<'a, S: Shelf>(
     ensures stop { IfErr result (ExplainsNoTable
         (TablesExplain model.entry.now table.entry.now (S.shown shelf.old) (S.shown shelf.new))) }
     ensures reads { OnlyReads (S.shown shelf.old) (S.shown shelf.new) }
+    ensures found { OnOk result (Finds (S.shown shelf.old) (S.shown shelf.new)) }
+    ensures stopped { IfErr result (NoTableFetches (S.shown shelf.old) (S.shown shelf.new)) }
     ensures given { (S.shown shelf.new).given
         ≤ (S.shown shelf.old).given + 2 * (file_limit + piece_size) }
 {
@@ -187,6 +192,7 @@ fn write_completed<S: Shelf>(
     ensures said { IfOk result (PutsAndSays instance.now planned.now.plan planned.now.cost file.now
         (S.shown shelf.old) (S.shown shelf.new)) }
     ensures memory { OnErr result (S.shown shelf.new ≡ S.shown shelf.old) }
+    ensures found { Finds (S.shown shelf.old) (S.shown shelf.new) }
     ensures given { (S.shown shelf.new).given ≡ (S.shown shelf.old).given }
 {
     let bytes = write_plan(alloc, instance, &planned.plan)?;
@@ -210,6 +216,7 @@ fn complete_grids<S: Shelf>(
     ensures said { IfOk result (GridsSay instance.now (table_of table.make)
         (table_of table.setup) file.now (S.shown shelf.old) (S.shown shelf.new)) }
     ensures memory { OnErr result (S.shown shelf.new ≡ S.shown shelf.old) }
+    ensures found { Finds (S.shown shelf.old) (S.shown shelf.new) }
     ensures given { (S.shown shelf.new).given ≡ (S.shown shelf.old).given }
 {
     match complete_or_judge(alloc, instance, table.make, table.setup) {
@@ -231,6 +238,8 @@ pub fn complete_files<'a, S: Shelf>(
     ensures said { IfOk result (Says (complete_meaning model.entry.now table.entry.now file.now)
         (S.shown shelf.old) (S.shown shelf.new)) }
     ensures memory { OnErr result (OnlyReads (S.shown shelf.old) (S.shown shelf.new)) }
+    ensures found { IfOk result (λ said. FetchesAs said.status (S.shown shelf.old)
+        (S.shown shelf.new)) }
     ensures given { (S.shown shelf.new).given
         ≤ (S.shown shelf.old).given + 2 * (file_limit + piece_size) }
 {

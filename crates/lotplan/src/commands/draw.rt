@@ -1,7 +1,7 @@
 // `draw`: draws the plan in a file, by the model in another, as a page, and writes that to a third. Where a certificate is asked
 // for, that in a fourth is checked first, and the page says what it proves.
-ghost use Rattle.std.specs.Prelude.{◌≡◌, ◌≤◌, ◌+◌, ◌*◌, length, IsTrue, IfOk, IfErr, OnErr, option_map};
-ghost use Rattle.lot_io.specs.Outside.{OnlyReads, piece_size};
+ghost use Rattle.std.specs.Prelude.{◌≡◌, ◌≤◌, ◌+◌, ◌*◌, length, IsTrue, IfOk, IfErr, OnOk, OnErr, option_map};
+ghost use Rattle.lot_io.specs.Outside.{Finds, OnlyReads, piece_size};
 ghost use Rattle.lot_sizing.specs.Plan.{IsFeasible};
 ghost use Rattle.plan_rules.specs.Held.{AllFit, plan_of};
 ghost use Rattle.stream_check.specs.Streams.{pass_size};
@@ -10,6 +10,7 @@ ghost use Rattle.lotplan.specs.Checking.{check_meant};
 ghost use Rattle.lotplan.specs.Drawing.{draw_meaning, ExplainsNotDrawn, ExplainsNoProof, IsShown, IsSo, PageSays, WithPlanExplains, proof_files, proved_of};
 ghost use Rattle.lotplan.specs.Judging.{HoldFeasible, HoldsBoth};
 ghost use Rattle.lotplan.specs.Reading.{file_limit};
+ghost use Rattle.lotplan.specs.Fetching.{FetchesAs, NotDrawnFetches};
 
 use crate::commands::check::{CheckAnswer, check_with};
 use crate::commands::judge::{JudgeAnswer, NotFeasible, read_feasible};
@@ -70,6 +71,8 @@ fn read_proved<'a, S: Shelf>(
     ensures stop { IfErr result (ExplainsNoProof instance.now plan.now
         (option_map (λ c. c.now) certificate.entry) (S.shown shelf.old) (S.shown shelf.new)) }
     ensures reads { OnlyReads (S.shown shelf.old) (S.shown shelf.new) }
+    ensures found { OnOk result (Finds (S.shown shelf.old) (S.shown shelf.new)) }
+    ensures stopped { IfErr result (NotDrawnFetches (S.shown shelf.old) (S.shown shelf.new)) }
     ensures given { (S.shown shelf.new).given
         ≤ (S.shown shelf.old).given + length
         (proof_files (option_map (λ c. c.now) certificate.entry)) * (3 * pass_size) }
@@ -104,6 +107,8 @@ fn read_drawing<'a, S: Shelf>(
     ensures stop { IfErr result (ExplainsNotDrawn model.entry.now plan.entry.now
         (option_map (λ c. c.now) certificate.entry) (S.shown shelf.old) (S.shown shelf.new)) }
     ensures reads { OnlyReads (S.shown shelf.old) (S.shown shelf.new) }
+    ensures found { OnOk result (Finds (S.shown shelf.old) (S.shown shelf.new)) }
+    ensures stopped { IfErr result (NotDrawnFetches (S.shown shelf.old) (S.shown shelf.new)) }
     ensures given { (S.shown shelf.new).given
         ≤ (S.shown shelf.old).given
         + (2 * (file_limit + piece_size)
@@ -137,6 +142,7 @@ fn write_page<S: Shelf>(
     ensures said { IfOk result (PageSays instance.now (plan_of plan.now) proved file.now
         (S.shown shelf.old) (S.shown shelf.new)) }
     ensures memory { OnErr result (S.shown shelf.new ≡ S.shown shelf.old) }
+    ensures found { Finds (S.shown shelf.old) (S.shown shelf.new) }
     ensures given { (S.shown shelf.new).given ≡ (S.shown shelf.old).given }
 {
     match page(alloc, instance, plan, proved) {
@@ -165,6 +171,8 @@ pub fn draw_files<S: Shelf>(
         names.entry.page.now (option_map (λ c. c.now) certificate.entry)) (S.shown shelf.old)
         (S.shown shelf.new)) }
     ensures memory { OnErr result (OnlyReads (S.shown shelf.old) (S.shown shelf.new)) }
+    ensures found { IfOk result (λ said. FetchesAs said.status (S.shown shelf.old)
+        (S.shown shelf.new)) }
     ensures given { (S.shown shelf.new).given
         ≤ (S.shown shelf.old).given
         + (2 * (file_limit + piece_size)

@@ -4,6 +4,7 @@ ghost use Rattle.report.specs.Generated.{IsModelSize};
 ghost use Rattle.lotplan.specs.Meaning.{Says};
 ghost use Rattle.lotplan.specs.Generating.{generate_meaning, IsGenerated, generate_line, generate_meant, generate_status};
 ghost use Rattle.lotplan.specs.Saying.{IsSaid};
+ghost use Rattle.lotplan.specs.Fetching.{FetchesAs};
 
 use crate::said::Said;
 use crate::status::Status;
@@ -78,6 +79,8 @@ pub fn generate_file<S: Shelf>(
     ensures said { IfOk result (Says (generate_meaning seed items periods model.now) (S.shown shelf.old)
         (S.shown shelf.new)) }
     ensures memory { OnErr result (S.shown shelf.new ≡ S.shown shelf.old) }
+    ensures found { IfOk result (λ said. FetchesAs said.status (S.shown shelf.old)
+        (S.shown shelf.new)) }
     ensures given { (S.shown shelf.new).given ≡ (S.shown shelf.old).given }
 {
     let text = coupled_text(alloc, seed, items, periods)?;

@@ -1,10 +1,11 @@
 // `judge`: judges the plan in a file, by the model in another.
-ghost use Rattle.std.specs.Prelude.{◌≡◌, ◌≤◌, ◌+◌, ◌*◌, string_bytes, IsTrue, IfOk, IfErr};
-ghost use Rattle.lot_io.specs.Outside.{OnlyReads, piece_size};
+ghost use Rattle.std.specs.Prelude.{◌≡◌, ◌≤◌, ◌+◌, ◌*◌, string_bytes, IsTrue, IfOk, IfErr, OnOk};
+ghost use Rattle.lot_io.specs.Outside.{Finds, OnlyReads, piece_size};
 ghost use Rattle.lotplan.specs.Meaning.{Says};
 ghost use Rattle.lotplan.specs.Judging.{ExplainsNone, HoldFeasible, HoldsBoth, JudgeExplains, judge_meaning, PlanFileExplains, judge_line, judge_meant, judge_status};
 ghost use Rattle.lotplan.specs.Reading.{HoldsPlan, file_limit};
 ghost use Rattle.lotplan.specs.Saying.{IsSaid};
+ghost use Rattle.lotplan.specs.Fetching.{FetchesAs, NotFeasibleFetches};
 
 use crate::model_file::{PlanStop, ReadAnswer, Stop, no_plan_line, read_model, read_plan_file};
 use crate::said::Said;
@@ -98,6 +99,8 @@ fn read_judged<'a, S: Shelf>(
     ensures stop { IfErr result (ExplainsNone
         (PlanFileExplains instance.now plan.entry.now (S.shown shelf.old) (S.shown shelf.new))) }
     ensures reads { OnlyReads (S.shown shelf.old) (S.shown shelf.new) }
+    ensures found { OnOk result (Finds (S.shown shelf.old) (S.shown shelf.new)) }
+    ensures stopped { IfErr result (NotFeasibleFetches (S.shown shelf.old) (S.shown shelf.new)) }
     ensures given { (S.shown shelf.new).given
         ≤ (S.shown shelf.old).given + (file_limit + piece_size) }
 {
@@ -127,6 +130,8 @@ pub fn read_feasible<'a, S: Shelf>(
     ensures stop { IfErr result (ExplainsNone
         (JudgeExplains model.entry.now plan.entry.now (S.shown shelf.old) (S.shown shelf.new))) }
     ensures reads { OnlyReads (S.shown shelf.old) (S.shown shelf.new) }
+    ensures found { OnOk result (Finds (S.shown shelf.old) (S.shown shelf.new)) }
+    ensures stopped { IfErr result (NotFeasibleFetches (S.shown shelf.old) (S.shown shelf.new)) }
     ensures given { (S.shown shelf.new).given
         ≤ (S.shown shelf.old).given + 2 * (file_limit + piece_size) }
 {
@@ -155,6 +160,8 @@ pub fn judge_files<S: Shelf>(
     ensures said { IfOk result (Says (judge_meaning model.now plan.now) (S.shown shelf.old)
         (S.shown shelf.new)) }
     ensures reads { OnlyReads (S.shown shelf.old) (S.shown shelf.new) }
+    ensures found { IfOk result (λ said. FetchesAs said.status (S.shown shelf.old)
+        (S.shown shelf.new)) }
     ensures given { (S.shown shelf.new).given
         ≤ (S.shown shelf.old).given + 2 * (file_limit + piece_size) }
 {

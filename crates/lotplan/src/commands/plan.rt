@@ -2,7 +2,7 @@
 // others.
 ghost use Rattle.std.specs.Prelude.{◌≡◌, ◌≢◌, ◌≤◌, ◌+◌, ◌*◌, length, string_bytes, Some, None, IfOk, IfSome, OnErr, option_map};
 ghost use Rattle.cert_lines.specs.declared.limits.TheConstants.{LOTS_CERT_VERSION, MAX_CERT_VERSION};
-ghost use Rattle.lot_io.specs.Outside.{OnlyReads, piece_size};
+ghost use Rattle.lot_io.specs.Outside.{Finds, OnlyReads, piece_size};
 ghost use Rattle.branching.specs.Search.{IsGoodPlan, cost_of};
 ghost use Rattle.command_line.specs.Meant.{search_by};
 ghost use Rattle.lotplan.specs.Meaning.{Says};
@@ -10,6 +10,7 @@ ghost use Rattle.lotplan.specs.Finding.{IsFound};
 ghost use Rattle.lotplan.specs.Planning.{IsAnswerTo, plan_meaning, WriteSays, plan_line, plan_meant, plan_status, root_line, start_files};
 ghost use Rattle.lotplan.specs.Reading.{file_limit};
 ghost use Rattle.lotplan.specs.Saying.{IsSaid};
+ghost use Rattle.lotplan.specs.Fetching.{FetchesAs};
 
 use crate::commands::judge::{FeasiblePlan, NotFeasible, read_feasible};
 use crate::model_file::{ReadAnswer, Stop, read_model};
@@ -191,6 +192,7 @@ fn write_both<'a, S: Shelf>(
     ensures said { IfOk result (WriteSays instance.now sought plan.now certificate.now
         (S.shown shelf.old) (S.shown shelf.new)) }
     ensures memory { OnErr result (S.shown shelf.new ≡ S.shown shelf.old) }
+    ensures found { Finds (S.shown shelf.old) (S.shown shelf.new) }
     ensures given { (S.shown shelf.new).given ≡ (S.shown shelf.old).given }
 {
     let bytes = write_plan(alloc, instance, chosen)?;
@@ -231,6 +233,7 @@ fn write_proof<S: Shelf>(
     ensures said { IfOk result (WriteSays instance.now sought plan.now certificate.now
         (S.shown shelf.old) (S.shown shelf.new)) }
     ensures memory { OnErr result (S.shown shelf.new ≡ S.shown shelf.old) }
+    ensures found { Finds (S.shown shelf.old) (S.shown shelf.new) }
     ensures given { (S.shown shelf.new).given ≡ (S.shown shelf.old).given }
 {
     let proof = write_certificate(alloc, &found.certificate)?;
@@ -261,6 +264,7 @@ fn write_found<S: Shelf>(
     ensures said { IfOk result (WriteSays instance.now sought plan.now certificate.now
         (S.shown shelf.old) (S.shown shelf.new)) }
     ensures memory { OnErr result (S.shown shelf.new ≡ S.shown shelf.old) }
+    ensures found { Finds (S.shown shelf.old) (S.shown shelf.new) }
     ensures given { (S.shown shelf.new).given ≡ (S.shown shelf.old).given }
 {
     match &found.plan {
@@ -335,6 +339,7 @@ fn plan_instance<S: Shelf, P: Proposer, H: Heuristic<P::Hint>, W: Watch>(
     ensures said { IfOk result (WriteSays instance.now sought names.entry.plan.now
         names.entry.certificate.now (S.shown shelf.old) (S.shown shelf.new)) }
     ensures memory { OnErr result (S.shown shelf.new ≡ S.shown shelf.old) }
+    ensures found { Finds (S.shown shelf.old) (S.shown shelf.new) }
     ensures given { (S.shown shelf.new).given ≡ (S.shown shelf.old).given }
 {
     let found = found_of(alloc, proposer, heuristic, watch, instance, sought, first)?;
@@ -368,6 +373,8 @@ fn plan_model<S: Shelf, P: Proposer, H: Heuristic<P::Hint>, W: Watch>(
         names.entry.certificate.now (search_by search.entry)) (S.shown shelf.old)
         (S.shown shelf.new)) }
     ensures memory { OnErr result (OnlyReads (S.shown shelf.old) (S.shown shelf.new)) }
+    ensures found { IfOk result (λ said. FetchesAs said.status (S.shown shelf.old)
+        (S.shown shelf.new)) }
     ensures given { (S.shown shelf.new).given
         ≤ (S.shown shelf.old).given + (file_limit + piece_size) }
 {
@@ -408,6 +415,8 @@ fn plan_from<S: Shelf, P: Proposer, H: Heuristic<P::Hint>, W: Watch>(
         names.entry.certificate.now (search_by search.entry)) (S.shown shelf.old)
         (S.shown shelf.new)) }
     ensures memory { OnErr result (OnlyReads (S.shown shelf.old) (S.shown shelf.new)) }
+    ensures found { IfOk result (λ said. FetchesAs said.status (S.shown shelf.old)
+        (S.shown shelf.new)) }
     ensures given { (S.shown shelf.new).given
         ≤ (S.shown shelf.old).given + 2 * (file_limit + piece_size) }
 {
@@ -451,6 +460,8 @@ pub fn plan_files<S: Shelf, P: Proposer, H: Heuristic<P::Hint>, W: Watch>(
         names.entry.certificate.now (search_by search.entry)) (S.shown shelf.old)
         (S.shown shelf.new)) }
     ensures memory { OnErr result (OnlyReads (S.shown shelf.old) (S.shown shelf.new)) }
+    ensures found { IfOk result (λ said. FetchesAs said.status (S.shown shelf.old)
+        (S.shown shelf.new)) }
     ensures given { (S.shown shelf.new).given
         ≤ (S.shown shelf.old).given
         + (1 + length (start_files (option_map (λ f. f.now) search.entry.start)))

@@ -8,6 +8,7 @@ ghost use Rattle.lotplan.specs.Reading.{file_limit};
 ghost use Rattle.lotplan.specs.Reporting.{report_meaning, report_text};
 ghost use Rattle.lotplan.specs.Saying.{IsSaid};
 ghost use Rattle.lotplan.specs.declared.status.Status.TheVariants.{Done};
+ghost use Rattle.lotplan.specs.Fetching.{FetchesAs};
 
 use crate::commands::judge::{NotFeasible, read_feasible};
 use crate::said::Said;
@@ -62,6 +63,8 @@ pub fn report_files<S: Shelf>(
     ensures said { IfOk result (Says (report_meaning model.now plan.now form) (S.shown shelf.old)
         (S.shown shelf.new)) }
     ensures reads { OnlyReads (S.shown shelf.old) (S.shown shelf.new) }
+    ensures found { IfOk result (λ said. FetchesAs said.status (S.shown shelf.old)
+        (S.shown shelf.new)) }
     ensures given { (S.shown shelf.new).given
         ≤ (S.shown shelf.old).given + 2 * (file_limit + piece_size) }
 {

@@ -7,6 +7,7 @@ ghost use Rattle.lotplan.specs.Meaning.{Says};
 ghost use Rattle.lotplan.specs.Reading.{file_limit};
 ghost use Rattle.lotplan.specs.Saying.{IsSaid};
 ghost use Rattle.lotplan.specs.Scheduling.{schedcheck_meaning, SlotBytesSay, SlotFileSays, schedcheck_line, schedcheck_meant, schedcheck_status};
+ghost use Rattle.lotplan.specs.Fetching.{FetchesAs};
 
 use crate::commands::judge::{NotFeasible, read_feasible};
 use crate::model_file::{ReadAnswer, Stop, read_bytes};
@@ -101,6 +102,8 @@ fn check_file<S: Shelf>(
     ensures said { IfOk result (SlotFileSays instance.now (plan_of given.now) file.now
         (S.shown shelf.old) (S.shown shelf.new)) }
     ensures reads { OnlyReads (S.shown shelf.old) (S.shown shelf.new) }
+    ensures found { IfOk result (λ said. FetchesAs said.status (S.shown shelf.old)
+        (S.shown shelf.new)) }
     ensures given { (S.shown shelf.new).given
         ≤ (S.shown shelf.old).given + (file_limit + piece_size) }
 {
@@ -123,6 +126,8 @@ pub fn schedcheck_files<S: Shelf>(
     ensures said { IfOk result (Says (schedcheck_meaning model.now plan.now file.now) (S.shown shelf.old)
         (S.shown shelf.new)) }
     ensures reads { OnlyReads (S.shown shelf.old) (S.shown shelf.new) }
+    ensures found { IfOk result (λ said. FetchesAs said.status (S.shown shelf.old)
+        (S.shown shelf.new)) }
     ensures given { (S.shown shelf.new).given
         ≤ (S.shown shelf.old).given + 3 * (file_limit + piece_size) }
 {

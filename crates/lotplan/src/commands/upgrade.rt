@@ -2,11 +2,12 @@
 ghost use Rattle.std.specs.Prelude.{◌≡◌, ◌≤◌, ◌+◌, ℕ, List, Ok, string_bytes, IfOk, OnErr};
 ghost use Rattle.instance_reader.specs.Model.{BytesMean};
 ghost use Rattle.instance_reader.specs.Written.{IsModelText};
-ghost use Rattle.lot_io.specs.Outside.{OnlyReads, piece_size};
+ghost use Rattle.lot_io.specs.Outside.{Finds, OnlyReads, piece_size};
 ghost use Rattle.lotplan.specs.Meaning.{Says};
 ghost use Rattle.lotplan.specs.Reading.{file_limit};
 ghost use Rattle.lotplan.specs.Saying.{IsSaid};
 ghost use Rattle.lotplan.specs.Upgrading.{RewriteSays, upgrade_meaning, upgrade_line, upgrade_meant, upgrade_status};
+ghost use Rattle.lotplan.specs.Fetching.{FetchesAs};
 
 use crate::model_file::{ReadAnswer, Stop, read_first_model};
 use crate::said::Said;
@@ -79,6 +80,7 @@ fn write_upgraded<S: Shelf>(
     ensures said { IfOk result (RewriteSays instance.now upgraded.now (S.shown shelf.old)
         (S.shown shelf.new)) }
     ensures memory { OnErr result (S.shown shelf.new ≡ S.shown shelf.old) }
+    ensures found { Finds (S.shown shelf.old) (S.shown shelf.new) }
     ensures given { (S.shown shelf.new).given ≡ (S.shown shelf.old).given }
 {
     texts_mean_it(instance);
@@ -101,6 +103,8 @@ pub fn upgrade_files<S: Shelf>(
     ensures said { IfOk result (Says (upgrade_meaning model.now upgraded.now) (S.shown shelf.old)
         (S.shown shelf.new)) }
     ensures memory { OnErr result (OnlyReads (S.shown shelf.old) (S.shown shelf.new)) }
+    ensures found { IfOk result (λ said. FetchesAs said.status (S.shown shelf.old)
+        (S.shown shelf.new)) }
     ensures given { (S.shown shelf.new).given
         ≤ (S.shown shelf.old).given + (file_limit + piece_size) }
 {

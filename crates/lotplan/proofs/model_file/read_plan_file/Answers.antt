@@ -17,5 +17,7 @@ returns g c = record {
     },
   );
   reads = c.read_bytes.ensures.reads;
+  found = tt;
+  stopped = c.in-Ok.ensures.found;
   given = c.read_bytes.ensures.given;
 }

@@ -3,6 +3,8 @@ use Rattle.command_line.specs.Meant.{request_by}
 use Rattle.command_line.specs.Words.{command_of}
 use Rattle.lotplan.specs.Run.{Leaves, SaysFor, reads_of}
 use Rattle.lotplan.proofs.Explained.{leaves_same}
+use Rattle.lotplan.specs.Fetching.{FetchesAs}
+use Rattle.lotplan.proofs.Fetched.{still}
 use Rattle.lotplan.proofs.running.said.Goals as goal
 
 pub said_of-requires : goal.said_of-requires
@@ -28,3 +30,8 @@ returns-in-Ok-Text-clause-said g c =
 
 pub returns-in-Err-clause-memory : goal.returns-in-Err-clause-memory
 returns-in-Err-clause-memory g c = leaves_same (reads_of (command_of (map string_bytes c.args.words.now))) (g.S.Shelf.shown c.args.shelf.now)
+
+pub returns-in-Ok-Text-clause-found : goal.returns-in-Ok-Text-clause-found
+returns-in-Ok-Text-clause-found g c =
+    let old = g.S.Shelf.shown c.args.shelf.now in
+    subst (λ s. FetchesAs s old old) (sym c.of.ensures.status) (still old)

@@ -6,6 +6,7 @@ use Rattle.lotplan.specs.Run.{SaysFor, version_line}
 use Rattle.lotplan.specs.Saying.{IsSaid}
 use Rattle.lotplan.specs.Showing.{DemoSays}
 use Rattle.lotplan.specs.declared.status.Status.TheVariants.{Done}
+use Rattle.lotplan.proofs.Fetched.{demo_fetches, fetches_said, still}
 use Rattle.lotplan.proofs.running.said_of.Goals as goal
 
 pub returns-in-Name-clause-said : goal.returns-in-Name-clause-said
@@ -72,3 +73,13 @@ returns-in-Replan-clause-said g c =
 pub returns-in-Draw-clause-said : goal.returns-in-Draw-clause-said
 returns-in-Draw-clause-said g c =
     subst (λ k. IfOk c.draw_files.result (SaysFor (Some (request_by k)) (g.S.Shelf.shown c.args.shelf.now) (g.S.Shelf.shown c.draw_files.new.shelf))) (sym c.in-Draw.is) c.draw_files.ensures.said
+
+pub returns-in-Name-clause-found : goal.returns-in-Name-clause-found
+returns-in-Name-clause-found g c =
+    let old = g.S.Shelf.shown c.args.shelf.now in
+    fetches_said old old version_line Done c.new.result c.new.ensures (still old)
+
+pub returns-in-Demo-clause-found : goal.returns-in-Demo-clause-found
+returns-in-Demo-clause-found g c =
+    let old = g.S.Shelf.shown c.args.shelf.now in
+    demo_fetches old old c.in-Demo.seed c.show_plans.result c.show_plans.ensures (still old)

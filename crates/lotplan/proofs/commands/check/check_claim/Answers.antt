@@ -2,6 +2,7 @@ use Rattle.std.specs.Prelude.{None}
 use Rattle.std.proofs.lemmas.Result.{IfOk-weaker}
 use Rattle.lotplan.specs.Checking.{GivenExplains, IsRefusal, PlannedExplains, ProofExplains, check_meant}
 use Rattle.lotplan.proofs.Checked.{by_bound, by_infeasible, by_optimal, claim_refused}
+use Rattle.lotplan.proofs.Fetched.{checked_on, refused_fetches}
 use Rattle.lotplan.proofs.commands.check.check_claim.Goals as goal
 
 pub returns-in-Ok-Optimal-clause-answer : goal.returns-in-Ok-Optimal-clause-answer
@@ -53,3 +54,15 @@ returns-in-Err-clause-answer g c =
     IfOk-weaker c.refusal.result (λ a. IsRefusal name c.in-Err.fault (check_meant a)) (λ a. ProofExplains m p name old new (check_meant a))
     (λ a is. claim_refused m p name old new c.in-Err.fault (check_meant a) c.in-Err.ensures.fault is)
     c.refusal.ensures
+
+pub returns-in-Ok-Optimal-clause-found : goal.returns-in-Ok-Optimal-clause-found
+returns-in-Ok-Optimal-clause-found g c = checked_on (g.S.Shelf.shown c.args.shelf.now) (g.S.Shelf.shown c.read_claim.new.shelf) (g.S.Shelf.shown c.check_planned.new.shelf) c.in-Ok-Optimal.ensures.counts c.check_planned.result c.check_planned.ensures.found
+
+pub returns-in-Ok-Infeasible-clause-found : goal.returns-in-Ok-Infeasible-clause-found
+returns-in-Ok-Infeasible-clause-found g c = checked_on (g.S.Shelf.shown c.args.shelf.now) (g.S.Shelf.shown c.read_claim.new.shelf) (g.S.Shelf.shown c.check_given.new.shelf) c.in-Ok-Infeasible.ensures.counts c.check_given.result c.check_given.ensures.found
+
+pub returns-in-Ok-Bound-clause-found : goal.returns-in-Ok-Bound-clause-found
+returns-in-Ok-Bound-clause-found g c = checked_on (g.S.Shelf.shown c.args.shelf.now) (g.S.Shelf.shown c.read_claim.new.shelf) (g.S.Shelf.shown c.check_given-in-Ok-Bound.new.shelf) c.in-Ok-Bound.ensures.counts c.check_given-in-Ok-Bound.result c.check_given-in-Ok-Bound.ensures.found
+
+pub returns-in-Err-clause-found : goal.returns-in-Err-clause-found
+returns-in-Err-clause-found g c = refused_fetches (g.S.Shelf.shown c.args.shelf.now) (g.S.Shelf.shown c.read_claim.new.shelf) c.args.certificate.now c.in-Err.fault c.refusal.result c.in-Err.ensures.counts c.refusal.ensures

@@ -1,5 +1,7 @@
 use Rattle.std.proofs.Common.{refl, sym, subst}
 use Rattle.lotplan.specs.Generating.{IsGenerated, unwritten, written}
+use Rattle.lotplan.specs.Fetching.{FetchesAs}
+use Rattle.lotplan.proofs.Fetched.{writes_find}
 use Rattle.lotplan.proofs.commands.generate.generate_file.Goals as goal
 
 pub returns-in-Ok-clause-said : goal.returns-in-Ok-clause-said
@@ -30,3 +32,15 @@ returns-clause-said g c =
       says = c.in_ok-unwritten.ensures.line;
       ends = c.in_ok-unwritten.ensures.status;
     }
+
+pub returns-in-Ok-clause-found : goal.returns-in-Ok-clause-found
+returns-in-Ok-clause-found g c =
+    let old = g.S.Shelf.shown c.args.shelf.now in
+    let new = g.S.Shelf.shown c.write_file.new.shelf in
+    subst (λ s. FetchesAs s old new) (sym c.in_ok-written.ensures.status) (writes_find c.args.model.now old new c.write_file.ensures.writes)
+
+pub returns-clause-found : goal.returns-clause-found
+returns-clause-found g c =
+    let old = g.S.Shelf.shown c.args.shelf.now in
+    let new = g.S.Shelf.shown c.write_file.new.shelf in
+    subst (λ s. FetchesAs s old new) (sym c.in_ok-unwritten.ensures.status) (writes_find c.args.model.now old new c.write_file.ensures.writes)

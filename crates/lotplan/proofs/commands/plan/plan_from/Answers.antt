@@ -1,9 +1,11 @@
 use Rattle.std.proofs.Common.{IfOk, subst}
 use Rattle.lotplan.specs.Planning.{WriteSays}
 use Rattle.command_line.specs.Meant.{search_by}
-use Rattle.lotplan.specs.Judging.{judge_meant}
+use Rattle.lotplan.specs.Judging.{judge_meant, judge_line, judge_status}
 use Rattle.lotplan.proofs.Writings.{memory_after}
 use Rattle.lotplan.proofs.Planned.{says_from, says_unstarted}
+use Rattle.lot_io.proofs.Frames.{finds_on}
+use Rattle.lotplan.proofs.Fetched.{fetches_said, written_fetch}
 use Rattle.lotplan.proofs.commands.plan.plan_from.Goals as goal
 
 pub returns-in-Ok-clause-said : goal.returns-in-Ok-clause-said
@@ -23,3 +25,13 @@ returns-in-Err-Judged-clause-said g c =
     let names = c.args.names in
     let none = rw (c.in-Err-Judged.field-0-is) at c.in-Err-Judged.ensures.stop in
     says_unstarted names.model.now names.plan.now names.certificate.now (search_by c.args.search) c.args.start.now (g.S.Shelf.shown c.args.shelf.now) (g.S.Shelf.shown c.read_feasible.new.shelf) (judge_meant c.in-Err-Judged.answer) c.answer_line.result c.requires.start none c.read_feasible.ensures.reads c.answer_line.ensures
+
+pub returns-in-Ok-clause-found : goal.returns-in-Ok-clause-found
+returns-in-Ok-clause-found g c =
+    let names = c.args.names in
+    written_fetch (g.S.Shelf.shown c.args.shelf.now) (g.S.Shelf.shown c.plan_instance.new.shelf) (g.S.Shelf.shown c.read_feasible.new.shelf) (g.S.Shelf.shown c.plan_instance.new.shelf) c.in-Ok.read.instance c.sought_by-sought.result names.plan.now names.certificate.now c.plan_instance.result c.plan_instance.ensures.said (finds_on c.in-Ok.ensures.found c.plan_instance.ensures.found)
+
+pub returns-in-Err-Judged-clause-found : goal.returns-in-Err-Judged-clause-found
+returns-in-Err-Judged-clause-found g c =
+    let answer = judge_meant c.in-Err-Judged.answer in
+    fetches_said (g.S.Shelf.shown c.args.shelf.now) (g.S.Shelf.shown c.read_feasible.new.shelf) (judge_line answer) (judge_status answer) c.answer_line.result c.answer_line.ensures (rw (c.in-Err-Judged.field-0-is) at c.in-Err-Judged.ensures.stopped)

@@ -1,9 +1,11 @@
 use Rattle.std.proofs.Common.{IfOk, ap, option_map, subst}
 use Rattle.lotplan.specs.Planning.{WriteSays}
 use Rattle.command_line.specs.Meant.{search_by}
-use Rattle.lotplan.specs.Reading.{read_meant}
+use Rattle.lotplan.specs.Reading.{read_meant, read_line, read_status}
 use Rattle.lotplan.proofs.Writings.{memory_after}
 use Rattle.lotplan.proofs.Planned.{says_model, says_stop}
+use Rattle.lot_io.proofs.Frames.{finds_on}
+use Rattle.lotplan.proofs.Fetched.{fetches_said, written_fetch}
 use Rattle.lotplan.proofs.commands.plan.plan_model.Goals as goal
 
 pub returns-in-Ok-clause-said : goal.returns-in-Ok-clause-said
@@ -23,3 +25,13 @@ returns-in-Err-Answered-clause-said g c =
     let names = c.args.names in
     let none = ap (λ s. option_map (λ f. f.now) s) c.requires.start in
     says_stop names.model.now names.plan.now names.certificate.now (search_by c.args.search) (g.S.Shelf.shown c.args.shelf.now) (g.S.Shelf.shown c.read_model.new.shelf) (read_meant c.in-Err-Answered.why) c.answer_line.result none (rw (c.in-Err-Answered.field-0-is) at c.in-Err-Answered.ensures.stop) c.read_model.ensures.reads c.answer_line.ensures
+
+pub returns-in-Ok-clause-found : goal.returns-in-Ok-clause-found
+returns-in-Ok-clause-found g c =
+    let names = c.args.names in
+    written_fetch (g.S.Shelf.shown c.args.shelf.now) (g.S.Shelf.shown c.plan_instance.new.shelf) (g.S.Shelf.shown c.read_model.new.shelf) (g.S.Shelf.shown c.plan_instance.new.shelf) c.in-Ok.instance c.sought_by.result names.plan.now names.certificate.now c.plan_instance.result c.plan_instance.ensures.said (finds_on c.in-Ok.ensures.found c.plan_instance.ensures.found)
+
+pub returns-in-Err-Answered-clause-found : goal.returns-in-Err-Answered-clause-found
+returns-in-Err-Answered-clause-found g c =
+    let why = read_meant c.in-Err-Answered.why in
+    fetches_said (g.S.Shelf.shown c.args.shelf.now) (g.S.Shelf.shown c.read_model.new.shelf) (read_line why) (read_status why) c.answer_line.result c.answer_line.ensures (rw (c.in-Err-Answered.field-0-is) at c.in-Err-Answered.ensures.stopped)

@@ -1,5 +1,9 @@
 use Rattle.lotplan.proofs.Replanned.{given_stop}
+use Rattle.lotplan.proofs.Fetched.{plan_stop_on}
 use Rattle.lotplan.proofs.commands.replanning.read_given.Goals as goal
 
 pub returns-clause-stop : goal.returns-clause-stop
 returns-clause-stop g c = given_stop c.args.model.now c.args.plan.now c.in-Ok.instance (g.S.Shelf.shown c.args.shelf.now) (g.S.Shelf.shown c.read_model.new.shelf) (g.S.Shelf.shown c.read_plan_file.new.shelf) c.in-Err.stop c.in-Ok.ensures.ok c.read_model.ensures.reads c.in-Err.ensures.stop
+
+pub returns-clause-stopped : goal.returns-clause-stopped
+returns-clause-stopped g c = plan_stop_on (g.S.Shelf.shown c.args.shelf.now) (g.S.Shelf.shown c.read_model.new.shelf) (g.S.Shelf.shown c.read_plan_file.new.shelf) c.in-Ok.ensures.found c.in-Err.stop c.in-Err.ensures.stopped

@@ -1,7 +1,10 @@
-use Rattle.lotplan.specs.Judging.{judge_meant}
+use Rattle.lotplan.specs.Judging.{judge_meant, judge_line, judge_status}
 use Rattle.lotplan.specs.Scheduling.{Laid, scheduled_word}
 use Rattle.lotplan.proofs.Extracted.{says_given, says_none}
 use Rattle.lotplan.proofs.Writings.{memory_after}
+use Rattle.lot_io.proofs.Frames.{finds_on}
+use Rattle.plan_rules.specs.Held.{plan_of}
+use Rattle.lotplan.proofs.Fetched.{extract_fetch, fetches_said}
 use Rattle.lotplan.proofs.commands.schedule.schedule_files.Goals as goal
 
 pub returns-in-Ok-clause-said : goal.returns-in-Ok-clause-said
@@ -16,3 +19,13 @@ pub returns-in-Err-Judged-clause-said : goal.returns-in-Err-Judged-clause-said
 returns-in-Err-Judged-clause-said g c =
     let none = rw (c.in-Err-Judged.field-0-is) at c.in-Err-Judged.ensures.stop in
     says_none (Laid c.args.file.now) scheduled_word c.args.model.now c.args.plan.now c.args.file.now (g.S.Shelf.shown c.args.shelf.now) (g.S.Shelf.shown c.read_feasible.new.shelf) (judge_meant c.in-Err-Judged.answer) c.answer_line.result none c.read_feasible.ensures.reads c.answer_line.ensures
+
+pub returns-in-Ok-clause-found : goal.returns-in-Ok-clause-found
+returns-in-Ok-clause-found g c =
+    let read = c.in-Ok.read in
+    extract_fetch (g.S.Shelf.shown c.args.shelf.now) (g.S.Shelf.shown c.write_laid.new.shelf) (g.S.Shelf.shown c.read_feasible.new.shelf) (g.S.Shelf.shown c.write_laid.new.shelf) (Laid c.args.file.now) scheduled_word read.instance (plan_of read.plan) c.args.file.now c.write_laid.result c.write_laid.ensures.said (finds_on c.in-Ok.ensures.found c.write_laid.ensures.found)
+
+pub returns-in-Err-Judged-clause-found : goal.returns-in-Err-Judged-clause-found
+returns-in-Err-Judged-clause-found g c =
+    let answer = judge_meant c.in-Err-Judged.answer in
+    fetches_said (g.S.Shelf.shown c.args.shelf.now) (g.S.Shelf.shown c.read_feasible.new.shelf) (judge_line answer) (judge_status answer) c.answer_line.result c.answer_line.ensures (rw (c.in-Err-Judged.field-0-is) at c.in-Err-Judged.ensures.stopped)
