@@ -27,9 +27,14 @@ pub leaves_same : (files : List (List ℕ)) (old : Shelved) → Leaves files old
 leaves_same [] old = refl
 leaves_same (file ∷ files) old = same_reads old old refl
 
-leaves_reads : (files : List (List ℕ)) (old new : Shelved) → Leaves files old new → OnlyReads old new
+pub leaves_reads : (files : List (List ℕ)) (old new : Shelved) → Leaves files old new → OnlyReads old new
 leaves_reads [] old new same = same_reads old new same
 leaves_reads (file ∷ files) old new reads = reads
+
+-- after words, where memory ran out
+pub left_reads : (files : List (List ℕ)) (old new : Shelved) (r : Result Said AllocError) → OnErr r (Leaves files old new) → OnErr r (OnlyReads old new)
+left_reads files old new (Ok said) left = tt
+left_reads files old new (Err e) left = leaves_reads files old new left
 
 leaves_idle : (files : List (List ℕ)) (old new : Shelved) → files ≡ [] → Leaves files old new → new ≡ old
 leaves_idle files old new none left = subst (λ f. Leaves f old new) none left

@@ -3,6 +3,7 @@ pub mod Outputs
 pub mod Readings
 pub mod Writings
 pub mod Fetched
+pub mod Appended
 pub mod Proved
 pub mod Searched
 pub mod Calls

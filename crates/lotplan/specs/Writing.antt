@@ -1,7 +1,9 @@
 -- How files are written, and the lines that name them.
-use Rattle.std.specs.Prelude.{◌≡◌, ◌≢◌, ◌≤◌, ◌+◌, ℕ, zero, suc, List, [], ◌∷◌, ◌++◌, length, codes, IsTrue, Some, ⊤}
-use Rattle.lot_io.specs.Outside.{Files, GrewBy, Printed, Rose, Shelved}
+use Rattle.std.specs.Prelude.{◌≡◌, ◌≢◌, ◌≤◌, ◌+◌, ℕ, zero, suc, List, [], ◌∷◌, ◌++◌, length, codes, IsTrue, Option, Some, None, ⊤}
+use Rattle.lot_io.specs.Outside.{Files, GrewBy, Printed, Rose, Shelved, pieces_of}
 use Rattle.lotplan.specs.Saying.{Gains}
+use Rattle.lotplan.specs.declared.status.Status.{Status}
+use Rattle.lotplan.specs.declared.status.Status.TheVariants as status
 use Rattle.lotplan.specs.declared.writing.Output.{Output}
 
 -- it was written, or could not be
@@ -31,11 +33,12 @@ pub record StartsAtMost (names : List (List ℕ)) (old new : Shelved) : Type 0 w
   pub others : IsTrue old.told → SameBesides names old.file new.file
   pub starts : new.starts ≤ old.starts + length names
 
--- no write failed, and one start was made; where told, the file has these bytes, and all others stay
+-- no write failed, one start was made, and one append a piece; where told, the file has these bytes, and all others stay
 pub record IsWritten (name bytes : List ℕ) (old new : Shelved) : Type 0 where
   pub written : IsTrue old.told → new.file name ≡ Some bytes
   pub fine : new.write_faults ≡ old.write_faults
   pub touches : StartsAmong (name ∷ []) 1 old new
+  pub appends : GrewBy (pieces_of (length bytes)) old.appends new.appends
 
 -- a write failed, and one start was made; where told, all files but the one of this name stay
 pub record IsUnwritten (name : List ℕ) (old new : Shelved) : Type 0 where
@@ -62,3 +65,19 @@ pub record NamesUnwritten (Holds : Type 0) (file : List ℕ) (old new : Shelved)
   pub holds : IsTrue old.told → Holds
   pub failed : Rose old.write_faults new.write_faults
   pub line : Gains (unwritten_line file) out_old out_new
+
+-- ---- in how many pieces
+-- the length of a file, and 0 of one that is absent
+abbrev pub size_of : Option (List ℕ) → ℕ
+size_of None = 0
+size_of (Some bytes) = length bytes
+
+-- how many pieces the files of these names make
+abbrev pub pieces_in : List (List ℕ) → Files → ℕ
+pieces_in [] files = 0
+pieces_in (name ∷ names) files = pieces_of (size_of (files name)) + pieces_in names files
+
+-- where told, no more appends were made than the files of these names make pieces; of a file that could not be written nothing is said
+abbrev pub AppendsAs : List (List ℕ) → Status → Shelved → Shelved → Type 0
+AppendsAs names status.Unwritten old new = ⊤
+AppendsAs names _ old new = IsTrue old.told → new.appends ≤ old.appends + pieces_in names new.file

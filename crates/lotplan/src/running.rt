@@ -9,7 +9,7 @@ ghost use Rattle.lotplan.specs.Saying.{Ends, IsSaid, Prints};
 ghost use Rattle.lotplan.specs.declared.status.TheConstants.{DONE, NO_PLAN, UNDECIDED, FAULTY, NO_COMMAND, REFUSED, MISSING, UNREAD, UNWRITTEN, UNPRINTED, NO_MEMORY, TOO_LONG, NO_REST};
 ghost use Rattle.lotplan.specs.declared.status.Status.TheVariants.{NoCommand};
 ghost use Rattle.lotplan.specs.Reading.{missing, refused, too_long, unread};
-ghost use Rattle.lotplan.specs.Writing.{StartsAmong, StartsAtMost};
+ghost use Rattle.lotplan.specs.Writing.{StartsAmong, StartsAtMost, AppendsAs, pieces_in};
 ghost use Rattle.lotplan.specs.Planning.{FailsToWrite, FindsNoPlan, FindsStartFault, KeepsStart, LeavesOpen, PlansBest};
 ghost use Rattle.lotplan.specs.Judging.{FindsFault, FindsFeasible};
 ghost use Rattle.lotplan.specs.Checking.{Accepts, AcceptsCertificate, CallsForDone, FindsRefused};
@@ -399,6 +399,12 @@ pub fn run<S: Shelf, K: Sink, P: Proposer, H: Heuristic<P::Hint>, W: Watch>(
     ensures only_reads { writes_of (command_of (map string_bytes words.now)) ≡ []
         → OnlyReads (S.shown shelf.old) (S.shown shelf.new) }
 
+    // In how many pieces: where told, in no more than the files that the command may write make of the most bytes that go over
+    // in one call.
+    ensures appended { result ≢ UNWRITTEN → result ≢ UNPRINTED → IsTrue (S.shown shelf.old).told
+        → (S.shown shelf.new).appends ≤ (S.shown shelf.old).appends
+        + pieces_in (writes_of (command_of (map string_bytes words.now))) (S.shown shelf.new).file }
+
     // What is read: nothing for words that are no command, for the version, and by `demo`; no file by `gen`; of each file
     // that a command reads at most as much as of one within the limit, and by `check` and `draw` three times a certificate file.
     ensures idle { IsIdle (command_of (map string_bytes words.now))
@@ -480,6 +486,8 @@ fn said<S: Shelf, P: Proposer, H: Heuristic<P::Hint>, W: Watch>(
         (S.shown shelf.old) (S.shown shelf.new)) }
     ensures found { IfOk result (λ said. FetchesAs said.status (S.shown shelf.old)
         (S.shown shelf.new)) }
+    ensures appended { IfOk result (λ said. AppendsAs (writes_of (command_of (map string_bytes words.now))) said.status
+        (S.shown shelf.old) (S.shown shelf.new)) }
     ensures given { (S.shown shelf.new).given
         ≤ (S.shown shelf.old).given + most_given (command_of (map string_bytes words.now)) }
 {
@@ -507,6 +515,8 @@ fn said_of<S: Shelf, P: Proposer, H: Heuristic<P::Hint>, W: Watch>(
         (S.shown shelf.old) (S.shown shelf.new)) }
     ensures found { IfOk result (λ said. FetchesAs said.status (S.shown shelf.old)
         (S.shown shelf.new)) }
+    ensures appended { IfOk result (λ said. AppendsAs (writes_of (Some (request_by command.entry))) said.status
+        (S.shown shelf.old) (S.shown shelf.new)) }
     ensures given { (S.shown shelf.new).given
         ≤ (S.shown shelf.old).given + most_given (Some (request_by command.entry)) }
 {

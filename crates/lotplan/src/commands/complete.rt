@@ -1,5 +1,5 @@
 // `complete`: completes the quantities in a file to a plan, by the model in another, and writes the plan to a third.
-ghost use Rattle.std.specs.Prelude.{◌≡◌, ◌≤◌, ◌+◌, ◌*◌, string_bytes, IsTrue, IfErr, IfOk, OnOk, OnErr};
+ghost use Rattle.std.specs.Prelude.{◌≡◌, ◌≤◌, ◌+◌, ◌*◌, ◌∷◌, [], string_bytes, IsTrue, IfErr, IfOk, OnOk, OnErr};
 ghost use Rattle.lot_io.specs.Outside.{Finds, OnlyReads, piece_size};
 ghost use Rattle.plan_rules.specs.Cells.{table_of};
 ghost use Rattle.plan_rules.specs.Held.{AllFit};
@@ -9,6 +9,7 @@ ghost use Rattle.lotplan.specs.Completing.{complete_meaning, ExplainsNoTable, Gr
 ghost use Rattle.lotplan.specs.Reading.{file_limit};
 ghost use Rattle.lotplan.specs.Saying.{IsSaid};
 ghost use Rattle.lotplan.specs.Fetching.{FetchesAs, NoTableFetches};
+ghost use Rattle.lotplan.specs.Writing.{AppendsAs};
 
 use crate::model_file::{ReadAnswer, Stop, read_bytes, read_model};
 use crate::said::Said;
@@ -217,6 +218,8 @@ fn complete_grids<S: Shelf>(
         (table_of table.setup) file.now (S.shown shelf.old) (S.shown shelf.new)) }
     ensures memory { OnErr result (S.shown shelf.new ≡ S.shown shelf.old) }
     ensures found { Finds (S.shown shelf.old) (S.shown shelf.new) }
+    ensures appended { IfOk result (λ said. AppendsAs (file.now ∷ []) said.status
+        (S.shown shelf.old) (S.shown shelf.new)) }
     ensures given { (S.shown shelf.new).given ≡ (S.shown shelf.old).given }
 {
     match complete_or_judge(alloc, instance, table.make, table.setup) {
@@ -240,6 +243,8 @@ pub fn complete_files<'a, S: Shelf>(
     ensures memory { OnErr result (OnlyReads (S.shown shelf.old) (S.shown shelf.new)) }
     ensures found { IfOk result (λ said. FetchesAs said.status (S.shown shelf.old)
         (S.shown shelf.new)) }
+    ensures appended { IfOk result (λ said. AppendsAs (file.now ∷ []) said.status
+        (S.shown shelf.old) (S.shown shelf.new)) }
     ensures given { (S.shown shelf.new).given
         ≤ (S.shown shelf.old).given + 2 * (file_limit + piece_size) }
 {

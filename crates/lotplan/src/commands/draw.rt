@@ -1,6 +1,6 @@
 // `draw`: draws the plan in a file, by the model in another, as a page, and writes that to a third. Where a certificate is asked
 // for, that in a fourth is checked first, and the page says what it proves.
-ghost use Rattle.std.specs.Prelude.{◌≡◌, ◌≤◌, ◌+◌, ◌*◌, length, IsTrue, IfOk, IfErr, OnOk, OnErr, option_map};
+ghost use Rattle.std.specs.Prelude.{◌≡◌, ◌≤◌, ◌+◌, ◌*◌, ◌∷◌, [], length, IsTrue, IfOk, IfErr, OnOk, OnErr, option_map};
 ghost use Rattle.lot_io.specs.Outside.{Finds, OnlyReads, piece_size};
 ghost use Rattle.lot_sizing.specs.Plan.{IsFeasible};
 ghost use Rattle.plan_rules.specs.Held.{AllFit, plan_of};
@@ -11,6 +11,7 @@ ghost use Rattle.lotplan.specs.Drawing.{draw_meaning, ExplainsNotDrawn, Explains
 ghost use Rattle.lotplan.specs.Judging.{HoldFeasible, HoldsBoth};
 ghost use Rattle.lotplan.specs.Reading.{file_limit};
 ghost use Rattle.lotplan.specs.Fetching.{FetchesAs, NotDrawnFetches};
+ghost use Rattle.lotplan.specs.Writing.{AppendsAs};
 
 use crate::commands::check::{CheckAnswer, check_with};
 use crate::commands::judge::{JudgeAnswer, NotFeasible, read_feasible};
@@ -173,6 +174,8 @@ pub fn draw_files<S: Shelf>(
     ensures memory { OnErr result (OnlyReads (S.shown shelf.old) (S.shown shelf.new)) }
     ensures found { IfOk result (λ said. FetchesAs said.status (S.shown shelf.old)
         (S.shown shelf.new)) }
+    ensures appended { IfOk result (λ said. AppendsAs (names.entry.page.now ∷ []) said.status
+        (S.shown shelf.old) (S.shown shelf.new)) }
     ensures given { (S.shown shelf.new).given
         ≤ (S.shown shelf.old).given
         + (2 * (file_limit + piece_size)

@@ -1,10 +1,11 @@
 // `gen`: writes a generated model to a file.
-ghost use Rattle.std.specs.Prelude.{◌≡◌, string_bytes, IfOk, OnErr};
+ghost use Rattle.std.specs.Prelude.{◌≡◌, ◌∷◌, [], string_bytes, IfOk, OnErr};
 ghost use Rattle.report.specs.Generated.{IsModelSize};
 ghost use Rattle.lotplan.specs.Meaning.{Says};
 ghost use Rattle.lotplan.specs.Generating.{generate_meaning, IsGenerated, generate_line, generate_meant, generate_status};
 ghost use Rattle.lotplan.specs.Saying.{IsSaid};
 ghost use Rattle.lotplan.specs.Fetching.{FetchesAs};
+ghost use Rattle.lotplan.specs.Writing.{AppendsAs};
 
 use crate::said::Said;
 use crate::status::Status;
@@ -81,6 +82,8 @@ pub fn generate_file<S: Shelf>(
     ensures memory { OnErr result (S.shown shelf.new ≡ S.shown shelf.old) }
     ensures found { IfOk result (λ said. FetchesAs said.status (S.shown shelf.old)
         (S.shown shelf.new)) }
+    ensures appended { IfOk result (λ said. AppendsAs (model.now ∷ []) said.status
+        (S.shown shelf.old) (S.shown shelf.new)) }
     ensures given { (S.shown shelf.new).given ≡ (S.shown shelf.old).given }
 {
     let text = coupled_text(alloc, seed, items, periods)?;

@@ -1,6 +1,6 @@
 // `plan`: plans the model in a file, and writes the plan that was found and the certificate of what is claimed to two
 // others.
-ghost use Rattle.std.specs.Prelude.{◌≡◌, ◌≢◌, ◌≤◌, ◌+◌, ◌*◌, length, string_bytes, Some, None, IfOk, IfSome, OnErr, option_map};
+ghost use Rattle.std.specs.Prelude.{◌≡◌, ◌≢◌, ◌≤◌, ◌+◌, ◌*◌, ◌∷◌, [], length, string_bytes, Some, None, IfOk, IfSome, OnErr, option_map};
 ghost use Rattle.cert_lines.specs.declared.limits.TheConstants.{LOTS_CERT_VERSION, MAX_CERT_VERSION};
 ghost use Rattle.lot_io.specs.Outside.{Finds, OnlyReads, piece_size};
 ghost use Rattle.branching.specs.Search.{IsGoodPlan, cost_of};
@@ -11,6 +11,7 @@ ghost use Rattle.lotplan.specs.Planning.{IsAnswerTo, plan_meaning, WriteSays, pl
 ghost use Rattle.lotplan.specs.Reading.{file_limit};
 ghost use Rattle.lotplan.specs.Saying.{IsSaid};
 ghost use Rattle.lotplan.specs.Fetching.{FetchesAs};
+ghost use Rattle.lotplan.specs.Writing.{AppendsAs};
 
 use crate::commands::judge::{FeasiblePlan, NotFeasible, read_feasible};
 use crate::model_file::{ReadAnswer, Stop, read_model};
@@ -193,6 +194,8 @@ fn write_both<'a, S: Shelf>(
         (S.shown shelf.old) (S.shown shelf.new)) }
     ensures memory { OnErr result (S.shown shelf.new ≡ S.shown shelf.old) }
     ensures found { Finds (S.shown shelf.old) (S.shown shelf.new) }
+    ensures appended { IfOk result (λ said. AppendsAs (plan.now ∷ certificate.now ∷ []) said.status
+        (S.shown shelf.old) (S.shown shelf.new)) }
     ensures given { (S.shown shelf.new).given ≡ (S.shown shelf.old).given }
 {
     let bytes = write_plan(alloc, instance, chosen)?;
@@ -234,6 +237,8 @@ fn write_proof<S: Shelf>(
         (S.shown shelf.old) (S.shown shelf.new)) }
     ensures memory { OnErr result (S.shown shelf.new ≡ S.shown shelf.old) }
     ensures found { Finds (S.shown shelf.old) (S.shown shelf.new) }
+    ensures appended { IfOk result (λ said. AppendsAs (plan.now ∷ certificate.now ∷ []) said.status
+        (S.shown shelf.old) (S.shown shelf.new)) }
     ensures given { (S.shown shelf.new).given ≡ (S.shown shelf.old).given }
 {
     let proof = write_certificate(alloc, &found.certificate)?;
@@ -265,6 +270,8 @@ fn write_found<S: Shelf>(
         (S.shown shelf.old) (S.shown shelf.new)) }
     ensures memory { OnErr result (S.shown shelf.new ≡ S.shown shelf.old) }
     ensures found { Finds (S.shown shelf.old) (S.shown shelf.new) }
+    ensures appended { IfOk result (λ said. AppendsAs (plan.now ∷ certificate.now ∷ []) said.status
+        (S.shown shelf.old) (S.shown shelf.new)) }
     ensures given { (S.shown shelf.new).given ≡ (S.shown shelf.old).given }
 {
     match &found.plan {
@@ -340,6 +347,8 @@ fn plan_instance<S: Shelf, P: Proposer, H: Heuristic<P::Hint>, W: Watch>(
         names.entry.certificate.now (S.shown shelf.old) (S.shown shelf.new)) }
     ensures memory { OnErr result (S.shown shelf.new ≡ S.shown shelf.old) }
     ensures found { Finds (S.shown shelf.old) (S.shown shelf.new) }
+    ensures appended { IfOk result (λ said. AppendsAs (names.entry.plan.now ∷ names.entry.certificate.now ∷ []) said.status
+        (S.shown shelf.old) (S.shown shelf.new)) }
     ensures given { (S.shown shelf.new).given ≡ (S.shown shelf.old).given }
 {
     let found = found_of(alloc, proposer, heuristic, watch, instance, sought, first)?;
@@ -375,6 +384,8 @@ fn plan_model<S: Shelf, P: Proposer, H: Heuristic<P::Hint>, W: Watch>(
     ensures memory { OnErr result (OnlyReads (S.shown shelf.old) (S.shown shelf.new)) }
     ensures found { IfOk result (λ said. FetchesAs said.status (S.shown shelf.old)
         (S.shown shelf.new)) }
+    ensures appended { IfOk result (λ said. AppendsAs (names.entry.plan.now ∷ names.entry.certificate.now ∷ []) said.status
+        (S.shown shelf.old) (S.shown shelf.new)) }
     ensures given { (S.shown shelf.new).given
         ≤ (S.shown shelf.old).given + (file_limit + piece_size) }
 {
@@ -417,6 +428,8 @@ fn plan_from<S: Shelf, P: Proposer, H: Heuristic<P::Hint>, W: Watch>(
     ensures memory { OnErr result (OnlyReads (S.shown shelf.old) (S.shown shelf.new)) }
     ensures found { IfOk result (λ said. FetchesAs said.status (S.shown shelf.old)
         (S.shown shelf.new)) }
+    ensures appended { IfOk result (λ said. AppendsAs (names.entry.plan.now ∷ names.entry.certificate.now ∷ []) said.status
+        (S.shown shelf.old) (S.shown shelf.new)) }
     ensures given { (S.shown shelf.new).given
         ≤ (S.shown shelf.old).given + 2 * (file_limit + piece_size) }
 {
@@ -462,6 +475,8 @@ pub fn plan_files<S: Shelf, P: Proposer, H: Heuristic<P::Hint>, W: Watch>(
     ensures memory { OnErr result (OnlyReads (S.shown shelf.old) (S.shown shelf.new)) }
     ensures found { IfOk result (λ said. FetchesAs said.status (S.shown shelf.old)
         (S.shown shelf.new)) }
+    ensures appended { IfOk result (λ said. AppendsAs (names.entry.plan.now ∷ names.entry.certificate.now ∷ []) said.status
+        (S.shown shelf.old) (S.shown shelf.new)) }
     ensures given { (S.shown shelf.new).given
         ≤ (S.shown shelf.old).given
         + (1 + length (start_files (option_map (λ f. f.now) search.entry.start)))

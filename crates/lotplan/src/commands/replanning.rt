@@ -1,6 +1,6 @@
 // `replan`: keeps the first periods of the plan in a file, by the model in another, and plans the later ones. Writes these as a
 // model of their own, the plan that was found of them, and the certificate of what is claimed, to three others.
-ghost use Rattle.std.specs.Prelude.{◌≡◌, ◌≤◌, ◌<◌, ◌+◌, ◌*◌, ◌^◌, ◌++◌, string_bytes, IsTrue, Some, None, IfOk, IfErr, IfSome, OnOk, OnErr};
+ghost use Rattle.std.specs.Prelude.{◌≡◌, ◌≤◌, ◌<◌, ◌+◌, ◌*◌, ◌^◌, ◌++◌, ◌∷◌, [], string_bytes, IsTrue, Some, None, IfOk, IfErr, IfSome, OnOk, OnErr};
 ghost use Rattle.lot_io.specs.Outside.{Finds, OnlyReads, piece_size};
 ghost use Rattle.plan_rules.specs.Held.{AllFit, plan_of};
 ghost use Rattle.command_line.specs.Words.{AreApart};
@@ -13,6 +13,7 @@ ghost use Rattle.lotplan.specs.Reading.{file_limit};
 ghost use Rattle.lotplan.specs.Replanning.{ExplainsGivenStop, IsFoundLine, NextSays, replan_meaning, StartSays, replan_line, replan_meant, replan_status, whole_line};
 ghost use Rattle.lotplan.specs.Saying.{IsSaid};
 ghost use Rattle.lotplan.specs.Fetching.{FetchesAs, PlanStopFetches};
+ghost use Rattle.lotplan.specs.Writing.{AppendsAs};
 
 use crate::commands::plan::{PlanAnswer, answer_of};
 use crate::commands::upgrade::texts_mean_it;
@@ -132,6 +133,8 @@ fn write_three<S: Shelf>(
         (S.shown shelf.new)) }
     ensures memory { OnErr result (S.shown shelf.new ≡ S.shown shelf.old) }
     ensures found { Finds (S.shown shelf.old) (S.shown shelf.new) }
+    ensures appended { IfOk result (λ said. AppendsAs (names.entry.next_model.now ∷ names.entry.next_plan.now ∷ names.entry.certificate.now ∷ []) said.status
+        (S.shown shelf.old) (S.shown shelf.new)) }
     ensures given { (S.shown shelf.new).given ≡ (S.shown shelf.old).given }
 {
     texts_mean_it(&rest.instance);
@@ -183,6 +186,8 @@ fn write_two<S: Shelf>(
         (S.shown shelf.new)) }
     ensures memory { OnErr result (S.shown shelf.new ≡ S.shown shelf.old) }
     ensures found { Finds (S.shown shelf.old) (S.shown shelf.new) }
+    ensures appended { IfOk result (λ said. AppendsAs (names.entry.next_model.now ∷ names.entry.next_plan.now ∷ names.entry.certificate.now ∷ []) said.status
+        (S.shown shelf.old) (S.shown shelf.new)) }
     ensures given { (S.shown shelf.new).given ≡ (S.shown shelf.old).given }
 {
     texts_mean_it(&rest.instance);
@@ -226,6 +231,8 @@ fn write_next<S: Shelf>(
         (S.shown shelf.new)) }
     ensures memory { OnErr result (S.shown shelf.new ≡ S.shown shelf.old) }
     ensures found { Finds (S.shown shelf.old) (S.shown shelf.new) }
+    ensures appended { IfOk result (λ said. AppendsAs (names.entry.next_model.now ∷ names.entry.next_plan.now ∷ names.entry.certificate.now ∷ []) said.status
+        (S.shown shelf.old) (S.shown shelf.new)) }
     ensures given { (S.shown shelf.new).given ≡ (S.shown shelf.old).given }
 {
     match &found.plan {
@@ -255,6 +262,8 @@ fn replan_instance<S: Shelf, P: Proposer, H: Heuristic<P::Hint>, W: Watch>(
         names.entry.certificate.now budget (S.shown shelf.old) (S.shown shelf.new)) }
     ensures memory { OnErr result (S.shown shelf.new ≡ S.shown shelf.old) }
     ensures found { Finds (S.shown shelf.old) (S.shown shelf.new) }
+    ensures appended { IfOk result (λ said. AppendsAs (names.entry.next_model.now ∷ names.entry.next_plan.now ∷ names.entry.certificate.now ∷ []) said.status
+        (S.shown shelf.old) (S.shown shelf.new)) }
     ensures given { (S.shown shelf.new).given ≡ (S.shown shelf.old).given }
 {
     joins_are_feasible();
@@ -329,6 +338,8 @@ pub fn replan_files<S: Shelf, P: Proposer, H: Heuristic<P::Hint>, W: Watch>(
     ensures memory { OnErr result (OnlyReads (S.shown shelf.old) (S.shown shelf.new)) }
     ensures found { IfOk result (λ said. FetchesAs said.status (S.shown shelf.old)
         (S.shown shelf.new)) }
+    ensures appended { IfOk result (λ said. AppendsAs (names.entry.next_model.now ∷ names.entry.next_plan.now ∷ names.entry.certificate.now ∷ []) said.status
+        (S.shown shelf.old) (S.shown shelf.new)) }
     ensures given { (S.shown shelf.new).given
         ≤ (S.shown shelf.old).given + 2 * (file_limit + piece_size) }
 {

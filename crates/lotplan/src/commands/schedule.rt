@@ -1,5 +1,5 @@
 // `schedule`: lays the lots of the plan in a file as times on each resource, by the model in another, and writes these to a third.
-ghost use Rattle.std.specs.Prelude.{◌≡◌, ◌≤◌, ◌+◌, ◌*◌, IfOk, OnErr};
+ghost use Rattle.std.specs.Prelude.{◌≡◌, ◌≤◌, ◌+◌, ◌*◌, ◌∷◌, [], IfOk, OnErr};
 ghost use Rattle.lot_io.specs.Outside.{Finds, OnlyReads, piece_size};
 ghost use Rattle.lot_sizing.specs.Plan.{IsFeasible};
 ghost use Rattle.plan_rules.specs.Held.{AllFit, plan_of};
@@ -8,6 +8,7 @@ ghost use Rattle.lotplan.specs.Extracting.{extract_meaning, GivenSays};
 ghost use Rattle.lotplan.specs.Reading.{file_limit};
 ghost use Rattle.lotplan.specs.Scheduling.{Laid, scheduled_word};
 ghost use Rattle.lotplan.specs.Fetching.{FetchesAs};
+ghost use Rattle.lotplan.specs.Writing.{AppendsAs};
 
 use crate::commands::judge::{NotFeasible, read_feasible};
 use crate::extract::write_extract;
@@ -32,6 +33,8 @@ fn write_laid<S: Shelf>(
         (plan_of given.now) file.now (S.shown shelf.old) (S.shown shelf.new)) }
     ensures memory { OnErr result (S.shown shelf.new ≡ S.shown shelf.old) }
     ensures found { Finds (S.shown shelf.old) (S.shown shelf.new) }
+    ensures appended { IfOk result (λ said. AppendsAs (file.now ∷ []) said.status
+        (S.shown shelf.old) (S.shown shelf.new)) }
     ensures given { (S.shown shelf.new).given ≡ (S.shown shelf.old).given }
 {
     let slots = schedule(alloc, instance, given)?;
@@ -61,6 +64,8 @@ pub fn schedule_files<S: Shelf>(
     ensures memory { OnErr result (OnlyReads (S.shown shelf.old) (S.shown shelf.new)) }
     ensures found { IfOk result (λ said. FetchesAs said.status (S.shown shelf.old)
         (S.shown shelf.new)) }
+    ensures appended { IfOk result (λ said. AppendsAs (file.now ∷ []) said.status
+        (S.shown shelf.old) (S.shown shelf.new)) }
     ensures given { (S.shown shelf.new).given
         ≤ (S.shown shelf.old).given + 2 * (file_limit + piece_size) }
 {

@@ -1,5 +1,5 @@
 // `upgrade`: writes the model in a file of the first version to another, as one of the newest.
-ghost use Rattle.std.specs.Prelude.{◌≡◌, ◌≤◌, ◌+◌, ℕ, List, Ok, string_bytes, IfOk, OnErr};
+ghost use Rattle.std.specs.Prelude.{◌≡◌, ◌≤◌, ◌+◌, ◌∷◌, [], ℕ, List, Ok, string_bytes, IfOk, OnErr};
 ghost use Rattle.instance_reader.specs.Model.{BytesMean};
 ghost use Rattle.instance_reader.specs.Written.{IsModelText};
 ghost use Rattle.lot_io.specs.Outside.{Finds, OnlyReads, piece_size};
@@ -8,6 +8,7 @@ ghost use Rattle.lotplan.specs.Reading.{file_limit};
 ghost use Rattle.lotplan.specs.Saying.{IsSaid};
 ghost use Rattle.lotplan.specs.Upgrading.{RewriteSays, upgrade_meaning, upgrade_line, upgrade_meant, upgrade_status};
 ghost use Rattle.lotplan.specs.Fetching.{FetchesAs};
+ghost use Rattle.lotplan.specs.Writing.{AppendsAs};
 
 use crate::model_file::{ReadAnswer, Stop, read_first_model};
 use crate::said::Said;
@@ -81,6 +82,8 @@ fn write_upgraded<S: Shelf>(
         (S.shown shelf.new)) }
     ensures memory { OnErr result (S.shown shelf.new ≡ S.shown shelf.old) }
     ensures found { Finds (S.shown shelf.old) (S.shown shelf.new) }
+    ensures appended { IfOk result (λ said. AppendsAs (upgraded.now ∷ []) said.status
+        (S.shown shelf.old) (S.shown shelf.new)) }
     ensures given { (S.shown shelf.new).given ≡ (S.shown shelf.old).given }
 {
     texts_mean_it(instance);
@@ -105,6 +108,8 @@ pub fn upgrade_files<S: Shelf>(
     ensures memory { OnErr result (OnlyReads (S.shown shelf.old) (S.shown shelf.new)) }
     ensures found { IfOk result (λ said. FetchesAs said.status (S.shown shelf.old)
         (S.shown shelf.new)) }
+    ensures appended { IfOk result (λ said. AppendsAs (upgraded.now ∷ []) said.status
+        (S.shown shelf.old) (S.shown shelf.new)) }
     ensures given { (S.shown shelf.new).given
         ≤ (S.shown shelf.old).given + (file_limit + piece_size) }
 {

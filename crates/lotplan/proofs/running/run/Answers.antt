@@ -1,8 +1,10 @@
 use Rattle.std.proofs.Common.{map, string_bytes}
 use Rattle.command_line.specs.Words.{command_of}
-use Rattle.lotplan.proofs.Explained.{called, ended, fails_to_read, generate_only, idle, is_long, is_run, misses, no_command, only_reads, quiet, refused_words, refuses, silent, tells, unprinted, writes, wrote}
+use Rattle.lotplan.proofs.Explained.{called, ended, fails_to_read, generate_only, idle, is_long, is_run, misses, no_command, only_reads, quiet, refused_words, refuses, silent, tells, unprinted, writes, wrote, left_reads}
 use Rattle.lotplan.proofs.Clauses.{completed, complete_faulty, complete_unwritten, drawn, draw_faulty, draw_unwritten, bound_infeasible, bound_undecided, bounded, certified, check_faulty, checked, checks, generate_unwritten, generated, judge_faulty, judged, no_rest, optimal, peg_faulty, peg_unwritten, pegged, plan_faulty, plan_infeasible, plan_kept, plan_undecided, plan_unwritten, replan_checks, replan_faulty, replan_infeasible, replan_undecided, replan_unwritten, replan_wrote_some, replan_wrote_two, replanned, report_faulty, schedcheck_faulty, schedule_checked, schedule_faulty, schedule_unwritten, scheduled, showed, summed, upgrade_unwritten, upgraded, wrote_certificate, wrote_some}
 use Rattle.lotplan.proofs.Fetched.{run_fails, run_finds, run_misses, run_once}
+use Rattle.lotplan.specs.Run.{reads_of, writes_of}
+use Rattle.lotplan.proofs.Appended.{run_appends}
 use Rattle.lotplan.proofs.running.run.Goals as goal
 
 pub returns-clause-run : goal.returns-clause-run
@@ -211,3 +213,8 @@ returns-clause-failed g c = run_fails (g.S.Shelf.shown c.args.shelf.now) (g.S.Sh
 
 pub returns-clause-once : goal.returns-clause-once
 returns-clause-once g c = run_once (g.S.Shelf.shown c.args.shelf.now) (g.S.Shelf.shown c.said-said.new.shelf) c.end_with.result (g.K.Sink.shown c.args.out.now) (g.K.Sink.shown c.end_with.new.out) c.said-said.result c.said-said.ensures.found c.end_with.ensures.ends
+
+pub returns-clause-appended : goal.returns-clause-appended
+returns-clause-appended g c =
+    let request = command_of (map string_bytes c.args.words.now) in
+    run_appends (writes_of request) (g.S.Shelf.shown c.args.shelf.now) (g.S.Shelf.shown c.said-said.new.shelf) c.end_with.result (g.K.Sink.shown c.args.out.now) (g.K.Sink.shown c.end_with.new.out) c.said-said.result c.said-said.ensures.appended (left_reads (reads_of request) (g.S.Shelf.shown c.args.shelf.now) (g.S.Shelf.shown c.said-said.new.shelf) c.said-said.result c.said-said.ensures.memory) c.end_with.ensures.ends

@@ -4,6 +4,8 @@ use Rattle.lotplan.proofs.Writings.{memory_after}
 use Rattle.lot_io.proofs.Frames.{finds_on}
 use Rattle.plan_rules.specs.Cells.{table_of}
 use Rattle.lotplan.proofs.Fetched.{fetches_said, grids_fetch}
+use Rattle.std.proofs.Common.{[], ◌∷◌}
+use Rattle.lotplan.proofs.Appended.{appends_after, reads_append}
 use Rattle.lotplan.proofs.commands.complete.complete_files.Goals as goal
 
 pub returns-in-Ok-clause-said : goal.returns-in-Ok-clause-said
@@ -28,3 +30,9 @@ pub returns-in-Err-Answered-clause-found : goal.returns-in-Err-Answered-clause-f
 returns-in-Err-Answered-clause-found g c =
     let answer = table_meant c.in-Err-Answered.answer in
     fetches_said (g.S.Shelf.shown c.args.shelf.now) (g.S.Shelf.shown c.read_tables.new.shelf) (table_line answer) (table_status answer) c.answer_line.result c.answer_line.ensures (rw (c.in-Err-Answered.field-0-is) at c.in-Err-Answered.ensures.stopped)
+
+pub returns-in-Ok-clause-appended : goal.returns-in-Ok-clause-appended
+returns-in-Ok-clause-appended g c = appends_after (c.args.file.now ∷ []) (g.S.Shelf.shown c.args.shelf.now) (g.S.Shelf.shown c.read_tables.new.shelf) (g.S.Shelf.shown c.complete_grids.new.shelf) c.complete_grids.result c.read_tables.ensures.reads c.complete_grids.ensures.appended
+
+pub returns-in-Err-Answered-clause-appended : goal.returns-in-Err-Answered-clause-appended
+returns-in-Err-Answered-clause-appended g c = reads_append (c.args.file.now ∷ []) (g.S.Shelf.shown c.args.shelf.now) (g.S.Shelf.shown c.read_tables.new.shelf) c.answer_line.result c.read_tables.ensures.reads

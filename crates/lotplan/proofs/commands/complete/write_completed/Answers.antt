@@ -15,6 +15,7 @@ returns-in-Ok-clause-said g c =
       record {
         written = c.in-Ok.ensures.written;
         fine = c.in-Ok.ensures.fine;
+        appends = c.in-Ok.ensures.appends;
         touches = record { told = c.write_file.ensures.writes.told; others = λ t other apart. c.write_file.ensures.writes.others t other apart.0; starts = c.write_file.ensures.starts };
       },
     )

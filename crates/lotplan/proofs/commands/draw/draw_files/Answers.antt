@@ -5,6 +5,8 @@ use Rattle.lotplan.proofs.Paged.{says_judged, says_page, says_unproved}
 use Rattle.lot_io.proofs.Frames.{finds_on}
 use Rattle.plan_rules.specs.Held.{plan_of}
 use Rattle.lotplan.proofs.Fetched.{fetches_said, page_fetch}
+use Rattle.std.proofs.Common.{[], ◌∷◌}
+use Rattle.lotplan.proofs.Appended.{appends_after, page_appends, reads_append}
 use Rattle.lotplan.proofs.commands.draw.draw_files.Goals as goal
 
 pub returns-in-Ok-clause-said : goal.returns-in-Ok-clause-said
@@ -40,3 +42,14 @@ pub returns-in-Err-Unproved-clause-found : goal.returns-in-Err-Unproved-clause-f
 returns-in-Err-Unproved-clause-found g c =
     let answer = check_meant c.in-Err-Unproved.answer in
     fetches_said (g.S.Shelf.shown c.args.shelf.now) (g.S.Shelf.shown c.read_drawing.new.shelf) (check_line answer) (check_status answer) c.answer_line-in-Err-Unproved.result c.answer_line-in-Err-Unproved.ensures (rw (c.in-Err-Unproved.field-0-is) at c.in-Err-Unproved.ensures.stopped)
+
+pub returns-in-Ok-clause-appended : goal.returns-in-Ok-clause-appended
+returns-in-Ok-clause-appended g c =
+    let read = c.in-Ok.read in
+    appends_after (c.args.names.page.now ∷ []) (g.S.Shelf.shown c.args.shelf.now) (g.S.Shelf.shown c.read_drawing.new.shelf) (g.S.Shelf.shown c.write_page.new.shelf) c.write_page.result c.read_drawing.ensures.reads (page_appends read.instance (plan_of read.plan) read.proved c.args.names.page.now (g.S.Shelf.shown c.read_drawing.new.shelf) (g.S.Shelf.shown c.write_page.new.shelf) c.write_page.result c.write_page.ensures.said)
+
+pub returns-in-Err-Judged-clause-appended : goal.returns-in-Err-Judged-clause-appended
+returns-in-Err-Judged-clause-appended g c = reads_append (c.args.names.page.now ∷ []) (g.S.Shelf.shown c.args.shelf.now) (g.S.Shelf.shown c.read_drawing.new.shelf) c.answer_line.result c.read_drawing.ensures.reads
+
+pub returns-in-Err-Unproved-clause-appended : goal.returns-in-Err-Unproved-clause-appended
+returns-in-Err-Unproved-clause-appended g c = reads_append (c.args.names.page.now ∷ []) (g.S.Shelf.shown c.args.shelf.now) (g.S.Shelf.shown c.read_drawing.new.shelf) c.answer_line-in-Err-Unproved.result c.read_drawing.ensures.reads

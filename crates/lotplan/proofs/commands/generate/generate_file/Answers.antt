@@ -1,7 +1,8 @@
-use Rattle.std.proofs.Common.{refl, sym, subst}
-use Rattle.lotplan.specs.Generating.{IsGenerated, unwritten, written}
+use Rattle.std.proofs.Common.{refl, sym, subst, [], ◌∷◌}
+use Rattle.lotplan.specs.Generating.{IsGenerated, unwritten, written, generate_line}
 use Rattle.lotplan.specs.Fetching.{FetchesAs}
 use Rattle.lotplan.proofs.Fetched.{writes_find}
+use Rattle.lotplan.proofs.Appended.{file_appends, unwritten_appends}
 use Rattle.lotplan.proofs.commands.generate.generate_file.Goals as goal
 
 pub returns-in-Ok-clause-said : goal.returns-in-Ok-clause-said
@@ -44,3 +45,9 @@ returns-clause-found g c =
     let old = g.S.Shelf.shown c.args.shelf.now in
     let new = g.S.Shelf.shown c.write_file.new.shelf in
     subst (λ s. FetchesAs s old new) (sym c.in_ok-unwritten.ensures.status) (writes_find c.args.model.now old new c.write_file.ensures.writes)
+
+pub returns-in-Ok-clause-appended : goal.returns-in-Ok-clause-appended
+returns-in-Ok-clause-appended g c = file_appends c.args.model.now c.as_slice.result.now (g.S.Shelf.shown c.args.shelf.now) (g.S.Shelf.shown c.write_file.new.shelf) c.in_ok-written.written.status c.in-Ok.ensures.written c.write_file.ensures.appends_bound
+
+pub returns-clause-appended : goal.returns-clause-appended
+returns-clause-appended g c = unwritten_appends (c.args.model.now ∷ []) (g.S.Shelf.shown c.args.shelf.now) (g.S.Shelf.shown c.write_file.new.shelf) (generate_line (unwritten c.args.model.now)) c.in_ok-unwritten.unwritten c.in_ok-unwritten.ensures

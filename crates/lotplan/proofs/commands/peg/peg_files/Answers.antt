@@ -5,6 +5,8 @@ use Rattle.lotplan.proofs.Writings.{memory_after}
 use Rattle.lot_io.proofs.Frames.{finds_on}
 use Rattle.plan_rules.specs.Held.{plan_of}
 use Rattle.lotplan.proofs.Fetched.{extract_fetch, fetches_said}
+use Rattle.std.proofs.Common.{[], ◌∷◌}
+use Rattle.lotplan.proofs.Appended.{appends_after, reads_append}
 use Rattle.lotplan.proofs.commands.peg.peg_files.Goals as goal
 
 pub returns-in-Ok-clause-said : goal.returns-in-Ok-clause-said
@@ -29,3 +31,9 @@ pub returns-in-Err-Judged-clause-found : goal.returns-in-Err-Judged-clause-found
 returns-in-Err-Judged-clause-found g c =
     let answer = judge_meant c.in-Err-Judged.answer in
     fetches_said (g.S.Shelf.shown c.args.shelf.now) (g.S.Shelf.shown c.read_feasible.new.shelf) (judge_line answer) (judge_status answer) c.answer_line.result c.answer_line.ensures (rw (c.in-Err-Judged.field-0-is) at c.in-Err-Judged.ensures.stopped)
+
+pub returns-in-Ok-clause-appended : goal.returns-in-Ok-clause-appended
+returns-in-Ok-clause-appended g c = appends_after (c.args.file.now ∷ []) (g.S.Shelf.shown c.args.shelf.now) (g.S.Shelf.shown c.read_feasible.new.shelf) (g.S.Shelf.shown c.write_pegged.new.shelf) c.write_pegged.result c.read_feasible.ensures.reads c.write_pegged.ensures.appended
+
+pub returns-in-Err-Judged-clause-appended : goal.returns-in-Err-Judged-clause-appended
+returns-in-Err-Judged-clause-appended g c = reads_append (c.args.file.now ∷ []) (g.S.Shelf.shown c.args.shelf.now) (g.S.Shelf.shown c.read_feasible.new.shelf) c.answer_line.result c.read_feasible.ensures.reads

@@ -6,6 +6,7 @@ use Rattle.pegging.specs.Sums.{IsInTime, MeetNeeds, UseSupplies}
 use Rattle.pegging.specs.Texts.{pegs_text}
 use Rattle.lotplan.specs.Pegging.{Pegged, pegged_word}
 use Rattle.lotplan.proofs.Extracted.{says_extract}
+use Rattle.lotplan.proofs.Appended.{extract_appends}
 use Rattle.lotplan.proofs.commands.peg.write_pegged.Goals as goal
 
 pub returns-clause-said : goal.returns-clause-said
@@ -22,3 +23,6 @@ returns-clause-said g c =
       in_time = subst (All (IsInTime problem)) same c.in_ok-pegs.ensures.in_time;
       counted = counted;
     }) c.write_extract.ensures.said
+
+pub returns-clause-appended : goal.returns-clause-appended
+returns-clause-appended g c = extract_appends pegged_word c.len.result c.args.file.now c.as_slice.result.now (g.S.Shelf.shown c.args.shelf.now) (g.S.Shelf.shown c.write_extract.new.shelf) c.write_extract.result c.write_extract.ensures.said

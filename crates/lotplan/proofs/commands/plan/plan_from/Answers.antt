@@ -1,4 +1,4 @@
-use Rattle.std.proofs.Common.{IfOk, subst}
+use Rattle.std.proofs.Common.{IfOk, subst, [], ◌∷◌}
 use Rattle.lotplan.specs.Planning.{WriteSays}
 use Rattle.command_line.specs.Meant.{search_by}
 use Rattle.lotplan.specs.Judging.{judge_meant, judge_line, judge_status}
@@ -6,6 +6,7 @@ use Rattle.lotplan.proofs.Writings.{memory_after}
 use Rattle.lotplan.proofs.Planned.{says_from, says_unstarted}
 use Rattle.lot_io.proofs.Frames.{finds_on}
 use Rattle.lotplan.proofs.Fetched.{fetches_said, written_fetch}
+use Rattle.lotplan.proofs.Appended.{appends_after, reads_append}
 use Rattle.lotplan.proofs.commands.plan.plan_from.Goals as goal
 
 pub returns-in-Ok-clause-said : goal.returns-in-Ok-clause-said
@@ -35,3 +36,9 @@ pub returns-in-Err-Judged-clause-found : goal.returns-in-Err-Judged-clause-found
 returns-in-Err-Judged-clause-found g c =
     let answer = judge_meant c.in-Err-Judged.answer in
     fetches_said (g.S.Shelf.shown c.args.shelf.now) (g.S.Shelf.shown c.read_feasible.new.shelf) (judge_line answer) (judge_status answer) c.answer_line.result c.answer_line.ensures (rw (c.in-Err-Judged.field-0-is) at c.in-Err-Judged.ensures.stopped)
+
+pub returns-in-Ok-clause-appended : goal.returns-in-Ok-clause-appended
+returns-in-Ok-clause-appended g c = appends_after (c.args.names.plan.now ∷ c.args.names.certificate.now ∷ []) (g.S.Shelf.shown c.args.shelf.now) (g.S.Shelf.shown c.read_feasible.new.shelf) (g.S.Shelf.shown c.plan_instance.new.shelf) c.plan_instance.result c.read_feasible.ensures.reads c.plan_instance.ensures.appended
+
+pub returns-in-Err-Judged-clause-appended : goal.returns-in-Err-Judged-clause-appended
+returns-in-Err-Judged-clause-appended g c = reads_append (c.args.names.plan.now ∷ c.args.names.certificate.now ∷ []) (g.S.Shelf.shown c.args.shelf.now) (g.S.Shelf.shown c.read_feasible.new.shelf) c.answer_line.result c.read_feasible.ensures.reads

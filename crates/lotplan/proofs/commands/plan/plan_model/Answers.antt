@@ -1,4 +1,4 @@
-use Rattle.std.proofs.Common.{IfOk, ap, option_map, subst}
+use Rattle.std.proofs.Common.{IfOk, ap, option_map, subst, [], ◌∷◌}
 use Rattle.lotplan.specs.Planning.{WriteSays}
 use Rattle.command_line.specs.Meant.{search_by}
 use Rattle.lotplan.specs.Reading.{read_meant, read_line, read_status}
@@ -6,6 +6,7 @@ use Rattle.lotplan.proofs.Writings.{memory_after}
 use Rattle.lotplan.proofs.Planned.{says_model, says_stop}
 use Rattle.lot_io.proofs.Frames.{finds_on}
 use Rattle.lotplan.proofs.Fetched.{fetches_said, written_fetch}
+use Rattle.lotplan.proofs.Appended.{appends_after, reads_append}
 use Rattle.lotplan.proofs.commands.plan.plan_model.Goals as goal
 
 pub returns-in-Ok-clause-said : goal.returns-in-Ok-clause-said
@@ -35,3 +36,9 @@ pub returns-in-Err-Answered-clause-found : goal.returns-in-Err-Answered-clause-f
 returns-in-Err-Answered-clause-found g c =
     let why = read_meant c.in-Err-Answered.why in
     fetches_said (g.S.Shelf.shown c.args.shelf.now) (g.S.Shelf.shown c.read_model.new.shelf) (read_line why) (read_status why) c.answer_line.result c.answer_line.ensures (rw (c.in-Err-Answered.field-0-is) at c.in-Err-Answered.ensures.stopped)
+
+pub returns-in-Ok-clause-appended : goal.returns-in-Ok-clause-appended
+returns-in-Ok-clause-appended g c = appends_after (c.args.names.plan.now ∷ c.args.names.certificate.now ∷ []) (g.S.Shelf.shown c.args.shelf.now) (g.S.Shelf.shown c.read_model.new.shelf) (g.S.Shelf.shown c.plan_instance.new.shelf) c.plan_instance.result c.read_model.ensures.reads c.plan_instance.ensures.appended
+
+pub returns-in-Err-Answered-clause-appended : goal.returns-in-Err-Answered-clause-appended
+returns-in-Err-Answered-clause-appended g c = reads_append (c.args.names.plan.now ∷ c.args.names.certificate.now ∷ []) (g.S.Shelf.shown c.args.shelf.now) (g.S.Shelf.shown c.read_model.new.shelf) c.answer_line.result c.read_model.ensures.reads

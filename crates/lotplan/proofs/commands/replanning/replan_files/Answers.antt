@@ -5,6 +5,8 @@ use Rattle.lotplan.proofs.Writings.{memory_after}
 use Rattle.lot_io.proofs.Frames.{finds_on}
 use Rattle.plan_rules.specs.Held.{plan_of}
 use Rattle.lotplan.proofs.Fetched.{fetches_said, started_fetch}
+use Rattle.std.proofs.Common.{[], ◌∷◌}
+use Rattle.lotplan.proofs.Appended.{appends_after, reads_append}
 use Rattle.lotplan.proofs.commands.replanning.replan_files.Goals as goal
 
 pub returns-in-Ok-clause-said : goal.returns-in-Ok-clause-said
@@ -43,3 +45,12 @@ pub returns-in-Err-Answered-clause-found : goal.returns-in-Err-Answered-clause-f
 returns-in-Err-Answered-clause-found g c =
     let answer = no_input (read_meant c.in-Err-Answered.why) in
     fetches_said (g.S.Shelf.shown c.args.shelf.now) (g.S.Shelf.shown c.read_given.new.shelf) (replan_line answer) (replan_status answer) c.answer_line-in-Err-Answered.result c.answer_line-in-Err-Answered.ensures (rw (c.in-Err-Answered.field-0-is) at c.in-Err-Answered.ensures.stopped)
+
+pub returns-in-Ok-clause-appended : goal.returns-in-Ok-clause-appended
+returns-in-Ok-clause-appended g c = appends_after (c.args.names.next_model.now ∷ c.args.names.next_plan.now ∷ c.args.names.certificate.now ∷ []) (g.S.Shelf.shown c.args.shelf.now) (g.S.Shelf.shown c.read_given.new.shelf) (g.S.Shelf.shown c.replan_instance.new.shelf) c.replan_instance.result c.read_given.ensures.reads c.replan_instance.ensures.appended
+
+pub returns-in-Err-NoPlan-clause-appended : goal.returns-in-Err-NoPlan-clause-appended
+returns-in-Err-NoPlan-clause-appended g c = reads_append (c.args.names.next_model.now ∷ c.args.names.next_plan.now ∷ c.args.names.certificate.now ∷ []) (g.S.Shelf.shown c.args.shelf.now) (g.S.Shelf.shown c.read_given.new.shelf) c.answer_line.result c.read_given.ensures.reads
+
+pub returns-in-Err-Answered-clause-appended : goal.returns-in-Err-Answered-clause-appended
+returns-in-Err-Answered-clause-appended g c = reads_append (c.args.names.next_model.now ∷ c.args.names.next_plan.now ∷ c.args.names.certificate.now ∷ []) (g.S.Shelf.shown c.args.shelf.now) (g.S.Shelf.shown c.read_given.new.shelf) c.answer_line-in-Err-Answered.result c.read_given.ensures.reads

@@ -1,4 +1,4 @@
-use Rattle.std.proofs.Common.{◌≢◌, ◌∙◌, rules, refl, ap, Ok, Err}
+use Rattle.std.proofs.Common.{◌≢◌, ◌∙◌, rules, refl, ap, Ok, Err, [], ◌∷◌}
 use Rattle.std.proofs.lemmas.Result.{IfOk-weaker}
 use Rattle.plan_rules.specs.Held.{plan_of}
 use Rattle.replan.specs.declared.fault.RestFault.TheVariants.{Memory}
@@ -6,6 +6,7 @@ use Rattle.lotplan.specs.Replanning.{NextSays, StartSays, no_rest, no_start, rep
 use Rattle.lotplan.specs.Saying.{IsSaid}
 use Rattle.lotplan.proofs.Continued.{no_rest_of, says_next}
 use Rattle.lotplan.proofs.Readings.{same_reads}
+use Rattle.lotplan.proofs.Appended.{reads_append}
 use Rattle.lotplan.proofs.commands.replanning.replan_instance.Goals as goal
 
 pub write_next-requires-clause-found : goal.write_next-requires-clause-found
@@ -74,3 +75,9 @@ returns-in-Err-clause-said g c =
     let why = no_rest_of m p c.args.first fault some (λ e. given.first.0 (c.in-Err.is ∙ ap Err e)) (λ item e. (given.lead item).0 (c.in-Err.is ∙ ap Err e)) (λ broken e. given.draft broken (c.in-Err.is ∙ ap Err e)) in
     IfOk-weaker c.answer_line-in-Err.result (IsSaid (replan_line (no_rest fault)) (replan_status (no_rest fault))) (StartSays m p c.args.first n q k c.args.budget old old)
     (λ said says. (no_rest fault, (λ t. why, same_reads old old refl), says)) c.answer_line-in-Err.ensures
+
+pub returns-in-Ok-NoStart-clause-appended : goal.returns-in-Ok-NoStart-clause-appended
+returns-in-Ok-NoStart-clause-appended g c = reads_append (c.args.names.next_model.now ∷ c.args.names.next_plan.now ∷ c.args.names.certificate.now ∷ []) (g.S.Shelf.shown c.args.shelf.now) (g.S.Shelf.shown c.args.shelf.now) c.answer_line.result (same_reads (g.S.Shelf.shown c.args.shelf.now) (g.S.Shelf.shown c.args.shelf.now) refl)
+
+pub returns-in-Err-clause-appended : goal.returns-in-Err-clause-appended
+returns-in-Err-clause-appended g c = reads_append (c.args.names.next_model.now ∷ c.args.names.next_plan.now ∷ c.args.names.certificate.now ∷ []) (g.S.Shelf.shown c.args.shelf.now) (g.S.Shelf.shown c.args.shelf.now) c.answer_line-in-Err.result (same_reads (g.S.Shelf.shown c.args.shelf.now) (g.S.Shelf.shown c.args.shelf.now) refl)

@@ -8,6 +8,8 @@ use Rattle.stream_check.specs.Streams.{too_many}
 use Rattle.lotplan.specs.Reading.{file_limit}
 use Rattle.lotplan.proofs.Continued.{last_lost, model_lost, plan_lost, three_written}
 use Rattle.lotplan.proofs.Writings.{stops_first}
+use Rattle.lotplan.specs.Planning.{plan_line, unwritten}
+use Rattle.lotplan.proofs.Appended.{all_append, unwritten_appends}
 use Rattle.lotplan.proofs.commands.replanning.write_three.Goals as goal
 
 pub returns-in-Ok-clause-said : goal.returns-in-Ok-clause-said
@@ -91,3 +93,15 @@ returns-clause-said g c =
     let read = subst (λ b. IsPlanOf rest.instance (records_of b) (plan_of plan)) (sym value) c.in_ok-plan.ensures.read in
     let few = subst (λ b. length b ≤ file_limit) (sym value) c.in_ok-plan.ensures.short in
     last_lost rest c.args.budget found is names.next_model.now names.next_plan.now names.certificate.now c.requires.apart model written (c.texts_mean_it.ensures model written) proof text short old new plan c.requires.chosen records are read few c.in-Err.field-0 c.in_ok-unproved.unproved c.in_ok-unproved.ensures (λ e. omega (arith, e)) (λ e. omega (arith, e)) c.in-Err.ensures.stops
+
+pub returns-in-Ok-clause-appended : goal.returns-in-Ok-clause-appended
+returns-in-Ok-clause-appended g c = all_append c.args.names.next_model.now c.as_slice.result.now c.args.names.next_plan.now c.as_slice-2.result.now c.args.names.certificate.now c.as_slice-3.result.now (g.S.Shelf.shown c.args.shelf.now) (g.S.Shelf.shown c.write_all.new.shelf) c.in_ok-written.written.status c.requires.apart c.in-Ok.ensures.all
+
+pub returns-in-Err-eq0-clause-appended : goal.returns-in-Err-eq0-clause-appended
+returns-in-Err-eq0-clause-appended g c = unwritten_appends (c.args.names.next_model.now ∷ c.args.names.next_plan.now ∷ c.args.names.certificate.now ∷ []) (g.S.Shelf.shown c.args.shelf.now) (g.S.Shelf.shown c.write_all.new.shelf) (plan_line (unwritten c.args.names.next_model.now)) c.in_ok-unmodelled.unmodelled c.in_ok-unmodelled.ensures
+
+pub returns-in-Err-eq1-clause-appended : goal.returns-in-Err-eq1-clause-appended
+returns-in-Err-eq1-clause-appended g c = unwritten_appends (c.args.names.next_model.now ∷ c.args.names.next_plan.now ∷ c.args.names.certificate.now ∷ []) (g.S.Shelf.shown c.args.shelf.now) (g.S.Shelf.shown c.write_all.new.shelf) (plan_line (unwritten c.args.names.next_plan.now)) c.in_ok-unplanned.unplanned c.in_ok-unplanned.ensures
+
+pub returns-clause-appended : goal.returns-clause-appended
+returns-clause-appended g c = unwritten_appends (c.args.names.next_model.now ∷ c.args.names.next_plan.now ∷ c.args.names.certificate.now ∷ []) (g.S.Shelf.shown c.args.shelf.now) (g.S.Shelf.shown c.write_all.new.shelf) (plan_line (unwritten c.args.names.certificate.now)) c.in_ok-unproved.unproved c.in_ok-unproved.ensures

@@ -6,6 +6,7 @@ use Rattle.lot_schedule.specs.Slots.{AllExist}
 use Rattle.lot_schedule.specs.Texts.{schedule_text}
 use Rattle.lotplan.specs.Scheduling.{Laid, scheduled_word}
 use Rattle.lotplan.proofs.Extracted.{says_extract}
+use Rattle.lotplan.proofs.Appended.{extract_appends}
 use Rattle.lotplan.proofs.commands.schedule.write_laid.Goals as goal
 
 pub write_schedule-requires : goal.write_schedule-requires
@@ -31,3 +32,6 @@ returns-clause-said g c =
       ties = c.in_ok-slots.ensures.ties;
       counted = counted;
     }) c.write_extract.ensures.said
+
+pub returns-clause-appended : goal.returns-clause-appended
+returns-clause-appended g c = extract_appends scheduled_word c.len.result c.args.file.now c.as_slice.result.now (g.S.Shelf.shown c.args.shelf.now) (g.S.Shelf.shown c.write_extract.new.shelf) c.write_extract.result c.write_extract.ensures.said

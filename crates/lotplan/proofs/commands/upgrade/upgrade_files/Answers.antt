@@ -3,6 +3,8 @@ use Rattle.lotplan.proofs.Writings.{memory_after}
 use Rattle.lotplan.proofs.Upgraded.{says_stop, says_upgraded}
 use Rattle.lot_io.proofs.Frames.{finds_on}
 use Rattle.lotplan.proofs.Fetched.{fetches_said, rewritten_fetch}
+use Rattle.std.proofs.Common.{[], ◌∷◌}
+use Rattle.lotplan.proofs.Appended.{appends_after, reads_append}
 use Rattle.lotplan.proofs.commands.upgrade.upgrade_files.Goals as goal
 
 pub returns-in-Ok-clause-said : goal.returns-in-Ok-clause-said
@@ -21,3 +23,9 @@ pub returns-in-Err-Answered-clause-found : goal.returns-in-Err-Answered-clause-f
 returns-in-Err-Answered-clause-found g c =
     let why = read_meant c.in-Err-Answered.why in
     fetches_said (g.S.Shelf.shown c.args.shelf.now) (g.S.Shelf.shown c.read_first_model.new.shelf) (read_line why) (read_status why) c.answer_line.result c.answer_line.ensures (rw (c.in-Err-Answered.field-0-is) at c.in-Err-Answered.ensures.stopped)
+
+pub returns-in-Ok-clause-appended : goal.returns-in-Ok-clause-appended
+returns-in-Ok-clause-appended g c = appends_after (c.args.upgraded.now ∷ []) (g.S.Shelf.shown c.args.shelf.now) (g.S.Shelf.shown c.read_first_model.new.shelf) (g.S.Shelf.shown c.write_upgraded.new.shelf) c.write_upgraded.result c.read_first_model.ensures.reads c.write_upgraded.ensures.appended
+
+pub returns-in-Err-Answered-clause-appended : goal.returns-in-Err-Answered-clause-appended
+returns-in-Err-Answered-clause-appended g c = reads_append (c.args.upgraded.now ∷ []) (g.S.Shelf.shown c.args.shelf.now) (g.S.Shelf.shown c.read_first_model.new.shelf) c.answer_line.result c.read_first_model.ensures.reads

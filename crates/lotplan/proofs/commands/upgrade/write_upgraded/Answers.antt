@@ -1,6 +1,7 @@
-use Rattle.std.proofs.Common.{refl, sym, subst}
+use Rattle.std.proofs.Common.{refl, sym, subst, [], ◌∷◌}
 use Rattle.instance_reader.specs.Written.{IsModelText}
-use Rattle.lotplan.specs.Upgrading.{unwritten, written}
+use Rattle.lotplan.specs.Upgrading.{unwritten, written, upgrade_line}
+use Rattle.lotplan.proofs.Appended.{file_appends, unwritten_appends}
 use Rattle.lotplan.proofs.commands.upgrade.write_upgraded.Goals as goal
 
 pub returns-in-Ok-clause-said : goal.returns-in-Ok-clause-said
@@ -32,3 +33,9 @@ returns-clause-said g c =
       ),
       c.in_ok-unwritten.ensures,
     )
+
+pub returns-in-Ok-clause-appended : goal.returns-in-Ok-clause-appended
+returns-in-Ok-clause-appended g c = file_appends c.args.upgraded.now c.as_slice.result.now (g.S.Shelf.shown c.args.shelf.now) (g.S.Shelf.shown c.write_file.new.shelf) c.in_ok-written.written.status c.in-Ok.ensures.written c.write_file.ensures.appends_bound
+
+pub returns-clause-appended : goal.returns-clause-appended
+returns-clause-appended g c = unwritten_appends (c.args.upgraded.now ∷ []) (g.S.Shelf.shown c.args.shelf.now) (g.S.Shelf.shown c.write_file.new.shelf) (upgrade_line (unwritten c.args.upgraded.now)) c.in_ok-unwritten.unwritten c.in_ok-unwritten.ensures
