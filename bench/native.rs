@@ -394,9 +394,11 @@ pub mod rand_pcg {
 use branching::{Found, Plugins, Wanted, search_all};
 use certificate::Claim;
 use lot_model::{Draft, DraftItem, DraftNeed, DraftRefusal, DraftResource, DraftUse, Instance};
-use shim::{Global, String as Text, Vec as List};
+use search_plugins::Watch;
+use shim::{Global, HostRuntime, String as Text, Vec as List};
 use shops::Family;
 use std::str::SplitWhitespace;
+use work_clock::Deadline;
 
 /// The words of a plain model: numbers and names in the order in which bench/native writes them. `-` stands for what isn't there.
 struct Words<'a>(SplitWhitespace<'a>);
@@ -561,8 +563,21 @@ fn amounts(found: &Found, cost: Option<u128>) -> String {
     }
 }
 
-/// Searches a model, checks the certificate, and prints a line.
-fn try_one(name: &str, word: &str, nodes: u64, keep: Option<&str>) {
+/// Ends a search when a time is over.
+struct Until(Deadline);
+
+impl Watch for Until {
+    fn node(&mut self, _depth: usize, _says: Option<u128>, _best: Option<u128>) {}
+
+    fn pass(&mut self, _bound: Option<u128>, _best: Option<u128>) {}
+
+    fn stops(&mut self) -> bool {
+        self.0.is_past()
+    }
+}
+
+/// Searches a model, for so many seconds at most where they aren't 0, checks the certificate, and prints a line.
+fn try_one(name: &str, word: &str, nodes: u64, seconds_at_most: u32, keep: Option<&str>) {
     let draft = draft_of(word);
     if let Some(folder) = keep.filter(|_| !word.starts_with('=')) {
         std::fs::write(std::format!("{folder}/{name}.toml"), model_of(&draft)).expect("a model can't be written");
@@ -572,13 +587,16 @@ fn try_one(name: &str, word: &str, nodes: u64, keep: Option<&str>) {
         Err(DraftRefusal::Refused { fault, .. }) => return println!("{name}: refused model {fault}"),
         Err(DraftRefusal::Memory(_)) => return println!("{name}: out of memory"),
     };
-    let until = work_clock::Deadline::none();
+    let until = match seconds_at_most {
+        0 => Deadline::none(),
+        some => Deadline::after(&HostRuntime, some),
+    };
     let plugins = Plugins {
         proposer: &price_plugin::Prices { until },
         heuristic: &heur_plugin::Plans { until },
     };
     let start = seconds();
-    let found = search_all(Global, &plugins, (), &instance, Wanted::with_budget(nodes)).expect("memory");
+    let found = search_all(Global, &plugins, Until(until), &instance, Wanted::with_budget(nodes)).expect("memory");
     let searched = seconds();
     let cost = found.plan.as_ref().map(|plan| plan_rules::judge(&instance, plan));
     let text = certificate::write_certificate(Global, &found.certificate).expect("memory");
@@ -604,12 +622,13 @@ fn try_one(name: &str, word: &str, nodes: u64, keep: Option<&str>) {
     }
 }
 
-/// The words are the most nodes, the folder of certificates or `-`, and for each model its name and its word.
+/// The words are the most nodes, the most seconds or 0, the folder of certificates or `-`, and for each model its name and its word.
 fn main() {
     let words: Vec<String> = std::env::args().skip(1).collect();
     let nodes = words[0].parse().expect("the nodes are no number");
-    let keep = Some(words[1].as_str()).filter(|folder| *folder != "-");
-    for model in words[2..].chunks(2) {
-        try_one(&model[0], &model[1], nodes, keep);
+    let seconds_at_most = words[1].parse().expect("the seconds are no number");
+    let keep = Some(words[2].as_str()).filter(|folder| *folder != "-");
+    for model in words[3..].chunks(2) {
+        try_one(&model[0], &model[1], nodes, seconds_at_most, keep);
     }
 }
