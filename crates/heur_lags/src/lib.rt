@@ -6,7 +6,7 @@
 //! neighbourhood search: Shaw 1998).
 //!
 //! `lagged_plan` begins with no lots at all, `repaired` with lots that may break rules, and `improved_lagged` with those of a plan.
-//! `plain_model` is a model of plain items whose plans are such lots.
+//! `plain_model` is a model of plain items whose plans are such lots, and `has_free_lots` says where they are the plans themselves.
 //!
 //! Family: plugins. It stands on `lot_model`, on `plan_rules`, which judges what comes out, on `own_plan`, by whose definitions a
 //! plan is a feasible one, on `integer_grids` for grids of numbers with a sign, and on `rand_pcg`; `heur_plugin` stands on it.
@@ -26,5 +26,5 @@ mod walking;
 mod windows;
 mod worth;
 
-pub use plain::plain_model;
+pub use plain::{has_free_lots, plain_model};
 pub use planning::{improved_lagged, lagged_plan, repaired};

@@ -1,4 +1,7 @@
 // A plain model beside one with lead times and bounds on lots.
+ghost use Rattle.std.specs.Prelude.{◌≤◌};
+ghost use Rattle.lot_sizing.specs.Problem.{item_count};
+
 use crate::shop::{Line, Load, Machine, Product, Shop};
 use integer_grids::numbers::{at, plus};
 use lot_model::{Draft, DraftItem, DraftNeed, DraftRefusal, DraftResource, DraftUse, Instance};
@@ -177,4 +180,29 @@ pub fn plain_model(alloc: Global, instance: &Instance) -> Result<Option<Instance
         Err(DraftRefusal::Refused { .. }) => Ok(None),
         Err(DraftRefusal::Memory(_)) => Err(AllocError),
     }
+}
+
+// Whether lots of an item arrive in the period in which they start, and may have any size that a plan makes.
+fn is_free(instance: &Instance, item: u32) -> bool
+    requires low { 1 ≤ item }
+    requires high { item ≤ item_count instance.now }
+{
+    if instance.lead(item) > 0 || instance.min_lot(item) > 1 {
+        return false;
+    }
+    match instance.max_lot(item) {
+        Some(most) => most >= instance.largest_total(item),
+        None => true,
+    }
+}
+
+/// Whether no item has a lead time, or a bound on its lots that binds: each least lot is at most a unit, and each largest lot is no
+/// less than what plans make of the item in all. Then the plans are those of the plain model. It takes no memory.
+pub fn has_free_lots(instance: &Instance) -> bool {
+    for item in 1..instance.items() + 1 {
+        if !is_free(instance, item) {
+            return false;
+        }
+    }
+    true
 }

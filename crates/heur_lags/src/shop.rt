@@ -172,6 +172,17 @@ fn shortage_penalty(instance: &Instance, item: u32, dearest: i64) -> i64
     plus(worth, 1)
 }
 
+// The largest lot of an item, and no bound where plans don't make more in all.
+fn largest_lot(instance: &Instance, item: u32) -> i64
+    requires low { 1 ≤ item }
+    requires high { item ≤ item_count instance.now }
+{
+    match instance.max_lot(item) {
+        Some(most) if most < instance.largest_total(item) => of_amount(most),
+        _ => FAR,
+    }
+}
+
 // An item.
 fn product_of(
     alloc: Global,
@@ -192,7 +203,7 @@ fn product_of(
         rank,
         lead: instance.lead(item),
         least: of_amount(instance.min_lot(item)).max(1),
-        most: instance.max_lot(item).map_or(FAR, of_amount),
+        most: largest_lot(instance, item),
         opening: of_amount(instance.opening(item)),
         end_min: of_amount(instance.end_min(item)),
         end_max: of_amount(instance.end_max(item)),

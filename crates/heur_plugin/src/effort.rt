@@ -14,11 +14,11 @@ pub struct Effort {
 }
 
 // What improving plans may take in all: so many plans of a single item and period.
-const ALL_WORK: u64 = 100_000_000;
+const ALL_WORK: u64 = 10_000_000;
 
 // What programs with the setups that rounds of prices want may take in all: so much, where a program takes the square of items
 // times periods.
-const PROGRAM_WORK: u64 = 1_000_000;
+const PROGRAM_WORK: u64 = 100_000;
 
 // What walks by the lots of rounds of prices may take in all.
 const HINT_WALK_WORK: u64 = 40_000_000;

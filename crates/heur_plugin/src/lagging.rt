@@ -9,9 +9,9 @@ ghost use Rattle.incumbent.specs.Kept.{IsBestSoFar, IsNoWorseBest};
 use crate::effort::Effort;
 use crate::shares::{FIRST_SHARE, limit};
 use first_plans::candidates;
-use heur_lags::{improved_lagged, lagged_plan, plain_model, repaired};
+use heur_lags::{has_free_lots, improved_lagged, lagged_plan, plain_model, repaired};
 use incumbent::keep_within;
-use lot_model::{Instance, is_plain};
+use lot_model::Instance;
 use node_domains::Ranges;
 use plan_rules::{Grid, Planned};
 use price_rounds::Average;
@@ -25,14 +25,14 @@ const THIRD_SEED: u64 = 3;
 
 const LAST_SEED: u64 = 4;
 
-// Where an item has a lead time or bounds on its lots, further walks from no lots are begun with these.
+// Where an item has a lead time, or a bound on its lots that binds, further walks from no lots are begun with these.
 const FURTHER_SEED: u64 = 5;
 
 const FURTHEST_SEED: u64 = 7;
 
-// What each of the first walks may take for each item and period, of a plain model and of another one, the last one before the first
-// node, one in the tree, and one that begins with the lots of rounds of prices.
-const PLAIN_WORK: u64 = 40_000;
+// What each of the first walks may take for each item and period, of a model with free lots and of another one, the last one before
+// the first node, one in the tree, and one that begins with the lots of rounds of prices.
+const FREE_WORK: u64 = 40_000;
 
 const FIRST_WORK: u64 = 160_000;
 
@@ -61,8 +61,8 @@ const LEAST_WORK: u64 = 1_000_000;
 
 // What each of the first walks may take for each item and period.
 fn first_work(instance: &Instance) -> u64 {
-    if is_plain(instance) {
-        PLAIN_WORK
+    if has_free_lots(instance) {
+        FREE_WORK
     } else {
         FIRST_WORK
     }
@@ -143,8 +143,8 @@ fn plan_by_plain(
     }
 }
 
-// The plan that a walk finds from the lots of a plan of the plain model beside an instance, where the instance isn't plain itself
-// and that model says enough of it.
+// The plan that a walk finds from the lots of a plan of the plain model beside an instance, where that model has other plans, and
+// says enough of the instance.
 fn found_by_plain(
     alloc: Global,
     instance: &Instance,
@@ -152,7 +152,7 @@ fn found_by_plain(
 ) -> Result<Option<Planned>, AllocError>
     ensures { IfFound result (IsMade instance.now) }
 {
-    if is_plain(instance) {
+    if has_free_lots(instance) {
         return Ok(None);
     }
     match plain_model(alloc, instance)? {
@@ -235,7 +235,7 @@ fn walk_twice(
     walk_anew(alloc, instance, ranges, seed.wrapping_add(1), until, best)
 }
 
-// Walks four times more from no lots, where the model isn't plain.
+// Walks four times more from no lots, where lots aren't free.
 fn walk_often(
     alloc: Global,
     instance: &Instance,
@@ -246,7 +246,7 @@ fn walk_often(
     requires { IsBestSoFar instance.now ranges.now best.old }
     ensures { OnOk result (IsNoWorseBest instance.now ranges.now best.new best.old) }
 {
-    if is_plain(instance) {
+    if has_free_lots(instance) {
         return Ok(());
     }
     walk_twice(alloc, instance, ranges, FURTHER_SEED, until, best)?;
@@ -331,8 +331,8 @@ fn mark_of(instance: &Instance, average: &Average) -> u64 {
     mark
 }
 
-/// Walks from the lots that rounds of prices make on the average, where the model isn't plain and these lots weren't tried, and keeps
-/// what is found, if it lies within the ranges.
+/// Walks from the lots that rounds of prices make on the average, where lots aren't free and these weren't tried, and keeps what is
+/// found, if it lies within the ranges.
 pub(crate) fn lag_from_average(
     alloc: Global,
     instance: &Instance,
@@ -345,7 +345,7 @@ pub(crate) fn lag_from_average(
     requires { IsBestSoFar instance.now ranges.now best.old }
     ensures { OnOk result (IsNoWorseBest instance.now ranges.now best.new best.old) }
 {
-    if until.is_past() || is_plain(instance) {
+    if until.is_past() || has_free_lots(instance) {
         return Ok(());
     }
     if !effort.remember(mark_of(instance, average))? {

@@ -5,6 +5,7 @@ ghost use Rattle.own_plan.specs.Made.{IsMade};
 ghost use Rattle.incumbent.specs.Kept.{IsBestSoFar, IsNoWorseBest};
 
 use crate::shares::limit;
+use heur_lags::has_free_lots;
 use heur_setup_walks::walked_setups;
 use incumbent::keep_within;
 use lot_model::Instance;
@@ -28,7 +29,8 @@ fn steps_for(instance: &Instance) -> u32 {
     u32::try_from(steps.min(MOST_STEPS)).unwrap_or(0)
 }
 
-// The plan that a walk finds from the setups of the best one, if there is one.
+// The plan that a walk finds from the setups of the best one, if there is one and lots are free: the programs of the walk know no
+// lead times and no bounds on lots.
 fn walked_from(
     alloc: Global,
     instance: &Instance,
@@ -38,7 +40,7 @@ fn walked_from(
 ) -> Result<Option<Planned>, AllocError>
     ensures { IfFound result (IsMade instance.now) }
 {
-    if until.is_past() {
+    if until.is_past() || !has_free_lots(instance) {
         return Ok(None);
     }
     match best {

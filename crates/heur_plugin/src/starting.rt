@@ -1,6 +1,7 @@
 // Plans before the first node, of those that are made without a search and by programs.
-ghost use Rattle.std.specs.Prelude.{OnOk};
+ghost use Rattle.std.specs.Prelude.{IfSome, OnOk};
 ghost use Rattle.plan_rules.specs.Rows.{IfFound};
+ghost use Rattle.own_plan.specs.Made.{IsMade};
 ghost use Rattle.incumbent.specs.Kept.{IsBestSoFar, IsMadeWithin, IsNoWorseBest};
 ghost use Rattle.node_domains.specs.Within.{HaveShape, given_ranges};
 
@@ -9,10 +10,11 @@ use crate::programs::{look, walk_at_start};
 use crate::setup_walking::{best_cost, walk_over_setups};
 use crate::shares::FIRST_SHARE;
 use first_plans::candidates;
+use heur_lags::{has_free_lots, plain_model};
 use incumbent::keep_within;
-use lot_model::Instance;
+use lot_model::{Instance, is_plain};
 use node_domains::Ranges;
-use plan_rules::Planned;
+use plan_rules::{Planned, judge};
 use std::alloc::{AllocError, Global};
 use work_clock::Deadline;
 
@@ -34,6 +36,59 @@ fn best_candidate(
     Ok(best)
 }
 
+// A plan of the plain model as one of this model, if it is feasible here.
+fn carried_over(instance: &Instance, made: Planned) -> Option<Planned>
+    ensures { IfSome result (IsMade instance.now) }
+{
+    match judge(instance, &made.plan) {
+        Ok(cost) => Some(Planned {
+            plan: made.plan,
+            cost,
+        }),
+        Err(_) => None,
+    }
+}
+
+// The best plan within the ranges of those of the plain model, the later ones of the list first.
+fn best_carried(
+    alloc: Global,
+    instance: &Instance,
+    ranges: &Ranges,
+    until: Deadline,
+) -> Result<Option<Planned>, AllocError>
+    requires { HaveShape instance.now ranges.now }
+    ensures { IfFound result (IsMadeWithin instance.now (given_ranges ranges.now)) }
+{
+    let Some(plain) = plain_model(alloc, instance)? else {
+        return Ok(None);
+    };
+    let mut best = None;
+    let mut list = candidates(alloc, &plain, until.first_of(FIRST_SHARE))?;
+    while let Some(made) = list.pop() {
+        let found = carried_over(instance, made);
+        keep_within(instance, ranges, &mut best, found);
+    }
+    Ok(best)
+}
+
+// The best plan within the ranges of those that are made without a search: of the plain model where the model isn't plain and lots are
+// free nevertheless.
+fn best_first(
+    alloc: Global,
+    instance: &Instance,
+    ranges: &Ranges,
+    until: Deadline,
+) -> Result<Option<Planned>, AllocError>
+    requires { HaveShape instance.now ranges.now }
+    ensures { IfFound result (IsMadeWithin instance.now (given_ranges ranges.now)) }
+{
+    if !is_plain(instance) && has_free_lots(instance) {
+        best_carried(alloc, instance, ranges, until)
+    } else {
+        best_candidate(alloc, instance, ranges, until)
+    }
+}
+
 // Keeps the best of those plans. Of plans that cost the same it is kept rather than the one before.
 fn keep_candidate(
     alloc: Global,
@@ -45,7 +100,7 @@ fn keep_candidate(
     requires { IsBestSoFar instance.now ranges.now best.old }
     ensures { OnOk result (IsNoWorseBest instance.now ranges.now best.new best.old) }
 {
-    let found = best_candidate(alloc, instance, ranges, until)?;
+    let found = best_first(alloc, instance, ranges, until)?;
     let before = best.take();
     *best = found;
     keep_within(instance, ranges, best, before);

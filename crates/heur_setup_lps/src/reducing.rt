@@ -72,13 +72,24 @@ fn bounded(times: i128, most: Option<i128>) -> i128 {
     }
 }
 
-// Whether a row says nothing that the others don't: the link of a setup that is made, where a lot has no bound of its own.
+// Whether an item has a largest lot that binds: plans make more of it in all.
+fn is_bounded(instance: &Instance, item: u32) -> bool
+    requires low { 1 ≤ item }
+    requires high { item ≤ item_count instance.now }
+{
+    match instance.max_lot(item) {
+        Some(most) => most < instance.largest_total(item),
+        None => false,
+    }
+}
+
+// Whether a row says nothing that the others don't: the link of a setup that is made, where no bound on lots binds.
 fn is_left_out(instance: &Instance, low: &Grid, name: RowName) -> bool {
     match name {
         RowName::Link(item, period) => {
             item >= 1
                 && item <= instance.items()
-                && instance.max_lot(item).is_none()
+                && !is_bounded(instance, item)
                 && read(low, item, period) == 1
         }
         _ => false,

@@ -7,7 +7,7 @@ ghost use Rattle.own_plan.specs.Made.{IsMade};
 
 use crate::frame::Frame;
 use crate::walking::{Setups, walk};
-use lot_model::{Instance, is_plain};
+use lot_model::Instance;
 use plan_rules::{Grid, Planned};
 use std::alloc::{AllocError, Global};
 use work_clock::Deadline;
@@ -45,7 +45,8 @@ fn setups_of(alloc: Global, instance: &Instance, setup: &Grid) -> Result<Vec<boo
     Ok(open)
 }
 
-/// A plan with the cheapest setups that a walk of so many steps finds from these.
+/// A plan with the cheapest setups that a walk of so many steps finds from these. The programs of the walk know no lead times and no
+/// bounds on lots; what comes out is judged by all rules.
 pub fn walked_setups(
     alloc: Global,
     instance: &Instance,
@@ -57,7 +58,7 @@ pub fn walked_setups(
     ensures { IfFound result (IsMade instance.now) }
 {
     let cells = u64::from(instance.items()) * u64::from(instance.periods());
-    if !is_plain(instance) || cells > MAX_WALK_CELLS {
+    if cells > MAX_WALK_CELLS {
         return Ok(None);
     }
     let frame = Frame::of(alloc, instance)?;

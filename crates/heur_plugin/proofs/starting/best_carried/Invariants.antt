@@ -1,0 +1,11 @@
+use Rattle.std.proofs.Common.{vec_len}
+use Rattle.std.specs.Prelude.{IfSome}
+use Rattle.incumbent.specs.Kept.{IsMadeWithin}
+use Rattle.node_domains.specs.Within.{given_ranges}
+use Rattle.heur_plugin.proofs.starting.best_carried.Given as goal
+
+abbrev pub invariant-loop-made : goal.invariant-loop-made
+invariant-loop-made l = IfSome l.best (IsMadeWithin l.instance (given_ranges l.ranges))
+
+abbrev pub decreases-loop-made : goal.decreases-loop-made
+decreases-loop-made l = vec_len l.list
