@@ -12,7 +12,7 @@ use lot_model::Instance;
 use node_branching::{Choice, Gains, Note, Notes, Trials, choice_for, split_of};
 use price_groups::Grouping;
 use price_leaves::{
-    Average, Fixed, Grouped, Improved, NodePricing, Priced, Pricing, Reached, Rounds,
+    Average, DualPrices, Fixed, Grouped, Improved, NodePricing, Priced, Pricing, Reached, Rounds,
     dropped_grouped_leaf, dropped_leaf, fixed_setups, grouped_leaf, priced_leaf, split_prices,
     tune_openings,
 };
@@ -29,7 +29,7 @@ const ROOT_ROUNDS: u32 = 15;
 const NODE_ROUNDS: u32 = 40;
 
 // How often rounds are made at a node, at most: as long as each time closes a part of the gap to the incumbent.
-const NODE_TIMES: u32 = 5;
+const NODE_TIMES: u32 = 2;
 
 const NODE_PART: i128 = 30;
 
@@ -55,6 +55,9 @@ const TRIAL_STEPS: u64 = 640_000_000;
 // Where the search ends by a clock, it is read before each of so many equal parts of these rounds.
 const TRIAL_PARTS: u32 = 6;
 
+// Where fewer rounds with groups go within these steps, so many are made first with each item by itself.
+const FIRST_ROUNDS: u32 = 400;
+
 // Whole quantities are to gain one part in so many of what rounds come to without them: their rounds take longer.
 const WHOLE_PARTS: i128 = 200;
 
@@ -66,12 +69,14 @@ const TRIED_ROUNDS: u32 = 40;
 
 const TRIED_STEPS: u64 = 12_000_000;
 
-/// What prices of a model are made with, the notes of its nodes, and what branches gained that were tried.
+/// What prices of a model are made with, the notes of its nodes, what branches gained that were tried, and the prices from which the
+/// root's rounds begin, where it isn't the split of the holding costs.
 #[derive(Debug, Drop)]
 pub struct Pricings {
     pricing: Pricing,
     notes: Notes,
     gains: Gains,
+    first: Option<DualPrices>,
 }
 
 /// The rounds of a node, and what its path says of setups.
@@ -90,11 +95,24 @@ pub struct Prices {
     pub until: Deadline,
 }
 
+// The prices from which rounds begin where there is no node above: these, or the split of the holding costs.
+fn first_prices(
+    alloc: Global,
+    node: NodePricing<'_>,
+    first: Option<&DualPrices>,
+) -> Result<DualPrices, AllocError> {
+    match first {
+        Some(prices) => prices.copy(alloc),
+        None => split_prices(alloc, node.instance, node.pricing),
+    }
+}
+
 // The rounds at a node, from what those of the node above came to, if anything, or from the first prices.
 fn first_rounds(
     alloc: Global,
     node: NodePricing<'_>,
     above: Option<Note>,
+    first: Option<&DualPrices>,
 ) -> Result<Rounds, AllocError> {
     match above {
         Some(
@@ -105,7 +123,7 @@ fn first_rounds(
             },
         ) => Rounds::start(alloc, node, prices, Some(average)),
         None => {
-            let prices = split_prices(alloc, node.instance, node.pricing)?;
+            let prices = first_prices(alloc, node, first)?;
             Rounds::start(alloc, node, prices, None)
         }
     }
@@ -128,24 +146,43 @@ fn within_work(instance: &Instance, pricing: &Pricing, work: u64, wanted: u32) -
     }
 }
 
-// What rounds at the root come to, of some that are made on trial.
-fn trial_number(
-    alloc: Global,
-    instance: &Instance,
-    pricing: &Pricing,
+// Whether rounds in groups take so long that fewer of them are made on trial than are wanted.
+fn is_long(instance: &Instance, grouping: &Grouping) -> bool {
+    let steps = grouping.steps(instance.periods()).max(1);
+    TRIAL_STEPS / steps < u64::from(TRIAL_ROUNDS)
+}
+
+// How rounds are made on trial: of a model, from these prices where it isn't the split of the holding costs, and no longer than to
+// this time.
+#[derive(Clone, Copy)]
+struct Trying<'a> {
+    instance: &'a Instance,
+    first: Option<&'a DualPrices>,
     until: Deadline,
-) -> Result<Option<i128>, AllocError> {
+}
+
+// Rounds at the root, so many of them, on trial.
+fn rounds_on_trial(
+    alloc: Global,
+    trying: Trying<'_>,
+    pricing: &Pricing,
+    count: u32,
+) -> Result<Rounds, AllocError> {
+    let Trying {
+        instance,
+        first,
+        until,
+    } = trying;
     let fixed = fixed_setups(alloc, instance, &[])?;
     let node = NodePricing {
         instance,
         pricing,
         fixed: &fixed,
     };
-    let mut rounds = first_rounds(alloc, node, None)?;
-    let count = within_work(instance, pricing, TRIAL_STEPS, TRIAL_ROUNDS);
+    let mut rounds = first_rounds(alloc, node, None, first)?;
     if until.millis_left().is_none() {
         let _ = rounds.go_on(alloc, node, None, count)?;
-        return Ok(rounds.number());
+        return Ok(rounds);
     }
     for _part in 0..TRIAL_PARTS {
         if until.is_past() {
@@ -153,7 +190,7 @@ fn trial_number(
         }
         let _ = rounds.go_on(alloc, node, None, (count / TRIAL_PARTS).max(1))?;
     }
-    Ok(rounds.number())
+    Ok(rounds)
 }
 
 // Whether one number is more than another; not so where it doesn't fit.
@@ -176,92 +213,152 @@ fn is_worth(one: Option<i128>, other: Option<i128>) -> bool {
     }
 }
 
-// What rounds on trial come to in other groups, which are given back.
-fn trial_in(
-    alloc: Global,
-    instance: &Instance,
-    pricing: &mut Pricing,
-    grouping: Option<Grouping>,
-    until: Deadline,
-) -> Result<Trial, AllocError> {
-    pricing.set_grouping(grouping);
-    let number = trial_number(alloc, instance, pricing, until)?;
-    Ok(Trial {
-        grouping: pricing.take_grouping(),
-        number,
-    })
-}
-
-// Groups, and what rounds on trial come to in them.
+// Groups, what rounds on trial come to in them, and the prices that they come to where rounds in the groups take long.
 #[derive(Debug, Drop)]
 struct Trial {
     grouping: Option<Grouping>,
     number: Option<i128>,
+    prices: Option<DualPrices>,
+}
+
+// What rounds on trial come to in other groups, which are given back.
+fn trial_in(
+    alloc: Global,
+    trying: Trying<'_>,
+    pricing: &mut Pricing,
+    grouping: Option<Grouping>,
+) -> Result<Trial, AllocError> {
+    pricing.set_grouping(grouping);
+    let count = within_work(trying.instance, pricing, TRIAL_STEPS, TRIAL_ROUNDS);
+    let rounds = rounds_on_trial(alloc, trying, pricing, count)?;
+    let number = rounds.number();
+    let prices = if trying.first.is_some() {
+        Some(rounds.into_improved().prices)
+    } else {
+        None
+    };
+    Ok(Trial {
+        grouping: pricing.take_grouping(),
+        number,
+        prices,
+    })
+}
+
+// What rounds on trial come to in other groups, from these prices.
+fn trial_from(
+    alloc: Global,
+    trying: Trying<'_>,
+    prices: &DualPrices,
+    pricing: &mut Pricing,
+    grouping: Grouping,
+) -> Result<Trial, AllocError> {
+    let Trying {
+        instance,
+        until,
+        ..
+    } = trying;
+    let first = Some(prices);
+    let from_prices = Trying {
+        instance,
+        first,
+        until,
+    };
+    trial_in(alloc, from_prices, pricing, Some(grouping))
+}
+
+// Groups in which rounds take long, or each item by itself where rounds on trial come to more so. The groups' rounds begin from the
+// prices that rounds with each item by itself come to.
+fn best_long(
+    alloc: Global,
+    trying: Trying<'_>,
+    pricing: &mut Pricing,
+    grouping: Grouping,
+) -> Result<Trial, AllocError> {
+    pricing.set_grouping(None);
+    let rounds = rounds_on_trial(alloc, trying, pricing, FIRST_ROUNDS)?;
+    let number = rounds.number();
+    let Improved { prices, .. } = rounds.into_improved();
+    let together = trial_from(alloc, trying, &prices, pricing, grouping)?;
+    Ok(if is_more(number, together.number) {
+        Trial {
+            grouping: None,
+            number,
+            prices: Some(prices),
+        }
+    } else {
+        together
+    })
 }
 
 // The groups of items in lots of any size, or each by itself where rounds on trial come to more so.
 fn best_fractions(
     alloc: Global,
-    instance: &Instance,
+    trying: Trying<'_>,
     pricing: &mut Pricing,
-    until: Deadline,
 ) -> Result<Trial, AllocError> {
-    let grouping = pricing.take_grouping();
-    let has_groups = grouping.is_some();
-    let first = trial_in(alloc, instance, pricing, grouping, until)?;
-    if !has_groups {
-        return Ok(first);
+    let Some(grouping) = pricing.take_grouping() else {
+        return trial_in(alloc, trying, pricing, None);
+    };
+    if is_long(trying.instance, &grouping) {
+        return best_long(alloc, trying, pricing, grouping);
     }
-    let apart = trial_in(alloc, instance, pricing, None, until)?;
-    Ok(if is_more(apart.number, first.number) {
+    let together = trial_in(alloc, trying, pricing, Some(grouping))?;
+    let apart = trial_in(alloc, trying, pricing, None)?;
+    Ok(if is_more(apart.number, together.number) {
         apart
     } else {
-        first
+        together
     })
 }
 
 // Other groups, with prices of what is there before the first period, and what rounds on trial come to in them.
 fn tuned_trial(
     alloc: Global,
-    instance: &Instance,
+    trying: Trying<'_>,
     pricing: &mut Pricing,
     grouping: Grouping,
-    until: Deadline,
 ) -> Result<Trial, AllocError> {
+    let instance = trying.instance;
     pricing.set_grouping(Some(grouping));
     let prices = split_prices(alloc, instance, pricing)?;
-    tune_openings(alloc, instance, pricing, &prices, until)?;
+    tune_openings(alloc, instance, pricing, &prices, trying.until)?;
     let tuned = pricing.take_grouping();
-    trial_in(alloc, instance, pricing, tuned, until)
+    trial_in(alloc, trying, pricing, tuned)
 }
 
-// Items are planned in those groups in which rounds on trial come to most, or each by itself.
+// Items are planned in those groups in which rounds on trial come to most, or each by itself. Gives the prices from which the root's
+// rounds are to begin, where it isn't the split of the holding costs.
 fn choose_grouping(
     alloc: Global,
     instance: &Instance,
     pricing: &mut Pricing,
     until: Deadline,
-) -> Result<(), AllocError> {
+) -> Result<Option<DualPrices>, AllocError> {
     let late = Grouping::late(alloc, instance, pricing.order())?;
     let whole = Grouping::whole(alloc, instance, pricing.order())?;
     if pricing.grouping().is_none() && late.is_none() && whole.is_none() {
-        return Ok(());
+        return Ok(None);
     }
-    let mut best = best_fractions(alloc, instance, pricing, until)?;
+    let trying = Trying {
+        instance,
+        first: None,
+        until,
+    };
+    let mut best = best_fractions(alloc, trying, pricing)?;
     if let Some(late) = late {
-        let other = tuned_trial(alloc, instance, pricing, late, until)?;
+        let other = tuned_trial(alloc, trying, pricing, late)?;
         if is_more(other.number, best.number) {
             best = other;
         }
     }
     if let Some(whole) = whole {
-        let other = tuned_trial(alloc, instance, pricing, whole, until)?;
+        let other = tuned_trial(alloc, trying, pricing, whole)?;
         if is_worth(other.number, best.number) {
             best = other;
         }
     }
     pricing.set_grouping(best.grouping);
-    Ok(())
+    Ok(best.prices)
 }
 
 // How many rounds are made at a node each time.
@@ -480,11 +577,12 @@ impl Proposer for Prices {
         let mut pricing = Pricing::new(alloc, instance, &explosion)?;
         let prices = split_prices(alloc, instance, &pricing)?;
         tune_openings(alloc, instance, &mut pricing, &prices, self.until)?;
-        choose_grouping(alloc, instance, &mut pricing, self.until)?;
+        let first = choose_grouping(alloc, instance, &mut pricing, self.until)?;
         Ok(Pricings {
             pricing,
             notes: Notes::new(alloc, instance),
             gains: Gains::new(alloc, instance)?,
+            first,
         })
     }
 
@@ -503,7 +601,7 @@ impl Proposer for Prices {
             pricing: &state.pricing,
             fixed: &fixed,
         };
-        let rounds = first_rounds(alloc, priced, above)?;
+        let rounds = first_rounds(alloc, priced, above, state.first.as_ref())?;
         Ok(Round {
             rounds,
             fixed,
