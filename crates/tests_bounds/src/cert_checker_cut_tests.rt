@@ -5,7 +5,7 @@ use fixtures::{Item, instance, shop};
 use lin_rows::{Column, Potentials, Prices, Row, RowName, Term};
 use lot_model::Instance;
 use std::alloc::Global;
-use std::test::Fail;
+use std::process::Abort;
 
 fn x(period: u32, times: i128) -> Term {
     let column = Column::X { item: 1, period };
@@ -28,40 +28,52 @@ fn r(period: u32, times: i128) -> Term {
 }
 
 // The row of an (l,S) cut on the third line.
-fn ls(alloc: Global, instance: &Instance, last: u32, chosen: &[bool]) -> Result<Row, CheckFault> {
+fn ls(
+    rt: &impl Abort,
+    alloc: Global,
+    instance: &Instance,
+    last: u32,
+    chosen: &[bool],
+) -> Result<Row, CheckFault> {
     let cut = Cut::Ls {
         item: 1,
         last,
-        chosen: chosen.to_vec(alloc)?,
+        chosen: chosen.to_vec(alloc).expect(rt, "memory"),
     };
     cut_row(alloc, instance, &[], &cut, 3)
 }
 
 // That of a price cut by which units, and units owed, cost nothing.
 fn price(
+    rt: &impl Abort,
     alloc: Global,
     instance: &Instance,
     price: &[u64],
     hold: &[u64],
 ) -> Result<Row, CheckFault> {
     let prices = Prices {
-        price: price.to_vec(alloc)?,
-        unit: vec![in alloc; 0u64; 2]?,
-        hold: hold.to_vec(alloc)?,
-        back: vec![in alloc; 0u64; 2]?,
+        price: price.to_vec(alloc).expect(rt, "memory"),
+        unit: vec![in alloc; 0u64; 2].expect(rt, "memory"),
+        hold: hold.to_vec(alloc).expect(rt, "memory"),
+        back: vec![in alloc; 0u64; 2].expect(rt, "memory"),
     };
     let cut = Cut::Price { item: 1, prices };
     cut_row(alloc, instance, &[], &cut, 3)
 }
 
 // That of a block cut by which setups cost 100 and 20, a unit in stock 1, and a unit owed 2.
-fn block(alloc: Global, instance: &Instance, steps: &[u128]) -> Result<Row, CheckFault> {
+fn block(
+    rt: &impl Abort,
+    alloc: Global,
+    instance: &Instance,
+    steps: &[u128],
+) -> Result<Row, CheckFault> {
     let potentials = Potentials {
-        setup: vec![in alloc; 100u64, 20u64]?,
-        unit: vec![in alloc; 0u64; 2]?,
-        hold: vec![in alloc; 1u64; 2]?,
-        back: vec![in alloc; 2u64; 2]?,
-        steps: steps.to_vec(alloc)?,
+        setup: vec![in alloc; 100u64, 20u64].expect(rt, "memory"),
+        unit: vec![in alloc; 0u64; 2].expect(rt, "memory"),
+        hold: vec![in alloc; 1u64; 2].expect(rt, "memory"),
+        back: vec![in alloc; 2u64; 2].expect(rt, "memory"),
+        steps: steps.to_vec(alloc).expect(rt, "memory"),
     };
     let cut = Cut::Block {
         item: 1,
@@ -72,6 +84,7 @@ fn block(alloc: Global, instance: &Instance, steps: &[u128]) -> Result<Row, Chec
 
 // That of a rounding cut by 10, where each row is taken so many times.
 fn round(
+    rt: &impl Abort,
     alloc: Global,
     instance: &Instance,
     rows: [RowName; 4],
@@ -83,7 +96,8 @@ fn round(
         Part { row: second, times },
         Part { row: third, times },
         Part { row: fourth, times },
-    ]?;
+    ]
+    .expect(rt, "memory");
     let cut = Cut::Round { divisor: 10, parts };
     cut_row(alloc, instance, &[], &cut, 3)
 }
@@ -97,51 +111,54 @@ fn is_refused(found: Result<Row, CheckFault>, line: u64, why: Why) -> bool {
 }
 
 // Whether a row has these terms, its right side, and whether it is an equation.
-fn sides(found: Result<Row, CheckFault>, terms: &[Term]) -> Result<(bool, i128, bool), CheckFault> {
-    let row = found?;
-    Ok((row.terms() == terms, row.right(), row.is_equal()))
+fn sides(rt: &impl Abort, found: Result<Row, CheckFault>, terms: &[Term]) -> (bool, i128, bool) {
+    let row = found.expect(rt, "a row");
+    (row.terms() == terms, row.right(), row.is_equal())
 }
 
 #[test]
-fn rows_of_ls_cuts(rt: HostRuntime) -> Result<(), Fail> {
+fn rows_of_ls_cuts(rt: HostRuntime) {
     let alloc = rt.alloc();
-    let instance = shop(alloc)?;
-    let first = sides(ls(alloc, &instance, 1, &[true]), &[y(1, 2)])?;
+    let instance = shop(alloc).expect(&rt, "an instance");
+    let first = sides(&rt, ls(&rt, alloc, &instance, 1, &[true]), &[y(1, 2)]);
     assert_eq!(rt; first, (true, 2, false));
-    let second = sides(ls(alloc, &instance, 2, &[false, true]), &[x(1, 1), y(2, 8)])?;
+    let second = sides(
+        &rt,
+        ls(&rt, alloc, &instance, 2, &[false, true]),
+        &[x(1, 1), y(2, 8)],
+    );
     assert_eq!(rt; second, (true, 10, false));
-    Ok(())
 }
 
 #[test]
-fn rows_of_price_cuts(rt: HostRuntime) -> Result<(), Fail> {
+fn rows_of_price_cuts(rt: HostRuntime) {
     let alloc = rt.alloc();
-    let instance = prompt(alloc)?;
+    let instance = prompt(&rt, alloc);
     let found = sides(
-        price(alloc, &instance, &[25, 1], &[1, 0]),
+        &rt,
+        price(&rt, alloc, &instance, &[25, 1], &[1, 0]),
         &[y(1, 100), y(2, 6), s(1, 1)],
-    )?;
+    );
     assert_eq!(rt; found, (true, 106, false));
-    Ok(())
 }
 
 #[test]
-fn rows_of_block_cuts(rt: HostRuntime) -> Result<(), Fail> {
+fn rows_of_block_cuts(rt: HostRuntime) {
     let alloc = rt.alloc();
-    let instance = late(alloc)?;
+    let instance = late(&rt, alloc);
     let found = sides(
-        block(alloc, &instance, &[28, 28]),
+        &rt,
+        block(&rt, alloc, &instance, &[28, 28]),
         &[y(1, 100), y(2, 20), s(1, 1), s(2, 1), r(1, 2)],
-    )?;
+    );
     assert_eq!(rt; found, (true, 28, false));
     let why = Why::Block {
         first: 1,
         last: 2,
         server: 2,
     };
-    assert!(rt; is_refused(block(alloc, &instance, &[28, 48]), 3, why));
-    assert!(rt; is_refused(block(alloc, &instance, &[28]), 3, Why::Range));
-    Ok(())
+    assert!(rt; is_refused(block(&rt, alloc, &instance, &[28, 48]), 3, why));
+    assert!(rt; is_refused(block(&rt, alloc, &instance, &[28]), 3, Why::Range));
 }
 
 // The rows of the shop whose sum is rounded.
@@ -155,70 +172,65 @@ fn rounded() -> [RowName; 4] {
 }
 
 #[test]
-fn rows_of_rounding_cuts(rt: HostRuntime) -> Result<(), Fail> {
+fn rows_of_rounding_cuts(rt: HostRuntime) {
     let alloc = rt.alloc();
-    let instance = shop(alloc)?;
-    let found = sides(round(alloc, &instance, rounded(), 1), &[y(2, 1)])?;
+    let instance = shop(alloc).expect(&rt, "an instance");
+    let found = sides(&rt, round(&rt, alloc, &instance, rounded(), 1), &[y(2, 1)]);
     assert_eq!(rt; found, (true, 1, false));
-    Ok(())
 }
 
 #[test]
-fn rounding_cuts_out_of_form(rt: HostRuntime) -> Result<(), Fail> {
+fn rounding_cuts_out_of_form(rt: HostRuntime) {
     let alloc = rt.alloc();
-    let instance = shop(alloc)?;
-    assert!(rt; is_refused(round(alloc, &instance, rounded(), -1), 6, Why::Sign));
-    let large = round(alloc, &instance, rounded(), 1i128 << 126);
+    let instance = shop(alloc).expect(&rt, "an instance");
+    assert!(rt; is_refused(round(&rt, alloc, &instance, rounded(), -1), 6, Why::Sign));
+    let large = round(&rt, alloc, &instance, rounded(), 1i128 << 126);
     assert!(rt; is_refused(large, 3, Why::TooLarge));
     for name in [RowName::Path(1), RowName::Cut(1), RowName::Capacity(1, 3)] {
         let [_, balance, link, _] = rounded();
         let none = [balance, name, link, link];
-        assert!(rt; is_refused(round(alloc, &instance, none, 1), 5, Why::Range));
+        assert!(rt; is_refused(round(&rt, alloc, &instance, none, 1), 5, Why::Range));
     }
-    Ok(())
 }
 
 #[test]
-fn ls_cuts_out_of_form(rt: HostRuntime) -> Result<(), Fail> {
+fn ls_cuts_out_of_form(rt: HostRuntime) {
     let alloc = rt.alloc();
-    let instance = shop(alloc)?;
-    assert!(rt; is_refused(ls(alloc, &instance, 0, &[]), 3, Why::Range));
-    assert!(rt; is_refused(ls(alloc, &instance, 1, &[true, true]), 3, Why::Range));
-    let past = ls(alloc, &instance, 3, &[true, true, true]);
+    let instance = shop(alloc).expect(&rt, "an instance");
+    assert!(rt; is_refused(ls(&rt, alloc, &instance, 0, &[]), 3, Why::Range));
+    assert!(rt; is_refused(ls(&rt, alloc, &instance, 1, &[true, true]), 3, Why::Range));
+    let past = ls(&rt, alloc, &instance, 3, &[true, true, true]);
     assert!(rt; is_refused(past, 3, Why::Range));
-    Ok(())
 }
 
 #[test]
-fn price_cuts_out_of_form(rt: HostRuntime) -> Result<(), Fail> {
+fn price_cuts_out_of_form(rt: HostRuntime) {
     let alloc = rt.alloc();
-    let instance = shop(alloc)?;
-    let large = price(alloc, &instance, &[100_000_000_001, 1], &[1, 0]);
+    let instance = shop(alloc).expect(&rt, "an instance");
+    let large = price(&rt, alloc, &instance, &[100_000_000_001, 1], &[1, 0]);
     assert!(rt; is_refused(large, 3, Why::Range));
-    let short = price(alloc, &instance, &[1], &[1, 0]);
+    let short = price(&rt, alloc, &instance, &[1], &[1, 0]);
     assert!(rt; is_refused(short, 3, Why::Range));
-    Ok(())
 }
 
 // An item that is asked for in the second period alone, and comes a period after it is made.
-fn delayed(alloc: Global) -> Result<Instance, Fail> {
+fn delayed(rt: &impl Abort, alloc: Global) -> Instance {
     let only = Item {
         demand: &[0, 6],
         lead: 1,
         ..PROMPT
     };
-    instance(alloc, 2, &[], &[only])
+    instance(alloc, 2, &[], &[only]).expect(rt, "an instance")
 }
 
 // The form comes before the lead time, and that before the potentials.
 #[test]
-fn cuts_of_an_item_with_a_lead_time(rt: HostRuntime) -> Result<(), Fail> {
+fn cuts_of_an_item_with_a_lead_time(rt: HostRuntime) {
     let alloc = rt.alloc();
-    let instance = delayed(alloc)?;
-    assert!(rt; is_refused(ls(alloc, &instance, 1, &[true]), 3, Why::Lead));
-    assert!(rt; is_refused(ls(alloc, &instance, 3, &[true]), 3, Why::Range));
-    let row = price(alloc, &instance, &[25, 1], &[1, 0]);
+    let instance = delayed(&rt, alloc);
+    assert!(rt; is_refused(ls(&rt, alloc, &instance, 1, &[true]), 3, Why::Lead));
+    assert!(rt; is_refused(ls(&rt, alloc, &instance, 3, &[true]), 3, Why::Range));
+    let row = price(&rt, alloc, &instance, &[25, 1], &[1, 0]);
     assert!(rt; is_refused(row, 3, Why::Lead));
-    assert!(rt; is_refused(block(alloc, &instance, &[]), 3, Why::Lead));
-    Ok(())
+    assert!(rt; is_refused(block(&rt, alloc, &instance, &[]), 3, Why::Lead));
 }

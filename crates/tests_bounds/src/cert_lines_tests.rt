@@ -6,14 +6,14 @@ use cert_lines::{
 };
 use lin_rows::{Column, RowName};
 use std::alloc::Global;
-use std::test::Fail;
+use std::process::Abort;
 
 fn part(row: RowName, times: i128) -> Part {
     Part { row, times }
 }
 
 #[test]
-fn first_lines(rt: HostRuntime) -> Result<(), Fail> {
+fn first_lines(rt: HostRuntime) {
     let most = u128::MAX / 2;
     for (place, line, head) in [
         (1u32, "lotcert 1", Some(HeadLine::Mark(1))),
@@ -55,11 +55,10 @@ fn first_lines(rt: HostRuntime) -> Result<(), Fail> {
         (3, "cuts 1 ", None),
     ] {
         if place < 1 || place > 3 {
-            return Err("no such line".into());
+            panic!(rt; "no such line");
         }
         assert!(rt; read_head(place, line.as_bytes()) == head);
     }
-    Ok(())
 }
 
 // The part of a line.
@@ -71,7 +70,7 @@ fn part_of(alloc: Global, text: &str) -> Option<Part> {
 }
 
 #[test]
-fn parts_with_their_signs(rt: HostRuntime) -> Result<(), Fail> {
+fn parts_with_their_signs(rt: HostRuntime) {
     let alloc = rt.alloc();
     assert!(rt; part_of(alloc, "part balance 2 3 -17") == Some(part(RowName::Balance(2, 3), -17)));
     assert!(rt; part_of(alloc, "part endmin 2 5") == Some(part(RowName::EndMin(2), 5)));
@@ -91,7 +90,6 @@ fn parts_with_their_signs(rt: HostRuntime) -> Result<(), Fail> {
     ] {
         assert!(rt; part_of(alloc, text) == None);
     }
-    Ok(())
 }
 
 // Whether a line of lists has these costs of stock.
@@ -117,7 +115,7 @@ fn has_hold(alloc: Global, text: &str, hold: &[u64]) -> bool {
 }
 
 #[test]
-fn lists_with_and_without_numbers(rt: HostRuntime) -> Result<(), Fail> {
+fn lists_with_and_without_numbers(rt: HostRuntime) {
     let alloc = rt.alloc();
     assert!(rt; has_hold(alloc, "price 2 w 1 g 2 3 h 4 5 b", [4u64, 5].as_slice()));
     assert!(rt; has_hold(alloc, "price 2 w g h b", [].as_slice()));
@@ -139,7 +137,6 @@ fn lists_with_and_without_numbers(rt: HostRuntime) -> Result<(), Fail> {
     ] {
         assert!(rt; !has_hold(alloc, text, [4u64, 5].as_slice()));
     }
-    Ok(())
 }
 
 // The form of a line, and two of its numbers.
@@ -168,7 +165,7 @@ fn form_of(alloc: Global, text: &str) -> (u32, u64, u32) {
 }
 
 #[test]
-fn lines_and_their_limits(rt: HostRuntime) -> Result<(), Fail> {
+fn lines_and_their_limits(rt: HostRuntime) {
     let alloc = rt.alloc();
     for (text, form) in [
         (
@@ -195,26 +192,24 @@ fn lines_and_their_limits(rt: HostRuntime) -> Result<(), Fail> {
     ] {
         assert!(rt; form_of(alloc, text) == form);
     }
-    Ok(())
 }
 
 #[test]
-fn lines_of_the_longest_length(rt: HostRuntime) -> Result<(), Fail> {
+fn lines_of_the_longest_length(rt: HostRuntime) {
     let alloc = rt.alloc();
-    let mut text = String::from_str(alloc, "block 2 f g h b p")?;
+    let mut text = String::from_str(alloc, "block 2 f g h b p").expect(&rt, "memory");
     for _ in 0..8183 {
-        write!(text, " 7")?;
+        write!(text, " 7").expect(&rt, "memory");
     }
     assert!(rt; form_of(alloc, &text) == (8, 0, 0));
-    write!(text, "7")?;
+    write!(text, "7").expect(&rt, "memory");
     assert!(rt; form_of(alloc, &text) == (8, 0, 0));
-    write!(text, "7")?;
+    write!(text, "7").expect(&rt, "memory");
     assert!(rt; form_of(alloc, &text) == (0, 0, 0));
-    Ok(())
 }
 
 // A line of a leaf over reduced costs, written again as it was read; nothing where it has no form.
-fn written_again(alloc: Global, line: &str, version: u32) -> Result<String, Fail>
+fn written_again(rt: &impl Abort, alloc: Global, line: &str, version: u32) -> String
     requires { IsVersion version }
 {
     let mut text = String::new(alloc);
@@ -227,16 +222,16 @@ fn written_again(alloc: Global, line: &str, version: u32) -> Result<String, Fail
                 lists,
                 groups,
             },
-        ) => write!(text, "reduced {den} {parts} {lists} {groups}\n")?,
-        Ok(CertLine::List(list)) => add_list_line(&mut text, list)?,
-        Ok(CertLine::Group(group)) => add_group_line(&mut text, group)?,
+        ) => write!(text, "reduced {den} {parts} {lists} {groups}\n").expect(rt, "memory"),
+        Ok(CertLine::List(list)) => add_list_line(&mut text, list).expect(rt, "memory"),
+        Ok(CertLine::Group(group)) => add_group_line(&mut text, group).expect(rt, "memory"),
         _ => {}
     }
-    Ok(text)
+    text
 }
 
 #[test]
-fn lines_of_reduced_leaves(rt: HostRuntime) -> Result<(), Fail> {
+fn lines_of_reduced_leaves(rt: HostRuntime) {
     let alloc = rt.alloc();
     for line in [
         "reduced 18446744073709551615 100000 1000 1000",
@@ -257,9 +252,9 @@ fn lines_of_reduced_leaves(rt: HostRuntime) -> Result<(), Fail> {
         "pair 1 0 2 170141183460469231731687303715884105727",
         "triple 1 5 2 6 3 7",
     ] {
-        let text = written_again(alloc, line, 3)?;
-        assert!(rt; text == format!(in alloc; "{line}\n")?);
-        let older = written_again(alloc, line, 2)?;
+        let text = written_again(&rt, alloc, line, 3);
+        assert!(rt; text == format!(in alloc; "{line}\n").expect(&rt, "memory"));
+        let older = written_again(&rt, alloc, line, 2);
         assert!(rt; older.is_empty());
     }
     for line in [
@@ -292,8 +287,7 @@ fn lines_of_reduced_leaves(rt: HostRuntime) -> Result<(), Fail> {
         "pair 1 0 2 170141183460469231731687303715884105728",
         "triple 1 5 2 6",
     ] {
-        let text = written_again(alloc, line, 3)?;
+        let text = written_again(&rt, alloc, line, 3);
         assert!(rt; text.is_empty());
     }
-    Ok(())
 }

@@ -3,36 +3,40 @@ use cert_stream::{ClaimFault, LineReader, Next, Value, next_value, read_claim};
 use certificate::{CertTextFault, read_certificate};
 use lin_rows::RowName;
 use lot_io::MemoryShelf;
-use std::alloc::{AllocError, Global};
+use std::alloc::Global;
 use std::collections::BTreeMap;
-use std::test::Fail;
+use std::process::Abort;
 
 // A shelf with one file, whose fetches of these numbers fail.
-fn shelf_with(alloc: Global, bytes: Vec<u8>, fails: &[u64]) -> Result<MemoryShelf, AllocError> {
+fn shelf_with(rt: &impl Abort, alloc: Global, bytes: Vec<u8>, fails: &[u64]) -> MemoryShelf {
     let mut files = BTreeMap::new(alloc);
-    files.insert(String::from_str(alloc, "c")?, bytes)?;
-    Ok(MemoryShelf::new(
+    let name = String::from_str(alloc, "c").expect(rt, "memory");
+    let inserted: Result<_, _> = files.insert(name, bytes);
+    inserted.expect(rt, "memory");
+    MemoryShelf::new(
         alloc,
         files,
-        Vec::from_slice(alloc, fails)?,
+        Vec::from_slice(alloc, fails).expect(rt, "memory"),
         Vec::new(alloc),
         Vec::new(alloc),
-    ))
+    )
 }
 
 // A shelf with a file of these bytes, whose fetches don't fail.
-fn shelf_of(alloc: Global, bytes: &[u8]) -> Result<MemoryShelf, AllocError> {
-    shelf_with(alloc, bytes.to_vec(alloc)?, &[])
+fn shelf_of(rt: &impl Abort, alloc: Global, bytes: &[u8]) -> MemoryShelf {
+    shelf_with(rt, alloc, bytes.to_vec(alloc).expect(rt, "memory"), &[])
 }
 
 // A certificate with so many cuts of 21 bytes, of this version.
-fn with_cuts(alloc: Global, version: u32, cuts: u32) -> Result<Vec<u8>, AllocError> {
-    let mut text = format!(in alloc; "lotcert {version}\nclaim bound 20\ncuts {cuts}\n")?;
+fn with_cuts(rt: &impl Abort, alloc: Global, version: u32, cuts: u32) -> Vec<u8> {
+    let mut text = format!(in alloc; "lotcert {version}\nclaim bound 20\ncuts {cuts}\n").expect(
+        rt, "memory",
+    );
     for _ in 0..cuts {
-        text.push_str("ls 1 12 000000000001\n")?;
+        text.push_str("ls 1 12 000000000001\n").expect(rt, "memory");
     }
-    text.push_str("point\nend\n")?;
-    Ok(text.into_bytes())
+    text.push_str("point\nend\n").expect(rt, "memory");
+    text.into_bytes()
 }
 
 // What a text claims that is read as a whole.
@@ -43,16 +47,17 @@ fn whole_claim(alloc: Global, text: &str) -> Result<Claim, CertTextFault> {
 
 // What a text claims that is fetched, and how many bytes the shelf gave, missed files and failed.
 fn fetched_claim(
+    rt: &impl Abort,
     alloc: Global,
     text: &str,
-) -> Result<(Result<Claim, ClaimFault>, (u64, u64, u64)), AllocError> {
-    let mut shelf = shelf_of(alloc, text.as_bytes())?;
+) -> (Result<Claim, ClaimFault>, (u64, u64, u64)) {
+    let mut shelf = shelf_of(rt, alloc, text.as_bytes());
     let read = read_claim(alloc, &mut shelf, "c");
-    Ok((read, (shelf.given, shelf.misses, shelf.faults)))
+    (read, (shelf.given, shelf.misses, shelf.faults))
 }
 
 #[test]
-fn small_files(rt: HostRuntime) -> Result<(), Fail> {
+fn small_files(rt: HostRuntime) {
     let alloc = rt.alloc();
     for (text, want) in [
         ("", Err(CertTextFault::Header(1))),
@@ -83,48 +88,44 @@ fn small_files(rt: HostRuntime) -> Result<(), Fail> {
         ),
     ] {
         assert_eq!(rt; whole_claim(alloc, text), want);
-        let (read, counts) = fetched_claim(alloc, text)?;
+        let (read, counts) = fetched_claim(&rt, alloc, text);
         assert_eq!(rt; read, want.map_err(|fault| ClaimFault::Text(fault)));
         assert_eq!(rt; counts, (text.len() as u64, 0, 0));
     }
-    Ok(())
 }
 
 // What a file of 5,000 cuts claims, its length and the bytes given; then what is said of a file that isn't there, and how
 // often files were missed and failed.
 fn long_claims(
+    rt: &impl Abort,
     alloc: Global,
-) -> Result<
-    (
-        (Result<Claim, ClaimFault>, u64, u64),
-        (Result<Claim, ClaimFault>, u64, u64),
-    ),
-    AllocError,
-> {
-    let bytes = with_cuts(alloc, 1, 5000)?;
+) -> (
+    (Result<Claim, ClaimFault>, u64, u64),
+    (Result<Claim, ClaimFault>, u64, u64),
+) {
+    let bytes = with_cuts(rt, alloc, 1, 5000);
     let size = bytes.len() as u64;
-    let mut shelf = shelf_with(alloc, bytes, &[])?;
+    let mut shelf = shelf_with(rt, alloc, bytes, &[]);
     let found = (read_claim(alloc, &mut shelf, "c"), size, shelf.given);
     let missing = read_claim(alloc, &mut shelf, "d");
-    Ok((found, (missing, shelf.misses, shelf.faults)))
+    (found, (missing, shelf.misses, shelf.faults))
 }
 
 // 65,536 bytes end within a line.
 #[test]
-fn lines_cross_pieces(rt: HostRuntime) -> Result<(), Fail> {
+fn lines_cross_pieces(rt: HostRuntime) {
     let alloc = rt.alloc();
-    let (found, missing) = long_claims(alloc)?;
+    let (found, missing) = long_claims(&rt, alloc);
     assert_eq!(rt; found, (Ok(Claim::Bound(20)), 105_045, 105_045));
     assert_eq!(rt; missing, (Err(ClaimFault::Missing), 1, 0));
-    Ok(())
 }
 
 // Two lines, bytes without a line feed, and nothing.
 #[test]
-fn lines_are_given_in_order(rt: HostRuntime) -> Result<(), Fail> {
+fn lines_are_given_in_order(rt: HostRuntime) {
     let alloc = rt.alloc();
-    let mut shelf = shelf_of(alloc, b"point\n\nend")?;
-    let mut reader = LineReader::new(alloc)?;
+    let mut shelf = shelf_of(&rt, alloc, b"point\n\nend");
+    let mut reader = LineReader::new(alloc).expect(&rt, "memory");
     for (want, line, number) in [
         (Next::Line, "point", 2u64),
         (Next::Line, "", 3),
@@ -132,13 +133,12 @@ fn lines_are_given_in_order(rt: HostRuntime) -> Result<(), Fail> {
         (Next::End, "", 3),
     ] {
         let Ok(next) = reader.next_line(&mut shelf, "c") else {
-            return Err("not read".into());
+            panic!(rt; "not read");
         };
         assert_eq!(rt; (next, reader.number), (want, number));
         assert!(rt; reader.line.as_slice() == line.as_bytes());
     }
     assert_eq!(rt; (shelf.given, shelf.faults), (10, 0));
-    Ok(())
 }
 
 // The form of a value, and two of its numbers.
@@ -168,10 +168,10 @@ const LINES: &str =
     "ls 1 2 01\npart cut 2 -10\nlinear 8 4\nfarkas 3\npoint\nend\npart late 1 1 1\nend";
 
 #[test]
-fn values_are_given_in_order(rt: HostRuntime) -> Result<(), Fail> {
+fn values_are_given_in_order(rt: HostRuntime) {
     let alloc = rt.alloc();
-    let mut shelf = shelf_of(alloc, LINES.as_bytes())?;
-    let mut reader = LineReader::new(alloc)?;
+    let mut shelf = shelf_of(&rt, alloc, LINES.as_bytes());
+    let mut reader = LineReader::new(alloc).expect(&rt, "memory");
     for want in [
         ("ls", 1i128, 2u32),
         ("part", -10, 2),
@@ -184,9 +184,8 @@ fn values_are_given_in_order(rt: HostRuntime) -> Result<(), Fail> {
         ("none", 0, 0),
     ] {
         let Ok(value) = next_value(alloc, &mut reader, &mut shelf, "c", 1) else {
-            return Err("not read".into());
+            panic!(rt; "not read");
         };
         assert!(rt; form_of(value) == want);
     }
-    Ok(())
 }

@@ -3,10 +3,10 @@ use fixtures::{Item, PLAIN, instance};
 use lin_rows::{Bound, Column};
 use lot_model::Instance;
 use std::alloc::Global;
-use std::test::Fail;
+use std::process::Abort;
 
 // One item with demands 2 and 8 and nothing in stock: its largest total is 10.
-fn one_item(alloc: Global) -> Result<Instance, Fail> {
+fn one_item(rt: &impl Abort, alloc: Global) -> Instance {
     let item = Item {
         demand: &[2, 8],
         unit_cost: &[1],
@@ -15,7 +15,7 @@ fn one_item(alloc: Global) -> Result<Instance, Fail> {
         end_max: Some(0),
         ..PLAIN
     };
-    instance(alloc, 2, &[], &[item])
+    instance(alloc, 2, &[], &[item]).expect(rt, "an instance")
 }
 
 // What is made of the item in a period.
@@ -34,8 +34,8 @@ fn bound(most: bool, number: u64) -> Bound {
 
 // A quantity is up to the largest total, and within the bounds of the path; only quantities and setups have ranges.
 #[test]
-fn ranges_of_columns(rt: HostRuntime) -> Result<(), Fail> {
-    let instance = one_item(rt.alloc())?;
+fn ranges_of_columns(rt: HostRuntime) {
+    let instance = one_item(&rt, rt.alloc());
     let path = [bound(true, 4), bound(false, 2)];
     for (path, column, range) in [
         (&path[..0], made(1), Some((0u64, 10u64))),
@@ -50,12 +50,11 @@ fn ranges_of_columns(rt: HostRuntime) -> Result<(), Fail> {
     ] {
         assert_eq!(rt; branch_range(&instance, path, column), range, "{column}");
     }
-    Ok(())
 }
 
 #[test]
-fn a_branch_leaves_something_on_both_sides(rt: HostRuntime) -> Result<(), Fail> {
-    let instance = one_item(rt.alloc())?;
+fn a_branch_leaves_something_on_both_sides(rt: HostRuntime) {
+    let instance = one_item(&rt, rt.alloc());
     let path = [bound(true, 4), bound(false, 2)];
     for (period, at, splits) in [
         (1u32, 1u64, false),
@@ -70,5 +69,4 @@ fn a_branch_leaves_something_on_both_sides(rt: HostRuntime) -> Result<(), Fail> 
             "{period} {at}"
         );
     }
-    Ok(())
 }

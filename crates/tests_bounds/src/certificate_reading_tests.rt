@@ -1,6 +1,6 @@
 use certificate::{is_writable, longest, nodes, read_certificate, write_certificate};
-use std::alloc::{AllocError, Global};
-use std::test::Fail;
+use std::alloc::Global;
+use std::process::Abort;
 
 // A tree of two branches on setups.
 const BRANCHES: &str = "lotcert 1\nclaim optimal 23\ncuts 0\nbranch y 1 1 0\nfarkas 3\n\
@@ -47,21 +47,21 @@ const BOUND: &str = "lotcert 1\nclaim bound 20\ncuts 0\nlinear 8 0\nend\n";
 
 // The nodes of a text's tree, the branches on its longest path, and whether it can be written and is, byte for byte; None where
 // it isn't read.
-fn written(alloc: Global, text: &str) -> Result<Option<(u64, u64, bool, bool)>, AllocError> {
+fn written(rt: &impl Abort, alloc: Global, text: &str) -> Option<(u64, u64, bool, bool)> {
     let Ok(read) = read_certificate(alloc, text.as_bytes()) else {
-        return Ok(None);
+        return None;
     };
-    let bytes = write_certificate(alloc, &read)?;
-    Ok(Some((
+    let bytes = write_certificate(alloc, &read).expect(rt, "memory");
+    Some((
         nodes(&read.tree),
         longest(&read.tree),
         is_writable(&read),
         bytes.as_slice() == text.as_bytes(),
-    )))
+    ))
 }
 
 #[test]
-fn what_is_read_is_written(rt: HostRuntime) -> Result<(), Fail> {
+fn what_is_read_is_written(rt: HostRuntime) {
     for (text, nodes, longest) in [
         (BRANCHES, 5u64, 2u64),
         (INEQUALITIES, 1, 0),
@@ -73,29 +73,29 @@ fn what_is_read_is_written(rt: HostRuntime) -> Result<(), Fail> {
         (REDUCED, 3, 1),
         (BOUND, 1, 0),
     ] {
-        let found = written(rt.alloc(), text)?;
+        let found = written(&rt, rt.alloc(), text);
         assert_eq!(rt; found, Some((nodes, longest, true, true)));
     }
-    Ok(())
 }
 
 // A text whose tree has so many branches on one path.
-fn path_of(alloc: Global, branches: usize) -> Result<String, AllocError> {
-    let mut text = String::from_str(alloc, "lotcert 1\nclaim infeasible\ncuts 0\n")?;
+fn path_of(rt: &impl Abort, alloc: Global, branches: usize) -> String {
+    let mut text = String::from_str(alloc, "lotcert 1\nclaim infeasible\ncuts 0\n").expect(
+        rt, "memory",
+    );
     for _ in 0..branches {
-        write!(text, "branch x 1 1 0\n")?;
+        write!(text, "branch x 1 1 0\n").expect(rt, "memory");
     }
     for _ in 0..branches {
-        write!(text, "point\n")?;
+        write!(text, "point\n").expect(rt, "memory");
     }
-    write!(text, "point\nend\n")?;
-    Ok(text)
+    write!(text, "point\nend\n").expect(rt, "memory");
+    text
 }
 
 #[test]
-fn paths_of_the_greatest_length(rt: HostRuntime) -> Result<(), Fail> {
-    let longest = path_of(rt.alloc(), 2000)?;
-    let found = written(rt.alloc(), &longest)?;
+fn paths_of_the_greatest_length(rt: HostRuntime) {
+    let longest = path_of(&rt, rt.alloc(), 2000);
+    let found = written(&rt, rt.alloc(), &longest);
     assert_eq!(rt; found, Some((4001, 2000, true, true)));
-    Ok(())
 }

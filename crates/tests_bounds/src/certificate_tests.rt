@@ -3,21 +3,21 @@ use certificate::{
     leaf_lines_count, longest, nodes,
 };
 use lin_rows::{Column, RowName};
-use std::alloc::{AllocError, Global};
+use std::alloc::Global;
 use std::boxed::Box;
-use std::test::Fail;
+use std::process::Abort;
 
 fn part(row: RowName, times: i128) -> Part {
     Part { row, times }
 }
 
-fn branch(alloc: Global, period: u32, low: Tree, high: Tree) -> Result<Tree, AllocError> {
-    Ok(Tree::Branch {
+fn branch(rt: &impl Abort, alloc: Global, period: u32, low: Tree, high: Tree) -> Tree {
+    Tree::Branch {
         column: Column::Y { item: 1, period },
         at: 0,
-        low: Box::new(alloc, low)?,
-        high: Box::new(alloc, high)?,
-    })
+        low: Box::new(alloc, low).expect(rt, "memory"),
+        high: Box::new(alloc, high).expect(rt, "memory"),
+    }
 }
 
 // The nodes of a certificate's tree, the branches on its longest path, and whether it can be written.
@@ -29,32 +29,35 @@ fn shape(certificate: &Certificate) -> (u64, u64, bool) {
     )
 }
 
-fn round_cut(alloc: Global) -> Result<Cut, AllocError> {
-    Ok(Cut::Round {
+fn round_cut(rt: &impl Abort, alloc: Global) -> Cut {
+    Cut::Round {
         divisor: 10,
-        parts: vec![in alloc; part(RowName::Balance(1, 1), -8), part(RowName::Cut(1), 41)]?,
-    })
+        parts: vec![in alloc; part(RowName::Balance(1, 1), -8), part(RowName::Cut(1), 41)].expect(
+            rt, "memory",
+        ),
+    }
 }
 
 // A certificate of one leaf and one cut.
 fn small(
+    rt: &impl Abort,
     alloc: Global,
     claim: Claim,
     cut: Cut,
     den: i128,
     times: i128,
-) -> Result<Certificate, AllocError> {
-    let mut cuts = Vec::with_capacity(alloc, 1)?;
-    cuts.push(cut)?;
-    Ok(Certificate {
+) -> Certificate {
+    let mut cuts = Vec::with_capacity(alloc, 1).expect(rt, "memory");
+    cuts.push(cut).expect(rt, "memory");
+    Certificate {
         version: 1,
         claim,
         cuts,
         tree: Tree::Leaf(Leaf::Linear {
             den,
-            parts: vec![in alloc; part(RowName::Cut(1), times)]?,
+            parts: vec![in alloc; part(RowName::Cut(1), times)].expect(rt, "memory"),
         }),
-    })
+    }
 }
 
 fn round(alloc: Global, divisor: u64) -> Cut {
@@ -66,18 +69,19 @@ fn round(alloc: Global, divisor: u64) -> Cut {
 
 // Whether one can be written with a rounding cut without parts.
 fn is_round_writable(
+    rt: &impl Abort,
     alloc: Global,
     claim: Claim,
     divisor: u64,
     den: i128,
     times: i128,
-) -> Result<bool, AllocError> {
-    let certificate = small(alloc, claim, round(alloc, divisor), den, times)?;
-    Ok(is_writable(&certificate))
+) -> bool {
+    let certificate = small(rt, alloc, claim, round(alloc, divisor), den, times);
+    is_writable(&certificate)
 }
 
 #[test]
-fn limits_of_numbers(rt: HostRuntime) -> Result<(), Fail> {
+fn limits_of_numbers(rt: HostRuntime) {
     let most = u128::MAX / 2;
     let tens = 1_000_000_000_000_000_000u64;
     for (claim, divisor, den, times, writable) in [
@@ -91,25 +95,24 @@ fn limits_of_numbers(rt: HostRuntime) -> Result<(), Fail> {
         (Claim::Infeasible, 1, -1, 1, false),
         (Claim::Infeasible, 1, 1, i128::MIN, false),
     ] {
-        let found = is_round_writable(rt.alloc(), claim, divisor, den, times)?;
+        let found = is_round_writable(&rt, rt.alloc(), claim, divisor, den, times);
         assert_eq!(rt; found, writable);
     }
-    Ok(())
 }
 
 // Whether one can be written with an (l,S) cut that has so many bits.
-fn is_ls_writable(alloc: Global, last: u32, bits: usize) -> Result<bool, AllocError> {
+fn is_ls_writable(rt: &impl Abort, alloc: Global, last: u32, bits: usize) -> bool {
     let cut = Cut::Ls {
         item: 1,
         last,
-        chosen: vec![in alloc; true; bits]?,
+        chosen: vec![in alloc; true; bits].expect(rt, "memory"),
     };
-    let certificate = small(alloc, Claim::Infeasible, cut, 1, 1)?;
-    Ok(is_writable(&certificate))
+    let certificate = small(rt, alloc, Claim::Infeasible, cut, 1, 1);
+    is_writable(&certificate)
 }
 
 #[test]
-fn limits_of_lines(rt: HostRuntime) -> Result<(), Fail> {
+fn limits_of_lines(rt: HostRuntime) {
     // "ls 1 16374 " and a digit for each period: 16,384 bytes where there are 16,373.
     for (last, bits, writable) in [
         (16_373u32, 16_373usize, true),
@@ -117,18 +120,17 @@ fn limits_of_lines(rt: HostRuntime) -> Result<(), Fail> {
         (2, 3, false),
         (0, 0, false),
     ] {
-        assert_eq!(rt; is_ls_writable(rt.alloc(), last, bits)?, writable);
+        assert_eq!(rt; is_ls_writable(&rt, rt.alloc(), last, bits), writable);
     }
-    Ok(())
 }
 
 // A tree whose longest path has so many branches, each with a leaf on its low side.
-fn path(alloc: Global, branches: u32) -> Result<Tree, AllocError> {
+fn path(rt: &impl Abort, alloc: Global, branches: u32) -> Tree {
     let mut tree = Tree::Leaf(Leaf::Point);
     for _ in 0..branches {
-        tree = branch(alloc, 1, Tree::Leaf(Leaf::Point), tree)?;
+        tree = branch(rt, alloc, 1, Tree::Leaf(Leaf::Point), tree);
     }
-    Ok(tree)
+    tree
 }
 
 // A certificate of a tree alone.
@@ -142,50 +144,57 @@ fn of_tree(alloc: Global, version: u32, tree: Tree) -> Certificate {
 }
 
 #[test]
-fn limits_of_paths(rt: HostRuntime) -> Result<(), Fail> {
+fn limits_of_paths(rt: HostRuntime) {
     let alloc = rt.alloc();
-    let certificate = of_tree(alloc, 1, path(alloc, 2000)?);
+    let certificate = of_tree(alloc, 1, path(&rt, alloc, 2000));
     assert_eq!(rt; shape(&certificate), (4001, 2000, true));
-    Ok(())
 }
 
 #[test]
-fn one_more_branch_is_too_many(rt: HostRuntime) -> Result<(), Fail> {
+fn one_more_branch_is_too_many(rt: HostRuntime) {
     let alloc = rt.alloc();
-    let tree = branch(alloc, 1, path(alloc, 2000)?, Tree::Leaf(Leaf::Point))?;
+    let tree = branch(
+        &rt,
+        alloc,
+        1,
+        path(&rt, alloc, 2000),
+        Tree::Leaf(Leaf::Point),
+    );
     let deep = of_tree(alloc, 1, tree);
     assert!(rt; !is_writable(&deep));
-    Ok(())
 }
 
 // How many lines a rounding cut of two parts has, and its copy.
-fn lines_of_round(alloc: Global) -> Result<(u64, u64), AllocError> {
-    let cut = round_cut(alloc)?;
-    let other = copy_cut(alloc, &cut)?;
-    Ok((cut_lines_count(&cut), cut_lines_count(&other)))
+fn lines_of_round(rt: &impl Abort, alloc: Global) -> (u64, u64) {
+    let cut = round_cut(rt, alloc);
+    let other = copy_cut(alloc, &cut).expect(rt, "memory");
+    (cut_lines_count(&cut), cut_lines_count(&other))
 }
 
 // A leaf of a row that version 2 has alone.
-fn newer(alloc: Global) -> Result<Leaf, AllocError> {
-    Ok(Leaf::Farkas {
-        parts: vec![in alloc; part(RowName::Least(1, 2), 1)]?,
-    })
+fn newer(rt: &impl Abort, alloc: Global) -> Leaf {
+    Leaf::Farkas {
+        parts: vec![in alloc; part(RowName::Least(1, 2), 1)].expect(rt, "memory"),
+    }
 }
 
 // How many lines it has, and whether a certificate of a version can be written with its copy.
-fn leaf_in(alloc: Global, version: u32) -> Result<(u64, bool), AllocError> {
-    let leaf = newer(alloc)?;
+fn leaf_in(rt: &impl Abort, alloc: Global, version: u32) -> (u64, bool) {
+    let leaf = newer(rt, alloc);
     let lines = leaf_lines_count(&leaf);
-    let certificate = of_tree(alloc, version, Tree::Leaf(copy_leaf(alloc, &leaf)?));
-    Ok((lines, is_writable(&certificate)))
+    let certificate = of_tree(
+        alloc,
+        version,
+        Tree::Leaf(copy_leaf(alloc, &leaf).expect(rt, "memory")),
+    );
+    (lines, is_writable(&certificate))
 }
 
 #[test]
-fn lines_and_copies(rt: HostRuntime) -> Result<(), Fail> {
+fn lines_and_copies(rt: HostRuntime) {
     let alloc = rt.alloc();
-    assert_eq!(rt; lines_of_round(alloc)?, (3, 3));
+    assert_eq!(rt; lines_of_round(&rt, alloc), (3, 3));
     for (version, writable) in [(0u32, false), (1, false), (2, true), (3, true), (4, false)] {
-        assert_eq!(rt; leaf_in(alloc, version)?, (2, writable));
+        assert_eq!(rt; leaf_in(&rt, alloc, version), (2, writable));
     }
-    Ok(())
 }

@@ -1,11 +1,11 @@
 use instance_reader::{read_instance, write_model};
 use lot_model::Instance;
 use std::alloc::Global;
-use std::test::Fail;
+use std::process::Abort;
 
 // The instance of a text.
-fn instance(alloc: Global, text: &str) -> Result<Instance, Fail> {
-    Ok(read_instance(alloc, text.as_bytes())?)
+fn instance(rt: &impl Abort, alloc: Global, text: &str) -> Instance {
+    read_instance(alloc, text.as_bytes()).expect(rt, "an instance")
 }
 
 // A model of two items over two periods, of which the first has a lead time and bounds of its lots.
@@ -24,10 +24,9 @@ fn lots_of_two(instance: &Instance) -> Option<[(u32, u64, Option<u64>); 2]> {
 }
 
 #[test]
-fn lead_times_and_lots_are_read(rt: HostRuntime) -> Result<(), Fail> {
-    let read = instance(rt.alloc(), LOTS)?;
+fn lead_times_and_lots_are_read(rt: HostRuntime) {
+    let read = instance(&rt, rt.alloc(), LOTS);
     assert_eq!(rt; lots_of_two(&read), Some([(1, 2, Some(3)), (0, 0, None)]));
-    Ok(())
 }
 
 // A model of the first version with what it needs alone, and what it is in the newest one: each list is written out, and each
@@ -47,18 +46,17 @@ const ALL_KEYS_WRITTEN: &str =
     "version = 2\nperiods = 2\n[[resource]]\nname = \"m\"\ncapacity = [6, 6]\n[[item]]\nname = \"A\"\ndemand = [2, 8]\nunit_cost = [4, 4]\nsetup_cost = [10, 11]\nhold_cost = [1, 1]\nbacklog_cost = [3, 2]\nopening = 1\nend_min = 2\nend_max = 3\nlead = 1\nmin_lot = 5\nmax_lot = 9\nneeds = [{ item = \"B\", quantity = 7 }]\nuses = [{ resource = \"m\", unit = 0, setup = 1 }]\n[[item]]\nname = \"B\"\ndemand = [0, 0]\nunit_cost = [0, 0]\nsetup_cost = [0, 0]\nhold_cost = [0, 0]\nopening = 0\nend_min = 0\nend_max = 3\nlead = 0\nmin_lot = 0\n";
 
 // What an instance of a text is written as has this table. How `toml` spells it is its own affair.
-fn is_written_as(alloc: Global, text: &str, table: &str) -> Result<bool, Fail> {
-    let written = write_model(alloc, &instance(alloc, text)?)?;
-    let found = toml::table_from_slice(alloc, &written)?;
-    Ok(found == toml::table_from_str(alloc, table)?)
+fn is_written_as(rt: &impl Abort, alloc: Global, text: &str, table: &str) -> bool {
+    let written = write_model(alloc, &instance(rt, alloc, text)).expect(rt, "memory");
+    let found = toml::table_from_slice(alloc, &written).expect(rt, "a table");
+    found == toml::table_from_str(alloc, table).expect(rt, "a table")
 }
 
 #[test]
-fn models_are_written_in_the_newest_version(rt: HostRuntime) -> Result<(), Fail> {
+fn models_are_written_in_the_newest_version(rt: HostRuntime) {
     let alloc = rt.alloc();
     for (text, table) in [(FIRST, FIRST_WRITTEN), (ALL_KEYS, ALL_KEYS_WRITTEN)] {
-        assert!(rt; is_written_as(alloc, text, table)?);
-        assert!(rt; is_written_as(alloc, table, table)?);
+        assert!(rt; is_written_as(&rt, alloc, text, table));
+        assert!(rt; is_written_as(&rt, alloc, table, table));
     }
-    Ok(())
 }

@@ -3,7 +3,7 @@ use fixtures::{Item, PLAIN, instance};
 use item_bound::{apart, apart_is_one, apart_leaf};
 use lot_model::Instance;
 use std::alloc::Global;
-use std::test::Fail;
+use std::process::Abort;
 
 // A is made in period 2, and so are the 10 units of B that go into it.
 const COUPLED: &str = "lotcert 1\nclaim bound 20\ncuts 2\n\
@@ -42,28 +42,28 @@ const PART: Item<'static> = Item {
 };
 
 // A certificate that says what the items cost apart.
-fn certificate_of(alloc: Global, instance: &Instance) -> Result<Certificate, Fail> {
-    let found = apart(alloc, instance)?;
-    let leaf = apart_leaf(alloc, 0, found.cuts.len() as u32)?;
-    Ok(Certificate {
+fn certificate_of(rt: &impl Abort, alloc: Global, instance: &Instance) -> Certificate {
+    let found = apart(alloc, instance).expect(rt, "memory");
+    let leaf = apart_leaf(alloc, 0, found.cuts.len() as u32).expect(rt, "memory");
+    Certificate {
         version: 1,
         claim: Claim::Bound(found.amount),
         cuts: found.cuts,
         tree: Tree::Leaf(leaf),
-    })
+    }
 }
 
 // Whether this is the text of a certificate that says what the items cost apart.
-fn is_text(alloc: Global, items: &[Item], want: &str) -> Result<bool, Fail> {
-    let instance = instance(alloc, 2, &[], items)?;
-    let certificate = certificate_of(alloc, &instance)?;
-    let bytes = write_certificate(alloc, &certificate)?;
-    Ok(bytes.as_slice() == want.as_bytes())
+fn is_text(rt: &impl Abort, alloc: Global, items: &[Item], want: &str) -> bool {
+    let instance = instance(alloc, 2, &[], items).expect(rt, "an instance");
+    let certificate = certificate_of(rt, alloc, &instance);
+    let bytes = write_certificate(alloc, &certificate).expect(rt, "memory");
+    bytes.as_slice() == want.as_bytes()
 }
 
 // A component costs its setups; what is left over is held; a backlog is owed; and a late item adds nothing.
 #[test]
-fn what_items_cost_apart(rt: HostRuntime) -> Result<(), Fail> {
+fn what_items_cost_apart(rt: HostRuntime) {
     let alloc = rt.alloc();
     apart_is_one();
     let late = Item { lead: 1, ..PRODUCT };
@@ -89,7 +89,6 @@ fn what_items_cost_apart(rt: HostRuntime) -> Result<(), Fail> {
         (&[owed][..], OWED),
         (&[late, PART][..], LATE),
     ] {
-        assert!(rt; is_text(alloc, items, want)?, "{want}");
+        assert!(rt; is_text(&rt, alloc, items, want), "{want}");
     }
-    Ok(())
 }

@@ -5,14 +5,14 @@ use plan_rules::{
     Broken, CostParts, Grid, Plan, arriving, complete, complete_at_cost, cost_parts, judge,
     time_used, used_up,
 };
-use std::alloc::{AllocError, Global};
-use std::test::Fail;
+use std::alloc::Global;
+use std::process::Abort;
 
 // A grid of sevens, but for one place.
-fn sevens(alloc: Global) -> Result<Grid, AllocError> {
-    let mut grid = Grid::filled(alloc, 2, 3, 7)?;
+fn sevens(rt: &impl Abort, alloc: Global) -> Grid {
+    let mut grid = Grid::filled(alloc, 2, 3, 7).expect(rt, "memory");
     grid.set(2, 1, u64::MAX);
-    Ok(grid)
+    grid
 }
 
 // The number of a grid at a place that it has.
@@ -24,8 +24,8 @@ fn at(grid: &Grid, item: u32, period: u32) -> Option<u64> {
 }
 
 #[test]
-fn a_grid_keeps_each_number(rt: HostRuntime) -> Result<(), Fail> {
-    let grid = sevens(rt.alloc())?;
+fn a_grid_keeps_each_number(rt: HostRuntime) {
+    let grid = sevens(&rt, rt.alloc());
     let sizes = (grid.items(), grid.periods(), grid.cells().len());
     assert_eq!(rt; sizes, (2, 3, 6));
     for (item, period, number) in [
@@ -37,16 +37,14 @@ fn a_grid_keeps_each_number(rt: HostRuntime) -> Result<(), Fail> {
     ] {
         assert_eq!(rt; at(&grid, item, period), Some(number), "{item} {period}");
     }
-    Ok(())
 }
 
 #[test]
-fn a_grid_differs_by_one_number(rt: HostRuntime) -> Result<(), Fail> {
+fn a_grid_differs_by_one_number(rt: HostRuntime) {
     let alloc = rt.alloc();
-    let grid = sevens(alloc)?;
-    let other = Grid::filled(alloc, 2, 3, 7)?;
+    let grid = sevens(&rt, alloc);
+    let other = Grid::filled(alloc, 2, 3, 7).expect(&rt, "memory");
     assert!(rt; grid != other);
-    Ok(())
 }
 
 // An item with a setup of 5, 2 a unit, and 1 a unit in stock.
@@ -58,49 +56,50 @@ const COSTED: Item<'static> = Item {
 };
 
 // Ten loaves on one day.
-fn loaves(alloc: Global) -> Result<Instance, Fail> {
+fn loaves(rt: &impl Abort, alloc: Global) -> Instance {
     let loaf = Item {
         name: "loaf",
         demand: &[10],
         ..COSTED
     };
-    instance(alloc, 1, &[], &[loaf])
+    instance(alloc, 1, &[], &[loaf]).expect(rt, "an instance")
 }
 
 // A plan with this quantity, setup, stock and backlog throughout.
-fn plan(alloc: Global, items: u32, periods: u32, amounts: [u64; 4]) -> Result<Plan, AllocError> {
+fn plan(rt: &impl Abort, alloc: Global, items: u32, periods: u32, amounts: [u64; 4]) -> Plan {
     let [make, setup, stock, backlog] = amounts;
-    Ok(Plan {
-        make: Grid::filled(alloc, items, periods, make)?,
-        setup: Grid::filled(alloc, items, periods, setup)?,
-        stock: Grid::filled(alloc, items, periods, stock)?,
-        backlog: Grid::filled(alloc, items, periods, backlog)?,
-    })
+    Plan {
+        make: Grid::filled(alloc, items, periods, make).expect(rt, "memory"),
+        setup: Grid::filled(alloc, items, periods, setup).expect(rt, "memory"),
+        stock: Grid::filled(alloc, items, periods, stock).expect(rt, "memory"),
+        backlog: Grid::filled(alloc, items, periods, backlog).expect(rt, "memory"),
+    }
 }
 
 // What is judged of a plan.
-fn judged(alloc: Global, instance: &Instance, plan: &Plan) -> Result<String, AllocError> {
+fn judged(rt: &impl Abort, alloc: Global, instance: &Instance, plan: &Plan) -> String {
     match judge(instance, plan) {
-        Ok(cost) => cost.to_string(alloc),
-        Err(broken) => broken.to_string(alloc),
+        Ok(cost) => cost.to_string(alloc).expect(rt, "memory"),
+        Err(broken) => broken.to_string(alloc).expect(rt, "memory"),
     }
 }
 
 // What is judged of a plan of one item with these amounts throughout.
 fn judged_of(
+    rt: &impl Abort,
     alloc: Global,
     instance: &Instance,
     periods: u32,
     amounts: [u64; 4],
-) -> Result<String, AllocError> {
-    let plan = plan(alloc, 1, periods, amounts)?;
-    judged(alloc, instance, &plan)
+) -> String {
+    let plan = plan(rt, alloc, 1, periods, amounts);
+    judged(rt, alloc, instance, &plan)
 }
 
 #[test]
-fn plans_are_judged(rt: HostRuntime) -> Result<(), Fail> {
+fn plans_are_judged(rt: HostRuntime) {
     let alloc = rt.alloc();
-    let instance = loaves(alloc)?;
+    let instance = loaves(&rt, alloc);
     for (periods, amounts, want) in [
         (1u32, [10u64, 1, 0, 0], "25"),
         (2, [10, 1, 0, 0], "broken 1"),
@@ -115,54 +114,51 @@ fn plans_are_judged(rt: HostRuntime) -> Result<(), Fail> {
         (1, [11, 1, 1, 0], "broken 6 item 1"),
         (1, [9, 1, 0, 1], "broken 7 item 1 period 1"),
     ] {
-        let text = judged_of(alloc, &instance, periods, amounts)?;
+        let text = judged_of(&rt, alloc, &instance, periods, amounts);
         assert_eq!(rt; text.as_str(), want);
     }
-    Ok(())
 }
 
 #[test]
-fn text_of_a_broken_capacity(rt: HostRuntime) -> Result<(), Fail> {
+fn text_of_a_broken_capacity(rt: HostRuntime) {
     let capacity = Broken::Capacity {
         resource: 2,
         period: 3,
         used: 7,
     };
-    let text = capacity.to_string(rt.alloc())?;
+    let text = capacity.to_string(rt.alloc()).expect(&rt, "memory");
     assert_eq!(rt; text.as_str(), "broken 5 resource 2 period 3 used 7");
-    Ok(())
 }
 
 // What the plan costs that completes this quantity throughout, if there is one.
-fn completed(alloc: Global, instance: &Instance, quantity: u64) -> Result<Option<u128>, Fail> {
+fn completed(rt: &impl Abort, alloc: Global, instance: &Instance, quantity: u64) -> Option<u128> {
     let (items, periods) = (instance.items(), instance.periods());
-    let make = Grid::filled(alloc, items, periods, quantity)?;
-    let setup = Grid::filled(alloc, items, periods, 1)?;
-    match complete(alloc, instance, make, setup)? {
-        Some(plan) => Ok(Some(judge(instance, &plan)?)),
-        None => Ok(None),
+    let make = Grid::filled(alloc, items, periods, quantity).expect(rt, "memory");
+    let setup = Grid::filled(alloc, items, periods, 1).expect(rt, "memory");
+    match complete(alloc, instance, make, setup).expect(rt, "memory") {
+        Some(plan) => Some(judge(instance, &plan).expect(rt, "a feasible plan")),
+        None => None,
     }
 }
 
 #[test]
-fn plans_are_completed(rt: HostRuntime) -> Result<(), Fail> {
+fn plans_are_completed(rt: HostRuntime) {
     let alloc = rt.alloc();
-    let instance = loaves(alloc)?;
+    let instance = loaves(&rt, alloc);
     for (quantity, cost) in [
         (10u64, Some(25u128)),
         (9, None),
         (11, None),
         (u64::MAX, None),
     ] {
-        let found = completed(alloc, &instance, quantity)?;
+        let found = completed(&rt, alloc, &instance, quantity);
         assert_eq!(rt; found, cost, "{quantity}");
     }
-    Ok(())
 }
 
 // Three tables of four legs each, which are sawn: a leg takes 1 of 25 minutes, and setting up the saw
 // takes 10.
-fn tables(alloc: Global) -> Result<Instance, Fail> {
+fn tables(rt: &impl Abort, alloc: Global) -> Instance {
     let table = Item {
         name: "table",
         demand: &[3],
@@ -178,103 +174,106 @@ fn tables(alloc: Global) -> Result<Instance, Fail> {
         name: "saw",
         capacity: &[25],
     };
-    instance(alloc, 1, &[saw], &[table, leg])
+    instance(alloc, 1, &[saw], &[table, leg]).expect(rt, "an instance")
 }
 
 // What three tables and twelve legs cost, how many legs arrive and are used up, the time on the saw, and the
 // parts of the cost of legs.
 fn sums_of(
+    rt: &impl Abort,
     alloc: Global,
     instance: &Instance,
-) -> Result<(u128, (u64, u128, u128), CostParts), Fail> {
+) -> (u128, (u64, u128, u128), CostParts) {
     if instance.items() != 2 || instance.periods() != 1 {
-        return Err("not two items over one period".into());
+        panic!(rt; "not two items over one period");
     }
-    let mut make = Grid::filled(alloc, 2, 1, 3)?;
+    let mut make = Grid::filled(alloc, 2, 1, 3).expect(rt, "memory");
     make.set(2, 1, 12);
-    let setup = Grid::filled(alloc, 2, 1, 1)?;
-    let planned = complete_at_cost(alloc, instance, make, setup)?.ok_or("no plan")?;
+    let setup = Grid::filled(alloc, 2, 1, 1).expect(rt, "memory");
+    let planned = complete_at_cost(alloc, instance, make, setup)
+        .expect(rt, "memory")
+        .expect(rt, "no plan");
     let arriving = arriving(instance, &planned.plan.make, 2, 1);
     let used_up = used_up(instance, &planned.plan.make, 2, 1);
     let time = time_used(instance, &planned.plan, 1, 1);
     let parts = cost_parts(instance, &planned.plan, 2, 1);
-    Ok((planned.cost, (arriving, used_up, time), parts))
+    (planned.cost, (arriving, used_up, time), parts)
 }
 
 #[test]
-fn sums_of_a_plan(rt: HostRuntime) -> Result<(), Fail> {
+fn sums_of_a_plan(rt: HostRuntime) {
     let alloc = rt.alloc();
-    let instance = tables(alloc)?;
+    let instance = tables(&rt, alloc);
     let parts = CostParts {
         unit: 24,
         setup: 5,
         hold: 0,
         backlog: 0,
     };
-    assert_eq!(rt; sums_of(alloc, &instance)?, (40, (12, 12, 22), parts));
-    Ok(())
+    assert_eq!(rt; sums_of(&rt, alloc, &instance), (40, (12, 12, 22), parts));
 }
 
 // As many items and periods as there may be, of which one unit is asked for in each period.
-fn largest(alloc: Global) -> Result<Instance, Fail> {
+fn largest(rt: &impl Abort, alloc: Global) -> Instance {
     let item = Item {
         demand: &[1],
         ..COSTED
     };
-    instance_alike(alloc, MAX_PERIODS, &[], MAX_ITEMS, &item)
+    instance_alike(alloc, MAX_PERIODS, &[], MAX_ITEMS, &item).expect(rt, "an instance")
 }
 
 // What it costs to make a unit of each item in each period, if that is a plan.
-fn cost_of_ones(alloc: Global, instance: &Instance) -> Result<Option<u128>, AllocError> {
+fn cost_of_ones(rt: &impl Abort, alloc: Global, instance: &Instance) -> Option<u128> {
     let (items, periods) = (instance.items(), instance.periods());
-    let make = Grid::filled(alloc, items, periods, 1)?;
-    let setup = Grid::filled(alloc, items, periods, 1)?;
-    match complete_at_cost(alloc, instance, make, setup)? {
-        Some(found) => Ok(Some(found.cost)),
-        None => Ok(None),
+    let make = Grid::filled(alloc, items, periods, 1).expect(rt, "memory");
+    let setup = Grid::filled(alloc, items, periods, 1).expect(rt, "memory");
+    match complete_at_cost(alloc, instance, make, setup).expect(rt, "memory") {
+        Some(found) => Some(found.cost),
+        None => None,
     }
 }
 
 // Whether there is a plan with a unit of each item in each period, but for the last one.
-fn has_plan_without_the_last(alloc: Global, instance: &Instance) -> Result<bool, AllocError> {
+fn has_plan_without_the_last(rt: &impl Abort, alloc: Global, instance: &Instance) -> bool {
     let (items, periods) = (instance.items(), instance.periods());
-    let mut make = Grid::filled(alloc, items, periods, 1)?;
+    let mut make = Grid::filled(alloc, items, periods, 1).expect(rt, "memory");
     make.set(items, periods, 0);
-    let setup = Grid::filled(alloc, items, periods, 1)?;
-    Ok(complete(alloc, instance, make, setup)?.is_some())
+    let setup = Grid::filled(alloc, items, periods, 1).expect(rt, "memory");
+    complete(alloc, instance, make, setup)
+        .expect(rt, "memory")
+        .is_some()
 }
 
 // A plan that meets each demand where it is asked for, but for a stock at the very end.
-fn with_a_last_stock(alloc: Global, instance: &Instance) -> Result<Plan, AllocError> {
+fn with_a_last_stock(rt: &impl Abort, alloc: Global, instance: &Instance) -> Plan {
     let (items, periods) = (instance.items(), instance.periods());
-    let mut stock = Grid::filled(alloc, items, periods, 0)?;
+    let mut stock = Grid::filled(alloc, items, periods, 0).expect(rt, "memory");
     stock.set(items, periods, 1);
-    Ok(Plan {
-        make: Grid::filled(alloc, items, periods, 1)?,
-        setup: Grid::filled(alloc, items, periods, 1)?,
+    Plan {
+        make: Grid::filled(alloc, items, periods, 1).expect(rt, "memory"),
+        setup: Grid::filled(alloc, items, periods, 1).expect(rt, "memory"),
         stock,
-        backlog: Grid::filled(alloc, items, periods, 0)?,
-    })
+        backlog: Grid::filled(alloc, items, periods, 0).expect(rt, "memory"),
+    }
 }
 
 // What is judged of it.
-fn judged_with_a_last_stock(alloc: Global, instance: &Instance) -> Result<String, AllocError> {
-    let plan = with_a_last_stock(alloc, instance)?;
-    judged(alloc, instance, &plan)
+fn judged_with_a_last_stock(rt: &impl Abort, alloc: Global, instance: &Instance) -> String {
+    let plan = with_a_last_stock(rt, alloc, instance);
+    judged(rt, alloc, instance, &plan)
 }
 
 // It is completed and judged, and its last cell rules out a plan.
 #[test]
-fn the_largest_plan_is_judged_to_its_last_cell(rt: HostRuntime) -> Result<(), Fail> {
+fn the_largest_plan_is_judged_to_its_last_cell(rt: HostRuntime) {
     let alloc = rt.alloc();
-    let instance = largest(alloc)?;
-    let cost = cost_of_ones(alloc, &instance)?;
-    let has_plan = has_plan_without_the_last(alloc, &instance)?;
+    let instance = largest(&rt, alloc);
+    let cost = cost_of_ones(&rt, alloc, &instance);
+    let has_plan = has_plan_without_the_last(&rt, alloc, &instance);
     // 40 items in 120 periods, each for 5 and 2.
     assert_eq!(rt; (cost, has_plan), (Some(33600), false));
-    let text = judged_with_a_last_stock(alloc, &instance)?;
+    let text = judged_with_a_last_stock(&rt, alloc, &instance);
     assert_eq!(rt; text.as_str(), "broken 3 item 40 period 120 left 1 right 2");
-    Ok(())
 }
 
 // One unit of time on each of as many resources as there may be, for each unit that is made.
@@ -310,7 +309,7 @@ fn enough(name: &str) -> Resource {
 }
 
 // As many items, periods and resources as there may be, with this time in the last place of all.
-fn largest_with_resources(alloc: Global, last: i64) -> Result<Instance, Fail> {
+fn largest_with_resources(rt: &impl Abort, alloc: Global, last: i64) -> Instance {
     let mut capacity = [40i64; 120];
     capacity[119] = last;
     let item = Item {
@@ -342,25 +341,30 @@ fn largest_with_resources(alloc: Global, last: i64) -> Result<Instance, Fail> {
         enough("r19"),
         end,
     ];
-    instance_alike(alloc, MAX_PERIODS, &resources, MAX_ITEMS, &item)
+    instance_alike(alloc, MAX_PERIODS, &resources, MAX_ITEMS, &item).expect(rt, "an instance")
 }
 
 // What is judged of the plan that makes each unit where it is asked for.
-fn judged_unit_by_unit(alloc: Global, instance: &Instance) -> Result<String, AllocError> {
-    let plan = plan(alloc, instance.items(), instance.periods(), [1, 1, 0, 0])?;
-    judged(alloc, instance, &plan)
+fn judged_unit_by_unit(rt: &impl Abort, alloc: Global, instance: &Instance) -> String {
+    let plan = plan(
+        rt,
+        alloc,
+        instance.items(),
+        instance.periods(),
+        [1, 1, 0, 0],
+    );
+    judged(rt, alloc, instance, &plan)
 }
 
 #[test]
-fn the_last_resource_of_the_largest_model_is_judged(rt: HostRuntime) -> Result<(), Fail> {
+fn the_last_resource_of_the_largest_model_is_judged(rt: HostRuntime) {
     let alloc = rt.alloc();
     for (last, want) in [
         (40i64, "33600"),
         (39, "broken 5 resource 20 period 120 used 40"),
     ] {
-        let instance = largest_with_resources(alloc, last)?;
-        let text = judged_unit_by_unit(alloc, &instance)?;
+        let instance = largest_with_resources(&rt, alloc, last);
+        let text = judged_unit_by_unit(&rt, alloc, &instance);
         assert_eq!(rt; text.as_str(), want);
     }
-    Ok(())
 }

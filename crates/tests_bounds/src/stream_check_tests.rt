@@ -5,9 +5,9 @@ use fixtures::shop;
 use lot_io::MemoryShelf;
 use lot_model::Instance;
 use plan_rules::Plan;
-use std::alloc::{AllocError, Global};
+use std::alloc::Global;
 use std::collections::BTreeMap;
-use std::test::Fail;
+use std::process::Abort;
 use stream_check::{StreamFault, check_stream, read_claim};
 
 // No plan without a setup in the first period, none without one in the second, and with both none costs less
@@ -33,19 +33,19 @@ const NO_END: &str = "lotcert 1\nclaim bound 0\ncuts 0\nbranch y 1 1 0\nlinear 1
     branch y 1 1 1\nlinear 1 0\nlinear 1 0\nlinear 1 0\n";
 
 // A shelf with one file.
-fn shelf_with(alloc: Global, text: &str) -> Result<MemoryShelf, AllocError> {
+fn shelf_with(rt: &impl Abort, alloc: Global, text: &str) -> MemoryShelf {
     let mut files = BTreeMap::new(alloc);
-    files.insert(
-        String::from_str(alloc, "c")?,
-        Vec::from_slice(alloc, text.as_bytes())?,
-    )?;
-    Ok(MemoryShelf::new(
+    let name = String::from_str(alloc, "c").expect(rt, "memory");
+    let bytes = Vec::from_slice(alloc, text.as_bytes()).expect(rt, "memory");
+    let inserted: Result<_, _> = files.insert(name, bytes);
+    inserted.expect(rt, "memory");
+    MemoryShelf::new(
         alloc,
         files,
         Vec::new(alloc),
         Vec::new(alloc),
         Vec::new(alloc),
-    ))
+    )
 }
 
 // What is found of a text that is read as a whole; one of more than 1,000 bytes isn't tried.
@@ -77,18 +77,19 @@ fn refusal(line: u64, why: Why) -> Result<Claim, StreamFault> {
 
 // What is found of a text that is fetched, with the plan that makes 5 and 5, and of one that is read as a whole.
 fn both_answers(
+    rt: &impl Abort,
     alloc: Global,
     text: &str,
-) -> Result<(Result<Claim, StreamFault>, Result<Claim, StreamFault>), Fail> {
-    let instance = shop(alloc)?;
-    let plan = best_plan(alloc)?;
-    let mut shelf = shelf_with(alloc, text)?;
+) -> (Result<Claim, StreamFault>, Result<Claim, StreamFault>) {
+    let instance = shop(alloc).expect(rt, "an instance");
+    let plan = best_plan(rt, alloc);
+    let mut shelf = shelf_with(rt, alloc, text);
     let found = check_stream(alloc, &instance, &mut shelf, "c", Some(&plan));
-    Ok((found, whole(alloc, &instance, text, Some(&plan))))
+    (found, whole(alloc, &instance, text, Some(&plan)))
 }
 
 #[test]
-fn answers_are_those_of_the_whole(rt: HostRuntime) -> Result<(), Fail> {
+fn answers_are_those_of_the_whole(rt: HostRuntime) {
     let alloc = rt.alloc();
     for (text, want) in [
         (BRANCHES, Ok(Claim::Optimal(23))),
@@ -97,81 +98,79 @@ fn answers_are_those_of_the_whole(rt: HostRuntime) -> Result<(), Fail> {
         (EMPTY_SIDE, refusal(6, Why::Range)),
         (NO_END, Err(StreamFault::Text(CertTextFault::Shape(9)))),
     ] {
-        let (found, of_whole) = both_answers(alloc, text)?;
+        let (found, of_whole) = both_answers(&rt, alloc, text);
         assert_eq!(rt; found, want);
         assert_eq!(rt; found, of_whole);
     }
-    Ok(())
 }
 
 // An optimal cost that is claimed without a plan.
 #[test]
-fn an_optimal_cost_comes_with_its_plan(rt: HostRuntime) -> Result<(), Fail> {
-    let instance = shop(rt.alloc())?;
+fn an_optimal_cost_comes_with_its_plan(rt: HostRuntime) {
+    let instance = shop(rt.alloc()).expect(&rt, "an instance");
     let found = whole(rt.alloc(), &instance, BRANCHES, None);
     assert_eq!(rt; found, refusal(2, Why::PlanMissing));
-    Ok(())
 }
 
 // What a file of the bound claims, with the bytes given by then, and what is found of it thereafter, with all bytes given.
 fn claim_and_check(
+    rt: &impl Abort,
     alloc: Global,
-) -> Result<
-    (
-        (Result<Claim, StreamFault>, u64),
-        (Result<Claim, StreamFault>, u64),
-    ),
-    Fail,
-> {
-    let instance = shop(alloc)?;
-    let mut shelf = shelf_with(alloc, BOUND)?;
+) -> (
+    (Result<Claim, StreamFault>, u64),
+    (Result<Claim, StreamFault>, u64),
+) {
+    let instance = shop(alloc).expect(rt, "an instance");
+    let mut shelf = shelf_with(rt, alloc, BOUND);
     let claim = (read_claim(alloc, &mut shelf, "c"), shelf.given);
     let found = check_stream(alloc, &instance, &mut shelf, "c", None);
-    Ok((claim, (found, shelf.given)))
+    (claim, (found, shelf.given))
 }
 
 // Each pass fetches each byte once.
 #[test]
-fn a_file_is_fetched_twice(rt: HostRuntime) -> Result<(), Fail> {
+fn a_file_is_fetched_twice(rt: HostRuntime) {
     let size = BOUND.len() as u64;
-    let (claim, found) = claim_and_check(rt.alloc())?;
+    let (claim, found) = claim_and_check(&rt, rt.alloc());
     assert_eq!(rt; claim, (Ok(Claim::Bound(20)), size));
     assert_eq!(rt; found, (Ok(Claim::Bound(20)), 3 * size));
-    Ok(())
 }
 
 // A bound of 20 by the most cuts that there may be, all but the last of which say the same: 36 bytes, 9 for each of
 // those, and 97.
-fn most_cuts(alloc: Global) -> Result<String, AllocError> {
-    let mut text = String::from_str(alloc, "lotcert 1\nclaim bound 20\ncuts 20000\n")?;
+fn most_cuts(rt: &impl Abort, alloc: Global) -> String {
+    let mut text = String::from_str(alloc, "lotcert 1\nclaim bound 20\ncuts 20000\n").expect(
+        rt, "memory",
+    );
     for _ in 0..19_999u32 {
-        text.push_str("ls 1 1 1\n")?;
+        text.push_str("ls 1 1 1\n").expect(rt, "memory");
     }
-    text.push_str("ls 1 2 01\nlinear 8 4\npart balance 1 1 -8\npart capacity 1 1 2\n")?;
-    text.push_str("part cut 1 41\npart cut 20000 10\nend\n")?;
-    Ok(text)
+    text.push_str("ls 1 2 01\nlinear 8 4\npart balance 1 1 -8\npart capacity 1 1 2\n")
+        .expect(rt, "memory");
+    text.push_str("part cut 1 41\npart cut 20000 10\nend\n")
+        .expect(rt, "memory");
+    text
 }
 
 // What is found of it, its length, and the bytes given.
-fn most_cuts_found(alloc: Global) -> Result<(Result<Claim, StreamFault>, usize, u64), Fail> {
-    let text = most_cuts(alloc)?;
-    let instance = shop(alloc)?;
-    let mut shelf = shelf_with(alloc, text.as_str())?;
+fn most_cuts_found(rt: &impl Abort, alloc: Global) -> (Result<Claim, StreamFault>, usize, u64) {
+    let text = most_cuts(rt, alloc);
+    let instance = shop(alloc).expect(rt, "an instance");
+    let mut shelf = shelf_with(rt, alloc, text.as_str());
     let found = check_stream(alloc, &instance, &mut shelf, "c", None);
-    Ok((found, text.len(), shelf.given))
+    (found, text.len(), shelf.given)
 }
 
 // It is fetched in three pieces of at most 65,536 bytes.
 #[test]
-fn a_file_of_several_pieces_is_fetched_twice(rt: HostRuntime) -> Result<(), Fail> {
-    let (found, size, given) = most_cuts_found(rt.alloc())?;
+fn a_file_of_several_pieces_is_fetched_twice(rt: HostRuntime) {
+    let (found, size, given) = most_cuts_found(&rt, rt.alloc());
     assert_eq!(rt; found, Ok(Claim::Bound(20)));
     assert_eq!(rt; (size, given), (180_124, 2 * 180_124));
-    Ok(())
 }
 
 #[test]
-fn a_fault_of_the_text_is_told_with_its_line(rt: HostRuntime) -> Result<(), Fail> {
+fn a_fault_of_the_text_is_told_with_its_line(rt: HostRuntime) {
     let alloc = rt.alloc();
     for (fault, words) in [
         (
@@ -191,9 +190,8 @@ fn a_fault_of_the_text_is_told_with_its_line(rt: HostRuntime) -> Result<(), Fail
             "line 2004: too many branches on a path",
         ),
     ] {
-        let told = format!(in alloc; "{}", StreamFault::Text(fault))?;
-        let want = format!(in alloc; "the text is no certificate's: {words}")?;
+        let told = format!(in alloc; "{}", StreamFault::Text(fault)).expect(&rt, "memory");
+        let want = format!(in alloc; "the text is no certificate's: {words}").expect(&rt, "memory");
         assert_eq!(rt; told.as_str(), want.as_str());
     }
-    Ok(())
 }

@@ -1,6 +1,6 @@
 use frac128::{Frac, Ratio, plain};
 use std::cmp::Ordering;
-use std::test::Fail;
+use std::process::Abort;
 
 // 2^127 - 1
 const MOST: i128 = 170_141_183_460_469_231_731_687_303_715_884_105_727;
@@ -15,8 +15,8 @@ const SIGN: i128 = 9_223_372_036_854_775_808;
 // A third of 2^127 + 1.
 const THIRD: i128 = 56_713_727_820_156_410_577_229_101_238_628_035_243;
 
-fn frac(num: i128, den: i128) -> Result<Frac, Fail> {
-    Ok(Frac::new(num, den).ok_or("no fraction")?)
+fn frac(rt: &impl Abort, num: i128, den: i128) -> Frac {
+    Frac::new(num, den).expect(rt, "no fraction")
 }
 
 fn parts(number: Option<Frac>) -> Option<(i128, i128)> {
@@ -24,7 +24,7 @@ fn parts(number: Option<Frac>) -> Option<(i128, i128)> {
 }
 
 #[test]
-fn numbers_are_made_in_lowest_terms(rt: HostRuntime) -> Result<(), Fail> {
+fn numbers_are_made_in_lowest_terms(rt: HostRuntime) {
     for (num, den, want) in [
         (6, -4, Some((-3, 2))),
         (-6, -4, Some((3, 2))),
@@ -45,11 +45,10 @@ fn numbers_are_made_in_lowest_terms(rt: HostRuntime) -> Result<(), Fail> {
     ] {
         assert_eq!(rt; parts(Frac::new(num, den)), want);
     }
-    Ok(())
 }
 
 #[test]
-fn sums_and_differences(rt: HostRuntime) -> Result<(), Fail> {
+fn sums_and_differences(rt: HostRuntime) {
     for (a, b, c, d, want) in [
         (1, 6, 1, 10, Some((4, 15))),
         (1, 2, -1, 3, Some((1, 6))),
@@ -82,16 +81,21 @@ fn sums_and_differences(rt: HostRuntime) -> Result<(), Fail> {
         (1, MOST, 1, MOST, Some((2, MOST))),
         (MOST - 2, MOST - 1, 1, MOST - 1, Some((1, 1))),
     ] {
-        assert_eq!(rt; parts(frac(a, b)?.add(frac(c, d)?)), want);
-        assert_eq!(rt; parts(frac(a, b)?.sub(frac(c.wrapping_neg(), d)?)), want);
+        assert_eq!(rt; parts(frac(&rt, a, b).add(frac(&rt, c, d))), want);
+        assert_eq!(rt;
+            parts(frac(&rt, a, b).sub(frac(&rt, c.wrapping_neg(), d))),
+            want
+        );
     }
-    assert_eq!(rt; parts(frac(1, 6)?.sub(frac(1, 10)?)), Some((1, 15)));
-    assert_eq!(rt; parts(frac(1, 10)?.sub(frac(1, 6)?)), Some((-1, 15)));
-    Ok(())
+    assert_eq!(rt; parts(frac(&rt, 1, 6).sub(frac(&rt, 1, 10))), Some((1, 15)));
+    assert_eq!(rt;
+        parts(frac(&rt, 1, 10).sub(frac(&rt, 1, 6))),
+        Some((-1, 15))
+    );
 }
 
 #[test]
-fn products(rt: HostRuntime) -> Result<(), Fail> {
+fn products(rt: HostRuntime) {
     for (a, b, c, d, want) in [
         (5, 12, 9, 10, Some((3, 8))),
         (-5, 12, 9, 10, Some((-3, 8))),
@@ -109,14 +113,13 @@ fn products(rt: HostRuntime) -> Result<(), Fail> {
         (1, 3, 1, THIRD, None),
         (1, SIGN, -1, SIGN, Some((-1, QUARTER))),
     ] {
-        assert_eq!(rt; parts(frac(a, b)?.mul(frac(c, d)?)), want);
-        assert_eq!(rt; parts(frac(c, d)?.mul(frac(a, b)?)), want);
+        assert_eq!(rt; parts(frac(&rt, a, b).mul(frac(&rt, c, d))), want);
+        assert_eq!(rt; parts(frac(&rt, c, d).mul(frac(&rt, a, b))), want);
     }
-    Ok(())
 }
 
 #[test]
-fn quotients(rt: HostRuntime) -> Result<(), Fail> {
+fn quotients(rt: HostRuntime) {
     for (a, b, c, d, want) in [
         (-1, 2, 3, 4, Some((-2, 3))),
         (1, 2, -3, 4, Some((-2, 3))),
@@ -131,9 +134,8 @@ fn quotients(rt: HostRuntime) -> Result<(), Fail> {
         (1, WORD, SIGN, 1, None),
         (MOST, 1, 3, 1, Some((MOST, 3))),
     ] {
-        assert_eq!(rt; parts(frac(a, b)?.div(frac(c, d)?)), want);
+        assert_eq!(rt; parts(frac(&rt, a, b).div(frac(&rt, c, d))), want);
     }
-    Ok(())
 }
 
 // How one number compares to another, the other to the one, and their opposites.
@@ -142,7 +144,7 @@ fn orders(x: Frac, y: Frac) -> (Ordering, Ordering, Ordering) {
 }
 
 #[test]
-fn comparisons(rt: HostRuntime) -> Result<(), Fail> {
+fn comparisons(rt: HostRuntime) {
     for (a, b, c, d, want) in [
         (1, 2, 1, 2, Ordering::Equal),
         (1, 2, 2, 3, Ordering::Less),
@@ -160,17 +162,16 @@ fn comparisons(rt: HostRuntime) -> Result<(), Fail> {
         (MOST - 2, MOST - 1, MOST - 1, MOST, Ordering::Less),
         (1 - MOST, MOST, 1 - MOST, MOST, Ordering::Equal),
     ] {
-        let (x, y) = (frac(a, b)?, frac(c, d)?);
+        let (x, y) = (frac(&rt, a, b), frac(&rt, c, d));
         let back = want.reverse();
         assert_eq!(rt; orders(x, y), (want, back, back));
         assert_eq!(rt; (x.cmp(&y), x.partial_cmp(&y)), (want, Some(want)));
         assert_eq!(rt; x == y, want == Ordering::Equal);
     }
-    Ok(())
 }
 
 #[test]
-fn ceilings(rt: HostRuntime) -> Result<(), Fail> {
+fn ceilings(rt: HostRuntime) {
     for (num, den, want) in [
         (7, 2, 4),
         (-7, 2, -3),
@@ -188,13 +189,12 @@ fn ceilings(rt: HostRuntime) -> Result<(), Fail> {
         (MOST - 1, MOST, 1),
         (1 - MOST, MOST, 0),
     ] {
-        assert_eq!(rt; frac(num, den)?.ceil(), want);
+        assert_eq!(rt; frac(&rt, num, den).ceil(), want);
     }
-    Ok(())
 }
 
 #[test]
-fn numbers_are_written(rt: HostRuntime) -> Result<(), Fail> {
+fn numbers_are_written(rt: HostRuntime) {
     let alloc = rt.alloc();
     for (num, den, want) in [
         (7, -14, "-1/2"),
@@ -206,9 +206,14 @@ fn numbers_are_written(rt: HostRuntime) -> Result<(), Fail> {
             "170141183460469231731687303715884105726/170141183460469231731687303715884105727",
         ),
     ] {
-        assert!(rt; frac(num, den)?.to_string(alloc)?.as_str() == want);
+        assert!(rt;
+            frac(&rt, num, den)
+                .to_string(alloc)
+                .expect(&rt, "memory")
+                .as_str()
+                == want
+        );
     }
-    Ok(())
 }
 
 // The next of a row of numbers of 64 bits.
@@ -229,9 +234,9 @@ fn drawn(state: &mut u64, most: u32) -> i128 {
     (high as i128).wrapping_mul(low as i128).wrapping_add(1)
 }
 
-fn drawn_frac(state: &mut u64, top: u32, bottom: u32) -> Result<Frac, Fail> {
+fn drawn_frac(rt: &impl Abort, state: &mut u64, top: u32, bottom: u32) -> Frac {
     let (num, den) = (drawn(state, top), drawn(state, bottom));
-    frac(if num % 2 == 0 { num } else { -num }, den)
+    frac(rt, if num % 2 == 0 { num } else { -num }, den)
 }
 
 // Whether a sum, a difference, a product and a quotient are their plain forms.
@@ -245,19 +250,18 @@ fn are_plain(x: Frac, y: Frac) -> (bool, bool, bool, bool) {
 }
 
 #[test]
-fn each_operation_is_its_plain_form(rt: HostRuntime) -> Result<(), Fail> {
+fn each_operation_is_its_plain_form(rt: HostRuntime) {
     let mut state = 20_261_127u64;
     for round in 0..20_000u32 {
-        let x = drawn_frac(&mut state, round % 61 + 1, round % 31 + 1)?;
-        let y = drawn_frac(&mut state, round % 7 + 1, round % 59 + 1)?;
+        let x = drawn_frac(&rt, &mut state, round % 61 + 1, round % 31 + 1);
+        let y = drawn_frac(&rt, &mut state, round % 7 + 1, round % 59 + 1);
         assert_eq!(rt; are_plain(x, y), (true, true, true, true));
         assert!(rt; x.ratio(y).is_some() == x.div(y).is_some());
     }
-    Ok(())
 }
 
 #[test]
-fn whole_numbers_signs_and_opposites(rt: HostRuntime) -> Result<(), Fail> {
+fn whole_numbers_signs_and_opposites(rt: HostRuntime) {
     for (number, negative, positive) in [
         (0, false, false),
         (7, false, true),
@@ -265,7 +269,7 @@ fn whole_numbers_signs_and_opposites(rt: HostRuntime) -> Result<(), Fail> {
         (MOST, false, true),
         (-MOST, true, false),
     ] {
-        let x = Frac::whole(number).ok_or("no fraction")?;
+        let x = Frac::whole(number).expect(&rt, "no fraction");
         assert_eq!(rt; parts(Some(x)), Some((number, 1)));
         assert_eq!(rt; parts(Some(-x)), Some((-number, 1)));
         assert_eq!(rt;
@@ -273,21 +277,21 @@ fn whole_numbers_signs_and_opposites(rt: HostRuntime) -> Result<(), Fail> {
             (negative, positive, number == 0)
         );
     }
-    Ok(())
 }
 
 #[test]
-fn whole_numbers_of_other_widths(rt: HostRuntime) -> Result<(), Fail> {
+fn whole_numbers_of_other_widths(rt: HostRuntime) {
     assert!(rt; Frac::whole(i128::MIN).is_none());
     assert_eq!(rt; parts(Some(Frac::from(i64::MIN))), Some((-SIGN, 1)));
     assert_eq!(rt; parts(Some(Frac::from(u64::MAX))), Some((WORD - 1, 1)));
-    assert_eq!(rt; parts(Some(-frac(3, 7)?)), Some((-3, 7)));
-    Ok(())
+    assert_eq!(rt; parts(Some(-frac(&rt, 3, 7))), Some((-3, 7)));
 }
 
 // One whole number by another.
-fn quotient(num: i128, den: i128) -> Result<Ratio, Fail> {
-    Ok(frac(num, 1)?.ratio(frac(den, 1)?).ok_or("no quotient")?)
+fn quotient(rt: &impl Abort, num: i128, den: i128) -> Ratio {
+    frac(rt, num, 1)
+        .ratio(frac(rt, den, 1))
+        .expect(rt, "no quotient")
 }
 
 // How two of them compare, each to the other.
@@ -296,7 +300,7 @@ fn quotient_orders(x: Ratio, y: Ratio) -> (Ordering, Ordering) {
 }
 
 #[test]
-fn quotients_are_compared(rt: HostRuntime) -> Result<(), Fail> {
+fn quotients_are_compared(rt: HostRuntime) {
     for (a, b, c, d, want) in [
         (6, 4, 9, 6, Ordering::Equal),
         (1, 3, 1, 2, Ordering::Less),
@@ -305,24 +309,21 @@ fn quotients_are_compared(rt: HostRuntime) -> Result<(), Fail> {
         (MOST, 3, MOST, 2, Ordering::Less),
         (MOST, MOST, 1, 1, Ordering::Equal),
     ] {
-        let found = quotient_orders(quotient(a, b)?, quotient(c, d)?);
+        let found = quotient_orders(quotient(&rt, a, b), quotient(&rt, c, d));
         assert_eq!(rt; found, (want, want.reverse()));
     }
-    Ok(())
 }
 
 // A number by itself, in wide parts.
 #[test]
-fn a_quotient_of_one_is_one(rt: HostRuntime) -> Result<(), Fail> {
-    let wide = frac(MOST, THIRD)?;
-    let same = wide.ratio(wide).ok_or("no quotient")?;
-    assert_eq!(rt; same.compare(&quotient(1, 1)?), Ordering::Equal);
-    Ok(())
+fn a_quotient_of_one_is_one(rt: HostRuntime) {
+    let wide = frac(&rt, MOST, THIRD);
+    let same = wide.ratio(wide).expect(&rt, "no quotient");
+    assert_eq!(rt; same.compare(&quotient(&rt, 1, 1)), Ordering::Equal);
 }
 
 #[test]
-fn quotients_that_there_are_not(rt: HostRuntime) -> Result<(), Fail> {
-    assert!(rt; frac(1, 2)?.ratio(frac(0, 1)?).is_none());
-    assert!(rt; frac(MOST, 1)?.ratio(frac(1, 2)?).is_none());
-    Ok(())
+fn quotients_that_there_are_not(rt: HostRuntime) {
+    assert!(rt; frac(&rt, 1, 2).ratio(frac(&rt, 0, 1)).is_none());
+    assert!(rt; frac(&rt, MOST, 1).ratio(frac(&rt, 1, 2)).is_none());
 }

@@ -1,48 +1,56 @@
 //! Linear programs, what runs say of them, and programs that are drawn: what the files on runs have in common.
 
 use frac128::Frac;
-use std::alloc::{AllocError, Global};
-use std::test::Fail;
+use std::alloc::Global;
+use std::process::Abort;
 use tableau::{Lp, LpRow, LpTerm, Outcome, is_program};
 
 /// A row of these multiples of columns.
-pub fn row(alloc: Global, terms: &[(u32, i128)], right: i128) -> Result<LpRow, AllocError> {
+pub fn row(rt: &impl Abort, alloc: Global, terms: &[(u32, i128)], right: i128) -> LpRow {
     let mut list = Vec::new(alloc);
     for term in terms {
         list.push(LpTerm {
             column: term.0,
             times: term.1,
-        })?;
+        })
+        .expect(rt, "memory");
     }
-    Ok(LpRow { terms: list, right })
+    LpRow { terms: list, right }
 }
 
 // Several rows, each by its terms and its right side.
-fn rows(alloc: Global, rows: &[(&[(u32, i128)], i128)]) -> Result<Vec<LpRow>, AllocError> {
+fn rows(rt: &impl Abort, alloc: Global, rows: &[(&[(u32, i128)], i128)]) -> Vec<LpRow> {
     let mut list = Vec::new(alloc);
     for (terms, right) in rows {
-        list.push(row(alloc, *terms, *right)?)?;
+        list.push(row(rt, alloc, *terms, *right))
+            .expect(rt, "memory");
     }
-    Ok(list)
+    list
 }
 
 // The program of these costs and rows.
-fn made(costs: Vec<u64>, rows: Vec<LpRow>) -> Result<Lp, Fail> {
+fn made(rt: &impl Abort, costs: Vec<u64>, rows: Vec<LpRow>) -> Lp {
     if !is_program(&costs, &rows) {
-        return Err("no program".into());
+        panic!(rt; "no program");
     }
-    Ok(Lp::new(costs, rows))
+    Lp::new(costs, rows)
 }
 
 /// The program of these costs and rows.
-pub fn program(alloc: Global, costs: &[u64], terms: &[(&[(u32, i128)], i128)]) -> Result<Lp, Fail> {
-    let rows = rows(alloc, terms)?;
-    made(costs.to_vec(alloc)?, rows)
+pub fn program(
+    rt: &impl Abort,
+    alloc: Global,
+    costs: &[u64],
+    terms: &[(&[(u32, i128)], i128)],
+) -> Lp {
+    let rows = rows(rt, alloc, terms);
+    made(rt, costs.to_vec(alloc).expect(rt, "memory"), rows)
 }
 
 /// The textbook's program of two cars.
-pub fn two_cars(alloc: Global) -> Result<Lp, Fail> {
+pub fn two_cars(rt: &impl Abort, alloc: Global) -> Lp {
     program(
+        rt,
         alloc,
         &[50, 100],
         &[(&[(1, 7), (2, 2)][..], 28), (&[(1, 2), (2, 12)][..], 24)],
@@ -50,8 +58,9 @@ pub fn two_cars(alloc: Global) -> Result<Lp, Fail> {
 }
 
 /// A program of which the reduced cost of column 2 after the first pivot is 2^64 - 1 - 3^70 / 2^100.
-pub fn past_the_width(alloc: Global) -> Result<Lp, Fail> {
+pub fn past_the_width(rt: &impl Abort, alloc: Global) -> Lp {
     program(
+        rt,
         alloc,
         &[1, 18446744073709551615],
         &[
@@ -141,56 +150,52 @@ fn draw(state: &mut u64) -> u64 {
 }
 
 // A row over so many columns, some of them left out; numbers are multiples of one, or nearly.
-fn drawn_row(
-    alloc: Global,
-    state: &mut u64,
-    columns: u32,
-    unit: i128,
-) -> Result<LpRow, AllocError> {
+fn drawn_row(rt: &impl Abort, alloc: Global, state: &mut u64, columns: u32, unit: i128) -> LpRow {
     let mut terms = Vec::new(alloc);
     for column in 0..columns {
         let times = (draw(state) % 7) as i128 - 3;
         if times != 0 && draw(state) % 3 != 0 {
-            terms.push(LpTerm {
-                column: column.wrapping_add(1),
-                times: times
-                    .wrapping_mul(unit)
-                    .wrapping_add((draw(state) % 2) as i128),
-            })?;
+            terms
+                .push(LpTerm {
+                    column: column.wrapping_add(1),
+                    times: times
+                        .wrapping_mul(unit)
+                        .wrapping_add((draw(state) % 2) as i128),
+                })
+                .expect(rt, "memory");
         }
     }
     let right = ((draw(state) % 12) as i128 - 4).wrapping_mul(unit);
-    Ok(LpRow { terms, right })
+    LpRow { terms, right }
 }
 
 // So many costs.
-fn drawn_costs(alloc: Global, state: &mut u64, size: u32) -> Result<Vec<u64>, AllocError> {
+fn drawn_costs(rt: &impl Abort, alloc: Global, state: &mut u64, size: u32) -> Vec<u64> {
     let mut costs = Vec::new(alloc);
     for _ in 0..size {
-        costs.push(draw(state))?;
+        costs.push(draw(state)).expect(rt, "memory");
     }
-    Ok(costs)
+    costs
 }
 
 /// Adds a row to a program that takes it.
-pub fn add_row(lp: &mut Lp, more: LpRow) -> Result<(), Fail> {
+pub fn add_row(rt: &impl Abort, lp: &mut Lp, more: LpRow) {
     if !lp.takes(&more) {
-        return Err("no row".into());
+        panic!(rt; "no row");
     }
-    lp.push(more)?;
-    Ok(())
+    lp.push(more).expect(rt, "memory");
 }
 
 /// A program of as many rows as columns for a round of a test; in each fourth round its numbers are large.
-pub fn drawn_program(alloc: Global, state: &mut u64, round: u32) -> Result<Lp, Fail> {
+pub fn drawn_program(rt: &impl Abort, alloc: Global, state: &mut u64, round: u32) -> Lp {
     let unit = if round % 4 == 0 { 1_000_000_000_000 } else { 1 };
     let size = (round % 9).wrapping_add(1);
-    let costs = drawn_costs(alloc, state, size)?;
-    let mut lp = made(costs, Vec::new(alloc))?;
+    let costs = drawn_costs(rt, alloc, state, size);
+    let mut lp = made(rt, costs, Vec::new(alloc));
     for _ in 0..size {
-        add_row(&mut lp, drawn_row(alloc, state, size, unit)?)?;
+        add_row(rt, &mut lp, drawn_row(rt, alloc, state, size, unit));
     }
-    Ok(lp)
+    lp
 }
 
 fn same_numbers(one: &[Frac], other: &[Frac]) -> bool {

@@ -5,7 +5,8 @@ ghost use Rattle.plan_rules.specs.Held.{AllFit};
 use lot_model::Instance;
 use lot_schedule::Slot;
 use plan_rules::Plan;
-use std::alloc::{AllocError, Global};
+use std::alloc::Global;
+use std::process::Abort;
 
 // The time that an item takes on a resource in a period, and 0 where one of them doesn't exist.
 fn length(instance: &Instance, plan: &Plan, resource: u32, period: u32, item: u32) -> u64
@@ -77,12 +78,13 @@ fn best_order(instance: &Instance, plan: &Plan, resource: u32, period: u32) -> [
 
 // Adds the rows of a resource in a period.
 fn add_rows(
+    rt: &impl Abort,
     text: &mut String,
     instance: &Instance,
     plan: &Plan,
     resource: u32,
     period: u32,
-) -> Result<(), AllocError>
+)
     requires { AllFit instance.now plan.now }
 {
     let mut end = 0u64;
@@ -91,21 +93,20 @@ fn add_rows(
         if length > 0 {
             let start = end;
             end = end.saturating_add(length);
-            write!(text, "m{resource},{period},i{item},{start},{end}\n")?;
+            write!(text, "m{resource},{period},i{item},{start},{end}\n").expect(rt, "memory");
         }
     }
-    Ok(())
 }
 
 /// Adds the text of the schedule that has the least sum of ends on each resource in each period.
-pub fn add_schedule(text: &mut String, instance: &Instance, plan: &Plan) -> Result<(), AllocError>
+pub fn add_schedule(rt: &impl Abort, text: &mut String, instance: &Instance, plan: &Plan)
     requires { AllFit instance.now plan.now }
 {
-    text.push_str("resource,period,item,start,end\n")?;
+    text.push_str("resource,period,item,start,end\n")
+        .expect(rt, "memory");
     for place in 0..9u32 {
-        add_rows(text, instance, plan, 1 + place / 3, 1 + place % 3)?;
+        add_rows(rt, text, instance, plan, 1 + place / 3, 1 + place % 3);
     }
-    Ok(())
 }
 
 // Whether the resource, period and item of a slot exist.
@@ -167,21 +168,22 @@ fn wrong(instance: &Instance, plan: &Plan, slots: &[Slot], place: usize) -> u32
 
 // What is wrong with the first slot with which something is.
 fn first_wrong(
+    rt: &impl Abort,
     alloc: Global,
     instance: &Instance,
     plan: &Plan,
     slots: &[Slot],
-) -> Result<Option<String>, AllocError>
+) -> Option<String>
     requires { AllFit instance.now plan.now }
 {
     for place in 0..slots.len() {
         let number = wrong(instance, plan, slots, place);
         if number > 0 {
             let row = place as u64 + 1;
-            return Ok(Some(format!(in alloc; "rejected slot {number} row {row}")?));
+            return Some(format!(in alloc; "rejected slot {number} row {row}").expect(rt, "memory"));
         }
     }
-    Ok(None)
+    None
 }
 
 // Whether there is a slot of a lot.
@@ -196,42 +198,44 @@ fn has_slot(slots: &[Slot], resource: u32, period: u32, item: u32) -> bool {
 
 // The first resource, period and item with a length but without a slot.
 fn absent(
+    rt: &impl Abort,
     alloc: Global,
     instance: &Instance,
     plan: &Plan,
     slots: &[Slot],
-) -> Result<Option<String>, AllocError>
+) -> Option<String>
     requires { AllFit instance.now plan.now }
 {
     for place in 0..27u32 {
         let (resource, period, item) = (1 + place / 9, 1 + place / 3 % 3, 1 + place % 3);
         let takes = length(instance, plan, resource, period, item) > 0;
         if takes && !has_slot(slots, resource, period, item) {
-            return Ok(Some(format!(in alloc;
+            return Some(format!(in alloc;
                 "rejected slot 5 resource {resource} period {period} item {item}"
-            )?));
+            ).expect(rt, "memory"));
         }
     }
-    Ok(None)
+    None
 }
 
 /// What is found first of slots whose rows are read, or that they are accepted.
 pub fn told_plainly(
+    rt: &impl Abort,
     alloc: Global,
     instance: &Instance,
     plan: &Plan,
     slots: &[Slot],
-) -> Result<String, AllocError>
+) -> String
     requires { AllFit instance.now plan.now }
 {
     if let Some(row) = bad_row(instance, slots) {
-        return format!(in alloc; "slot row {row}");
+        return format!(in alloc; "slot row {row}").expect(rt, "memory");
     }
-    if let Some(found) = first_wrong(alloc, instance, plan, slots)? {
-        return Ok(found);
+    if let Some(found) = first_wrong(rt, alloc, instance, plan, slots) {
+        return found;
     }
-    match absent(alloc, instance, plan, slots)? {
-        Some(found) => Ok(found),
-        None => String::from_str(alloc, "accepted"),
+    match absent(rt, alloc, instance, plan, slots) {
+        Some(found) => found,
+        None => String::from_str(alloc, "accepted").expect(rt, "memory"),
     }
 }

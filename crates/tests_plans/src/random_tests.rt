@@ -11,8 +11,8 @@ use pegging::{peg, write_pegs};
 use plan_rules::{Plan, complete};
 use rand_core::utils::NextWord;
 use rand_pcg::Lcg64Xsh32;
-use std::alloc::{AllocError, Global};
-use std::test::Fail;
+use std::alloc::Global;
+use std::process::Abort;
 
 // What the calls say, and what the definitions say.
 #[derive(Drop)]
@@ -22,40 +22,35 @@ struct Both {
 }
 
 // Adds bytes that are a text.
-fn add_bytes(text: &mut String, bytes: Vec<u8>) -> Result<(), AllocError> {
+fn add_bytes(rt: &impl Abort, text: &mut String, bytes: Vec<u8>) {
     match String::from_utf8(bytes) {
-        Ok(more) => text.push_str(more.as_str()),
-        Err(_) => text.push_str("no text\n"),
+        Ok(more) => text.push_str(more.as_str()).expect(rt, "memory"),
+        Err(_) => text.push_str("no text\n").expect(rt, "memory"),
     }
 }
 
 // The rows of slots, whether what they name exists or not.
-fn rows(alloc: Global, slots: &[Slot]) -> Result<String, AllocError> {
-    let mut text = String::from_str(alloc, "resource,period,item,start,end\n")?;
+fn rows(rt: &impl Abort, alloc: Global, slots: &[Slot]) -> String {
+    let mut text = String::from_str(alloc, "resource,period,item,start,end\n").expect(rt, "memory");
     for slot in slots {
         let (resource, period, item) = (slot.resource, slot.period, slot.item);
         let (start, end) = (slot.start, slot.end);
-        write!(&mut text, "m{resource},{period},i{item},{start},{end}\n")?;
+        write!(&mut text, "m{resource},{period},i{item},{start},{end}\n").expect(rt, "memory");
     }
-    Ok(text)
+    text
 }
 
 // What is found of slots by their text.
-fn told(
-    alloc: Global,
-    instance: &Instance,
-    plan: &Plan,
-    slots: &[Slot],
-) -> Result<String, AllocError>
+fn told(rt: &impl Abort, alloc: Global, instance: &Instance, plan: &Plan, slots: &[Slot]) -> String
     requires fits { AllFit instance.now plan.now }
     requires feasible { IsFeasible instance.now (plan_of plan.now) }
 {
-    let text = rows(alloc, slots)?;
+    let text = rows(rt, alloc, slots);
     match read_schedule(alloc, instance, text.as_bytes()) {
-        Err(fault) => fault.to_string(alloc),
+        Err(fault) => fault.to_string(alloc).expect(rt, "memory"),
         Ok(slots) => match check_schedule(instance, plan, &slots) {
-            Ok(()) => String::from_str(alloc, "accepted"),
-            Err(broken) => broken.to_string(alloc),
+            Ok(()) => String::from_str(alloc, "accepted").expect(rt, "memory"),
+            Err(broken) => broken.to_string(alloc).expect(rt, "memory"),
         },
     }
 }
@@ -86,88 +81,88 @@ fn changed(words: &mut Lcg64Xsh32, slot: Slot) -> Slot {
 }
 
 // Puts a slot in some place.
-fn put(words: &mut Lcg64Xsh32, list: &mut Vec<Slot>, slot: Slot) -> Result<(), AllocError> {
+fn put(rt: &impl Abort, words: &mut Lcg64Xsh32, list: &mut Vec<Slot>, slot: Slot) {
     let place = words.next_word() as usize;
     let count = list.len();
     if count == 0 {
-        list.push(slot)?;
+        list.push(slot).expect(rt, "memory");
     } else {
-        list.insert(place % count, slot)?;
+        list.insert(place % count, slot).expect(rt, "memory");
     }
-    Ok(())
 }
 
 // The slots in some order. One in eight is changed, one in sixteen left out, and as many are there twice.
-fn shuffled(
-    alloc: Global,
-    words: &mut Lcg64Xsh32,
-    slots: &[Slot],
-) -> Result<Vec<Slot>, AllocError> {
+fn shuffled(rt: &impl Abort, alloc: Global, words: &mut Lcg64Xsh32, slots: &[Slot]) -> Vec<Slot> {
     let mut list = Vec::new(alloc);
     for slot in slots {
         match draw(words, 16) {
             0 => {
-                put(words, &mut list, *slot)?;
-                put(words, &mut list, *slot)?;
+                put(rt, words, &mut list, *slot);
+                put(rt, words, &mut list, *slot);
             }
             1 => {}
             2 | 3 => {
                 let other = changed(words, *slot);
-                put(words, &mut list, other)?;
+                put(rt, words, &mut list, other);
             }
-            _ => put(words, &mut list, *slot)?,
+            _ => put(rt, words, &mut list, *slot),
         }
     }
-    Ok(list)
+    list
 }
 
 // Adds what is said of slots.
 fn add_told(
+    rt: &impl Abort,
     alloc: Global,
     both: &mut Both,
     instance: &Instance,
     plan: &Plan,
     slots: &[Slot],
-) -> Result<(), AllocError>
+)
     requires fits { AllFit instance.now plan.now }
     requires feasible { IsFeasible instance.now (plan_of plan.now) }
 {
-    let found = told(alloc, instance, plan, slots)?;
-    let plain = told_plainly(alloc, instance, plan, slots)?;
-    write!(&mut both.found, "{found}\n")?;
-    write!(&mut both.plain, "{plain}\n")?;
-    Ok(())
+    let found = told(rt, alloc, instance, plan, slots);
+    let plain = told_plainly(rt, alloc, instance, plan, slots);
+    write!(&mut both.found, "{found}\n").expect(rt, "memory");
+    write!(&mut both.plain, "{plain}\n").expect(rt, "memory");
 }
 
 // Adds the schedule, what is said of it, and what is said of six changed ones.
 fn add_schedules(
+    rt: &impl Abort,
     alloc: Global,
     words: &mut Lcg64Xsh32,
     both: &mut Both,
     instance: &Instance,
     plan: &Plan,
-) -> Result<(), AllocError>
+)
     requires fits { AllFit instance.now plan.now }
     requires feasible { IsFeasible instance.now (plan_of plan.now) }
 {
-    let slots = schedule(alloc, instance, plan)?;
-    add_bytes(&mut both.found, write_schedule(alloc, instance, &slots)?)?;
-    add_schedule(&mut both.plain, instance, plan)?;
-    add_told(alloc, both, instance, plan, &slots)?;
+    let slots = schedule(alloc, instance, plan).expect(rt, "memory");
+    add_bytes(
+        rt,
+        &mut both.found,
+        write_schedule(alloc, instance, &slots).expect(rt, "memory"),
+    );
+    add_schedule(rt, &mut both.plain, instance, plan);
+    add_told(rt, alloc, both, instance, plan, &slots);
     for _try in 0..6u32 {
-        let others = shuffled(alloc, words, &slots)?;
-        add_told(alloc, both, instance, plan, &others)?;
+        let others = shuffled(rt, alloc, words, &slots);
+        add_told(rt, alloc, both, instance, plan, &others);
     }
-    Ok(())
 }
 
 // What is said of a plan.
 fn compared(
+    rt: &impl Abort,
     alloc: Global,
     words: &mut Lcg64Xsh32,
     instance: &Instance,
     plan: &Plan,
-) -> Result<Both, AllocError>
+) -> Both
     requires fits { AllFit instance.now plan.now }
     requires feasible { IsFeasible instance.now (plan_of plan.now) }
 {
@@ -175,23 +170,27 @@ fn compared(
         found: String::new(alloc),
         plain: String::new(alloc),
     };
-    add_schedules(alloc, words, &mut both, instance, plan)?;
-    let pegs = peg(alloc, instance, plan)?;
-    add_bytes(&mut both.found, write_pegs(alloc, instance, &pegs)?)?;
-    add_pegs(alloc, &mut both.plain, instance, plan)?;
-    Ok(both)
+    add_schedules(rt, alloc, words, &mut both, instance, plan);
+    let pegs = peg(alloc, instance, plan).expect(rt, "memory");
+    add_bytes(
+        rt,
+        &mut both.found,
+        write_pegs(alloc, instance, &pegs).expect(rt, "memory"),
+    );
+    add_pegs(rt, alloc, &mut both.plain, instance, plan);
+    both
 }
 
 // What is said of a random plan, if it is feasible.
-fn drawn(alloc: Global, words: &mut Lcg64Xsh32) -> Result<Option<Both>, Fail> {
-    let instance = draw_instance(alloc, words)?;
-    let (make, setup) = draw_choices(alloc, words, &instance)?;
+fn drawn(rt: &impl Abort, alloc: Global, words: &mut Lcg64Xsh32) -> Option<Both> {
+    let instance = draw_instance(rt, alloc, words);
+    let (make, setup) = draw_choices(rt, alloc, words, &instance);
     if !make.fits(&instance) || !setup.fits(&instance) {
-        return Err(Fail::from("another shape"));
+        panic!(rt; "another shape");
     }
-    match complete(alloc, &instance, make, setup)? {
-        Some(plan) => Ok(Some(compared(alloc, words, &instance, &plan)?)),
-        None => Ok(None),
+    match complete(alloc, &instance, make, setup).expect(rt, "memory") {
+        Some(plan) => Some(compared(rt, alloc, words, &instance, &plan)),
+        None => None,
     }
 }
 
@@ -220,17 +219,16 @@ fn count_kinds(counts: &mut [u32; 11], said: &str) {
 }
 
 #[test]
-fn what_is_found_is_as_the_definitions_say(rt: HostRuntime) -> Result<(), Fail> {
+fn what_is_found_is_as_the_definitions_say(rt: HostRuntime) {
     let alloc = rt.alloc();
     let mut words = Lcg64Xsh32::new(1, 54);
     let mut counts = [0u32; 11];
     for _try in 0..20_000u32 {
-        if let Some(both) = drawn(alloc, &mut words)? {
+        if let Some(both) = drawn(&rt, alloc, &mut words) {
             assert_eq!(rt; both.found.as_str(), both.plain.as_str());
             count_kinds(&mut counts, both.plain.as_str());
         }
     }
     let is_rare = counts.iter().any(|count| *count < 5);
     assert!(rt; !is_rare, "{counts:?}");
-    Ok(())
 }

@@ -6,8 +6,8 @@ use lin_rows::{
 };
 use lot_model::Instance;
 use lot_sizing::limits::MAX_ITEMS;
-use std::alloc::{AllocError, Global};
-use std::test::Fail;
+use std::alloc::Global;
+use std::process::Abort;
 
 // A table that takes two legs and may be late, with one in stock at first.
 const TABLE: Item<'static> = Item {
@@ -29,8 +29,8 @@ const LEG: Item<'static> = Item {
 };
 
 // The instance of both.
-fn tables(alloc: Global) -> Result<Instance, Fail> {
-    instance(alloc, 2, &[], &[TABLE, LEG])
+fn tables(rt: &impl Abort, alloc: Global) -> Instance {
+    instance(alloc, 2, &[], &[TABLE, LEG]).expect(rt, "an instance")
 }
 
 // A part that arrives a period after its start, in lots of 3 to 6.
@@ -47,12 +47,12 @@ const PART: Item<'static> = Item {
 };
 
 // This part over three periods.
-fn lots(alloc: Global) -> Result<Instance, Fail> {
-    instance(alloc, 3, &[], &[PART])
+fn lots(rt: &impl Abort, alloc: Global) -> Instance {
+    instance(alloc, 3, &[], &[PART]).expect(rt, "an instance")
 }
 
-fn row(alloc: Global, instance: &Instance, name: RowName) -> Result<Row, Fail> {
-    Ok(base_row(alloc, instance, name).ok().ok_or("no such row")?)
+fn row(rt: &impl Abort, alloc: Global, instance: &Instance, name: RowName) -> Row {
+    base_row(alloc, instance, name).expect(rt, "no such row")
 }
 
 // The right side of a row with just these terms, and whether it is an equation; none where it has other
@@ -67,13 +67,14 @@ fn right_beside(row: &Row, terms: &[Term]) -> Option<(i128, bool)> {
 
 // The same of a row of an instance.
 fn right_of(
+    rt: &impl Abort,
     alloc: Global,
     instance: &Instance,
     name: RowName,
     terms: &[Term],
-) -> Result<Option<(i128, bool)>, Fail> {
-    let row = row(alloc, instance, name)?;
-    Ok(right_beside(&row, terms))
+) -> Option<(i128, bool)> {
+    let row = row(rt, alloc, instance, name);
+    right_beside(&row, terms)
 }
 
 fn x(item: u32, period: u32, times: i128) -> Term {
@@ -97,9 +98,9 @@ fn r(item: u32, period: u32, times: i128) -> Term {
 }
 
 #[test]
-fn rows_of_a_shop(rt: HostRuntime) -> Result<(), Fail> {
+fn rows_of_a_shop(rt: HostRuntime) {
     let alloc = rt.alloc();
-    let instance = shop(alloc)?;
+    let instance = shop(alloc).expect(&rt, "an instance");
     for (name, terms, want) in [
         (
             RowName::Balance(1, 1),
@@ -125,16 +126,15 @@ fn rows_of_a_shop(rt: HostRuntime) -> Result<(), Fail> {
         (RowName::EndMax(1), &[s(1, 2, -1)][..], (0, false)),
         (RowName::Top(1, 1), &[y(1, 1, -1)][..], (-1, false)),
     ] {
-        let found = right_of(alloc, &instance, name, terms)?;
+        let found = right_of(&rt, alloc, &instance, name, terms);
         assert_eq!(rt; found, Some(want), "{name}");
     }
-    Ok(())
 }
 
 #[test]
-fn balances_with_components_and_backlog(rt: HostRuntime) -> Result<(), Fail> {
+fn balances_with_components_and_backlog(rt: HostRuntime) {
     let alloc = rt.alloc();
-    let instance = tables(alloc)?;
+    let instance = tables(&rt, alloc);
     for (name, terms, right) in [
         (
             RowName::Balance(1, 1),
@@ -152,10 +152,9 @@ fn balances_with_components_and_backlog(rt: HostRuntime) -> Result<(), Fail> {
             0,
         ),
     ] {
-        let found = right_of(alloc, &instance, name, terms)?;
+        let found = right_of(&rt, alloc, &instance, name, terms);
         assert_eq!(rt; found, Some((right, true)), "{name}");
     }
-    Ok(())
 }
 
 // Why a row of an instance isn't made; none where it is.
@@ -164,9 +163,9 @@ fn fault(alloc: Global, instance: &Instance, name: RowName) -> Option<RowFault> 
 }
 
 #[test]
-fn rows_that_do_not_exist(rt: HostRuntime) -> Result<(), Fail> {
+fn rows_that_do_not_exist(rt: HostRuntime) {
     let alloc = rt.alloc();
-    let instance = shop(alloc)?;
+    let instance = shop(alloc).expect(&rt, "an instance");
     for name in [
         RowName::Balance(1, 3),
         RowName::Balance(2, 1),
@@ -186,7 +185,6 @@ fn rows_that_do_not_exist(rt: HostRuntime) -> Result<(), Fail> {
             "{name}"
         );
     }
-    Ok(())
 }
 
 // What a unit costs in the column of a number, if there is one.
@@ -198,9 +196,9 @@ fn cost_at(instance: &Instance, number: u32) -> Option<u64> {
 }
 
 #[test]
-fn columns_have_numbers_and_costs(rt: HostRuntime) -> Result<(), Fail> {
+fn columns_have_numbers_and_costs(rt: HostRuntime) {
     let alloc = rt.alloc();
-    let instance = tables(alloc)?;
+    let instance = tables(&rt, alloc);
     assert_eq!(rt; column_count(&instance), 13);
     for (term, number) in [
         (x(1, 1, 1), Some(1u32)),
@@ -231,43 +229,43 @@ fn columns_have_numbers_and_costs(rt: HostRuntime) -> Result<(), Fail> {
             "{number}"
         );
     }
-    Ok(())
 }
 
 // Adds a multiple of a row of an instance to sums; false where they pass 128 bits.
 fn add(
+    rt: &impl Abort,
     alloc: Global,
     instance: &Instance,
     sums: &mut Sums,
     name: RowName,
     times: i128,
-) -> Result<bool, Fail> {
-    let row = row(alloc, instance, name)?;
+) -> bool {
+    let row = row(rt, alloc, instance, name);
     if !sums.has_columns(&row) {
-        return Err("columns that aren't there".into());
+        panic!(rt; "columns that aren't there");
     }
-    Ok(sums.add_times(&row, times) != Err(SumFault::Passed128))
+    sums.add_times(&row, times) != Err(SumFault::Passed128)
 }
 
 // The sums of multiples of rows of an instance.
-fn sums_of(alloc: Global, instance: &Instance, rows: &[(RowName, i128)]) -> Result<Sums, Fail> {
-    let mut sums = Sums::new(alloc, instance)?;
+fn sums_of(rt: &impl Abort, alloc: Global, instance: &Instance, rows: &[(RowName, i128)]) -> Sums {
+    let mut sums = Sums::new(alloc, instance).expect(rt, "memory");
     for (name, times) in rows {
-        if !add(alloc, instance, &mut sums, *name, *times)? {
-            return Err("sums that pass 128 bits".into());
+        if !add(rt, alloc, instance, &mut sums, *name, *times) {
+            panic!(rt; "sums that pass 128 bits");
         }
     }
-    Ok(sums)
+    sums
 }
 
 // The sums of multiples of rows of the shop.
-fn sums_in_shop(alloc: Global, rows: &[(RowName, i128)]) -> Result<Sums, Fail> {
-    let instance = shop(alloc)?;
-    sums_of(alloc, &instance, rows)
+fn sums_in_shop(rt: &impl Abort, alloc: Global, rows: &[(RowName, i128)]) -> Sums {
+    let instance = shop(alloc).expect(rt, "an instance");
+    sums_of(rt, alloc, &instance, rows)
 }
 
 #[test]
-fn sums_of_rows(rt: HostRuntime) -> Result<(), Fail> {
+fn sums_of_rows(rt: HostRuntime) {
     let alloc = rt.alloc();
     let rows = [
         (RowName::Link(1, 2), 1i128),
@@ -275,7 +273,7 @@ fn sums_of_rows(rt: HostRuntime) -> Result<(), Fail> {
         (RowName::Capacity(1, 1), 1),
         (RowName::Balance(1, 1), 1),
     ];
-    let sums = sums_in_shop(alloc, &rows)?;
+    let sums = sums_in_shop(&rt, alloc, &rows);
     for term in [
         x(1, 1, 0),
         x(1, 2, 0),
@@ -289,72 +287,71 @@ fn sums_of_rows(rt: HostRuntime) -> Result<(), Fail> {
         assert_eq!(rt; sums.column(term.column), term.times);
     }
     assert_eq!(rt; sums.right(), 4);
-    Ok(())
 }
 
 // The right side of these sums, before and after eight times a balance is taken away.
-fn right_before_and_after(alloc: Global) -> Result<(i128, bool, i128), Fail> {
-    let instance = shop(alloc)?;
+fn right_before_and_after(rt: &impl Abort, alloc: Global) -> (i128, bool, i128) {
+    let instance = shop(alloc).expect(rt, "an instance");
     let rows = [
         (RowName::Link(1, 2), 1i128),
         (RowName::Balance(1, 2), 1),
         (RowName::Capacity(1, 1), 1),
         (RowName::Balance(1, 1), 1),
     ];
-    let mut sums = sums_of(alloc, &instance, &rows)?;
+    let mut sums = sums_of(rt, alloc, &instance, &rows);
     let before = sums.right();
-    let is_added = add(alloc, &instance, &mut sums, RowName::Balance(1, 1), -8)?;
-    Ok((before, is_added, sums.right()))
+    let is_added = add(rt, alloc, &instance, &mut sums, RowName::Balance(1, 1), -8);
+    (before, is_added, sums.right())
 }
 
 #[test]
-fn rows_that_are_taken_away(rt: HostRuntime) -> Result<(), Fail> {
+fn rows_that_are_taken_away(rt: HostRuntime) {
     let alloc = rt.alloc();
-    assert_eq!(rt; right_before_and_after(alloc)?, (4, true, -12));
-    Ok(())
+    assert_eq!(rt; right_before_and_after(&rt, alloc), (4, true, -12));
 }
 
 // The setup's column and the right side of sums that are cleared, and after twice a row is added to them.
 fn cleared_and_after(
+    rt: &impl Abort,
     alloc: Global,
     instance: &Instance,
-) -> Result<((i128, i128), bool, (i128, i128)), Fail> {
+) -> ((i128, i128), bool, (i128, i128)) {
     let setup = y(1, 2, 1).column;
-    let mut sums = sums_of(alloc, instance, &[(RowName::Link(1, 2), 1i128)])?;
+    let mut sums = sums_of(rt, alloc, instance, &[(RowName::Link(1, 2), 1i128)]);
     sums.clear();
     let cleared = (sums.column(setup), sums.right());
-    let is_added = add(alloc, instance, &mut sums, RowName::Link(1, 2), 2)?;
-    Ok((cleared, is_added, (sums.column(setup), sums.right())))
+    let is_added = add(rt, alloc, instance, &mut sums, RowName::Link(1, 2), 2);
+    (cleared, is_added, (sums.column(setup), sums.right()))
 }
 
 #[test]
-fn sums_that_are_cleared(rt: HostRuntime) -> Result<(), Fail> {
+fn sums_that_are_cleared(rt: HostRuntime) {
     let alloc = rt.alloc();
-    let instance = shop(alloc)?;
+    let instance = shop(alloc).expect(&rt, "an instance");
     assert_eq!(rt;
-        cleared_and_after(alloc, &instance)?,
+        cleared_and_after(&rt, alloc, &instance),
         ((0, 0), true, (20, 0))
     );
-    Ok(())
 }
 
 // Whether a multiple of a row is added to sums, and then the column of the first setup and the right side.
 fn after(
+    rt: &impl Abort,
     alloc: Global,
     instance: &Instance,
     sums: &mut Sums,
     name: RowName,
     times: i128,
-) -> Result<(bool, i128, i128), Fail> {
-    let is_added = add(alloc, instance, sums, name, times)?;
-    Ok((is_added, sums.column(y(1, 1, 1).column), sums.right()))
+) -> (bool, i128, i128) {
+    let is_added = add(rt, alloc, instance, sums, name, times);
+    (is_added, sums.column(y(1, 1, 1).column), sums.right())
 }
 
 #[test]
-fn sums_that_pass_128_bits(rt: HostRuntime) -> Result<(), Fail> {
+fn sums_that_pass_128_bits(rt: HostRuntime) {
     let alloc = rt.alloc();
-    let instance = shop(alloc)?;
-    let mut sums = Sums::new(alloc, &instance)?;
+    let instance = shop(alloc).expect(&rt, "an instance");
+    let mut sums = Sums::new(alloc, &instance).expect(&rt, "memory");
     let half = 1i128 << 126;
     for (name, times, is_added, sum) in [
         (RowName::Top(1, 1), half, true, -half),
@@ -363,16 +360,15 @@ fn sums_that_pass_128_bits(rt: HostRuntime) -> Result<(), Fail> {
         (RowName::Link(1, 2), half, false, -1),
         (RowName::Link(1, 2), i128::MIN, false, -1),
     ] {
-        let found = after(alloc, &instance, &mut sums, name, times)?;
+        let found = after(&rt, alloc, &instance, &mut sums, name, times);
         assert_eq!(rt; found, (is_added, sum, sum), "{name} {times}");
     }
-    Ok(())
 }
 
 #[test]
-fn rows_of_lots(rt: HostRuntime) -> Result<(), Fail> {
+fn rows_of_lots(rt: HostRuntime) {
     let alloc = rt.alloc();
-    let instance = lots(alloc)?;
+    let instance = lots(&rt, alloc);
     for (name, terms, want) in [
         (RowName::Balance(1, 1), &[s(1, 1, -1)][..], (0i128, true)),
         (
@@ -392,12 +388,11 @@ fn rows_of_lots(rt: HostRuntime) -> Result<(), Fail> {
         ),
         (RowName::Late(1, 3), &[x(1, 3, -1)][..], (0, false)),
     ] {
-        let found = right_of(alloc, &instance, name, terms)?;
+        let found = right_of(&rt, alloc, &instance, name, terms);
         assert_eq!(rt; found, Some(want), "{name}");
     }
     let none = fault(alloc, &instance, RowName::Late(1, 2));
     assert_eq!(rt; none, Some(RowFault::NoSuchRow));
-    Ok(())
 }
 
 // An item that may be late, and takes a unit of time for each unit and as much as may be for each setup.
@@ -411,54 +406,60 @@ const LARGE: Item<'static> = Item {
 };
 
 // As many of them over as many periods as a draft may have, on a resource with as much time in each period as there may be.
-fn largest(alloc: Global) -> Result<Instance, Fail> {
+fn largest(rt: &impl Abort, alloc: Global) -> Instance {
     let machine = Resource {
         name: "m",
         capacity: &[1_000_000_000],
     };
-    instance_alike(alloc, 120, &[machine], MAX_ITEMS, &LARGE)
+    instance_alike(alloc, 120, &[machine], MAX_ITEMS, &LARGE).expect(rt, "an instance")
 }
 
 // How many terms a row of an instance has, and its right side.
-fn size_of(alloc: Global, instance: &Instance, name: RowName) -> Result<(usize, i128), Fail> {
-    let row = row(alloc, instance, name)?;
-    Ok((row.terms().len(), row.right()))
+fn size_of(rt: &impl Abort, alloc: Global, instance: &Instance, name: RowName) -> (usize, i128) {
+    let row = row(rt, alloc, instance, name);
+    (row.terms().len(), row.right())
 }
 
 // What a column of three times a row adds to.
 fn column_of_three_times(
+    rt: &impl Abort,
     alloc: Global,
     instance: &Instance,
     name: RowName,
     column: Column,
-) -> Result<i128, Fail> {
-    Ok(sums_of(alloc, instance, &[(name, 3i128)])?.column(column))
+) -> i128 {
+    sums_of(rt, alloc, instance, &[(name, 3i128)]).column(column)
 }
 
 #[test]
-fn the_largest_instance(rt: HostRuntime) -> Result<(), Fail> {
+fn the_largest_instance(rt: HostRuntime) {
     let alloc = rt.alloc();
-    let instance = largest(alloc)?;
+    let instance = largest(&rt, alloc);
     let last = column_number(&instance, r(40, 119, 1).column);
     let after = column_number(&instance, r(40, 120, 1).column);
     assert_eq!(rt;
         (column_count(&instance), last, after),
         (19_160, Some(19_160), None)
     );
-    let capacity = size_of(alloc, &instance, RowName::Capacity(1, 120))?;
-    let end = right_of(alloc, &instance, RowName::EndMax(40), &[s(40, 120, -1)])?;
+    let capacity = size_of(&rt, alloc, &instance, RowName::Capacity(1, 120));
+    let end = right_of(
+        &rt,
+        alloc,
+        &instance,
+        RowName::EndMax(40),
+        &[s(40, 120, -1)],
+    );
     assert_eq!(rt;
         (capacity, end),
         ((80, -1_000_000_000), Some((-2_000_000_000, false)))
     );
     let setup = y(40, 120, 1).column;
-    let sum = column_of_three_times(alloc, &instance, RowName::Capacity(1, 120), setup)?;
+    let sum = column_of_three_times(&rt, alloc, &instance, RowName::Capacity(1, 120), setup);
     assert_eq!(rt; sum, -3_000_000_000);
-    Ok(())
 }
 
 #[test]
-fn texts_of_faults(rt: HostRuntime) -> Result<(), Fail> {
+fn texts_of_faults(rt: HostRuntime) {
     let alloc = rt.alloc();
     let broken = CutFault::Potential {
         first: 1,
@@ -478,15 +479,17 @@ fn texts_of_faults(rt: HostRuntime) -> Result<(), Fail> {
         ),
         (CutFault::Memory, "out of memory"),
     ] {
-        assert_eq!(rt; format!(in alloc; "{fault}")?.as_str(), text);
+        assert_eq!(rt;
+            format!(in alloc; "{fault}").expect(&rt, "memory").as_str(),
+            text
+        );
     }
-    let none = format!(in alloc; "{}", RowFault::NoSuchRow)?;
+    let none = format!(in alloc; "{}", RowFault::NoSuchRow).expect(&rt, "memory");
     assert_eq!(rt; none.as_str(), "there is no such row");
-    Ok(())
 }
 
 #[test]
-fn texts_of_columns(rt: HostRuntime) -> Result<(), Fail> {
+fn texts_of_columns(rt: HostRuntime) {
     let alloc = rt.alloc();
     for (column, text) in [
         (Column::X { item: 1, period: 2 }, "x 1 2"),
@@ -500,13 +503,15 @@ fn texts_of_columns(rt: HostRuntime) -> Result<(), Fail> {
             "r 40 60",
         ),
     ] {
-        assert_eq!(rt; format!(in alloc; "{column}")?.as_str(), text);
+        assert_eq!(rt;
+            format!(in alloc; "{column}").expect(&rt, "memory").as_str(),
+            text
+        );
     }
-    Ok(())
 }
 
 #[test]
-fn texts_of_names(rt: HostRuntime) -> Result<(), Fail> {
+fn texts_of_names(rt: HostRuntime) {
     let alloc = rt.alloc();
     for (name, text) in [
         (RowName::Balance(1, 2), "balance 1 2"),
@@ -520,27 +525,31 @@ fn texts_of_names(rt: HostRuntime) -> Result<(), Fail> {
         (RowName::Path(10), "path 10"),
         (RowName::Cut(1), "cut 1"),
     ] {
-        assert_eq!(rt; format!(in alloc; "{name}")?.as_str(), text);
+        assert_eq!(rt;
+            format!(in alloc; "{name}").expect(&rt, "memory").as_str(),
+            text
+        );
     }
-    Ok(())
 }
 
 // The point at which the value of each column is its number.
-fn numbered(alloc: Global, instance: &Instance) -> Result<Point, Fail> {
+fn numbered(rt: &impl Abort, alloc: Global, instance: &Instance) -> Point {
     let mut values = Vec::new(alloc);
     for before in 0..column_count(instance) {
-        values.push(Frac::from(before as u64 + 1))?;
+        values
+            .push(Frac::from(before as u64 + 1))
+            .expect(rt, "memory");
     }
     if values.len() != column_count(instance) as usize {
-        return Err("another number of values".into());
+        panic!(rt; "another number of values");
     }
-    Ok(Point::new(instance, values))
+    Point::new(instance, values)
 }
 
 #[test]
-fn values_with_backlogs(rt: HostRuntime) -> Result<(), Fail> {
+fn values_with_backlogs(rt: HostRuntime) {
     let alloc = rt.alloc();
-    let point = numbered(alloc, &tables(alloc)?)?;
+    let point = numbered(&rt, alloc, &tables(&rt, alloc));
     for (term, value) in [
         (x(1, 1, 1), 1u64),
         (x(2, 2, 1), 4),
@@ -555,32 +564,31 @@ fn values_with_backlogs(rt: HostRuntime) -> Result<(), Fail> {
     ] {
         assert!(rt; point.value(term.column) == Frac::from(value));
     }
-    Ok(())
 }
 
 #[test]
-fn values_without_backlogs(rt: HostRuntime) -> Result<(), Fail> {
+fn values_without_backlogs(rt: HostRuntime) {
     let alloc = rt.alloc();
-    let point = numbered(alloc, &shop(alloc)?)?;
+    let point = numbered(&rt, alloc, &shop(alloc).expect(&rt, "an instance"));
     let is_stock = point.value(s(1, 2, 1).column) == Frac::from(6u64);
     let is_late = point.value(r(1, 1, 1).column) == Frac::from(0u64);
     let counts = (point.values().len(), point.into_values().len());
     assert_eq!(rt; (is_stock, is_late, counts), (true, true, (6, 6)));
-    Ok(())
 }
 
 // The right side of a bound's row with just this term, and whether it is an equation.
 fn right_of_bound(
+    rt: &impl Abort,
     alloc: Global,
     bound: Bound,
     term: Term,
-) -> Result<Option<(i128, bool)>, AllocError> {
-    let row = bound.row(alloc)?;
-    Ok(right_beside(&row, &[term]))
+) -> Option<(i128, bool)> {
+    let row = bound.row(alloc).expect(rt, "memory");
+    right_beside(&row, &[term])
 }
 
 #[test]
-fn rows_of_bounds(rt: HostRuntime) -> Result<(), Fail> {
+fn rows_of_bounds(rt: HostRuntime) {
     let alloc = rt.alloc();
     let column = x(1, 2, 1).column;
     let most = Bound {
@@ -593,8 +601,7 @@ fn rows_of_bounds(rt: HostRuntime) -> Result<(), Fail> {
         most: false,
         number: 8,
     };
-    let most = right_of_bound(alloc, most, x(1, 2, -1))?;
-    let least = right_of_bound(alloc, least, x(1, 2, 1))?;
+    let most = right_of_bound(&rt, alloc, most, x(1, 2, -1));
+    let least = right_of_bound(&rt, alloc, least, x(1, 2, 1));
     assert_eq!(rt; (most, least), (Some((-7, false)), Some((8, false))));
-    Ok(())
 }

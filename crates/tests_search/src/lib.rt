@@ -17,6 +17,7 @@ mod first_plans_tests;
 mod heur_lags_tests;
 #[cfg(test)]
 mod heur_setup_lps_tests;
+#[cfg(test)]
 mod heur_setup_walks_tests;
 #[cfg(test)]
 mod lp_root_tests;
