@@ -1,10 +1,10 @@
 -- The program of the base rows, and what its run comes to.
-use Rattle.std.proofs.Common.{◌≡◌, ◌+◌, ◌∙◌, ◌⊎◌, ⊎_elim, inl, inr, ℕ, refl, sym, ap, subst, Bool, true, false, List, [], ◌∷◌, ◌++◌, append-nil}
+use Rattle.std.proofs.Common.{◌≡◌, ◌+◌, ◌∙◌, ◌⊎◌, ⊎_elim, inl, inr, ℕ, refl, sym, ap, subst, List, [], ◌∷◌, ◌++◌, append-nil}
 use Rattle.std.specs.Prelude.{map, unsigned_abs}
 use Rattle.std.specs.List.{All}
 use Rattle.std.proofs.lemmas.Bool.{cases_lt}
 use Rattle.std.proofs.lemmas.List.{map-append}
-use Rattle.std.proofs.lemmas.List.Elements.{All-head, All-tail, All-weaker}
+use Rattle.std.proofs.lemmas.List.Elements.{All-weaker}
 use Rattle.rational.specs.Rational.{ceil_ℚ}
 use Rattle.rational.proofs.Facts.{is_ceiling}
 use Rattle.bill.specs.Laws.{TotalsExist}
@@ -28,6 +28,7 @@ use Rattle.lp_bounds.specs.Bounds.{BaseBoundsAreFloors, EmptyIsImpossible, IsBas
 use Rattle.lp_bounds.specs.Solved.{IsRoundedBest}
 use Rattle.lp_bounds.proofs.BasePoints.{bounds, none}
 use Rattle.existence.specs.Runs.{HasProvedBest, HasProvedNone, RunsComeOut}
+use Rattle.lp_relaxation.proofs.Growing.{same_sides as row_sides, rows_same as rows_alike}
 use Rattle.answers_exist.specs.Bounding.{BoundsComeOut, HasBound, IsEmpty, Passes}
 use Rattle.answers_exist.proofs.Costing.{are_costs, costs}
 use Rattle.answers_exist.proofs.Sums.{row_same}
@@ -48,24 +49,11 @@ pub record Grounds : Type 0 where
 of_row : Problem → RowName → LinRow → List Inequality
 of_row m name r = map (λ s. turned_row m s.turned r) (sides_of name r.equal)
 
-row_sides : (m : Problem) (row : RowName → LinRow) (name : RowName) (e : Bool) → map (side_inequality m row) (sides_of name e) ≡ map (λ s. turned_row m s.turned (row name)) (sides_of name e)
-row_sides m row name true = refl
-row_sides m row name false = refl
-
 first_rows : (m : Problem) (row : RowName → LinRow) (name : RowName) (names : List RowName) → program_rows m row (all_sides row (name ∷ names)) ≡ of_row m name (row name) ++ program_rows m row (all_sides row names)
 unfolding of_row
 first_rows m row name names =
     map-append (side_inequality m row) (sides_of name (row name).equal) (all_sides row names)
     ∙ ap (λ rs. rs ++ program_rows m row (all_sides row names)) (row_sides m row name (row name).equal)
-
-rows_alike : (m : Problem) (row other : RowName → LinRow) (names : List RowName) → All (λ name. row name ≡ other name) names → program_rows m row (all_sides row names) ≡ program_rows m other (all_sides other names)
-rows_alike m row other [] same = refl
-rows_alike m row other (name ∷ names) same =
-    let P = λ (n : RowName). row n ≡ other n in
-    first_rows m row name names
-    ∙ ap (λ r. of_row m name r ++ program_rows m row (all_sides row names)) (All-head P name names same)
-    ∙ ap (λ rs. of_row m name (other name) ++ rs) (rows_alike m row other names (All-tail P name names same))
-    ∙ sym (first_rows m other name names)
 
 -- there is a base row of this name
 is_named : (m : Problem) (total : ℕ → ℕ) (name : RowName) → HasRow m name → IsNamed (at_root m total []) name

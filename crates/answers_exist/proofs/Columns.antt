@@ -18,15 +18,13 @@ use Rattle.lin_rows.proofs.Cells.{same_self}
 use Rattle.lin_rows.proofs.Terms.{RiseTo, are_terms, rise_append, rise_to}
 use Rattle.plan_rules.specs.Order.{IsFirst}
 use Rattle.existence.proofs.Deciding.{Decided, each_or_first, if_or_not, le_or_not, lt_or_not}
+use Rattle.group_existence.proofs.Judged.{three_or_not}
 
 pub some_or_not : {A : Type 0} (o : Option A) → Decided (IsSome o)
 some_or_not o = ⊎_elim (λ yes. inl yes) (λ none. inr (λ some. not_both (is_some o) some none)) (cases_Bool (is_some o))
   where
     not_both : (b : Bool) → b ≡ true → b ≡ false → ⊥
     not_both b one other = let e : true ≡ false = sym one ∙ other in cc e
-
-three_or_not : {A B C : Type 0} → Decided A → Decided B → Decided C → Decided (A × B × C)
-three_or_not a b c = ⊎_elim (λ x. ⊎_elim (λ y. ⊎_elim (λ z. inl (x, y, z)) (λ none. inr (λ all. none all.2)) c) (λ none. inr (λ all. none all.1)) b) (λ none. inr (λ all. none all.0)) a
 
 pub four_or_not : {A B C D : Type 0} → Decided A → Decided B → Decided C → Decided D → Decided (A × B × C × D)
 four_or_not a b c d = ⊎_elim (λ x. ⊎_elim (λ y. ⊎_elim (λ z. ⊎_elim (λ w. inl (x, y, z, w)) (λ none. inr (λ all. none all.3)) d) (λ none. inr (λ all. none all.2)) c) (λ none. inr (λ all. none all.1)) b) (λ none. inr (λ all. none all.0)) a

@@ -4,7 +4,7 @@ use Rattle.std.specs.Prelude.{is_some}
 use Rattle.std.specs.List.{All}
 use Rattle.std.proofs.lemmas.Bool.{cases_eq}
 use Rattle.std.proofs.lemmas.List.{length-append}
-use Rattle.std.proofs.lemmas.List.Elements.{All-cons, All-head, All-nil, All-tail}
+use Rattle.std.proofs.lemmas.List.Elements.{All-head, All-nil, All-tail}
 use Rattle.std.proofs.Math.Seq.{get_or-append_seam}
 use denote.RawPtr.{null_ptr}
 use Rattle.lot_sizing.specs.declared.Block.{Block}
@@ -43,18 +43,10 @@ use Rattle.cert_checker.specs.declared.fault.Why.TheVariants as why
 use Rattle.cert_checker.specs.Cuts.{HasDivisor, IsBlockForm, IsCutFault, IsItem, IsLsForm, IsPriceForm, OfProblem, single_priced}
 use Rattle.cert_checker.specs.Checks.{HaveGoodRows, IsCutsFault, first_line, no_cut}
 use Rattle.existence.proofs.Deciding.{Decided, all_or_first, both_or_not, if_or_not, le_or_not, lt_or_not, none_or_not}
+use Rattle.group_existence.proofs.Judged.{all_or_not}
 use Rattle.answers_exist.proofs.Columns.{some_or_not}
 use Rattle.answers_exist.proofs.Listing.{list_is, list_of, list_size}
 use Rattle.answers_exist.proofs.Sums.{has_rounded, parts_out, parts_same, range_wrong, rows_are, rows_same, sign_wrong, small_back, small_or_not, small_same}
-
--- ---- lists
-all_or_not : {A : Type 0} (P : A → Type 0) → ((x : A) → Decided (P x)) → (xs : List A) → Decided (All P xs)
-all_or_not P decide [] = inl (All-nil P)
-all_or_not P decide (x ∷ xs) =
-    ⊎_elim
-    (λ here. ⊎_elim (λ rest. inl (All-cons P x xs here rest)) (λ none. inr (λ all. none (All-tail P x xs all))) (all_or_not P decide xs))
-    (λ none. inr (λ all. none (All-head P x xs all)))
-    (decide x)
 
 at_most_or_not : (most : ℕ) (xs : List ℕ) → Decided (AllAtMost most xs)
 at_most_or_not most xs = all_or_not (λ x. x ≤ most) (λ x. le_or_not x most) xs

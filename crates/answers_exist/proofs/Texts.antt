@@ -14,7 +14,7 @@ use Rattle.cert_lines.specs.Text.{line_text}
 use Rattle.cert_lines.specs.Line.{later_line}
 use Rattle.certificate.specs.declared.fault.CertTextFault.{CertTextFault}
 use Rattle.certificate.specs.declared.fault.CertTextFault.TheVariants as fault
-use Rattle.certificate.specs.Faults.{AreHeads, IsBodyFault, IsCertTextFault, StartsWithHead, body_dues}
+use Rattle.certificate.specs.Faults.{AreHeads, IsCertTextFault, StartsWithHead, body_dues}
 use Rattle.certificate.specs.Limits.{IsTextOf}
 use Rattle.certificate.specs.Dues.{Due, IsDeep, IsFaultFrom, IsStop, StartsWith, Takes, TakesAll, a_cut, a_group, a_list, a_part, a_tree, after, the_end}
 use Rattle.certificate.specs.Shapes.{Shape}
@@ -22,6 +22,7 @@ use Rattle.certificate.specs.Text.{head_text, head_values, heads_text}
 use Rattle.certificate.specs.Values.{AreLines, Values, value_text, values_text}
 use Rattle.cert_stream.specs.Laws.{TakenAreBodies}
 use Rattle.existence.proofs.Deciding.{Decided, both_or_not, le_or_not, lt_or_not}
+use Rattle.certificate.proofs.Wholes.{body_fault}
 use Rattle.answers_exist.proofs.Searching.{both}
 use Rattle.answers_exist.proofs.Lines.{begins_or_not, first_line, one}
 
@@ -164,14 +165,6 @@ join_two bytes a b r s one other = one ∙ ap (λ x. a ++ x) (join_one r b s oth
 
 join_three : (bytes a b c r s t : List ℕ) → bytes ≡ a ++ r → r ≡ b ++ s → s ≡ c ++ t → bytes ≡ (a ++ (b ++ (c ++ []))) ++ t
 join_three bytes a b c r s t one other last = one ∙ ap (λ x. a ++ x) (join_two r b c s t other last) ∙ sym (append_assoc a (b ++ (c ++ [])) t)
-
--- a fault of a later line is one of the text
-body_fault : (bytes : List ℕ) (f : CertTextFault) → IsBodyFault bytes f → IsCertTextFault bytes f
-body_fault bytes (fault.Header n) b = absurd b.fault.stop
-body_fault bytes (fault.Line n) b = b
-body_fault bytes (fault.Shape n) b = b
-body_fault bytes (fault.Deep n) b = b
-body_fault bytes fault.Memory b = tt
 
 abbrev TextIs : List ℕ → Type 0
 TextIs bytes = ((s : Shape) × IsTextOf bytes s) ⊎ ((f : CertTextFault) × (f ≢ fault.Memory) × IsCertTextFault bytes f)

@@ -10,6 +10,7 @@ use Rattle.cert_lines.specs.Line.{HasForm}
 use Rattle.cert_lines.specs.Shapes.{BlockCut, CutShape, LineShape, LsCut, PriceCut, RoundCut, cut_first, cut_parts, cut_shape}
 use Rattle.certificate.specs.Values.{AreLines, all_cut_values, cut_values}
 use Rattle.cert_meaning.specs.Laws.{CutRowsGoOn, SmallCutsGoOn}
+use Rattle.cert_meaning.proofs.Rows.{of_push as columns_more}
 use Rattle.cert_checker.specs.Checks.{AreGoodCuts}
 use Rattle.cert_checker.specs.Cuts.{HasDivisor}
 use Rattle.cert_checker.specs.Named.{IsReadyFor}
@@ -20,7 +21,6 @@ use Rattle.branching.specs.Begun.{AreKnownCuts, IsBegun}
 use Rattle.branching.specs.Branching.{good_stays}
 use Rattle.branching.specs.Knowing.{IsKnown, ranges_in, shapes}
 use Rattle.incumbent.specs.Kept.{IsMadeWithin}
-use Rattle.branching.proofs.Openings.{columns_more}
 
 -- ---- block cuts
 pub block_divisor : (c : CutShape) → IsBlockCut c → HasDivisor c

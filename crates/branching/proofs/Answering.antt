@@ -28,6 +28,7 @@ use Rattle.lp_root.specs.Root.{BoundsPlans}
 use Rattle.tree_search.specs.declared.limits.Limits.{Limits}
 use Rattle.tree_search.specs.declared.node.Range.{Range}
 use Rattle.tree_search.specs.declared.sought.Searched.{Searched}
+use Rattle.tree_search.proofs.Endless.{at_most-trans as at_most_on}
 use Rattle.branching.specs.declared.guiding.Model.{Model}
 use Rattle.branching.specs.declared.knowing.Known.{Known}
 use Rattle.branching.specs.declared.wanted.Wanted.{Wanted}
@@ -45,7 +46,6 @@ use Rattle.branching.proofs.Best.{first_kept, good_first, good_kept, own_kept}
 use Rattle.incumbent.proofs.Best.{given_on}
 use Rattle.branching.proofs.Finished.{made_of}
 use Rattle.branching.proofs.Overall.{cause_whole, one_within, shows_whole}
-use Rattle.branching.proofs.Evidence.{at_most_on}
 use Rattle.branching.proofs.LeastVersion.{usual_is}
 
 -- ---- what follows from the claim and the plan without a bound

@@ -21,6 +21,7 @@ use Rattle.search_result.specs.declared.found.RootSays.{RootSays}
 use Rattle.tree_search.specs.declared.node.Range.{Range}
 use Rattle.tree_search.specs.declared.proposal.Proposal.{Proposal}
 use Rattle.tree_search.specs.Costs.{IsAtMost}
+use Rattle.tree_search.proofs.Endless.{at_most-trans as at_most_on, at_most-refl as at_most_same}
 use Rattle.branching.specs.Branching.{within_any}
 use Rattle.branching.specs.Leaves.{IsKept, IsRaised, IsEvidentAt, LeafSaysWithin, marked_examined, said}
 use Rattle.branching.specs.Search.{IsEvidence}
@@ -48,12 +49,6 @@ number m version rows path (LinearLeaf den parts) bound known is = record {
 number m version rows path (FarkasLeaf parts) bound known is = absurd is
 number m version rows path PointLeaf bound known is = absurd is
 number m version rows path (ReducedLeaf den parts lists groups) bound known is = absurd is
-
-pub at_most_on : (a b c : Option ℕ) → IsAtMost a b → IsAtMost b c → IsAtMost a c
-at_most_on a b None x y = tt
-at_most_on a None (Some c) x y = absurd y
-at_most_on None (Some b) (Some c) x y = absurd x
-at_most_on (Some a) (Some b) (Some c) x y = omega (arith, x, y)
 
 -- a proposal of this leaf that says this is kept
 pub kept_of : (m : Problem) (ranges : Ranges) (version least : ℕ) (rows : List LinRow) (rs : List Range) (path : List Bound) (p : Proposal) (leaf : LeafShape) (says : Option ℕ) → leaf_shape p.leaf ≡ leaf → p.says ≡ says → LeafSaysSmall m rows path leaf (said says) → LeafHasLines version leaf → IsAtMost (Some least) says → IfSome says (λ amount. amount < 2 ^ 127) → IsOfRows leaf → IsKept m ranges version least rows rs path p
@@ -128,10 +123,6 @@ raised_evident m root path old new leaf bound met raised short =
     (λ same. subst (λ (p : Proposal). IfSome p.says (IsEvidence m root path)) (sym same.0) (met_at_most m root path bound old.says same.1 met))
     (λ more. subst (λ s. IfSome s (IsEvidence m root path)) (sym more.1) (inl met))
     raised
-
-at_most_same : (a : Option ℕ) → IsAtMost a a
-at_most_same None = tt
-at_most_same (Some n) = omega arith
 
 pub raised_more : (old new : Proposal) (leaf : Leaf) (bound : ℕ) → IsRaised old leaf bound new → IsAtMost old.says new.says
 raised_more old new leaf bound raised =

@@ -18,9 +18,9 @@ use Rattle.leaf_growth.proofs.Amounts.{amount_small}
 use Rattle.leaf_growth.proofs.Trees.{leaf_few}
 use Rattle.tree_search.specs.declared.proposal.Proposal.{Proposal}
 use Rattle.tree_search.specs.Costs.{IsAtMost}
+use Rattle.tree_search.proofs.Endless.{at_most-trans as at_most_on}
 use Rattle.branching.specs.Adding.{IsJudged, IsTested}
 use Rattle.branching.specs.Leaves.{IsLasting, said}
-use Rattle.branching.proofs.Evidence.{at_most_on}
 
 pub tested_den : (version : ℕ) (leaf : LeafShape) → IsTested version leaf → HasDenominator leaf
 tested_den version (LinearLeaf den parts) is = is.lines.0.form.small.0

@@ -7,7 +7,7 @@ mod Best
 mod Translating
 mod LeastVersion
 mod Proved
-mod Overall
+pub mod Overall
 mod Finished
 mod Added
 mod Judged

@@ -19,6 +19,7 @@ use Rattle.cert_meaning.specs.Accepts.{IsSmallCut}
 use Rattle.cert_meaning.specs.CutRows.{IsCutRow}
 use Rattle.cert_meaning.specs.Laws.{CutRowsAreOne, CutRowsGoOn, SmallCutsGoOn}
 use Rattle.cert_meaning.specs.Named.{names}
+use Rattle.cert_meaning.proofs.Rows.{of_push as columns_more}
 use Rattle.cert_checker.specs.Checks.{AreGoodCuts, HaveGoodRows, no_cut}
 use Rattle.cert_checker.specs.Cuts.{HasDivisor, OfProblem}
 use Rattle.lp_relaxation.specs.Rounds.{IsLs}
@@ -42,10 +43,6 @@ use Rattle.branching.specs.Leaves.{said}
 pub record AreMadeTo (m : Problem) (cuts : List CutShape) (k : ℕ) (rows : List LinRow) : Type 0 where
   pub good : HaveGoodRows m (take k cuts) rows
   pub columns_exist : AreOfProblem m rows
-
-pub columns_more : (m : Problem) (rows : List LinRow) (r : LinRow) → AreOfProblem m rows → All (λ a. IsColumn m a.column) r.terms → AreOfProblem m (rows ++ (r ∷ []))
-columns_more m [] r are is = (is, tt)
-columns_more m (s ∷ rows) r are is = (are.0, columns_more m rows r are.1 is)
 
 pub none_made : (m : Problem) (cuts : List CutShape) → AreMadeTo m cuts 0 []
 none_made m cuts = record { good = λ total weight totals weights. record { are = tt; small = tt }; columns_exist = tt }

@@ -177,7 +177,7 @@ one_leaf : (m : Problem) (total : ℕ → ℕ) (rows : List LinRow) (ranges : Ra
 one_leaf m total rows ranges claim (Split c at low high) one is = absurd (omega (arith, one, some_node low, some_node high))
 one_leaf m total rows ranges claim (End leaf) one (what, is, enough) = (what, one_says m total rows ranges leaf what is, enough)
 
-some_is : (a b : terms.Plan) → Some a ≡ Some b → a ≡ b
+pub some_is : (a b : terms.Plan) → Some a ≡ Some b → a ≡ b
 some_is a b same = cc same
 
 true_within : (m : Problem) (ranges : Ranges) (claim : Claim) (given : Option Plan) → IsTrueOf m claim (plan_given given) → IfSome given (λ p. IsWithin m ranges (plan_of p)) → IsTrueWithin m ranges claim (plan_given given)

@@ -1,6 +1,5 @@
 -- What holds of the leaves of a tree that was sought holds of those of a certificate's tree.
-use Rattle.std.proofs.Common.{◌≡◌, ◌≤◌, ◌<◌, ◌+◌, ◌⊎◌, inl, inr, ⊎_elim, ℕ, subst, arith, true, false, List, [], ◌∷◌, length}
-use Rattle.std.proofs.lemmas.List.{length-append}
+use Rattle.std.proofs.Common.{◌≤◌, ◌<◌, ◌+◌, ◌⊎◌, inl, inr, ⊎_elim, ℕ, subst, arith, true, false, List, length}
 use Rattle.lot_sizing.specs.Problem.{Problem}
 use Rattle.lin_rows.specs.declared.bound.Bound.{Bound}
 use Rattle.lin_rows.specs.declared.column.Column.{Column}
@@ -21,6 +20,7 @@ use Rattle.tree_search.specs.Counts.{longest}
 use Rattle.tree_search.specs.Ranges.{IsSplitAt, high_side, low_side}
 use Rattle.tree_search.specs.Stripped.{IsStripped}
 use Rattle.tree_search.specs.Trees.{AtLeaf, EachLeaf, IsSplitTree, SomeLeaf, high_path, low_path}
+use Rattle.tree_search.proofs.Trees.{low_path-length as low_length, high_path-length as high_length}
 use Rattle.node_domains.specs.Nodes.{IsNodeOf, choice_place}
 use Rattle.branching.specs.Search as shown
 use Rattle.node_domains.specs.Numbering.{choice_from}
@@ -29,13 +29,6 @@ use Rattle.node_domains.specs.Sides.{node_side}
 -- what holds of a leaf of a certificate, and the path to it
 abbrev pub OnPath : Type 1
 OnPath = List Bound → LeafShape → Type 0
-
--- the paths to the sides are one longer
-low_length : (path : List Bound) (c : Column) (at : ℕ) → length (low_path path c at) ≡ length path + 1
-low_length path c at = length-append path (record { column = c; most = true; number = at } ∷ [])
-
-high_length : (path : List Bound) (c : Column) (at : ℕ) → length (high_path path c at) ≡ length path + 1
-high_length path c at = length-append path (record { column = c; most = false; number = at + 1 } ∷ [])
 
 -- two things that hold of each leaf hold of it together
 pub each_two : (place : Column → ℕ) (P Q : AtLeaf) (rs : List Range) (path : List Bound) (sought : Sought) → EachLeaf place P rs path sought → EachLeaf place Q rs path sought → EachLeaf place (λ rs path p. P rs path p × Q rs path p) rs path sought

@@ -12,6 +12,7 @@ use Rattle.plan_file.specs.declared.fault.NumberField.{NumberField}
 use Rattle.plan_file.specs.declared.fault.NumberField.TheVariants.{Make, Setup, Stock, Backlog}
 use Rattle.plan_file.specs.declared.fault.PlanFault.{PlanFault}
 use Rattle.plan_file.specs.declared.fault.PlanFault.TheVariants.{Header, Memory, Number, Row, RowCount}
+use Rattle.plan_file.proofs.Fields.{field_low, field_high}
 use Rattle.existence.specs.Readings.{RecordsMeanSomething}
 use Rattle.existence.proofs.Deciding.{Decided, all_or_first, both_or_not, each_or_first, if_or_not, le_or_not, lt_or_not, not_or_not, true_or_not}
 
@@ -19,7 +20,7 @@ digits_or_not : (text : List ℕ) → Decided (AllDigits 10 text)
 digits_or_not [] = inl tt
 digits_or_not (c ∷ cs) = both_or_not (lt_or_not (digit_value c) 10) (digits_or_not cs)
 
-number_or_not : (text : List ℕ) → Decided (IsNumber text)
+pub number_or_not : (text : List ℕ) → Decided (IsNumber text)
 number_or_not text =
     ⊎_elim
     (λ digits. ⊎_elim
@@ -31,18 +32,6 @@ number_or_not text =
     (not_or_not (both_or_not (lt_or_not 1 (length text)) (cases_eq (slice_index_or text 0 0) 48))))
     (λ no. inr (λ is. no is.whole.digits))
     (both_or_not (lt_or_not 0 (length text)) (digits_or_not text))
-
-field_low : (at : NumberField) → 3 ≤ field_number at
-field_low Make = omega arith
-field_low Setup = omega arith
-field_low Stock = omega arith
-field_low Backlog = omega arith
-
-field_high : (at : NumberField) → field_number at ≤ 6
-field_high Make = omega arith
-field_high Setup = omega arith
-field_high Stock = omega arith
-field_high Backlog = omega arith
 
 -- each of the last four fields has a name
 field_of : (c : ℕ) → 3 ≤ c → c ≤ 6 → (at : NumberField) × (field_number at ≡ c)

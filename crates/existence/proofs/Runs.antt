@@ -14,6 +14,8 @@ use Rattle.tableau.specs.Meaning.{coefficient_at, opposite_at, value_at}
 use Rattle.tableau.specs.Stepwise.{HasEnded}
 use Rattle.tableau.specs.Outcomes.{IsRefused}
 use Rattle.tableau.proofs.Steps.{empty_certain, least_certain, run_is}
+use Rattle.least_index.proofs.Numbers.{if_same, if_other}
+use Rattle.least_index.proofs.Counts.{loosened as by_rule}
 use Rattle.existence.specs.Runs.{HasProvedBest, HasProvedNone, RunsComeOut}
 use Rattle.existence.proofs.Pivoting.{next_step}
 
@@ -44,12 +46,6 @@ pub number_count : (n : ℕ) (f : ℕ → ℕ) → length (numbers_of n f) ≡ n
 unfolding numbers_of
 number_count zero f = refl
 number_count (suc n) f = ap suc (number_count n (λ j. f (suc j)))
-
-if_same : {A : Type 0} (a b : ℕ) (x y : A) → a ≡ b → (if a == b then x else y) ≡ x
-if_same a b x y e = grind (arith, e)
-
-if_other : {A : Type 0} (a b : ℕ) (x y : A) → a ≢ b → (if a == b then x else y) ≡ y
-if_other a b x y e = grind (arith, e)
 
 -- a dictionary of these names, with a number for each row and column
 abbrev tabled : List ℕ → List ℕ → ℕ → ℕ → (ℕ → ℕ → ℚ) → Dictionary
@@ -183,11 +179,6 @@ run_on p bound short (suc left) n d runs room =
     (omega (arith, room)))
     more)
     (next_step d)
-
--- the pivots of a run are made by the least-index rule
-by_rule : (p : Program) (n : ℕ) (d : Dictionary) → Runs IsFittingStep p n d → Runs IsLeastIndex p n d
-by_rule p zero d runs = runs
-by_rule p (suc n) d runs = (runs.0, by_rule p n runs.0 runs.1, record { row = runs.2.row; column = runs.2.column; chosen = runs.2.chosen.step; pivoted = runs.2.pivoted })
 
 best_there : (p : Program) (n : ℕ) (d : Dictionary) → Runs IsFittingStep p n d → IsPrimalFeasible d → HasProvedBest p
 best_there p n d runs last =

@@ -24,7 +24,7 @@ use Rattle.existence.proofs.Deciding.{Decided, all_or_first, both_or_not, le_or_
 use Rattle.group_existence.specs.Laws.{GroupsAreJudged, WorkIsJudged}
 use Rattle.group_existence.proofs.Least.{each_or_not}
 
-three_or_not : {A B C : Type 0} → Decided A → Decided B → Decided C → Decided (A × B × C)
+pub three_or_not : {A B C : Type 0} → Decided A → Decided B → Decided C → Decided (A × B × C)
 three_or_not a b c =
     ⊎_elim
     (λ x. ⊎_elim
@@ -38,7 +38,7 @@ same_or_not : (a b : ℕ) → Decided (a ≡ b)
 same_or_not a b = cases_eq a b
 
 -- ---- lists
-all_or_not : {A : Type 0} (P : A → Type 0) → ((a : A) → Decided (P a)) → (xs : List A) → Decided (All P xs)
+pub all_or_not : {A : Type 0} (P : A → Type 0) → ((a : A) → Decided (P a)) → (xs : List A) → Decided (All P xs)
 all_or_not P decided [] = inl (All-nil P)
 all_or_not P decided (x ∷ xs) =
     ⊎_elim

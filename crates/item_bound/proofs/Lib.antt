@@ -1,9 +1,9 @@
-mod Taken
-mod Lines
+pub mod Taken
+pub mod Lines
 mod Echelons
-mod Own
+pub mod Own
 mod Making
 mod Adding
-mod Says
+pub mod Says
 mod Whole
 mod One

@@ -30,10 +30,10 @@ one_short : (k n : ℕ) → 0 < k → n < 10 ^ k → n < 10 ^ 64 → length (one
 one_short k n some less small =
     omega (arith, length-append (codes " ") (decimal n), length-decimal-le_wide k n some less small)
 
-amount_short : (x : ℕ) → x ≤ MAX_AMOUNT → length (one_text x) ≤ 11
+pub amount_short : (x : ℕ) → x ≤ MAX_AMOUNT → length (one_text x) ≤ 11
 amount_short x most = one_short 10 x (omega arith) (omega (arith, most)) (omega (arith, most))
 
-step_short : (x : ℕ) → x ≤ MAX_STEP → length (one_text x) ≤ 38
+pub step_short : (x : ℕ) → x ≤ MAX_STEP → length (one_text x) ≤ 38
 step_short x most = one_short 37 x (omega arith) (omega (arith, most)) (omega (arith, most))
 
 -- a number of 32 bits
@@ -41,7 +41,7 @@ short_32 : (x : ℕ) → x < 2 ^ 32 → length (one_text x) ≤ 11
 short_32 x less = one_short 10 x (omega arith) (omega (arith, less)) (omega (arith, less))
 
 -- numbers that are each so short
-list_short : (most wide : ℕ) (xs : List ℕ) → ((x : ℕ) → x ≤ most → length (one_text x) ≤ wide) → AllAtMost most xs → length (list_text xs) ≤ wide * length xs
+pub list_short : (most wide : ℕ) (xs : List ℕ) → ((x : ℕ) → x ≤ most → length (one_text x) ≤ wide) → AllAtMost most xs → length (list_text xs) ≤ wide * length xs
 list_short most wide [] each are = omega arith
 list_short most wide (x ∷ xs) each are =
     let here = each x (All-head (λ y. y ≤ most) x xs are) in
@@ -49,7 +49,7 @@ list_short most wide (x ∷ xs) each are =
     omega (arith, length-append (one_text x) (list_text xs), here, rest)
 
 -- ---- the lines of parts
-one_digit : length (decimal 1) ≤ 1
+pub one_digit : length (decimal 1) ≤ 1
 one_digit = length-decimal-le_wide 1 1 (omega arith) (omega arith) (omega arith)
 
 abbrev taken_once : ℕ → Part
@@ -100,12 +100,12 @@ leaf_lines version before count less most = (
 )
 
 -- ---- the lines of block cuts
-one_or_none : (b : Bool) (x : ℕ) → length (if b then [] else x ∷ []) ≤ 1
+pub one_or_none : (b : Bool) (x : ℕ) → length (if b then [] else x ∷ []) ≤ 1
 one_or_none true x = omega arith
 one_or_none false x = omega arith
 
 -- no more positions than periods
-few_positions : (s : Single) (t : ℕ) → length (positions_to s t) ≤ t
+pub few_positions : (s : Single) (t : ℕ) → length (positions_to s t) ≤ t
 few_positions s zero = omega arith
 few_positions s (suc t) =
     omega (arith, length-append (positions_to s t) (if net_demand s (suc t) == 0 then [] else suc t ∷ []), few_positions s t, one_or_none (net_demand s (suc t) == 0) (suc t))
@@ -113,13 +113,13 @@ few_positions s (suc t) =
 pub few_steps : (s : Single) → position_count s ≤ length s.net
 few_steps s = few_positions s (length s.net)
 
-block_length : (head a b c d e : List ℕ) → length (head ++ (a ++ (codes " g" ++ (b ++ (codes " h" ++ (c ++ (codes " b" ++ (d ++ (codes " p" ++ e))))))))) ≡ length head + length a + length b + length c + length d + length e + 8
+pub block_length : (head a b c d e : List ℕ) → length (head ++ (a ++ (codes " g" ++ (b ++ (codes " h" ++ (c ++ (codes " b" ++ (d ++ (codes " p" ++ e))))))))) ≡ length head + length a + length b + length c + length d + length e + 8
 block_length head a b c d e = simp length-append (omega arith)
 
-fit_64 : (xs : List ℕ) → AllAtMost MAX_AMOUNT xs → All Is64 xs
+pub fit_64 : (xs : List ℕ) → AllAtMost MAX_AMOUNT xs → All Is64 xs
 fit_64 xs are = All-weaker (λ x. x ≤ MAX_AMOUNT) Is64 (λ x most. omega (arith, most)) xs are
 
-fit_127 : (xs : List ℕ) → AllAtMost MAX_STEP xs → All Is127 xs
+pub fit_127 : (xs : List ℕ) → AllAtMost MAX_STEP xs → All Is127 xs
 fit_127 xs are = All-weaker (λ x. x ≤ MAX_STEP) Is127 (λ x most. omega (arith, most)) xs are
 
 -- the lists of a cut, each of a number for each period

@@ -89,7 +89,7 @@ own_lists m i e s back own single within back_is backs =
     }
 
 -- ---- the potentials make a row
-larger : (low high : ℕ) (xs : List ℕ) → low ≤ high → AllAtMost low xs → AllAtMost high xs
+pub larger : (low high : ℕ) (xs : List ℕ) → low ≤ high → AllAtMost low xs → AllAtMost high xs
 larger low high xs h all = λ k d less. omega (arith, all k d less, h)
 
 price_series : (T : ℕ) (xs : List ℕ) → IsSeries T MAX_AMOUNT xs → IsSeries T MAX_PRICE xs

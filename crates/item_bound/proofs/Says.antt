@@ -25,13 +25,13 @@ use Rattle.item_bound.specs.Cuts.{SayAnywhere, once_from}
 use Rattle.item_bound.specs.Steps.{AreGoodCuts, IsNatural, IsTakenTo, rights_of, taken_by}
 
 -- ---- the sums
-once_more : (n m : ℕ) (x y : ℤ) → x ≡ pos n → y ≡ pos m → (pos 1 *ℤ x) +ℤ y ≡ pos (n + m)
+pub once_more : (n m : ℕ) (x y : ℤ) → x ≡ pos n → y ≡ pos m → (pos 1 *ℤ x) +ℤ y ≡ pos (n + m)
 once_more n m x y is rest = ap (λ z. (pos 1 *ℤ z) +ℤ y) is ∙ ap (λ z. (pos 1 *ℤ pos n) +ℤ z) rest ∙ ap pos (one_times n m)
   where
     one_times : (n m : ℕ) → 1 * n + m ≡ n + m
     one_times n m = omega arith
 
-amount_more : (n : ℕ) (x : ℤ) → x ≡ pos n → unsigned_abs (pos 1 *ℤ x) ≡ n
+pub amount_more : (n : ℕ) (x : ℤ) → x ≡ pos n → unsigned_abs (pos 1 *ℤ x) ≡ n
 amount_more n x is = ap (λ z. unsigned_abs (pos 1 *ℤ z)) is ∙ one_times n
   where
     one_times : (n : ℕ) → 1 * n ≡ n
@@ -64,7 +64,7 @@ are_parts n k (suc count) low high =
     (record { named = (low, omega (arith, high)); signed = λ _. omega (arith, linear) })
     (are_parts n (suc k) count (omega arith) (omega (arith, high)))
 
-pushed_count : (rows : List LinRow) (r : LinRow) → length (rows ++ (r ∷ [])) ≡ suc (length rows)
+pub pushed_count : (rows : List LinRow) (r : LinRow) → length (rows ++ (r ∷ [])) ≡ suc (length rows)
 pushed_count [] r = refl
 pushed_count (a ∷ rows) r = ap suc (pushed_count rows r)
 
@@ -85,10 +85,10 @@ these_rows m total path before (r ∷ rows) after =
     ap (λ x. x ∷ rows_of (names m total all path) (once_from (suc (suc (length before))) (length rows))) first ∙ ap (λ xs. r ∷ xs) later
 
 -- ---- the leaf
-at_most_cost : (n cost : ℕ) (x : ℤ) → x ≡ pos n → n ≤ cost → x ≤ℤ (pos 1 *ℤ pos cost)
+pub at_most_cost : (n cost : ℕ) (x : ℤ) → x ≡ pos n → n ≤ cost → x ≤ℤ (pos 1 *ℤ pos cost)
 at_most_cost n cost x is few = omega (arith, linear, is, few)
 
-rounded_up : (amount k : ℕ) (x : ℤ) → x ≡ pos amount → x ≤ℤ (pos 1 *ℤ pos k) → amount ≤ k
+pub rounded_up : (amount k : ℕ) (x : ℤ) → x ≡ pos amount → x ≤ℤ (pos 1 *ℤ pos k) → amount ≤ k
 rounded_up amount k x is most = omega (arith, linear, is, most)
 
 -- rows of cuts that take no column more often than it costs

@@ -23,10 +23,10 @@ use Rattle.cert_meaning.specs.CutRows.{echelon_at}
 use Rattle.item_bound.specs.Apart.{held_apart, is_component, no_costs, owed_apart}
 
 -- ---- sums of which at most one number counts
-all_none : (n : ℕ) (f : ℕ → ℕ) → ((j : ℕ) → 1 ≤ j → j ≤ n → f j ≡ 0) → sum_to n f ≡ 0
+pub all_none : (n : ℕ) (f : ℕ → ℕ) → ((j : ℕ) → 1 ≤ j → j ≤ n → f j ≡ 0) → sum_to n f ≡ 0
 all_none n f none = sum_to-same n f (λ _. 0) none ∙ sum_to-zero n
 
-only_one : (n i : ℕ) (f : ℕ → ℕ) → 1 ≤ i → i ≤ n → ((j : ℕ) → 1 ≤ j → j ≤ n → j ≢ i → f j ≡ 0) → sum_to n f ≡ f i
+pub only_one : (n i : ℕ) (f : ℕ → ℕ) → 1 ≤ i → i ≤ n → ((j : ℕ) → 1 ≤ j → j ≤ n → j ≢ i → f j ≡ 0) → sum_to n f ≡ f i
 only_one zero i f low high none = absurd (omega (arith, low, high))
 only_one (suc n) i f low high none =
     ⊎_elim
@@ -34,7 +34,7 @@ only_one (suc n) i f low high none =
     (λ before. omega (arith, only_one n i f low (omega (arith, high, before)) (λ j j_low j_high. none j j_low (omega (arith, j_high))), none (suc n) (omega arith) (omega arith) (λ e. before (sym e))))
     (cases_eq i (suc n))
 
-at_most_one : (n i most : ℕ) (f : ℕ → ℕ) → ((j : ℕ) → 1 ≤ j → j ≤ n → j ≢ i → f j ≡ 0) → f i ≤ most → sum_to n f ≤ most
+pub at_most_one : (n i most : ℕ) (f : ℕ → ℕ) → ((j : ℕ) → 1 ≤ j → j ≤ n → j ≢ i → f j ≡ 0) → f i ≤ most → sum_to n f ≤ most
 at_most_one zero i most f none few = omega arith
 at_most_one (suc n) i most f none few =
     ⊎_elim
@@ -61,10 +61,10 @@ goes_into m i j low high some = not_none (sum_to (item_count m) (per_unit m i)) 
 not_less : (n : ℕ) → nat_lt 0 n ≡ false → n ≡ 0
 not_less n is = grind (arith, is)
 
-one_of_itself : (i : ℕ) → one_if_same i i ≡ 1
+pub one_of_itself : (i : ℕ) → one_if_same i i ≡ 1
 one_of_itself i = grind arith
 
-none_of_others : (i j : ℕ) → j ≢ i → one_if_same i j ≡ 0
+pub none_of_others : (i j : ℕ) → j ≢ i → one_if_same i j ≡ 0
 none_of_others i j apart = grind (arith, apart)
 
 weighs : (m : Problem) (weight : ℕ → ℕ → ℕ) (i : ℕ) → AreWeights (bill_of m) weight → 1 ≤ i → i ≤ item_count m → is_component m i ≡ false → (j : ℕ) → 1 ≤ j → j ≤ item_count m → weight i j ≡ one_if_same i j
@@ -88,7 +88,7 @@ not_taken : (b : Bool) (n : ℕ) → n ≡ 0 → (if b then n else 0) ≡ 0
 not_taken true n none = none
 not_taken false n none = refl
 
-no_weight : (T w t : ℕ) (back : Bool) → w ≡ 0 → owed_by T back w t ≡ 0
+pub no_weight : (T w t : ℕ) (back : Bool) → w ≡ 0 → owed_by T back w t ≡ 0
 no_weight T w t back none = not_taken (nat_le 1 t && (nat_lt t T && back)) w none
 
 -- a backlog that counts costs what the item's does
@@ -177,11 +177,11 @@ counted c d n = if same_column c d then n else 0
 no_more : (n : ℕ) → n + 0 ≡ n
 no_more n = omega arith
 
-one_counted : (b : Bool) (n : ℕ) → (if b then pos n else pos 0) +ℤ pos 0 ≡ pos (if b then n else 0)
+pub one_counted : (b : Bool) (n : ℕ) → (if b then pos n else pos 0) +ℤ pos 0 ≡ pos (if b then n else 0)
 one_counted true n = ap pos (no_more n)
 one_counted false n = refl
 
-periods_counted : (T : ℕ) (c : ℕ → Column) (k : ℕ → ℕ) (d : Column) → coefficient (periods_to T (λ t. term (c t) (pos (k t)))) d ≡ pos (sum_to T (λ t. counted (c t) d (k t)))
+pub periods_counted : (T : ℕ) (c : ℕ → Column) (k : ℕ → ℕ) (d : Column) → coefficient (periods_to T (λ t. term (c t) (pos (k t)))) d ≡ pos (sum_to T (λ t. counted (c t) d (k t)))
 periods_counted zero c k d = refl
 periods_counted (suc n) c k d =
     let f : ℕ → Term = λ t. term (c t) (pos (k t)) in
@@ -189,7 +189,7 @@ periods_counted (suc n) c k d =
     ∙ ap (λ z. z +ℤ coefficient (f (suc n) ∷ []) d) (periods_counted n c k d)
     ∙ ap (λ z. pos (sum_to n (λ t. counted (c t) d (k t))) +ℤ z) (one_counted (same_column (c (suc n)) d) (k (suc n)))
 
-cells_counted : (n T : ℕ) (c : ℕ → ℕ → Column) (k : ℕ → ℕ → ℕ) (d : Column) → coefficient (cells_to n T (λ j t. term (c j t) (pos (k j t)))) d ≡ pos (sum_to n (λ j. sum_to T (λ t. counted (c j t) d (k j t))))
+pub cells_counted : (n T : ℕ) (c : ℕ → ℕ → Column) (k : ℕ → ℕ → ℕ) (d : Column) → coefficient (cells_to n T (λ j t. term (c j t) (pos (k j t)))) d ≡ pos (sum_to n (λ j. sum_to T (λ t. counted (c j t) d (k j t))))
 cells_counted zero T c k d = refl
 cells_counted (suc n) T c k d =
     let f : ℕ → ℕ → Term = λ j t. term (c j t) (pos (k j t)) in
@@ -198,21 +198,21 @@ cells_counted (suc n) T c k d =
     ∙ ap (λ z. pos (sum_to n (λ j. sum_to T (λ t. counted (c j t) d (k j t)))) +ℤ z) (periods_counted T (c (suc n)) (k (suc n)) d)
 
 -- ---- columns that are not the same
-parts_apart : (k l i j t s : ℕ) → (k ≡ l → i ≡ j → t ≡ s → ⊥) → ((k == l) && ((i == j) && (t == s))) ≡ false
+pub parts_apart : (k l i j t s : ℕ) → (k ≡ l → i ≡ j → t ≡ s → ⊥) → ((k == l) && ((i == j) && (t == s))) ≡ false
 parts_apart k l i j t s apart =
     ⊎_elim
     (λ yes. absurd (apart (grind (arith, yes)) (grind (arith, yes)) (grind (arith, yes))))
     (λ no. no)
     (cases_Bool ((k == l) && ((i == j) && (t == s))))
 
-uncounted : (c d : Column) (n : ℕ) → (kind_of c ≡ kind_of d → item_of c ≡ item_of d → period_of c ≡ period_of d → ⊥) → counted c d n ≡ 0
+pub uncounted : (c d : Column) (n : ℕ) → (kind_of c ≡ kind_of d → item_of c ≡ item_of d → period_of c ≡ period_of d → ⊥) → counted c d n ≡ 0
 uncounted c d n apart = ap (λ b. if b then n else 0) (parts_apart (kind_of c) (kind_of d) (item_of c) (item_of d) (period_of c) (period_of d) apart)
 
 if_most : (b : Bool) (n most : ℕ) → n ≤ most → (if b then n else 0) ≤ most
 if_most true n most few = few
 if_most false n most few = omega arith
 
-no_parts : (a b c d : ℕ) → a ≡ 0 → b ≡ 0 → c ≡ 0 → d ≡ 0 → a + (b + (c + d)) ≡ 0
+pub no_parts : (a b c d : ℕ) → a ≡ 0 → b ≡ 0 → c ≡ 0 → d ≡ 0 → a + (b + (c + d)) ≡ 0
 no_parts a b c d x y s r = omega (arith, x, y, s, r)
 
 -- ---- one kind of columns of one item, each period's so many times
@@ -233,7 +233,7 @@ in_period T kind i c k d most are few =
     at_most_one T s most (λ t. counted (c t) d (k t)) (λ t low high apart. uncounted (c t) d (k t) (λ _ _ e. apart (sym (are.numbers t) ∙ e))) (if_most (same_column (c s) d) (k s) most few)
 
 -- cells of which those of one item count
-cells_of_one : (n T i : ℕ) (c : ℕ → ℕ → Column) (k : ℕ → ℕ → ℕ) (d : Column) → 1 ≤ i → i ≤ n → ((j t : ℕ) → 1 ≤ j → j ≤ n → j ≢ i → k j t ≡ 0) → sum_to n (λ j. sum_to T (λ t. counted (c j t) d (k j t))) ≡ sum_to T (λ t. counted (c i t) d (k i t))
+pub cells_of_one : (n T i : ℕ) (c : ℕ → ℕ → Column) (k : ℕ → ℕ → ℕ) (d : Column) → 1 ≤ i → i ≤ n → ((j t : ℕ) → 1 ≤ j → j ≤ n → j ≢ i → k j t ≡ 0) → sum_to n (λ j. sum_to T (λ t. counted (c j t) d (k j t))) ≡ sum_to T (λ t. counted (c i t) d (k i t))
 cells_of_one n T i c k d low high none =
     only_one n i (λ j. sum_to T (λ t. counted (c j t) d (k j t))) low high (λ j j_low j_high apart.
     all_none T (λ t. counted (c j t) d (k j t)) (λ t t_low t_high. not_taken (same_column (c j t) d) (k j t) (none j t j_low j_high apart)))
@@ -246,11 +246,11 @@ entry_small T most t xs is =
     (λ past. omega (arith, get_or_past xs (t - 1) 0 past))
     (cases_lt (t - 1) (length xs))
 
-price_small : (T most t : ℕ) (o : Option (List ℕ)) → IfSome o (IsSeries T most) → backlog_price o t ≤ most
+pub price_small : (T most t : ℕ) (o : Option (List ℕ)) → IfSome o (IsSeries T most) → backlog_price o t ≤ most
 price_small T most t None is = omega arith
 price_small T most t (Some xs) is = entry_small T most t xs is
 
-cost_small : (m : Problem) → IsWithinLimits m → (d : Column) → 1 ≤ item_of d → item_of d ≤ item_count m → column_cost m d ≤ MAX_AMOUNT
+pub cost_small : (m : Problem) → IsWithinLimits m → (d : Column) → 1 ≤ item_of d → item_of d ≤ item_count m → column_cost m d ≤ MAX_AMOUNT
 cost_small m within (X i t) low high = entry_small m.periods MAX_AMOUNT t (item_at m i).unit_cost (within.each_item i low high).lists.unit_cost
 cost_small m within (Y i t) low high = entry_small m.periods MAX_AMOUNT t (item_at m i).setup_cost (within.each_item i low high).lists.setup_cost
 cost_small m within (S i t) low high = entry_small m.periods MAX_AMOUNT t (item_at m i).hold_cost (within.each_item i low high).lists.hold_cost

@@ -1,16 +1,14 @@
 -- Records are a table of quantities, or they have a fault that isn't out of memory.
-use Rattle.std.proofs.Common.{◌≢◌, ◌≤◌, ◌<◌, ◌+◌, ◌*◌, ◌^◌, ◌⊎◌, ⊎_elim, inl, inr, ℕ, refl, subst, sym, arith, IfNone, IfSome, List, Option, Some, None, codes, decimal, length}
+use Rattle.std.proofs.Common.{◌≢◌, ◌≤◌, ◌<◌, ◌+◌, ◌*◌, ◌⊎◌, ⊎_elim, inl, inr, ℕ, refl, arith, IfNone, IfSome, List, Option, Some, None, codes, length}
 use Rattle.std.specs.Str.{bytes_eq}
 use Rattle.std.specs.Str.Parse.{digits_value}
 use Rattle.std.proofs.lemmas.Bool.{cases_eq, cases_lt}
-use Rattle.std.proofs.lemmas.Slice.Eq.{bytes_eq-Decides}
-use Rattle.whole_numbers.proofs.Numerals.{whole_is_decimal}
 use Rattle.lot_sizing.specs.Problem.{Problem, item_count}
 use Rattle.lot_sizing.specs.Plan.{Table}
-use Rattle.csv_records.specs.Records.{IsNumber, Record, field, record_at}
+use Rattle.csv_records.specs.Records.{Record, field, record_at}
 use Rattle.plan_file.specs.Records.{number_of}
-use Rattle.csv_records.proofs.Numbers.{number_read}
 use Rattle.existence.proofs.Deciding.{Decided, all_or_first, each_or_first, lt_or_not, not_or_not, true_or_not}
+use Rattle.existence.proofs.Records.{number_or_not}
 use Rattle.lot_quantities.specs.Columns.{HasColumns, HasText, IsColumn, IsNoColumn, IsTwice}
 use Rattle.lot_quantities.specs.Tables.{HasHeader, HasNumbers, IsGood, IsTableOf, is_row, setup_in}
 use Rattle.lot_quantities.specs.Faults.{IsCellFault, IsFirstBad, IsQuantityFault, IsRecordFault}
@@ -20,17 +18,6 @@ use Rattle.lot_quantities.specs.declared.fault.QuantityFault.{QuantityFault}
 use Rattle.lot_quantities.specs.declared.fault.QuantityFault.TheVariants as fault
 use Rattle.lot_quantities.proofs.Bad.{bad_somewhere, first_make, first_only, first_setup}
 use Rattle.lot_quantities.proofs.Named.{none_nowhere, none_twice, only, setups_twice}
-
-number_or_not : (text : List ℕ) → Decided (IsNumber text)
-number_or_not text =
-    let n = digits_value 10 text in
-    ⊎_elim
-    (λ fits. ⊎_elim
-    (λ same. inl (subst IsNumber (sym ((bytes_eq-Decides text (decimal n)).0 same)) (number_read n fits)))
-    (λ no. inr (λ is. no ((bytes_eq-Decides text (decimal n)).1 (whole_is_decimal text is.whole (omega (arith, fits))))))
-    (true_or_not (bytes_eq text (decimal n))))
-    (λ no. inr (λ is. no is.fits))
-    (lt_or_not n (2 ^ 64))
 
 -- ---- a text stands in no column, in one, or in two
 abbrev Stands : Record → List ℕ → Type 0

@@ -4,7 +4,6 @@ use Rattle.std.specs.Prelude.{Result, Ok, Err, IfOk}
 use Rattle.std.specs.declared.alloc.AllocError.{AllocError}
 use Rattle.lot_io.specs.Outside.{Files, OnlyReads, Printed, Shelved}
 use Rattle.lot_sizing.specs.Problem.{Problem}
-use Rattle.lot_sizing.specs.Plan.{Plan as Chosen}
 use Rattle.plan_rules.specs.declared.plan.Plan.{Plan}
 use Rattle.plan_rules.specs.Held.{plan_of}
 use Rattle.plan_file.specs.Records.{IsPlanOf, records_of}
@@ -25,6 +24,7 @@ use Rattle.stream_check.specs.Streams.{IsStreamFault, IsTooLong, OfBytes, OfCert
 use Rattle.lotplan.specs.Meaning.{Says}
 use Rattle.lotplan.specs.declared.said.Said.{Said}
 use Rattle.lot_io.proofs.Frames.{reads_on}
+use Rattle.branching.proofs.Overall.{some_is as some_plan}
 use Rattle.lotplan.specs.Status.{code_of}
 use Rattle.lotplan.specs.Reading.{FileExplains, HoldsProblem, ModelExplains, OfFile, ReadAnswer, refused, missing, unread, too_long, read_line, read_status, AreNoPlan, HoldsPlan}
 use Rattle.lotplan.specs.Proving.{HoldsCertificate, IsGiven}
@@ -222,10 +222,6 @@ certified_at m p c code old new out_old out_new (no_certificate fault) x is line
 certified_at m p c code old new out_old out_new (no_plan fault) x is line none t = absurd (omega (arith, is, none))
 certified_at m p c code old new out_old out_new (rejected at w) x is line none t = absurd (omega (arith, is, none))
 certified_at m p c code old new out_old out_new (no_input w) x is line none t = absurd (omega (arith, (reading w code is).low, none))
-
--- a true claim of a plan that was given is one of the plan file's
-some_plan : (a b : Chosen) → Some a ≡ Some b → a ≡ b
-some_plan a b same = cc same
 
 claim_true : (before : Files) (p : List ℕ) (problem : Problem) (claim : Claim) (given : Option Plan) → IsGiven before p problem claim given → IsTrueOf problem claim (plan_given given) → ClaimIsTrue before p problem claim
 claim_true before p problem (Optimal amount) (Some grids) goes (plan, same, best, costs) =

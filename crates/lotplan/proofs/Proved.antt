@@ -22,6 +22,7 @@ use Rattle.own_plan.specs.OwnPeriod.{HasOwnPeriod}
 use Rattle.search_result.specs.declared.found.Found.{Found}
 use Rattle.search_result.specs.declared.found.RootSays.TheVariants as at_root
 use Rattle.branching.specs.Search.{GoesTogether, IsDecided, IsGoodPlan, KeepsOwn, UsesRoot, cost_of}
+use Rattle.branching.proofs.Overall.{some_is as same_plan}
 use Rattle.lotplan.specs.declared.said.Said.{Said}
 use Rattle.lotplan.specs.declared.sought.Sought.{Sought}
 use Rattle.lotplan.specs.Proving.{IsGiven}
@@ -41,9 +42,6 @@ starts_both p c old mid new first second = record {
   others = λ t other apart. second.others (subst IsTrue (sym first.told) t) other apart.1 ∙ first.others t other (apart.0, tt);
   starts = grew_twice old.starts mid.starts new.starts first.starts second.starts;
 }
-
-same_plan : (a b : terms.Plan) → Some a ≡ Some b → a ≡ b
-same_plan a b is = cc is
 
 -- no plan goes with an infeasible claim, and one with an optimal one
 no_plan : {A : Type 0} (m : Problem) (amount : ℕ) (given : Option Plan) → GoesTogether m (Optimal amount) given → given ≡ None → A

@@ -9,12 +9,8 @@ use Rattle.cert_lines.specs.declared.parts.Claim.TheVariants.{Optimal, Infeasibl
 use Rattle.tree_search.specs.declared.limits.Limits.{Limits}
 use Rattle.search_result.specs.declared.found.Found.{Found}
 use Rattle.branching.specs.Search.{DecidesSmall, IfBound, IsUndecided, KeepsFirst, WithRows, cost_of}
+use Rattle.command_line.proofs.Allowed.{first_true as asked}
 use Rattle.lotplan.specs.Finding.{IsKept}
-
--- it may only where it is asked
-asked : (is may : Bool) → (is && may) ≡ true → is ≡ true
-asked true may both = refl
-asked false may both = absurd (cc both)
 
 unasked : (is may : Bool) → is ≡ false → (is && may) ≡ false
 unasked true may never = absurd (cc never)

@@ -1,24 +1,24 @@
 -- What the program of the base rows says of points.
-use Rattle.std.proofs.Common.{◌≡◌, ◌≤◌, ◌<◌, ◌+◌, ◌*◌, ◌∙◌, ⊎_elim, ℕ, zero, suc, sym, ap, subst, arith, List, [], ◌∷◌, length, slice_index_or, append-nil, refl}
+use Rattle.std.proofs.Common.{◌≡◌, ◌≤◌, ◌<◌, ◌+◌, ◌*◌, ◌∙◌, ⊎_elim, ℕ, sym, ap, subst, arith, List, [], append-nil, refl}
 use Rattle.std.specs.Prelude.{map, ℤ, pos, negsuc, ◌+ℤ◌, ◌-ℤ◌, ◌*ℤ◌, ◌≤ℤ◌, unsigned_abs}
 use Rattle.std.specs.List.{All, Contains}
 use Rattle.std.proofs.lemmas.Bool.{cases_lt}
 use Rattle.std.proofs.lemmas.Int.{ints}
-use Rattle.std.proofs.lemmas.List.Elements.{All-filter, All-head, All-tail, All-weaker}
+use Rattle.std.proofs.lemmas.List.Elements.{All-filter, All-weaker}
 use Rattle.algebra.proofs.Integers.{add_mul, mul_comm, neg_mul, one_mul}
 use Rattle.algebra.proofs.Order.{linear}
 use Rattle.algebra.proofs.Ordered.{mul_le}
 use Rattle.rational.specs.Rational.{ℚ, IsCeiling, ceil_ℚ, whole, ◌*ℚ◌, ◌≤ℚ◌}
 use Rattle.rational.proofs.Rationals.{le_trans, rational_ordered, whole-mul}
-use Rattle.rational.proofs.Facts.{cancel_le, is_ceiling, whole-le, le-whole, ◌<ℚ◌}
+use Rattle.rational.proofs.Facts.{cancel_le, is_ceiling, whole-le, le-whole}
 use Rattle.lot_sizing.specs.Problem.{IsWithinLimits, Problem}
 use Rattle.lin_rows.specs.declared.base.RowName.{RowName}
 use Rattle.lin_rows.specs.declared.base.RowName.TheVariants.{Balance, Link, Capacity, EndMin, EndMax, Top, Least, Late, Path, Cut}
 use Rattle.lin_rows.specs.Base.{HasRow, all_terms, is_some_term, row_of}
 use Rattle.lin_rows.specs.Columns.{IsColumn}
-use Rattle.lin_rows.specs.Combining.{AllHold, AreOfProblem}
+use Rattle.lin_rows.specs.Combining.{AllHold}
 use Rattle.lin_rows.specs.Costs.{point_cost}
-use Rattle.lin_rows.specs.Rows.{HoldsAt, LinPoint, LinRow}
+use Rattle.lin_rows.specs.Rows.{HoldsAt, LinPoint}
 use Rattle.lin_rows.proofs.Columns.{base_exists}
 use Rattle.tableau.specs.Meaning.{AreEmpty}
 use Rattle.tableau.specs.Program.{Program, row_count}
@@ -27,31 +27,10 @@ use Rattle.lp_relaxation.specs.Relaxation.{MeetsBaseRows}
 use Rattle.lp_relaxation.specs.Names.{BaseNamesAre, BaseNamesAreAll, base_names, round_names}
 use Rattle.lp_relaxation.specs.Rounds.{IsRoundProgram, at_root}
 use Rattle.lp_relaxation.specs.Says.{AreRowsOf, EmptyIsSaid, HasFractions, LeastIsSaid, LeastSays}
+use Rattle.lp_relaxation.proofs.Closing.{all_hold, all_exist, one_holds, whole_above}
 use Rattle.lp_bounds.specs.Bounds.{IsBoundBy}
 use Rattle.lp_bounds.specs.Solved.{IsRoundedBest}
 use Rattle.lp_bounds.proofs.Denominators.{has_leaf}
-
--- ---- lists of rows
-all_hold : (q : LinPoint) (row : RowName → LinRow) (names : List RowName) → All (λ name. HoldsAt q (row name)) names → AllHold q (map row names)
-all_hold q row [] each = tt
-all_hold q row (name ∷ names) each =
-    let P = λ (n : RowName). HoldsAt q (row n) in
-    (All-head P name names each, all_hold q row names (All-tail P name names each))
-
-all_exist : (m : Problem) (row : RowName → LinRow) (names : List RowName) → All (λ name. All (λ a. IsColumn m a.column) (row name).terms) names → AreOfProblem m (map row names)
-all_exist m row [] each = tt
-all_exist m row (name ∷ names) each =
-    let P = λ (n : RowName). All (λ a. IsColumn m a.column) (row n).terms in
-    (All-head P name names each, all_exist m row names (All-tail P name names each))
-
--- one of the rows that hold
-one_holds : (q : LinPoint) (row : RowName → LinRow) (names : List RowName) (name : RowName) (k : ℕ) → k < length names → slice_index_or names k name ≡ name → AllHold q (map row names) → HoldsAt q (row name)
-one_holds q row [] name k less is hold = absurd (omega (arith, less))
-one_holds q row (first ∷ names) name zero less is hold = subst (λ n. HoldsAt q (row n)) is hold.0
-one_holds q row (first ∷ names) name (suc k) less is hold = one_holds q row names name k (omega (arith, less)) is hold.1
-
-whole_above : (n : ℕ) → 1 ≤ n → whole (pos 0) <ℚ whole (pos n)
-whole_above n some le = let l = le-whole (pos n) (pos 0) le in omega (arith, ints, l, some)
 
 -- ---- base rows by their names
 module _ (m : Problem) (total : ℕ → ℕ) (names : BaseNamesAre m) where

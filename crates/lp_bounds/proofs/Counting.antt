@@ -1,52 +1,26 @@
 -- How many rows and columns the program has, and how many parts its leaf.
-use Rattle.std.proofs.Common.{◌≡◌, ◌≤◌, ◌+◌, ◌-◌, ◌*◌, ◌∙◌, ⊎_elim, ℕ, zero, suc, refl, sym, ap, arith, Bool, true, false, List, [], ◌∷◌, ◌++◌, length, length-append}
-use Rattle.std.specs.Prelude.{if◌then◌else◌, ℤ, pos, negsuc}
-use Rattle.std.specs.List.{filter}
-use Rattle.std.proofs.lemmas.Bool.{cases_Bool}
+use Rattle.std.proofs.Common.{◌≡◌, ◌≤◌, ◌+◌, ◌-◌, ◌*◌, ◌∙◌, ℕ, zero, suc, sym, ap, arith, true, false, List, [], ◌∷◌, ◌++◌, length, length-append}
+use Rattle.std.specs.Prelude.{ℤ, pos, negsuc}
 use Rattle.std.proofs.lemmas.List.{length-map}
 use Rattle.std.proofs.Math.Nat.{mul-le-mul_left, mul-le-mul_right}
 use Rattle.lot_sizing.specs.Sums.{sum_to}
 use Rattle.lot_sizing.specs.Problem.{IsWithinLimits, Problem, item_count, resource_count}
-use Rattle.lin_rows.specs.declared.base.RowName.{RowName}
 use Rattle.lin_rows.specs.declared.base.RowName.TheVariants.{Balance, Link, Capacity, Top, Least, Late, Path}
 use Rattle.lin_rows.specs.declared.bound.Bound.{Bound}
 use Rattle.lin_rows.specs.Columns.{column_count, owes, owing_count}
-use Rattle.lin_rows.specs.Rows.{LinRow}
 use Rattle.cert_lines.specs.declared.limits.TheConstants.{MAX_BRANCHES}
 use Rattle.tableau.specs.Program.{Program, column_count as width_of, row_count}
 use Rattle.cert_meaning.specs.Named.{row_named}
 use Rattle.lp_relaxation.specs.declared.limits.TheConstants.{MAX_ROUND_SIZE}
 use Rattle.lp_relaxation.specs.declared.program.Side.{Side}
 use Rattle.lp_relaxation.specs.Names.{base_names, cell_names, end_name, is_made, names_to}
-use Rattle.lp_relaxation.specs.Sides.{all_sides, part_of, parts_of, side_inequality, sides_of}
+use Rattle.lp_relaxation.specs.Sides.{all_sides, part_of, parts_of, side_inequality}
+use Rattle.lp_relaxation.proofs.Listing.{filter_few, to_count, cell_count, owes_few, owing_few, sides_few}
 use Rattle.lp_bounds.specs.Path.{on_path, path_names}
 use Rattle.lp_bounds.specs.Steps.{IsMadeOf}
 
--- ---- names
-filter_few : (p : RowName → Bool) (names : List RowName) → length (filter p names) ≤ length names
-filter_few p [] = omega arith
-filter_few p (name ∷ names) =
-    let rest = filter_few p names in
-    ⊎_elim (λ yes. rw yes (omega (arith, rest))) (λ no. rw no (omega (arith, rest))) (cases_Bool (p name))
-
-to_count : (n : ℕ) (f : ℕ → RowName) → length (names_to n f) ≡ n
-to_count zero f = refl
-to_count (suc n) f = omega (arith, length-append (names_to n f) (f (suc n) ∷ []), to_count n f)
-
-cell_count : (n T : ℕ) (f : ℕ → ℕ → RowName) → length (cell_names n T f) ≡ n * T
-cell_count zero T f = omega arith
-cell_count (suc n) T f = omega (arith, length-append (cell_names n T f) (names_to T (f (suc n))), cell_count n T f, to_count T (f (suc n)))
-
 times_few : (a b c d : ℕ) → a ≤ c → b ≤ d → a * b ≤ c * d
 times_few a b c d first second = omega (arith, mul-le-mul_right b first, mul-le-mul_left c second)
-
-owes_few : (b : Bool) → (if b then 1 else 0) ≤ 1
-owes_few true = omega arith
-owes_few false = omega arith
-
-owing_few : (n : ℕ) (f : ℕ → ℕ) → ((i : ℕ) → f i ≤ 1) → sum_to n f ≤ n
-owing_few zero f each = omega arith
-owing_few (suc n) f each = omega (arith, owing_few n f each, each (suc n))
 
 module _ (m : Problem) (within : IsWithinLimits m) where
   cells_few : item_count m * m.periods ≤ 40 * 120
@@ -98,15 +72,6 @@ module _ (m : Problem) (within : IsWithinLimits m) where
         within.items,
       )
 
--- ---- sides
-side_few : (name : RowName) (e : Bool) → length (sides_of name e) ≤ 2
-side_few name true = omega arith
-side_few name false = omega arith
-
-sides_few : (row : RowName → LinRow) (names : List RowName) → length (all_sides row names) ≤ 2 * length names
-sides_few row [] = omega arith
-sides_few row (name ∷ names) = omega (arith, length-append (sides_of name (row name).equal) (all_sides row names), side_few name (row name).equal, sides_few row names)
-
 module _ (m : Problem) (total : ℕ → ℕ) (path : List Bound) (n : ℕ) (p : Program) (list : List Side) (is : IsMadeOf m total path n p list) where
   -- one for each row
   pub one_side_each : length list ≡ row_count p
@@ -123,7 +88,7 @@ module _ (m : Problem) (total : ℕ → ℕ) (path : List Bound) (n : ℕ) (p : 
   few_all within few = omega (arith, is.program.costs_are.size, columns_few m within, one_side_each, few_sides within, few)
 
 -- ---- parts
-part_few : (s : Side) (z : ℤ) → length (part_of s z) ≤ 1
+pub part_few : (s : Side) (z : ℤ) → length (part_of s z) ≤ 1
 part_few s (pos zero) = omega arith
 part_few s (pos (suc n)) = omega arith
 part_few s (negsuc n) = omega arith

@@ -1,8 +1,6 @@
 -- The program of the path is that of the root's first round with one row more for each bound.
-use Rattle.std.proofs.Common.{◌≡◌, ◌+◌, ◌-◌, ◌∙◌, ℕ, suc, refl, sym, ap, subst, arith, Bool, true, false, List, [], ◌∷◌, ◌++◌, slice_index_or, append_assoc}
-use Rattle.std.specs.List.{All}
+use Rattle.std.proofs.Common.{◌≡◌, ◌+◌, ◌-◌, ◌∙◌, ℕ, suc, refl, sym, ap, subst, arith, false, List, [], ◌∷◌, ◌++◌, slice_index_or, append_assoc}
 use Rattle.std.proofs.lemmas.List.{map-append}
-use Rattle.std.proofs.lemmas.List.Elements.{All-head, All-tail}
 use Rattle.lot_sizing.specs.Problem.{Problem}
 use Rattle.lin_rows.specs.declared.base.RowName.{RowName}
 use Rattle.lin_rows.specs.declared.base.RowName.TheVariants.{Path}
@@ -18,6 +16,7 @@ use Rattle.lp_relaxation.specs.declared.rounds.RoundProgram.{RoundProgram}
 use Rattle.lp_relaxation.specs.Names.{BaseNamesAre, base_names, names_to}
 use Rattle.lp_relaxation.specs.Rounds.{IsFirstRound, IsRound, at_root}
 use Rattle.lp_relaxation.specs.Sides.{all_sides, program_rows, side, side_inequality, sides_of, turned_row}
+use Rattle.lp_relaxation.proofs.Growing.{rows_same, sides_same}
 use Rattle.lp_bounds.specs.Path.{on_path, path_names}
 use Rattle.lp_bounds.specs.Steps.{IsMadeOf, IsReadyTo}
 use Rattle.lp_bounds.proofs.Naming.{base_named, each_name}
@@ -26,29 +25,6 @@ use Rattle.lp_bounds.proofs.Naming.{base_named, each_name}
 sides_join : (row : RowName → LinRow) (xs ys : List RowName) → all_sides row (xs ++ ys) ≡ all_sides row xs ++ all_sides row ys
 sides_join row [] ys = refl
 sides_join row (x ∷ xs) ys = ap (λ ss. sides_of x (row x).equal ++ ss) (sides_join row xs ys) ∙ sym (append_assoc (sides_of x (row x).equal) (all_sides row xs) (all_sides row ys))
-
--- ---- rows that agree at the names
-sides_same : (row other : RowName → LinRow) (names : List RowName) → All (λ name. row name ≡ other name) names → all_sides row names ≡ all_sides other names
-sides_same row other [] same = refl
-sides_same row other (name ∷ names) same =
-    let P = λ (n : RowName). row n ≡ other n in
-    ap (λ r. sides_of name r.equal ++ all_sides row names) (All-head P name names same) ∙ ap (λ ss. sides_of name (other name).equal ++ ss) (sides_same row other names (All-tail P name names same))
-
-one_same : (m : Problem) (row other : RowName → LinRow) (name : RowName) (e : Bool) → row name ≡ other name → program_rows m row (sides_of name e) ≡ program_rows m other (sides_of name e)
-one_same m row other name true is = ap (λ r. turned_row m false r ∷ (turned_row m true r ∷ [])) is
-one_same m row other name false is = ap (λ r. turned_row m false r ∷ []) is
-
-rows_same : (m : Problem) (row other : RowName → LinRow) (names : List RowName) → All (λ name. row name ≡ other name) names → program_rows m row (all_sides row names) ≡ program_rows m other (all_sides other names)
-rows_same m row other [] same = refl
-rows_same m row other (name ∷ names) same =
-    let P = λ (n : RowName). row n ≡ other n in
-    let here = All-head P name names same in
-    let e = (row name).equal in
-    map-append (side_inequality m row) (sides_of name e) (all_sides row names)
-    ∙ ap (λ rows. rows ++ program_rows m row (all_sides row names)) (one_same m row other name e here)
-    ∙ ap (λ rows. program_rows m other (sides_of name e) ++ rows) (rows_same m row other names (All-tail P name names same))
-    ∙ sym (map-append (side_inequality m other) (sides_of name e) (all_sides other names))
-    ∙ ap (λ r. program_rows m other (sides_of name r.equal ++ all_sides other names)) here
 
 module _ (m : Problem) (total : ℕ → ℕ) (path : List Bound) where
   abbrev here : RowName → LinRow

@@ -1,10 +1,10 @@
 mod Naming
-mod Counting
+pub mod Counting
 mod BoundRows
 mod Growing
-mod Writing
+pub mod Writing
 mod Points
-mod Refusals
+pub mod Refusals
 mod Found
 mod Denominators
 pub mod BasePoints

@@ -1,7 +1,7 @@
 -- The names of the program's rows, and what they mean.
-use Rattle.std.proofs.Common.{◌≡◌, ◌≤◌, ℕ, zero, suc, refl, arith, List, [], ◌∷◌}
+use Rattle.std.proofs.Common.{◌≡◌, ◌≤◌, ℕ, refl, List}
 use Rattle.std.specs.List.{All}
-use Rattle.std.proofs.lemmas.List.Elements.{All-append, All-nil, All-weaker}
+use Rattle.std.proofs.lemmas.List.Elements.{All-append, All-weaker}
 use Rattle.lot_sizing.specs.Problem.{Problem}
 use Rattle.lin_rows.specs.declared.base.RowName.{RowName}
 use Rattle.lin_rows.specs.declared.base.RowName.TheVariants.{Balance, Link, Capacity, EndMin, EndMax, Top, Least, Late, Path, Cut}
@@ -9,16 +9,8 @@ use Rattle.lin_rows.specs.declared.bound.Bound.{Bound}
 use Rattle.lin_rows.specs.Base.{HasRow, row_of}
 use Rattle.cert_meaning.specs.Named.{IsNamed, row_named}
 use Rattle.lp_relaxation.specs.Names.{BaseNamesAre, base_names, names_to}
+use Rattle.lp_relaxation.proofs.Naming.{each_to}
 use Rattle.lp_bounds.specs.Path.{on_path, path_names}
-
--- ---- lists of names
-one_name : (P : RowName → Type 0) (name : RowName) → P name → All P (name ∷ [])
-one_name P name here zero d less = here
-one_name P name here (suc k) d less = absurd (omega (arith, less))
-
-each_to : (P : RowName → Type 0) (n : ℕ) (f : ℕ → RowName) → ((k : ℕ) → 1 ≤ k → k ≤ n → P (f k)) → All P (names_to n f)
-each_to P zero f each = All-nil P
-each_to P (suc n) f each = All-append P (names_to n f) (f (suc n) ∷ []) (each_to P n f (λ k low high. each k low (omega (arith, high)))) (one_name P (f (suc n)) (each (suc n) (omega arith) (omega arith)))
 
 -- what holds of base names and of the names of bounds
 pub each_name : (P : RowName → Type 0) (m : Problem) (n : ℕ) → BaseNamesAre m → ((name : RowName) → HasRow m name → P name) → ((k : ℕ) → 1 ≤ k → k ≤ n → P (Path k)) → All P (path_names m n)

@@ -1,11 +1,11 @@
 -- Points that meet the program's rows meet all base rows and the bounds of the path.
-use Rattle.std.proofs.Common.{◌≡◌, ◌≤◌, ◌<◌, ◌-◌, ◌*◌, ⊎_elim, ℕ, zero, suc, sym, subst, arith, List, [], ◌∷◌, ◌++◌, length, slice_index_or}
+use Rattle.std.proofs.Common.{◌≡◌, ◌≤◌, ◌-◌, ◌*◌, ⊎_elim, ℕ, zero, suc, sym, subst, arith, List, [], ◌∷◌, ◌++◌, length, slice_index_or}
 use Rattle.std.specs.Prelude.{map, ℤ, pos, ◌*ℤ◌}
 use Rattle.std.specs.List.{All}
 use Rattle.std.proofs.lemmas.Bool.{cases_eq}
 use Rattle.std.proofs.lemmas.Int.{ints}
 use Rattle.std.proofs.lemmas.List.{get_or_default}
-use Rattle.std.proofs.lemmas.List.Elements.{All-filter, All-head, All-tail}
+use Rattle.std.proofs.lemmas.List.Elements.{All-filter}
 use Rattle.algebra.proofs.Integers.{mul_comm}
 use Rattle.algebra.proofs.Ordered.{mul_le}
 use Rattle.rational.specs.Rational.{ℚ, ceil_ℚ, whole, ◌*ℚ◌, ◌≤ℚ◌}
@@ -18,36 +18,25 @@ use Rattle.lin_rows.specs.declared.bound.Bound.{Bound}
 use Rattle.lin_rows.specs.Base.{HasRow, all_terms, is_some_term}
 use Rattle.lin_rows.specs.Bounds.{MeetsBound, bound_row}
 use Rattle.lin_rows.specs.Columns.{IsColumn}
-use Rattle.lin_rows.specs.Combining.{AllHold, AreOfProblem}
+use Rattle.lin_rows.specs.Combining.{AllHold}
 use Rattle.lin_rows.specs.Costs.{point_cost}
 use Rattle.lin_rows.specs.Rows.{HoldsAt, LinPoint, LinRow}
 use Rattle.lin_rows.proofs.Columns.{base_exists}
 use Rattle.cert_trees.specs.Paths.{AreChoices, no_bound}
 use Rattle.cert_meaning.specs.Named.{IsNamed, row_named}
+use Rattle.cert_meaning.proofs.Rows.{bound_columns}
 use Rattle.lp_relaxation.specs.Relaxation.{MeetsBaseRows}
 use Rattle.lp_relaxation.specs.Names.{BaseNamesAre, base_names, names_to}
 use Rattle.lp_relaxation.specs.Says.{AreRowsOf, HasFractions, LeastSays}
+use Rattle.lp_relaxation.proofs.Closing.{all_exist, one_holds}
 use Rattle.lp_bounds.specs.Path.{IsMetBy, on_path, path_names}
-use Rattle.lp_bounds.proofs.BoundRows.{bound_columns, bound_holds}
+use Rattle.lp_bounds.proofs.BoundRows.{bound_holds}
 use Rattle.lp_bounds.proofs.Naming.{base_is_named, base_named, each_name}
-
--- ---- lists of rows
-all_exist : (m : Problem) (row : RowName → LinRow) (names : List RowName) → All (λ name. All (λ a. IsColumn m a.column) (row name).terms) names → AreOfProblem m (map row names)
-all_exist m row [] each = tt
-all_exist m row (name ∷ names) each =
-    let P = λ (n : RowName). All (λ a. IsColumn m a.column) (row n).terms in
-    (All-head P name names each, all_exist m row names (All-tail P name names each))
 
 -- those of two lists of names
 held_apart : (q : LinPoint) (row : RowName → LinRow) (xs ys : List RowName) → AllHold q (map row (xs ++ ys)) → AllHold q (map row xs) × AllHold q (map row ys)
 held_apart q row [] ys hold = (tt, hold)
 held_apart q row (x ∷ xs) ys hold = let rest = held_apart q row xs ys hold.1 in ((hold.0, rest.0), rest.1)
-
--- one of the rows that hold
-one_holds : (q : LinPoint) (row : RowName → LinRow) (names : List RowName) (name : RowName) (k : ℕ) → k < length names → slice_index_or names k name ≡ name → AllHold q (map row names) → HoldsAt q (row name)
-one_holds q row [] name k less is hold = absurd (omega (arith, less))
-one_holds q row (first ∷ names) name zero less is hold = subst (λ n. HoldsAt q (row n)) is hold.0
-one_holds q row (first ∷ names) name (suc k) less is hold = one_holds q row names name k (omega (arith, less)) is hold.1
 
 to_holds : (q : LinPoint) (row : RowName → LinRow) (f : ℕ → RowName) (n k : ℕ) → 1 ≤ k → k ≤ n → AllHold q (map row (names_to n f)) → HoldsAt q (row (f k))
 to_holds q row f zero k low high hold = absurd (omega (arith, low, high))

@@ -26,17 +26,17 @@ pub one_amount : (den a : ℤ) (n k : ℕ) → IsRoundedUp den a n → IsRounded
 one_amount den a n k is also = omega (arith, is.least k also.above, also.least n is.above)
 
 -- of parts that exist and are signed none is wrong
-none_missing : (n : Named) (parts : List Part) (line at : ℕ) → AreParts n parts → IsFirstWrong n parts line at why.Range → ⊥
+pub none_missing : (n : Named) (parts : List Part) (line at : ℕ) → AreParts n parts → IsFirstWrong n parts line at why.Range → ⊥
 none_missing n parts line at are wrong = wrong.wrong (are wrong.place no_part wrong.exists).named
 
-none_negative : (n : Named) (parts : List Part) (line at : ℕ) → AreParts n parts → IsFirstWrong n parts line at why.Sign → ⊥
+pub none_negative : (n : Named) (parts : List Part) (line at : ℕ) → AreParts n parts → IsFirstWrong n parts line at why.Sign → ⊥
 none_negative n parts line at are wrong =
     let (named, unequal, less) = wrong.wrong in
     let signed = (are wrong.place no_part wrong.exists).signed unequal in
     omega (arith, ints, signed, less)
 
 -- and where no column is taken more often than it may be, only the amounts are left
-sum_is_large : (n : Named) (most : Column → ℤ) (parts : List Part) (line at : ℕ) (w : Why) → AreParts n parts → ((c : Column) → IsColumn n.problem c → sum_of_column n parts c ≤ℤ most c) → IsSumFault n most parts line at w → AreSmall n parts → ⊥
+pub sum_is_large : (n : Named) (most : Column → ℤ) (parts : List Part) (line at : ℕ) (w : Why) → AreParts n parts → ((c : Column) → IsColumn n.problem c → sum_of_column n parts c ≤ℤ most c) → IsSumFault n most parts line at w → AreSmall n parts → ⊥
 sum_is_large n most parts line at why.Range are columns fault small = none_missing n parts line at are fault
 sum_is_large n most parts line at why.Sign are columns fault small = none_negative n parts line at are fault
 sum_is_large n most parts line at why.TooLarge are columns fault small = fault.2 small

@@ -1,10 +1,9 @@
 -- The leaf has few parts, and each of its lines is within the limits.
-use Rattle.std.proofs.Common.{◌≡◌, ◌≤◌, ◌<◌, ◌+◌, ◌^◌, ℕ, zero, suc, refl, arith, Bool, true, false, List, [], ◌∷◌, ◌++◌, length, length-append}
+use Rattle.std.proofs.Common.{◌≡◌, ◌≤◌, ◌<◌, ◌+◌, ◌^◌, ℕ, zero, suc, refl, arith, List, [], ◌∷◌, ◌++◌, length, length-append}
 use Rattle.std.specs.Prelude.{codes, decimal, ℤ, pos, negsuc, ◌≤ℤ◌}
 use Rattle.std.specs.Fmt.{signed_decimal}
 use Rattle.std.specs.List.{All}
 use Rattle.std.proofs.lemmas.Fmt.{length-decimal-le_wide}
-use Rattle.std.proofs.lemmas.Int.{ints}
 use Rattle.std.proofs.lemmas.List.Elements.{All-append, All-nil}
 use Rattle.frac128.specs.Limits.{IsSmall}
 use Rattle.lot_sizing.specs.Problem.{IsPlain, IsWithinLimits, Problem}
@@ -20,7 +19,8 @@ use Rattle.certificate.specs.Values.{AreLines, part_values}
 use Rattle.certificate.proofs.Shorts.{lines_join}
 use Rattle.cert_meaning.specs.Named.{HasName}
 use Rattle.lp_relaxation.specs.declared.program.Side.{Side}
-use Rattle.lp_relaxation.specs.Sides.{part_of, parts_of, turn}
+use Rattle.lp_relaxation.specs.Sides.{part_of, parts_of}
+use Rattle.lp_relaxation.proofs.Rising.{turn_small}
 use Rattle.lp_bounds.specs.Path.{IsWritableLeaf}
 
 -- ---- how long numbers are
@@ -33,7 +33,7 @@ small_short : (n : ℕ) → n ≤ 2000 → length (one_text n) ≤ 5
 small_short n most = one_short 4 n (omega arith) (omega (arith, most)) (omega (arith, most))
 
 -- how many parts there are
-count_short : (n : ℕ) → n ≤ MAX_PARTS → length (one_text n) ≤ 7
+pub count_short : (n : ℕ) → n ≤ MAX_PARTS → length (one_text n) ≤ 7
 count_short n most = one_short 6 n (omega arith) (omega (arith, most)) (omega (arith, most))
 
 -- a number below 2^127 in absolute value
@@ -157,11 +157,6 @@ module _ (m : Problem) (limits : IsWithinLimits m) (bounds : ℕ) (few : bounds 
     },
     lines_join version (part_values parts) [] (parts_are version plain parts has small) tt,
   )
-
--- ---- the numbers of parts
-turn_small : (turned : Bool) (z : ℤ) → IsSmall z → IsSmall (turn turned z)
-turn_small true z small = omega (arith, ints, small)
-turn_small false z small = small
 
 one_part : (P : Part → Type 0) (part : Part) → P part → All P (part ∷ [])
 one_part P part here zero d less = here

@@ -48,25 +48,25 @@ columns_at m [] k less are = absurd (omega (arith, less))
 columns_at m (r ∷ rows) zero less are = are.0
 columns_at m (r ∷ rows) (suc k) less are = columns_at m rows k (omega (arith, less)) are.1
 
-all_hold : (q : LinPoint) (row : RowName → LinRow) (names : List RowName) → All (λ name. HoldsAt q (row name)) names → AllHold q (map row names)
+pub all_hold : (q : LinPoint) (row : RowName → LinRow) (names : List RowName) → All (λ name. HoldsAt q (row name)) names → AllHold q (map row names)
 all_hold q row [] each = tt
 all_hold q row (name ∷ names) each =
     let P = λ (n : RowName). HoldsAt q (row n) in
     (All-head P name names each, all_hold q row names (All-tail P name names each))
 
-all_exist : (m : Problem) (row : RowName → LinRow) (names : List RowName) → All (λ name. All (λ a. IsColumn m a.column) (row name).terms) names → AreOfProblem m (map row names)
+pub all_exist : (m : Problem) (row : RowName → LinRow) (names : List RowName) → All (λ name. All (λ a. IsColumn m a.column) (row name).terms) names → AreOfProblem m (map row names)
 all_exist m row [] each = tt
 all_exist m row (name ∷ names) each =
     let P = λ (n : RowName). All (λ a. IsColumn m a.column) (row n).terms in
     (All-head P name names each, all_exist m row names (All-tail P name names each))
 
 -- one of the rows that hold
-one_holds : (q : LinPoint) (row : RowName → LinRow) (names : List RowName) (name : RowName) (k : ℕ) → k < length names → slice_index_or names k name ≡ name → AllHold q (map row names) → HoldsAt q (row name)
+pub one_holds : (q : LinPoint) (row : RowName → LinRow) (names : List RowName) (name : RowName) (k : ℕ) → k < length names → slice_index_or names k name ≡ name → AllHold q (map row names) → HoldsAt q (row name)
 one_holds q row [] name k less is hold = absurd (omega (arith, less))
 one_holds q row (first ∷ names) name zero less is hold = subst (λ n. HoldsAt q (row n)) is hold.0
 one_holds q row (first ∷ names) name (suc k) less is hold = one_holds q row names name k (omega (arith, less)) is hold.1
 
-whole_above : (n : ℕ) → 1 ≤ n → whole (pos 0) <ℚ whole (pos n)
+pub whole_above : (n : ℕ) → 1 ≤ n → whole (pos 0) <ℚ whole (pos n)
 whole_above n some le = let l = le-whole (pos n) (pos 0) le in omega (arith, ints, l, some)
 
 -- the rows of (l,S) cuts hold at each point of the relaxation

@@ -30,7 +30,7 @@ pub sides_append : (row : RowName → LinRow) (names : List RowName) (name : Row
 sides_append row [] name = append-nil (sides_of name (row name).equal)
 sides_append row (first ∷ names) name = ap (λ ss. sides_of first (row first).equal ++ ss) (sides_append row names name) ∙ sym (append_assoc (sides_of first (row first).equal) (all_sides row names) (sides_of name (row name).equal))
 
-same_sides : (m : Problem) (row : RowName → LinRow) (name : RowName) (e : Bool) → map (side_inequality m row) (sides_of name e) ≡ map (λ s. turned_row m s.turned (row name)) (sides_of name e)
+pub same_sides : (m : Problem) (row : RowName → LinRow) (name : RowName) (e : Bool) → map (side_inequality m row) (sides_of name e) ≡ map (λ s. turned_row m s.turned (row name)) (sides_of name e)
 same_sides m row name true = refl
 same_sides m row name false = refl
 
@@ -46,7 +46,7 @@ sides_same row other (name ∷ names) same =
     let P = λ (n : RowName). row n ≡ other n in
     ap (λ r. sides_of name r.equal ++ all_sides row names) (All-head P name names same) ∙ ap (λ ss. sides_of name (other name).equal ++ ss) (sides_same row other names (All-tail P name names same))
 
-one_same : (m : Problem) (row other : RowName → LinRow) (name : RowName) (e : Bool) → row name ≡ other name → program_rows m row (sides_of name e) ≡ program_rows m other (sides_of name e)
+pub one_same : (m : Problem) (row other : RowName → LinRow) (name : RowName) (e : Bool) → row name ≡ other name → program_rows m row (sides_of name e) ≡ program_rows m other (sides_of name e)
 one_same m row other name true is = ap (λ r. turned_row m false r ∷ (turned_row m true r ∷ [])) is
 one_same m row other name false is = ap (λ r. turned_row m false r ∷ []) is
 

@@ -4,15 +4,15 @@ mod Example
 pub mod Numbering
 mod Entries
 mod Combining
-mod Common
+pub mod Common
 mod Objective
 mod Priced
 mod Parts
 mod Saying
-mod Naming
+pub mod Naming
 pub mod Growing
-mod Rising
+pub mod Rising
 mod Smallness
-mod Closing
-mod Listing
+pub mod Closing
+pub mod Listing
 pub mod Making

@@ -90,33 +90,33 @@ module _ (m : Problem) where
       put_then [] (kind_names m kind.Balance) a from_links h balances a_is
 
 -- ---- how many there are
-filter_few : (p : RowName → Bool) (names : List RowName) → length (filter p names) ≤ length names
+pub filter_few : (p : RowName → Bool) (names : List RowName) → length (filter p names) ≤ length names
 filter_few p [] = omega arith
 filter_few p (name ∷ names) =
     let rest = filter_few p names in
     ⊎_elim (λ yes. rw yes (omega (arith, rest))) (λ no. rw no (omega (arith, rest))) (cases_Bool (p name))
 
-to_count : (n : ℕ) (f : ℕ → RowName) → length (names_to n f) ≡ n
+pub to_count : (n : ℕ) (f : ℕ → RowName) → length (names_to n f) ≡ n
 to_count zero f = refl
 to_count (suc n) f = omega (arith, length-append (names_to n f) (f (suc n) ∷ []), to_count n f)
 
-cell_count : (n T : ℕ) (f : ℕ → ℕ → RowName) → length (cell_names n T f) ≡ n * T
+pub cell_count : (n T : ℕ) (f : ℕ → ℕ → RowName) → length (cell_names n T f) ≡ n * T
 cell_count zero T f = omega arith
 cell_count (suc n) T f = omega (arith, length-append (cell_names n T f) (names_to T (f (suc n))), cell_count n T f, to_count T (f (suc n)))
 
-side_few : (name : RowName) (e : Bool) → length (sides_of name e) ≤ 2
+pub side_few : (name : RowName) (e : Bool) → length (sides_of name e) ≤ 2
 side_few name true = omega arith
 side_few name false = omega arith
 
-sides_few : (row : RowName → LinRow) (names : List RowName) → length (all_sides row names) ≤ 2 * length names
+pub sides_few : (row : RowName → LinRow) (names : List RowName) → length (all_sides row names) ≤ 2 * length names
 sides_few row [] = omega arith
 sides_few row (name ∷ names) = omega (arith, length-append (sides_of name (row name).equal) (all_sides row names), side_few name (row name).equal, sides_few row names)
 
-owes_few : (b : Bool) → (if b then 1 else 0) ≤ 1
+pub owes_few : (b : Bool) → (if b then 1 else 0) ≤ 1
 owes_few true = omega arith
 owes_few false = omega arith
 
-owing_few : (n : ℕ) (f : ℕ → ℕ) → ((i : ℕ) → f i ≤ 1) → sum_to n f ≤ n
+pub owing_few : (n : ℕ) (f : ℕ → ℕ) → ((i : ℕ) → f i ≤ 1) → sum_to n f ≤ n
 owing_few zero f each = omega arith
 owing_few (suc n) f each = omega (arith, owing_few n f each, each (suc n))
 

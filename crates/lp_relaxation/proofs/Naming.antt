@@ -12,7 +12,7 @@ use Rattle.lp_relaxation.specs.declared.names.Kind.TheVariants as kind
 use Rattle.lp_relaxation.specs.Names.{BaseNamesAre, base_names, cell_names, end_name, is_made, kind_names, name_in, names_to}
 
 -- ---- lists of names
-one_name : (P : RowName → Type 0) (name : RowName) → P name → All P (name ∷ [])
+pub one_name : (P : RowName → Type 0) (name : RowName) → P name → All P (name ∷ [])
 one_name P name here zero d less = here
 one_name P name here (suc k) d less = absurd (omega (arith, less))
 

@@ -1,6 +1,6 @@
 -- The objective of the linear model: each column its cost times.
 use Rattle.std.proofs.Common.{◌≡◌, ◌≤◌, ◌<◌, ◌+◌, ◌*◌, ◌∙◌, ⊎_elim, ℕ, zero, suc, refl, sym, ap, arith, Bool, true, false, List, [], ◌∷◌, ◌++◌}
-use Rattle.std.specs.Prelude.{if◌then◌else◌, is_some, ◌&&◌, nat_le, nat_lt, pos, ◌+ℤ◌, ◌*ℤ◌, ◌≤ℤ◌}
+use Rattle.std.specs.Prelude.{if◌then◌else◌, is_some, ◌&&◌, nat_le, nat_lt, pos, ◌+ℤ◌, ◌≤ℤ◌}
 use Rattle.std.specs.List.{All}
 use Rattle.std.proofs.lemmas.Bool.{cases_Bool, cases_eq}
 use Rattle.std.proofs.lemmas.List.Elements.{All-append}
@@ -21,28 +21,7 @@ use Rattle.lin_rows.proofs.Cells.{same_parts}
 use Rattle.lin_rows.proofs.Terms.{sum_append}
 use Rattle.echelon_rows.specs.Rows.{cells_to, periods_to}
 use Rattle.echelon_rows.proofs.Shapes.{Counts, Exists, items_each, some_exist}
-
--- ---- what it comes to
-one_more : (a b : ℕ) → a + (b + 0) ≡ a + b
-one_more a b = omega arith
-
--- terms that are taken a whole number of times
-terms_sum : (v : Values) (n : ℕ) (c : ℕ → Column) (k : ℕ → ℕ) → sum_at v (periods_to n (λ t. term (c t) (pos (k t)))) ≡ pos (sum_to n (λ t. k t * v (c t)))
-terms_sum v zero c k = refl
-terms_sum v (suc n) c k =
-    let f = λ (t : ℕ). term (c t) (pos (k t)) in
-    let x = k (suc n) * v (c (suc n)) in
-    sum_append v (periods_to n f) (f (suc n) ∷ [])
-    ∙ ap (λ z. z +ℤ (pos (k (suc n)) *ℤ pos (v (c (suc n))) +ℤ pos 0)) (terms_sum v n c k)
-    ∙ ap pos (one_more (sum_to n (λ t. k t * v (c t))) x)
-
-cells_sum : (v : Values) (n T : ℕ) (c : ℕ → ℕ → Column) (k : ℕ → ℕ → ℕ) → sum_at v (cells_to n T (λ j t. term (c j t) (pos (k j t)))) ≡ pos (sum_to n (λ j. sum_to T (λ t. k j t * v (c j t))))
-cells_sum v zero T c k = refl
-cells_sum v (suc n) T c k =
-    let f = λ (j t : ℕ). term (c j t) (pos (k j t)) in
-    sum_append v (cells_to n T f) (periods_to T (f (suc n)))
-    ∙ ap (λ z. z +ℤ sum_at v (periods_to T (f (suc n)))) (cells_sum v n T c k)
-    ∙ ap (λ z. pos (sum_to n (λ j. sum_to T (λ t. k j t * v (c j t)))) +ℤ z) (terms_sum v T (c (suc n)) (k (suc n)))
+use Rattle.echelon_rows.proofs.Adding.{cells_sum}
 
 -- each column its cost times
 unfoldable pub objective : Problem → List Term

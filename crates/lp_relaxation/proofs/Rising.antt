@@ -16,7 +16,7 @@ use Rattle.lp_relaxation.specs.Laws.{HasSmallNumbers}
 use Rattle.lp_relaxation.specs.Sides.{lp_term, turn, turned_row}
 use Rattle.lp_relaxation.proofs.Numbering.{Exists}
 
-turn_small : (b : Bool) (z : ℤ) → IsSmall z → IsSmall (turn b z)
+pub turn_small : (b : Bool) (z : ℤ) → IsSmall z → IsSmall (turn b z)
 turn_small true z small = omega (arith, ints, small)
 turn_small false z small = small
 

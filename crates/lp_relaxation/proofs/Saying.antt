@@ -9,7 +9,7 @@ use Rattle.algebra.proofs.Rings.{◌⊗◌, ◌⊜◌, ring3}
 use Rattle.rational.specs.Rational.{ℚ, whole, ceil_ℚ, ◌*ℚ◌, ◌≤ℚ◌}
 use Rattle.rational.proofs.Rationals as Q
 use Rattle.rational.proofs.Rationals.{rational_ring, rational_ordered, whole-mul}
-use Rattle.rational.proofs.Facts.{cancel_le, is_ceiling, whole-le, le-whole, ◌<ℚ◌}
+use Rattle.rational.proofs.Facts.{cancel_le, is_ceiling, whole-le, le-whole}
 use Rattle.lot_sizing.specs.Problem.{Problem}
 use Rattle.lin_rows.specs.declared.column.Column.{Column}
 use Rattle.lin_rows.specs.declared.base.RowName.{RowName}
@@ -35,6 +35,7 @@ use Rattle.lp_relaxation.proofs.Growing.{map_length}
 use Rattle.lp_relaxation.proofs.Priced.{cost_most}
 use Rattle.lp_relaxation.proofs.Common.{has_point, natural}
 use Rattle.lp_relaxation.proofs.Parts.{parts_add, parts_are}
+use Rattle.lp_relaxation.proofs.Closing.{whole_above}
 
 -- ---- lists of sides
 both_sides : (P : Side → Type 0) (name : RowName) (e : Bool) (rest : List Side) → ((b : Bool) → P (side name b)) → EachSide P rest → EachSide P (sides_of name e ++ rest)
@@ -52,9 +53,6 @@ sides_met q row (name ∷ list) met = rows_append (HoldsAt q) (AllHold q) (λ r 
 sides_exist : (m : Problem) (row : RowName → LinRow) (list : List RowName) → AreOfProblem m (map row list) → AreOfProblem m (side_rows row (all_sides row list))
 sides_exist m row [] each = tt
 sides_exist m row (name ∷ list) each = rows_append (λ r. All (λ a. IsColumn m a.column) r.terms) (AreOfProblem m) (λ r rows a b. (a, b)) row name (row name).equal (all_sides row list) each.0 (sides_exist m row list each.1)
-
-whole_above : (n : ℕ) → 1 ≤ n → whole (pos 0) <ℚ whole (pos n)
-whole_above n some le = let l = le-whole (pos n) (pos 0) le in omega (arith, ints, l, some)
 
 module _ (bound : SumsBound) (refute : SumsRefute) (n : Named) (list : List RowName) (p : Program) (are : AreRowsOf n list) (program : IsProgramOf n list p) where
   abbrev m : Problem

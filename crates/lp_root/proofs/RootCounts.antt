@@ -20,6 +20,7 @@ use Rattle.lp_relaxation.specs.Names.{base_names, cell_names, cut_names, end_nam
 use Rattle.lp_relaxation.specs.Rounds.{at_root, round_sides}
 use Rattle.lp_relaxation.specs.Sides.{all_sides, sides_of}
 use Rattle.lp_relaxation.specs.declared.limits.TheConstants.{MAX_CELLS}
+use Rattle.lp_relaxation.proofs.Listing.{to_count as names_long, cell_count as cells_long, sides_few}
 use Rattle.lp_root.specs.declared.at_root.TheConstants.{MAX_ROUNDS}
 use Rattle.lp_root.specs.Root.{first_cells}
 use Rattle.lp_root.specs.Rounds.{AreCutsAfter, AreCutsAt, AreCutsFound, AreCutsOf, AreJoined, AtLeastPoint, PassesFirst}
@@ -71,10 +72,6 @@ after_long m total weight (suc n) cuts (before, found, first, more, is) =
 sides_some : (name : RowName) (equal : Bool) → 1 ≤ length (sides_of name equal)
 sides_some name true = omega arith
 sides_some name false = omega arith
-
-sides_two : (name : RowName) (equal : Bool) → length (sides_of name equal) ≤ 2
-sides_two name true = omega arith
-sides_two name false = omega arith
 
 sides_many : (row : RowName → LinRow) (names : List RowName) → length names ≤ length (all_sides row names)
 sides_many row [] = omega arith
@@ -143,20 +140,6 @@ module _ (m : Problem) where
           let one : 1800 * 1800 ≤ rows * 1800 = mul-le-mul_right 1800 high in
           let two : rows * 1800 ≤ rows * (column_count m + 1) = mul-le-mul_left rows wide in
           omega (arith, one, two, small)
-
--- ---- no more sides of rows than a leaf has parts
-sides_few : (row : RowName → LinRow) (names : List RowName) → length (all_sides row names) ≤ 2 * length names
-sides_few row [] = omega arith
-sides_few row (name ∷ names) =
-    omega (arith, length-append (sides_of name (row name).equal) (all_sides row names), sides_two name (row name).equal, sides_few row names)
-
-names_long : (n : ℕ) (f : ℕ → RowName) → length (names_to n f) ≡ n
-names_long zero f = refl
-names_long (suc n) f = omega (arith, length-append (names_to n f) (f (suc n) ∷ []), names_long n f)
-
-cells_long : (n periods : ℕ) (f : ℕ → ℕ → RowName) → length (cell_names n periods f) ≡ n * periods
-cells_long zero periods f = omega arith
-cells_long (suc n) periods f = omega (arith, length-append (cell_names n periods f) (names_to periods (f (suc n))), cells_long n periods f, names_long periods (f (suc n)))
 
 module _ (m : Problem) (limits : IsWithinLimits m) where
   names_few : length (base_names m) ≤ 26480

@@ -40,6 +40,8 @@ use Rattle.lp_relaxation.specs.Leaves.{AreWhole, farkas, linear}
 use Rattle.lp_relaxation.specs.Rounds.{AreRead, IsRootRound, IsRound, NoneIsViolated, RoundsClose, RoundsRefute, at_root, round_sides}
 use Rattle.lp_relaxation.specs.Sides.{parts_of, side_inequality, turned_row}
 use Rattle.lp_relaxation.specs.declared.limits.TheConstants.{MAX_PIVOTS, MAX_ROUND_CUTS, MAX_ROUND_SIZE}
+use Rattle.lp_bounds.proofs.Counting.{parts_few}
+use Rattle.lp_bounds.proofs.Refusals.{linear_is_large, farkas_is_large}
 use Rattle.lp_root.specs.declared.at_root.TheConstants.{MAX_ROUNDS}
 use Rattle.search_result.specs.declared.found.PassedAt.TheVariants as passed
 use Rattle.search_result.specs.declared.found.RootSays.{RootSays}
@@ -52,8 +54,8 @@ use Rattle.lp_root.specs.Rounds.{AreCutsAfter, AreCutsAt, AreCutsFound, AreCutsO
 use Rattle.lp_root.specs.RootSteps.{AreRootCuts, AreRounds, EndsRounds, IsJudged, IsLeafOf, IsReady, IsRefused, IsRootCut, Puts, WithWeights, shapes}
 use Rattle.lp_root.proofs.RootCounts.{after_long, found_long, passes_long}
 use Rattle.lp_root.proofs.RootCuts.{put_all, root_at, root_ls, root_many, root_rows}
-use Rattle.lp_root.proofs.RootLeaves.{farkas_is_large, kept_leaf, linear_is_large, one_amount, rounded_up}
-use Rattle.lp_root.proofs.RootTexts.{farkas_lines, judged_lines, linear_lines, no_lines, parts_few, parts_small}
+use Rattle.lp_root.proofs.RootLeaves.{kept_leaf, one_amount, rounded_up}
+use Rattle.lp_root.proofs.RootTexts.{farkas_lines, judged_lines, linear_lines, no_lines, parts_small}
 
 -- ---- separation that finds nothing
 nothing_joined : (a b : List CutShape) → [] ≡ a ++ b → (a ≡ []) × (b ≡ [])

@@ -1,5 +1,5 @@
 -- The lines of the root's cuts and of its leaf are within the limits of a certificate's text.
-use Rattle.std.proofs.Common.{◌≡◌, ◌≤◌, ◌<◌, ◌+◌, ◌^◌, ℕ, zero, suc, refl, sym, ap, subst, arith, Bool, true, false, List, [], ◌∷◌, ◌++◌, length, length-append, slice_index_or}
+use Rattle.std.proofs.Common.{◌≡◌, ◌≤◌, ◌<◌, ◌+◌, ◌^◌, ℕ, zero, suc, refl, sym, subst, arith, Bool, true, false, List, [], ◌∷◌, ◌++◌, length, length-append, slice_index_or}
 use Rattle.std.specs.Prelude.{codes, decimal, ℤ, pos, negsuc, ◌≤ℤ◌, unsigned_abs, Option, Some, None, IfSome, IsNone, IsSomeAnd}
 use Rattle.std.specs.Fmt.{signed_decimal}
 use Rattle.std.specs.List.{All}
@@ -22,6 +22,7 @@ use Rattle.cert_lines.specs.Limits.{Is32, Is127, IsSmallPart}
 use Rattle.cert_lines.specs.Line.{HasLine, IsFirstName, IsSmallName}
 use Rattle.cert_lines.specs.Shapes.{CutShape, FarkasLeaf, FarkasLine, LeafShape, LinearLeaf, LinearLine, LsCut, PartLine, PriceCut, BlockCut, RoundCut, leaf_shape}
 use Rattle.cert_lines.specs.Text.{bits_text}
+use Rattle.cert_lines.proofs.Joins.{bits_length as bits_long}
 use Rattle.certificate.specs.Values.{AreLines, all_cut_values, cut_values, leaf_values, part_values}
 use Rattle.certificate.proofs.Shorts.{lines_join, parts_join}
 use Rattle.cert_meaning.specs.declared.says.LeafSays.{LeafSays}
@@ -32,6 +33,7 @@ use Rattle.cert_meaning.specs.Parts.{AreParts}
 use Rattle.lp_relaxation.specs.declared.program.Side.{Side}
 use Rattle.lp_relaxation.specs.Rounds.{IsLs, at_root, round_sides}
 use Rattle.lp_relaxation.specs.Sides.{part_of, parts_of, turn}
+use Rattle.lp_bounds.proofs.Writing.{count_short}
 use Rattle.search_result.specs.declared.found.RootSays.{RootSays}
 use Rattle.search_result.specs.declared.found.RootSays.TheVariants as root
 use Rattle.lp_root.specs.Root.{HasFigures, HasLeafLines, HaveCutLines, IsVersionFor, SaysSmall}
@@ -45,9 +47,6 @@ one_short k n some less small = omega (arith, length-append (codes " ") (decimal
 -- the number of an item, a resource, a period or a cut
 number_short : (n : ℕ) → n ≤ MAX_CUTS → length (one_text n) ≤ 6
 number_short n most = one_short 5 n (omega arith) (omega (arith, most)) (omega (arith, most))
-
-count_short : (n : ℕ) → n ≤ MAX_PARTS → length (one_text n) ≤ 7
-count_short n most = one_short 6 n (omega arith) (omega (arith, most)) (omega (arith, most))
 
 signed_short : (z : ℤ) → Is127 (unsigned_abs z) → length (signed_decimal z) ≤ 40
 signed_short (pos n) small = omega (arith, length-decimal-le_wide 39 n (omega arith) (omega (arith, small)) (omega (arith, small)))
@@ -99,21 +98,11 @@ part_small s (pos zero) small = All-nil IsSmallPart
 part_small s (pos (suc n)) small = All-cons IsSmallPart (record { row = s.name; times = turn s.turned (pos (suc n)) }) [] (turn_small s.turned (pos (suc n)) small) (All-nil IsSmallPart)
 part_small s (negsuc n) small = All-cons IsSmallPart (record { row = s.name; times = turn s.turned (negsuc n) }) [] (turn_small s.turned (negsuc n) small) (All-nil IsSmallPart)
 
-part_few : (s : Side) (z : ℤ) → length (part_of s z) ≤ 1
-part_few s (pos zero) = omega arith
-part_few s (pos (suc n)) = omega arith
-part_few s (negsuc n) = omega arith
-
 pub parts_small : (sides : List Side) (z : ℕ → ℤ) → ((k : ℕ) → k < length sides → IsSmall (z k)) → All IsSmallPart (parts_of sides z)
 parts_small [] z small = All-nil IsSmallPart
 parts_small (s ∷ sides) z small =
     let rest = parts_small sides (λ k. z (suc k)) (λ k less. small (suc k) (omega (arith, less))) in
     All-append IsSmallPart (part_of s (z zero)) (parts_of sides (λ k. z (suc k))) (part_small s (z zero) (small zero (omega arith))) rest
-
-pub parts_few : (sides : List Side) (z : ℕ → ℤ) → length (parts_of sides z) ≤ length sides
-parts_few [] z = omega arith
-parts_few (s ∷ sides) z =
-    omega (arith, length-append (part_of s (z zero)) (parts_of sides (λ k. z (suc k))), part_few s (z zero), parts_few sides (λ k. z (suc k)))
 
 -- ---- the lines of a leaf
 linear_is : (version : ℕ) (den : ℤ) (n : ℕ) → pos 1 ≤ℤ den → Is127 (unsigned_abs den) → n ≤ MAX_PARTS → HasLine version (LinearLine den n)
@@ -187,12 +176,6 @@ judged_lines m rows shape round lines (root.Closed c) leaf judged = λ version k
 judged_lines m rows shape round lines root.Empty leaf judged = λ version known. kept_lines leaf shape version (lines NoPlan judged.0 version known) judged.1
 judged_lines m rows shape round lines (root.Stopped at) leaf judged = absurd judged
 judged_lines m rows shape round lines (root.Passed at place) leaf judged = no_lines m leaf judged.3
-
--- ---- the lines of cuts
-bits_long : (bits : List Bool) → length (bits_text bits) ≡ length bits
-bits_long [] = refl
-bits_long (true ∷ bits) = ap suc (bits_long bits)
-bits_long (false ∷ bits) = ap suc (bits_long bits)
 
 module _ (m : Problem) (limits : IsWithinLimits m) (version : ℕ) where
   cut_is : (total : ℕ → ℕ) (weight : ℕ → ℕ → ℕ) (c : CutShape) (r : LinRow) → IsLs c → IsCutRow m total weight [] c r → AreLines version (cut_values c)

@@ -9,10 +9,11 @@ use Rattle.lot_sizing.specs.Problem.{Problem}
 use Rattle.lot_sizing.specs.Plan.{Plan, IsFeasible}
 use Rattle.lin_rows.specs.Columns.{IsColumn, value_in}
 use Rattle.lin_rows.specs.Combining.{AllHold, AreOfProblem}
-use Rattle.lin_rows.specs.Rows.{HoldsAt, HoldsIn, LinPoint, LinRow, whole_point}
+use Rattle.lin_rows.specs.Rows.{HoldsIn, LinRow, whole_point}
 use Rattle.cert_lines.specs.Shapes.{CutShape}
 use Rattle.certificate.specs.Values.{Values, all_cut_values, cut_values}
 use Rattle.cert_meaning.specs.Laws.{CutRowsGoOn, HoldAtPlans, SmallCutsGoOn}
+use Rattle.cert_meaning.proofs.Rows.{of_push as columns_more, hold_push as hold_more}
 use Rattle.cert_checker.specs.declared.fault.Why.{Why}
 use Rattle.cert_checker.specs.Cuts.{IsCutFault, OfProblem}
 use Rattle.cert_checker.specs.Checks.{AreGoodCuts, IsCutsFault, first_line, no_cut}
@@ -34,14 +35,6 @@ pub record IsReading (m : Problem) (version : ℕ) (name : List ℕ) (old new : 
   pub hold : HoldAtPlans m rows
   pub columns_exist : AreOfProblem m rows
   pub awaited : (cuts : List CutShape) (ls : Values) → length cuts ≡ count → Awaits old name a version (all_cut_values cuts ++ ls) → AreSoFar m version new name b cuts ls k rows
-
-hold_more : (q : LinPoint) (rows : List LinRow) (r : LinRow) → AllHold q rows → HoldsAt q r → AllHold q (rows ++ (r ∷ []))
-hold_more q [] r all is = (is, tt)
-hold_more q (s ∷ rows) r all is = (all.0, hold_more q rows r all.1 is)
-
-columns_more : (m : Problem) (rows : List LinRow) (r : LinRow) → AreOfProblem m rows → All (λ a. IsColumn m a.column) r.terms → AreOfProblem m (rows ++ (r ∷ []))
-columns_more m [] r are is = (is, tt)
-columns_more m (s ∷ rows) r are is = (are.0, columns_more m rows r are.1 is)
 
 lines_more : (cuts : List CutShape) (k : ℕ) → k < length cuts → length (all_cut_values (take (k + 1) cuts)) ≡ length (all_cut_values (take k cuts)) + length (cut_values (slice_index_or cuts k no_cut))
 lines_more cuts k less =

@@ -1,43 +1,22 @@
 -- Without coupling the echelon of an item is the item: it asks for what the item is asked for, and has the item's prices.
-use Rattle.std.proofs.Common.{◌≡◌, ◌≢◌, ◌≤◌, ◌+◌, ◌-◌, ◌*◌, ◌∙◌, ⊎_elim, ℕ, zero, suc, refl, sym, ap, arith, Bool, true, false, List, ◌++◌, [], ◌∷◌}
+use Rattle.std.proofs.Common.{◌≡◌, ◌≢◌, ◌≤◌, ◌+◌, ◌-◌, ◌*◌, ◌∙◌, ℕ, zero, suc, refl, ap, arith, Bool, true, false, List, ◌++◌, [], ◌∷◌}
 use Rattle.std.specs.Prelude.{if◌then◌else◌, ◌==◌, nat_lt, is_some, Option, Some, None, IfSome}
 use Rattle.std.specs.List.{sum_by}
-use Rattle.std.proofs.lemmas.Bool.{cases_eq}
-use Rattle.lot_sizing.specs.Sums.{sum_to}
 use Rattle.lot_sizing.specs.Problem.{IsUncoupled, Problem, demand, entry, hold_cost, item_at, item_count, per_unit}
 use Rattle.lot_sizing.specs.Bill.{AreWeights, bill_of, one_if_same}
 use Rattle.lot_sizing.specs.Totals.{IsRanking}
 use Rattle.lot_sizing.specs.Echelon.{asked_in_echelon, in_echelon}
 use Rattle.lot_sizing.specs.Single.{Single, position_count, potential}
 use Rattle.lot_sizing.specs.Net.{Asked, asked_of, asked_to, held_left, left_after, needed_to, net_in}
-use Rattle.lot_sizing.proofs.Sums.{sum_to-same, sum_to-zero}
+use Rattle.lot_sizing.proofs.Sums.{sum_to-same}
 use Rattle.echelon.specs.Views.{list_to, single_in}
 use Rattle.lin_rows.specs.declared.prices.Potentials.{Potentials}
 use Rattle.valid_inequalities.specs.Inequalities.{left_cost}
 use Rattle.backlog_dp.specs.BlockRow.{block_right, priced_by}
 use Rattle.cert_meaning.specs.CutRows.{backs_in, echelon_at}
+use Rattle.item_bound.proofs.Taken.{all_none, only_one, one_of_itself, none_of_others}
 use Rattle.uncoupled.specs.Items.{ProvesItem, item_floor}
 use Rattle.uncoupled.specs.Blocks.{IsItsEchelon, IsSameAsked}
-
--- ---- sums of which at most one number counts
-pub all_none : (n : ℕ) (f : ℕ → ℕ) → ((j : ℕ) → 1 ≤ j → j ≤ n → f j ≡ 0) → sum_to n f ≡ 0
-all_none n f none = sum_to-same n f (λ _. 0) none ∙ sum_to-zero n
-
-pub only_one : (n i : ℕ) (f : ℕ → ℕ) → 1 ≤ i → i ≤ n → ((j : ℕ) → 1 ≤ j → j ≤ n → j ≢ i → f j ≡ 0) → sum_to n f ≡ f i
-only_one zero i f low high none = absurd (omega (arith, low, high))
-only_one (suc n) i f low high none =
-    ⊎_elim
-    (λ last. omega (arith, all_none n f (λ j j_low j_high. none j j_low (omega (arith, j_high)) (λ e. omega (arith, e, last, j_high))), ap f last))
-    (λ before. omega (arith, only_one n i f low (omega (arith, high, before)) (λ j j_low j_high. none j j_low (omega (arith, j_high))), none (suc n) (omega arith) (omega arith) (λ e. before (sym e))))
-    (cases_eq i (suc n))
-
-pub at_most_one : (n i most : ℕ) (f : ℕ → ℕ) → ((j : ℕ) → 1 ≤ j → j ≤ n → j ≢ i → f j ≡ 0) → f i ≤ most → sum_to n f ≤ most
-at_most_one zero i most f none few = omega arith
-at_most_one (suc n) i most f none few =
-    ⊎_elim
-    (λ last. omega (arith, all_none n f (λ j j_low j_high. none j j_low (omega (arith, j_high)) (λ e. omega (arith, e, last, j_high))), ap f last, few))
-    (λ before. omega (arith, at_most_one n i most f (λ j j_low j_high. none j j_low (omega (arith, j_high))) few, none (suc n) (omega arith) (omega arith) (λ e. before (sym e))))
-    (cases_eq i (suc n))
 
 -- ---- weights
 none_needed : (m : Problem) → IsUncoupled m → (i j : ℕ) → 1 ≤ j → j ≤ item_count m → per_unit m i j ≡ 0
@@ -51,12 +30,6 @@ weighs : (m : Problem) (weight : ℕ → ℕ → ℕ) → IsUncoupled m → AreW
 weighs m weight free are i j low high j_low j_high =
     let none = all_none (item_count m) (λ k. per_unit m i k * weight k j) (λ k k_low k_high. omega (arith, ap (λ n. n * weight k j) (none_needed m free i k k_low k_high))) in
     omega (arith, are i j low high j_low j_high, none)
-
-pub one_of_itself : (i : ℕ) → one_if_same i i ≡ 1
-one_of_itself i = grind arith
-
-pub none_of_others : (i j : ℕ) → j ≢ i → one_if_same i j ≡ 0
-none_of_others i j apart = grind (arith, apart)
 
 -- ---- what is asked for
 owing_is : (b : Bool) (w x : ℕ) → x ≡ (if b then w else 0) → w ≡ 1 → nat_lt 0 x ≡ b

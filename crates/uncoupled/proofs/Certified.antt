@@ -1,11 +1,11 @@
 -- The certificate of a plan that is made item by item is accepted: block cuts of all items, and one leaf which takes each once.
-use Rattle.std.proofs.Common.{◌≡◌, ◌≤◌, ◌<◌, ◌+◌, ◌-◌, ◌*◌, ◌^◌, ◌∙◌, ⊎_elim, ℕ, zero, suc, refl, sym, ap, subst, arith, List, [], ◌∷◌, ◌++◌, append_assoc, length, slice_index_or}
-use Rattle.std.specs.Prelude.{Some, ℤ, pos, ◌+ℤ◌, ◌*ℤ◌, ◌≤ℤ◌, unsigned_abs}
+use Rattle.std.proofs.Common.{◌≡◌, ◌≤◌, ◌<◌, ◌+◌, ◌-◌, ◌^◌, ◌∙◌, ⊎_elim, ℕ, zero, suc, refl, sym, ap, subst, arith, List, [], ◌∷◌, ◌++◌, append_assoc, length, slice_index_or}
+use Rattle.std.specs.Prelude.{Some, ℤ, pos}
 use Rattle.std.proofs.lemmas.Bool.{cases_eq}
 use Rattle.std.proofs.lemmas.List.Elements.{All-cons, All-nil}
 use Rattle.std.proofs.Math.Seq.{get_or-append_seam}
 use Rattle.algebra.proofs.Order.{linear}
-use Rattle.lot_sizing.specs.Problem.{AllAtMost, IsSeries, IsUncoupled, IsWithinLimits, Problem, item_at, item_count}
+use Rattle.lot_sizing.specs.Problem.{IsSeries, IsUncoupled, IsWithinLimits, Problem, item_at, item_count}
 use Rattle.lot_sizing.specs.Bill.{AreWeights, bill_of}
 use Rattle.lot_sizing.specs.Single.{ArePotentials}
 use Rattle.lot_sizing.specs.Totals.{AreLargestTotals}
@@ -34,6 +34,8 @@ use Rattle.cert_meaning.specs.Named.{Named, names, no_row}
 use Rattle.cert_meaning.specs.Parts.{AreParts, AreSmall, IsPart, rows_of, times_of}
 use Rattle.cert_meaning.specs.Says.{IsLinear}
 use Rattle.cert_checker.specs.Checks.{ComesWith, IsCertified}
+use Rattle.item_bound.proofs.Own.{larger}
+use Rattle.item_bound.proofs.Says.{once_more, amount_more, pushed_count, at_most_cost, rounded_up}
 use Rattle.uncoupled.specs.Items.{ProveFrom, floors_from, item_floor}
 use Rattle.uncoupled.specs.Blocks.{EchelonsAreItems, block_cuts, block_rows, blocks_shape, each_once}
 use Rattle.uncoupled.proofs.Alone.{any_ranks, priced_is, right_is}
@@ -55,10 +57,6 @@ first_of echelons m weight i p rest all =
 
 rest_of : (m : Problem) (weight : ℕ → ℕ → ℕ) (i : ℕ) (p : Potentials) (rest : List Potentials) → ProveItems m weight i (p ∷ rest) → ProveItems m weight (suc i) rest
 rest_of m weight i p rest all = record { free = all.free; within = all.within; weights = all.weights; low = omega arith; count = omega (arith, all.count); prove = all.prove.1 }
-
--- ---- the cuts
-larger : (low high : ℕ) (xs : List ℕ) → low ≤ high → AllAtMost low xs → AllAtMost high xs
-larger low high xs h all = λ k d less. omega (arith, all k d less, h)
 
 priced_within : (T : ℕ) (xs ys : List ℕ) → xs ≡ ys → IsSeries T MAX_AMOUNT ys → IsSeries T MAX_PRICE xs
 priced_within T xs ys same is = subst (IsSeries T MAX_PRICE) (sym same) (record { size = is.size; small = larger MAX_AMOUNT MAX_PRICE ys (omega arith) is.small })
@@ -100,11 +98,6 @@ are_parts n k (suc count) low high =
     (record { named = (low, omega (arith, high)); signed = λ _. omega (arith, linear) })
     (are_parts n (suc k) count (omega arith) (omega (arith, high)))
 
--- the rows of the parts are those of the cuts
-pushed_count : (rows : List LinRow) (r : LinRow) → length (rows ++ (r ∷ [])) ≡ suc (length rows)
-pushed_count [] r = refl
-pushed_count (a ∷ rows) r = ap suc (pushed_count rows r)
-
 these_rows : (m : Problem) (total : ℕ → ℕ) (earlier rows : List LinRow) → rows_of (names m total (earlier ++ rows) []) (each_once (suc (length earlier)) (length rows)) ≡ rows
 these_rows m total earlier [] = refl
 these_rows m total earlier (r ∷ rows) =
@@ -120,19 +113,6 @@ all_rows : (m : Problem) (total : ℕ → ℕ) (weight : ℕ → ℕ → ℕ) (l
 all_rows m total weight list =
     let rows = block_rows m weight 1 list in
     ap (λ n. rows_of (names m total rows []) (each_once 1 n)) (sym (rows_count m weight 1 list)) ∙ these_rows m total [] rows
-
--- ---- the sums
-once_more : (n m : ℕ) (x y : ℤ) → x ≡ pos n → y ≡ pos m → (pos 1 *ℤ x) +ℤ y ≡ pos (n + m)
-once_more n m x y is rest = ap (λ z. (pos 1 *ℤ z) +ℤ y) is ∙ ap (λ z. (pos 1 *ℤ pos n) +ℤ z) rest ∙ ap pos (one_times n m)
-  where
-    one_times : (n m : ℕ) → 1 * n + m ≡ n + m
-    one_times n m = omega arith
-
-amount_more : (n : ℕ) (x : ℤ) → x ≡ pos n → unsigned_abs (pos 1 *ℤ x) ≡ n
-amount_more n x is = ap (λ z. unsigned_abs (pos 1 *ℤ z)) is ∙ one_times n
-  where
-    one_times : (n : ℕ) → 1 * n ≡ n
-    one_times n = omega arith
 
 -- rows that are each taken once take a column so many times, in sum and in absolute values: no more often than one of it costs, and never a column of an earlier item
 record TakeOnce (m : Problem) (i : ℕ) (rows : List LinRow) (times : List ℤ) (d : Column) : Type 0 where
@@ -189,12 +169,6 @@ once_of m total weight list = record {
   are = are_parts (names m total (block_rows m weight 1 list) []) 1 (length list) (omega arith) (omega (arith, rows_count m weight 1 list));
   rows_are = all_rows m total weight list;
 }
-
-at_most_cost : (n cost : ℕ) (x : ℤ) → x ≡ pos n → n ≤ cost → x ≤ℤ (pos 1 *ℤ pos cost)
-at_most_cost n cost x is few = omega (arith, linear, is, few)
-
-rounded_up : (amount k : ℕ) (x : ℤ) → x ≡ pos amount → x ≤ℤ (pos 1 *ℤ pos k) → amount ≤ k
-rounded_up amount k x is most = omega (arith, linear, is, most)
 
 says_amount : EchelonsAreItems → (m : Problem) (total : ℕ → ℕ) (weight : ℕ → ℕ → ℕ) (list : List Potentials) (amount : ℕ) → ProveItems m weight 1 list → amount ≡ floors_from m 1 list → IsLinear (names m total (block_rows m weight 1 list) []) (pos 1) (each_once 1 (length list)) amount
 says_amount echelons m total weight list amount all adds =

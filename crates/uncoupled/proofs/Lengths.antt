@@ -1,15 +1,15 @@
 -- Both kinds of certificates are within the limits of texts.
-use Rattle.std.proofs.Common.{◌≡◌, ◌≤◌, ◌<◌, ◌+◌, ◌*◌, ◌^◌, ℕ, zero, suc, refl, sym, ap, subst, arith, Bool, true, false, List, [], ◌∷◌, ◌++◌, length}
-use Rattle.std.specs.Prelude.{if◌then◌else◌, ◌==◌, codes, decimal, ℤ, pos, negsuc}
+use Rattle.std.proofs.Common.{◌≡◌, ◌≤◌, ◌<◌, ◌+◌, ◌^◌, ℕ, zero, suc, refl, sym, ap, subst, arith, List, [], ◌∷◌, ◌++◌, length}
+use Rattle.std.specs.Prelude.{codes, decimal, ℤ, pos, negsuc}
 use Rattle.std.specs.Fmt.{signed_decimal}
 use Rattle.std.specs.List.{All}
 use Rattle.std.proofs.lemmas.Fmt.{length-decimal-le_wide}
 use Rattle.std.proofs.lemmas.List.{length-append, length-map, length_push}
-use Rattle.std.proofs.lemmas.List.Elements.{All-cons, All-head, All-nil, All-push, All-tail, All-weaker}
+use Rattle.std.proofs.lemmas.List.Elements.{All-cons, All-nil, All-push}
 use Rattle.algebra.proofs.Order.{linear}
 use Rattle.lot_sizing.specs.Problem.{AllAtMost, IsSeries, IsWithinLimits, Problem, item_count}
 use Rattle.lot_sizing.specs.Net.{asked_of, net_in}
-use Rattle.lot_sizing.specs.Single.{Single, net_demand, position_count, positions_to}
+use Rattle.lot_sizing.specs.Single.{position_count}
 use Rattle.lot_sizing.specs.declared.limits.TheConstants.{MAX_AMOUNT}
 use Rattle.echelon.specs.Views.{list_to, single_in}
 use Rattle.lin_rows.specs.declared.base.RowName.{RowName}
@@ -19,7 +19,6 @@ use Rattle.lin_rows.specs.Texts.{name_text, one_text}
 use Rattle.echelon_rows.specs.declared.limits.TheConstants.{MAX_STEP}
 use Rattle.cert_lines.specs.declared.limits.TheConstants.{MAX_LINE}
 use Rattle.cert_lines.specs.declared.parts.Part.{Part}
-use Rattle.cert_lines.specs.Limits.{Is64, Is127}
 use Rattle.cert_lines.specs.Line.{HasLine}
 use Rattle.cert_lines.specs.Shapes.{BlockCut, CutLine, EndLine, FarkasLine, LinearLine, PartLine, block_lists}
 use Rattle.cert_lines.specs.Text.{block_line, list_text, part_line}
@@ -28,6 +27,7 @@ use Rattle.certificate.specs.Shapes.{Shape}
 use Rattle.certificate.specs.Values.{AreLines, all_cut_values, part_values}
 use Rattle.certificate.proofs.Shorts.{end_line, lines_join, parts_join}
 use Rattle.cert_checker.specs.Checks.{line_count}
+use Rattle.item_bound.proofs.Lines.{amount_short, step_short, list_short, one_digit, few_positions, block_length, fit_64, fit_127}
 use Rattle.uncoupled.specs.Items.{ProveFrom, ProvesItem}
 use Rattle.uncoupled.specs.Blocks.{block_cuts, blocks_shape, each_once}
 use Rattle.uncoupled.specs.NoRoom.{balances, no_room_parts, no_room_shape, part}
@@ -43,23 +43,9 @@ one_short : (k n : ℕ) → 0 < k → n < 10 ^ k → n < 10 ^ 64 → length (one
 one_short k n some less small =
     omega (arith, length-append (codes " ") (decimal n), length-decimal-le_wide k n some less small)
 
-amount_short : (x : ℕ) → x ≤ MAX_AMOUNT → length (one_text x) ≤ 11
-amount_short x most = one_short 10 x (omega arith) (omega (arith, most)) (omega (arith, most))
-
-step_short : (x : ℕ) → x ≤ MAX_STEP → length (one_text x) ≤ 38
-step_short x most = one_short 37 x (omega arith) (omega (arith, most)) (omega (arith, most))
-
 -- the number of an item, a cut or a period
 small_short : (x : ℕ) → x ≤ 121 → length (one_text x) ≤ 4
 small_short x most = one_short 3 x (omega arith) (omega (arith, most)) (omega (arith, most))
-
--- numbers that are each so short
-list_short : (most wide : ℕ) (xs : List ℕ) → ((x : ℕ) → x ≤ most → length (one_text x) ≤ wide) → AllAtMost most xs → length (list_text xs) ≤ wide * length xs
-list_short most wide [] each are = omega arith
-list_short most wide (x ∷ xs) each are =
-    let here = each x (All-head (λ y. y ≤ most) x xs are) in
-    let rest = list_short most wide xs each (All-tail (λ y. y ≤ most) x xs are) in
-    omega (arith, length-append (one_text x) (list_text xs), here, rest)
 
 -- ---- the lines of parts
 part_short : (row : RowName) (times : ℤ) → length (name_text row) ≤ 20 → length (signed_decimal times) ≤ 2 → length (part_line (part row times)) ≤ MAX_LINE
@@ -72,9 +58,6 @@ part_short row times name digits =
       name,
       digits,
     )
-
-one_digit : length (decimal 1) ≤ 1
-one_digit = length-decimal-le_wide 1 1 (omega arith) (omega arith) (omega arith)
 
 -- the name of a row with two numbers, and one with one
 two_short : (word : List ℕ) (a b : ℕ) → length word ≤ 10 → a ≤ 121 → b ≤ 121 → length (word ++ (one_text a ++ one_text b)) ≤ 20
@@ -164,32 +147,12 @@ no_room_text m i limits high =
       lines = omega (arith, leaf_count parts (m.periods + 1) count, periods);
     }
 
--- ---- the lines of block cuts
-one_or_none : (b : Bool) (x : ℕ) → length (if b then [] else x ∷ []) ≤ 1
-one_or_none true x = omega arith
-one_or_none false x = omega arith
-
--- no more positions than periods
-few_positions : (s : Single) (t : ℕ) → length (positions_to s t) ≤ t
-few_positions s zero = omega arith
-few_positions s (suc t) =
-    omega (arith, length-append (positions_to s t) (if net_demand s (suc t) == 0 then [] else suc t ∷ []), few_positions s t, one_or_none (net_demand s (suc t) == 0) (suc t))
-
 listed : (n : ℕ) (f : ℕ → ℕ) → length (list_to n f) ≡ n
 listed zero f = refl
 listed (suc n) f = omega (arith, length_push (list_to n f) (f (suc n)), listed n f)
 
 few_steps : (m : Problem) (i : ℕ) → position_count (single_in m i) ≤ m.periods
 few_steps m i = omega (arith, few_positions (single_in m i) (length (single_in m i).net), listed m.periods (net_in (asked_of m i)))
-
-block_length : (head a b c d e : List ℕ) → length (head ++ (a ++ (codes " g" ++ (b ++ (codes " h" ++ (c ++ (codes " b" ++ (d ++ (codes " p" ++ e))))))))) ≡ length head + length a + length b + length c + length d + length e + 8
-block_length head a b c d e = simp length-append (omega arith)
-
-fit_64 : (xs : List ℕ) → AllAtMost MAX_AMOUNT xs → All Is64 xs
-fit_64 xs are = All-weaker (λ x. x ≤ MAX_AMOUNT) Is64 (λ x most. omega (arith, most)) xs are
-
-fit_127 : (xs : List ℕ) → AllAtMost MAX_STEP xs → All Is127 xs
-fit_127 xs are = All-weaker (λ x. x ≤ MAX_STEP) Is127 (λ x most. omega (arith, most)) xs are
 
 -- the lists of an item, each of a number for each period
 record AreSeries (periods : ℕ) (p : Potentials) : Type 0 where

@@ -1,11 +1,10 @@
 -- How many times the block row of an item takes a column: at most what one of the column costs, and only columns of the item.
-use Rattle.std.proofs.Common.{◌≡◌, ◌≢◌, ◌≤◌, ◌+◌, ◌-◌, ◌*◌, ◌∙◌, ⊎_elim, ℕ, zero, suc, refl, sym, ap, arith, Bool, true, false, List, [], ◌∷◌, ◌++◌, length}
-use Rattle.std.specs.Prelude.{if◌then◌else◌, ◌==◌, ◌&&◌, nat_le, nat_lt, is_some, Option, Some, None, IfSome, ℤ, pos, negsuc, ◌+ℤ◌}
-use Rattle.std.proofs.lemmas.Bool.{cases_Bool, cases_eq, cases_lt}
-use Rattle.std.proofs.lemmas.List.{get_or_past}
+use Rattle.std.proofs.Common.{◌≡◌, ◌≢◌, ◌≤◌, ◌+◌, ◌-◌, ◌*◌, ◌∙◌, ⊎_elim, ℕ, zero, suc, refl, sym, ap, arith, Bool, true, false, List, [], ◌∷◌, ◌++◌}
+use Rattle.std.specs.Prelude.{if◌then◌else◌, ◌&&◌, nat_le, nat_lt, is_some, Option, Some, None, IfSome, ℤ, pos, negsuc, ◌+ℤ◌}
+use Rattle.std.proofs.lemmas.Bool.{cases_Bool, cases_eq}
 use Rattle.algebra.proofs.Integers.{zero_add}
 use Rattle.lot_sizing.specs.Sums.{sum_to}
-use Rattle.lot_sizing.specs.Problem.{IsSeries, IsWithinLimits, Problem, backlog_cost, backlog_price, entry, hold_cost, item_at, item_count, setup_cost, unit_cost}
+use Rattle.lot_sizing.specs.Problem.{IsWithinLimits, Problem, backlog_cost, backlog_price, entry, hold_cost, item_at, item_count, setup_cost, unit_cost}
 use Rattle.lot_sizing.specs.declared.limits.TheConstants.{MAX_AMOUNT}
 use Rattle.lin_rows.specs.declared.column.Column.{Column}
 use Rattle.lin_rows.specs.declared.column.Column.TheVariants.{X, Y, S, R}
@@ -15,12 +14,12 @@ use Rattle.lin_rows.specs.Base.{is_some_term, some_terms, term}
 use Rattle.lin_rows.specs.Columns.{column_cost}
 use Rattle.lin_rows.specs.Sums.{coefficient, item_of, kind_of, period_of, same_column}
 use Rattle.lin_rows.proofs.Below.{coefficient_append}
-use Rattle.echelon_rows.specs.Rows.{cells_to, cost_terms, owed_by, owed_times, periods_to}
+use Rattle.echelon_rows.specs.Rows.{cells_to, cost_terms, owed_times, periods_to}
 use Rattle.backlog_dp.specs.BlockRow.{block_terms}
 use Rattle.cert_meaning.specs.CutRows.{echelon_at}
+use Rattle.item_bound.proofs.Taken.{all_none, at_most_one, one_of_itself, none_of_others, no_weight, periods_counted, cells_counted, uncounted, no_parts, cells_of_one, cost_small}
 use Rattle.uncoupled.specs.Items.{ProvesItem}
 use Rattle.uncoupled.specs.Blocks.{IsItsEchelon}
-use Rattle.uncoupled.proofs.Alone.{all_none, at_most_one, none_of_others, one_of_itself, only_one}
 
 -- ---- coefficients of terms that are taken a whole number of times
 -- terms of nothing add nothing
@@ -42,50 +41,9 @@ coefficient_some (a ∷ ts) d =
 abbrev counted : Column → Column → ℕ → ℕ
 counted c d n = if same_column c d then n else 0
 
-no_more : (n : ℕ) → n + 0 ≡ n
-no_more n = omega arith
-
-one_counted : (b : Bool) (n : ℕ) → (if b then pos n else pos 0) +ℤ pos 0 ≡ pos (if b then n else 0)
-one_counted true n = ap pos (no_more n)
-one_counted false n = refl
-
-periods_counted : (T : ℕ) (c : ℕ → Column) (k : ℕ → ℕ) (d : Column) → coefficient (periods_to T (λ t. term (c t) (pos (k t)))) d ≡ pos (sum_to T (λ t. counted (c t) d (k t)))
-periods_counted zero c k d = refl
-periods_counted (suc n) c k d =
-    let f : ℕ → Term = λ t. term (c t) (pos (k t)) in
-    coefficient_append (periods_to n f) (f (suc n) ∷ []) d
-    ∙ ap (λ z. z +ℤ coefficient (f (suc n) ∷ []) d) (periods_counted n c k d)
-    ∙ ap (λ z. pos (sum_to n (λ t. counted (c t) d (k t))) +ℤ z) (one_counted (same_column (c (suc n)) d) (k (suc n)))
-
-cells_counted : (n T : ℕ) (c : ℕ → ℕ → Column) (k : ℕ → ℕ → ℕ) (d : Column) → coefficient (cells_to n T (λ j t. term (c j t) (pos (k j t)))) d ≡ pos (sum_to n (λ j. sum_to T (λ t. counted (c j t) d (k j t))))
-cells_counted zero T c k d = refl
-cells_counted (suc n) T c k d =
-    let f : ℕ → ℕ → Term = λ j t. term (c j t) (pos (k j t)) in
-    coefficient_append (cells_to n T f) (periods_to T (f (suc n))) d
-    ∙ ap (λ z. z +ℤ coefficient (periods_to T (f (suc n))) d) (cells_counted n T c k d)
-    ∙ ap (λ z. pos (sum_to n (λ j. sum_to T (λ t. counted (c j t) d (k j t)))) +ℤ z) (periods_counted T (c (suc n)) (k (suc n)) d)
-
--- ---- columns that are not the same
-parts_apart : (k l i j t s : ℕ) → (k ≡ l → i ≡ j → t ≡ s → ⊥) → ((k == l) && ((i == j) && (t == s))) ≡ false
-parts_apart k l i j t s apart =
-    ⊎_elim
-    (λ yes. absurd (apart (grind (arith, yes)) (grind (arith, yes)) (grind (arith, yes))))
-    (λ no. no)
-    (cases_Bool ((k == l) && ((i == j) && (t == s))))
-
-uncounted : (c d : Column) (n : ℕ) → (kind_of c ≡ kind_of d → item_of c ≡ item_of d → period_of c ≡ period_of d → ⊥) → counted c d n ≡ 0
-uncounted c d n apart = ap (λ b. if b then n else 0) (parts_apart (kind_of c) (kind_of d) (item_of c) (item_of d) (period_of c) (period_of d) apart)
-
 if_most : (b : Bool) (n most : ℕ) → n ≤ most → (if b then n else 0) ≤ most
 if_most true n most few = few
 if_most false n most few = omega arith
-
-not_taken : (b : Bool) (n : ℕ) → n ≡ 0 → (if b then n else 0) ≡ 0
-not_taken true n none = none
-not_taken false n none = refl
-
-no_parts : (a b c d : ℕ) → a ≡ 0 → b ≡ 0 → c ≡ 0 → d ≡ 0 → a + (b + (c + d)) ≡ 0
-no_parts a b c d x y s r = omega (arith, x, y, s, r)
 
 -- ---- one kind of columns of one item, each period's so many times
 pub record AreOf (kind i : ℕ) (c : ℕ → Column) : Type 0 where
@@ -103,34 +61,6 @@ in_period : (T kind i : ℕ) (c : ℕ → Column) (k : ℕ → ℕ) (d : Column)
 in_period T kind i c k d most are few =
     let s = period_of d in
     at_most_one T s most (λ t. counted (c t) d (k t)) (λ t low high apart. uncounted (c t) d (k t) (λ _ _ e. apart (sym (are.numbers t) ∙ e))) (if_most (same_column (c s) d) (k s) most few)
-
--- cells of which those of one item count
-cells_of_one : (n T i : ℕ) (c : ℕ → ℕ → Column) (k : ℕ → ℕ → ℕ) (d : Column) → 1 ≤ i → i ≤ n → ((j t : ℕ) → 1 ≤ j → j ≤ n → j ≢ i → k j t ≡ 0) → sum_to n (λ j. sum_to T (λ t. counted (c j t) d (k j t))) ≡ sum_to T (λ t. counted (c i t) d (k i t))
-cells_of_one n T i c k d low high none =
-    only_one n i (λ j. sum_to T (λ t. counted (c j t) d (k j t))) low high (λ j j_low j_high apart.
-    all_none T (λ t. counted (c j t) d (k j t)) (λ t t_low t_high. not_taken (same_column (c j t) d) (k j t) (none j t j_low j_high apart)))
-
--- ---- how large costs are
-entry_small : (T most t : ℕ) (xs : List ℕ) → IsSeries T most xs → entry xs t ≤ most
-entry_small T most t xs is =
-    ⊎_elim
-    (λ inside. is.small (t - 1) 0 inside)
-    (λ past. omega (arith, get_or_past xs (t - 1) 0 past))
-    (cases_lt (t - 1) (length xs))
-
-price_small : (T most t : ℕ) (o : Option (List ℕ)) → IfSome o (IsSeries T most) → backlog_price o t ≤ most
-price_small T most t None is = omega arith
-price_small T most t (Some xs) is = entry_small T most t xs is
-
-cost_small : (m : Problem) → IsWithinLimits m → (d : Column) → 1 ≤ item_of d → item_of d ≤ item_count m → column_cost m d ≤ MAX_AMOUNT
-cost_small m within (X i t) low high = entry_small m.periods MAX_AMOUNT t (item_at m i).unit_cost (within.each_item i low high).lists.unit_cost
-cost_small m within (Y i t) low high = entry_small m.periods MAX_AMOUNT t (item_at m i).setup_cost (within.each_item i low high).lists.setup_cost
-cost_small m within (S i t) low high = entry_small m.periods MAX_AMOUNT t (item_at m i).hold_cost (within.each_item i low high).lists.hold_cost
-cost_small m within (R i t) low high = price_small m.periods MAX_AMOUNT t (item_at m i).backlog_cost (within.each_item i low high).lists.backlog_cost
-
--- ---- the row of an item
-no_weight : (T w t : ℕ) (back : Bool) → w ≡ 0 → owed_by T back w t ≡ 0
-no_weight T w t back none = not_taken (nat_le 1 t && (nat_lt t T && back)) w none
 
 -- a backlog that counts costs what the item's does
 own_back : (low before : Bool) (o : Option (List ℕ)) (xs : List ℕ) (w t : ℕ) → w ≡ 1 → IfSome o (λ costs. xs ≡ costs) → entry xs t * (if low && (before && is_some o) then w else 0) ≤ backlog_price o t

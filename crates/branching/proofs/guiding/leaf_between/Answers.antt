@@ -1,5 +1,6 @@
 use Rattle.std.proofs.Common.{◌∙◌, ap, refl}
-use Rattle.branching.proofs.Evidence.{anyway, at_most_on, ok_on}
+use Rattle.tree_search.proofs.Endless.{at_most-trans as at_most_on}
+use Rattle.branching.proofs.Evidence.{anyway, ok_on}
 use Rattle.branching.proofs.Points.{kept_from}
 use Rattle.incumbent.specs.Kept.{cost_kept}
 use Rattle.branching.specs.Knowing.{KnowsMore}

@@ -2,8 +2,9 @@ use Rattle.std.proofs.Common.{sym, subst}
 use Rattle.std.specs.List.{All}
 use Rattle.lin_rows.specs.Columns.{IsColumn}
 use Rattle.lin_rows.specs.Rows.{LinRow}
+use Rattle.cert_meaning.proofs.Rows.{bound_columns}
 use Rattle.lp_relaxation.specs.Laws.{HasSmallNumbers}
-use Rattle.lp_bounds.proofs.BoundRows.{bound_columns, bound_small}
+use Rattle.lp_bounds.proofs.BoundRows.{bound_small}
 use Rattle.lp_bounds.proofs.program.push_bound.Goals as goal
 
 pub push_row-requires-clause-columns : goal.push_row-requires-clause-columns
