@@ -486,8 +486,9 @@ fn said<S: Shelf, P: Proposer, H: Heuristic<P::Hint>, W: Watch>(
         (S.shown shelf.old) (S.shown shelf.new)) }
     ensures found { IfOk result (λ said. FetchesAs said.status (S.shown shelf.old)
         (S.shown shelf.new)) }
-    ensures appended { IfOk result (λ said. AppendsAs (writes_of (command_of (map string_bytes words.now))) said.status
-        (S.shown shelf.old) (S.shown shelf.new)) }
+    ensures appended { IfOk result (λ said. AppendsAs
+        (writes_of (command_of (map string_bytes words.now))) said.status (S.shown shelf.old)
+        (S.shown shelf.new)) }
     ensures given { (S.shown shelf.new).given
         ≤ (S.shown shelf.old).given + most_given (command_of (map string_bytes words.now)) }
 {
@@ -515,8 +516,8 @@ fn said_of<S: Shelf, P: Proposer, H: Heuristic<P::Hint>, W: Watch>(
         (S.shown shelf.old) (S.shown shelf.new)) }
     ensures found { IfOk result (λ said. FetchesAs said.status (S.shown shelf.old)
         (S.shown shelf.new)) }
-    ensures appended { IfOk result (λ said. AppendsAs (writes_of (Some (request_by command.entry))) said.status
-        (S.shown shelf.old) (S.shown shelf.new)) }
+    ensures appended { IfOk result (λ said. AppendsAs (writes_of (Some (request_by command.entry)))
+        said.status (S.shown shelf.old) (S.shown shelf.new)) }
     ensures given { (S.shown shelf.new).given
         ≤ (S.shown shelf.old).given + most_given (Some (request_by command.entry)) }
 {

@@ -79,7 +79,8 @@ fn bound_instance(alloc: Global, instance: &Instance) -> Result<BoundAnswer<'sta
 
 /// Bounds the cost of all plans of the model in a file.
 pub fn bound_files<S: Shelf>(alloc: Global, model: &str, shelf: &mut S) -> Result<Said, AllocError>
-    ensures said { IfOk result (Says (bound_meaning model.now) (S.shown shelf.old) (S.shown shelf.new)) }
+    ensures said { IfOk result (Says (bound_meaning model.now) (S.shown shelf.old)
+        (S.shown shelf.new)) }
     ensures reads { OnlyReads (S.shown shelf.old) (S.shown shelf.new) }
     ensures found { IfOk result (λ said. FetchesAs said.status (S.shown shelf.old)
         (S.shown shelf.new)) }

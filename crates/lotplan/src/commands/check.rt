@@ -243,8 +243,8 @@ pub fn check_files<S: Shelf>(
     certificate: &str,
     shelf: &mut S,
 ) -> Result<Said, AllocError>
-    ensures said { IfOk result (Says (check_meaning model.now plan.now certificate.now) (S.shown shelf.old)
-        (S.shown shelf.new)) }
+    ensures said { IfOk result (Says (check_meaning model.now plan.now certificate.now)
+        (S.shown shelf.old) (S.shown shelf.new)) }
     ensures reads { OnlyReads (S.shown shelf.old) (S.shown shelf.new) }
     ensures found { IfOk result (λ said. FetchesAs said.status (S.shown shelf.old)
         (S.shown shelf.new)) }

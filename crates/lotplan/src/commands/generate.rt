@@ -77,8 +77,8 @@ pub fn generate_file<S: Shelf>(
     shelf: &mut S,
 ) -> Result<Said, AllocError>
     requires { IsModelSize items periods }
-    ensures said { IfOk result (Says (generate_meaning seed items periods model.now) (S.shown shelf.old)
-        (S.shown shelf.new)) }
+    ensures said { IfOk result (Says (generate_meaning seed items periods model.now)
+        (S.shown shelf.old) (S.shown shelf.new)) }
     ensures memory { OnErr result (S.shown shelf.new ≡ S.shown shelf.old) }
     ensures found { IfOk result (λ said. FetchesAs said.status (S.shown shelf.old)
         (S.shown shelf.new)) }

@@ -347,8 +347,9 @@ fn plan_instance<S: Shelf, P: Proposer, H: Heuristic<P::Hint>, W: Watch>(
         names.entry.certificate.now (S.shown shelf.old) (S.shown shelf.new)) }
     ensures memory { OnErr result (S.shown shelf.new ≡ S.shown shelf.old) }
     ensures found { Finds (S.shown shelf.old) (S.shown shelf.new) }
-    ensures appended { IfOk result (λ said. AppendsAs (names.entry.plan.now ∷ names.entry.certificate.now ∷ []) said.status
-        (S.shown shelf.old) (S.shown shelf.new)) }
+    ensures appended { IfOk result (λ said. AppendsAs
+        (names.entry.plan.now ∷ names.entry.certificate.now ∷ []) said.status (S.shown shelf.old)
+        (S.shown shelf.new)) }
     ensures given { (S.shown shelf.new).given ≡ (S.shown shelf.old).given }
 {
     let found = found_of(alloc, proposer, heuristic, watch, instance, sought, first)?;
@@ -384,8 +385,9 @@ fn plan_model<S: Shelf, P: Proposer, H: Heuristic<P::Hint>, W: Watch>(
     ensures memory { OnErr result (OnlyReads (S.shown shelf.old) (S.shown shelf.new)) }
     ensures found { IfOk result (λ said. FetchesAs said.status (S.shown shelf.old)
         (S.shown shelf.new)) }
-    ensures appended { IfOk result (λ said. AppendsAs (names.entry.plan.now ∷ names.entry.certificate.now ∷ []) said.status
-        (S.shown shelf.old) (S.shown shelf.new)) }
+    ensures appended { IfOk result (λ said. AppendsAs
+        (names.entry.plan.now ∷ names.entry.certificate.now ∷ []) said.status (S.shown shelf.old)
+        (S.shown shelf.new)) }
     ensures given { (S.shown shelf.new).given
         ≤ (S.shown shelf.old).given + (file_limit + piece_size) }
 {
@@ -428,8 +430,9 @@ fn plan_from<S: Shelf, P: Proposer, H: Heuristic<P::Hint>, W: Watch>(
     ensures memory { OnErr result (OnlyReads (S.shown shelf.old) (S.shown shelf.new)) }
     ensures found { IfOk result (λ said. FetchesAs said.status (S.shown shelf.old)
         (S.shown shelf.new)) }
-    ensures appended { IfOk result (λ said. AppendsAs (names.entry.plan.now ∷ names.entry.certificate.now ∷ []) said.status
-        (S.shown shelf.old) (S.shown shelf.new)) }
+    ensures appended { IfOk result (λ said. AppendsAs
+        (names.entry.plan.now ∷ names.entry.certificate.now ∷ []) said.status (S.shown shelf.old)
+        (S.shown shelf.new)) }
     ensures given { (S.shown shelf.new).given
         ≤ (S.shown shelf.old).given + 2 * (file_limit + piece_size) }
 {
@@ -475,8 +478,9 @@ pub fn plan_files<S: Shelf, P: Proposer, H: Heuristic<P::Hint>, W: Watch>(
     ensures memory { OnErr result (OnlyReads (S.shown shelf.old) (S.shown shelf.new)) }
     ensures found { IfOk result (λ said. FetchesAs said.status (S.shown shelf.old)
         (S.shown shelf.new)) }
-    ensures appended { IfOk result (λ said. AppendsAs (names.entry.plan.now ∷ names.entry.certificate.now ∷ []) said.status
-        (S.shown shelf.old) (S.shown shelf.new)) }
+    ensures appended { IfOk result (λ said. AppendsAs
+        (names.entry.plan.now ∷ names.entry.certificate.now ∷ []) said.status (S.shown shelf.old)
+        (S.shown shelf.new)) }
     ensures given { (S.shown shelf.new).given
         ≤ (S.shown shelf.old).given
         + (1 + length (start_files (option_map (λ f. f.now) search.entry.start)))

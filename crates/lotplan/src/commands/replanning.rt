@@ -133,8 +133,9 @@ fn write_three<S: Shelf>(
         (S.shown shelf.new)) }
     ensures memory { OnErr result (S.shown shelf.new ≡ S.shown shelf.old) }
     ensures found { Finds (S.shown shelf.old) (S.shown shelf.new) }
-    ensures appended { IfOk result (λ said. AppendsAs (names.entry.next_model.now ∷ names.entry.next_plan.now ∷ names.entry.certificate.now ∷ []) said.status
-        (S.shown shelf.old) (S.shown shelf.new)) }
+    ensures appended { IfOk result (λ said. AppendsAs
+        (names.entry.next_model.now ∷ names.entry.next_plan.now ∷ names.entry.certificate.now ∷ [])
+        said.status (S.shown shelf.old) (S.shown shelf.new)) }
     ensures given { (S.shown shelf.new).given ≡ (S.shown shelf.old).given }
 {
     texts_mean_it(&rest.instance);
@@ -186,8 +187,9 @@ fn write_two<S: Shelf>(
         (S.shown shelf.new)) }
     ensures memory { OnErr result (S.shown shelf.new ≡ S.shown shelf.old) }
     ensures found { Finds (S.shown shelf.old) (S.shown shelf.new) }
-    ensures appended { IfOk result (λ said. AppendsAs (names.entry.next_model.now ∷ names.entry.next_plan.now ∷ names.entry.certificate.now ∷ []) said.status
-        (S.shown shelf.old) (S.shown shelf.new)) }
+    ensures appended { IfOk result (λ said. AppendsAs
+        (names.entry.next_model.now ∷ names.entry.next_plan.now ∷ names.entry.certificate.now ∷ [])
+        said.status (S.shown shelf.old) (S.shown shelf.new)) }
     ensures given { (S.shown shelf.new).given ≡ (S.shown shelf.old).given }
 {
     texts_mean_it(&rest.instance);
@@ -231,8 +233,9 @@ fn write_next<S: Shelf>(
         (S.shown shelf.new)) }
     ensures memory { OnErr result (S.shown shelf.new ≡ S.shown shelf.old) }
     ensures found { Finds (S.shown shelf.old) (S.shown shelf.new) }
-    ensures appended { IfOk result (λ said. AppendsAs (names.entry.next_model.now ∷ names.entry.next_plan.now ∷ names.entry.certificate.now ∷ []) said.status
-        (S.shown shelf.old) (S.shown shelf.new)) }
+    ensures appended { IfOk result (λ said. AppendsAs
+        (names.entry.next_model.now ∷ names.entry.next_plan.now ∷ names.entry.certificate.now ∷ [])
+        said.status (S.shown shelf.old) (S.shown shelf.new)) }
     ensures given { (S.shown shelf.new).given ≡ (S.shown shelf.old).given }
 {
     match &found.plan {
@@ -262,8 +265,9 @@ fn replan_instance<S: Shelf, P: Proposer, H: Heuristic<P::Hint>, W: Watch>(
         names.entry.certificate.now budget (S.shown shelf.old) (S.shown shelf.new)) }
     ensures memory { OnErr result (S.shown shelf.new ≡ S.shown shelf.old) }
     ensures found { Finds (S.shown shelf.old) (S.shown shelf.new) }
-    ensures appended { IfOk result (λ said. AppendsAs (names.entry.next_model.now ∷ names.entry.next_plan.now ∷ names.entry.certificate.now ∷ []) said.status
-        (S.shown shelf.old) (S.shown shelf.new)) }
+    ensures appended { IfOk result (λ said. AppendsAs
+        (names.entry.next_model.now ∷ names.entry.next_plan.now ∷ names.entry.certificate.now ∷ [])
+        said.status (S.shown shelf.old) (S.shown shelf.new)) }
     ensures given { (S.shown shelf.new).given ≡ (S.shown shelf.old).given }
 {
     joins_are_feasible();
@@ -332,14 +336,15 @@ pub fn replan_files<S: Shelf, P: Proposer, H: Heuristic<P::Hint>, W: Watch>(
 ) -> Result<Said, AllocError>
     requires budget { 1 ≤ budget }
     requires apart { AreApart names.next_model.now names.next_plan.now names.certificate.now }
-    ensures said { IfOk result (Says (replan_meaning names.entry.model.now names.entry.plan.now first
-        names.entry.next_model.now names.entry.next_plan.now names.entry.certificate.now budget)
-        (S.shown shelf.old) (S.shown shelf.new)) }
+    ensures said { IfOk result (Says (replan_meaning names.entry.model.now names.entry.plan.now
+        first names.entry.next_model.now names.entry.next_plan.now names.entry.certificate.now
+        budget) (S.shown shelf.old) (S.shown shelf.new)) }
     ensures memory { OnErr result (OnlyReads (S.shown shelf.old) (S.shown shelf.new)) }
     ensures found { IfOk result (λ said. FetchesAs said.status (S.shown shelf.old)
         (S.shown shelf.new)) }
-    ensures appended { IfOk result (λ said. AppendsAs (names.entry.next_model.now ∷ names.entry.next_plan.now ∷ names.entry.certificate.now ∷ []) said.status
-        (S.shown shelf.old) (S.shown shelf.new)) }
+    ensures appended { IfOk result (λ said. AppendsAs
+        (names.entry.next_model.now ∷ names.entry.next_plan.now ∷ names.entry.certificate.now ∷ [])
+        said.status (S.shown shelf.old) (S.shown shelf.new)) }
     ensures given { (S.shown shelf.new).given
         ≤ (S.shown shelf.old).given + 2 * (file_limit + piece_size) }
 {

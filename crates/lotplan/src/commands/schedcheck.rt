@@ -123,8 +123,8 @@ pub fn schedcheck_files<S: Shelf>(
     file: &str,
     shelf: &mut S,
 ) -> Result<Said, AllocError>
-    ensures said { IfOk result (Says (schedcheck_meaning model.now plan.now file.now) (S.shown shelf.old)
-        (S.shown shelf.new)) }
+    ensures said { IfOk result (Says (schedcheck_meaning model.now plan.now file.now)
+        (S.shown shelf.old) (S.shown shelf.new)) }
     ensures reads { OnlyReads (S.shown shelf.old) (S.shown shelf.new) }
     ensures found { IfOk result (λ said. FetchesAs said.status (S.shown shelf.old)
         (S.shown shelf.new)) }
