@@ -10,7 +10,7 @@ use crate::knowing::Known;
 use cert_lines::Leaf;
 use cert_trees::ranges_are_left;
 use incumbent::{best_cost, keep_within, plan_at};
-use search_plugins::Heuristic;
+use search_plugins::{Heuristic, Space};
 use std::alloc::{AllocError, Global};
 use tree_search::{Node, Proposal};
 
@@ -57,13 +57,9 @@ pub(crate) fn keep_built<T, H: Heuristic<T>>(
     ensures rows { OnOk result (known.new.rows ≡ known.old.rows) }
     ensures kept { OnOk result (IsNoWorse known.new.best known.old.best) }
 {
+    let instance = model.instance;
+    let ranges = model.ranges;
+    let space = Space { instance, ranges };
     let best = &mut known.best;
-    heuristic.at_node(
-        alloc,
-        model.instance,
-        model.ranges,
-        &node.ranges,
-        effort,
-        best,
-    )
+    heuristic.at_node(alloc, space, &node.ranges, effort, best)
 }

@@ -4,7 +4,6 @@ ghost use Rattle.cert_lines.specs.declared.limits.TheConstants.{MAX_CUTS};
 ghost use Rattle.cert_lines.specs.Shapes.{leaf_shape};
 ghost use Rattle.plan_rules.specs.Rows.{IfFound};
 ghost use Rattle.branching.specs.Knowing.{IsJudgedIn, IsKnown, IsLastingIn, IsReached, KnowsMore, KnowsMoreRows, KnowsTheSame};
-ghost use Rattle.incumbent.specs.Kept.{IsBestSoFar, IsNoWorseBest};
 ghost use Rattle.leaf_growth.specs.Growth.{IsOfRows};
 
 use crate::adding::add_cuts;
@@ -16,8 +15,7 @@ use cert_lines::Leaf;
 use certificate::{Cut, MAX_CUTS};
 use incumbent::best_cost;
 use lot_model::Instance;
-use plan_rules::Planned;
-use search_plugins::{Heuristic, Progress, Proposed, Proposer};
+use search_plugins::{Heuristic, LeafWanted, OpenNode, Progress, Proposed, Proposer, Space};
 use std::alloc::{AllocError, Global};
 use tree_search::{Node, Proposal, is_below};
 
@@ -32,26 +30,31 @@ fn improve<P: Proposer, H: Heuristic<P::Hint>>(
     alloc: Global,
     guided: &Guided<'_, P, H>,
     node: &Node,
-    notes: &P::State,
+    state: &mut State<P::State, H::State>,
     work: &mut P::Work,
-    effort: &mut H::State,
-    best: &mut Option<Planned>,
 ) -> Result<(), AllocError>
-    requires { IsBestSoFar guided.now.model.instance.now guided.now.model.ranges.now best.old }
-    ensures { OnOk result (IsNoWorseBest guided.now.model.instance.now guided.now.model.ranges.now
-        best.new best.old) }
+    requires { IsKnown guided.now.model state.old.known }
+    ensures { OnOk result (KnowsMore guided.now.model state.old.known state.new.known) }
 {
-    let (instance, ranges) = (guided.model.instance, guided.model.ranges);
+    let instance = guided.model.instance;
+    let ranges = guided.model.ranges;
     let proposer = guided.proposer;
     for _time in 0..proposer.times(node) {
-        match proposer.improve(alloc, instance, node, best_cost(best), notes, work)? {
+        let cost = best_cost(&state.known.best);
+        let at = OpenNode {
+            instance,
+            node,
+            cost,
+        };
+        match proposer.improve(alloc, at, &state.notes, work)? {
             Progress::Open => {}
             Progress::Done => return Ok(()),
         }
         let hint = proposer.hint(work);
-        guided
-            .heuristic
-            .by_hint(alloc, instance, ranges, hint, effort, best)?;
+        let space = Space { instance, ranges };
+        let best = &mut state.known.best;
+        let effort = &mut state.effort;
+        guided.heuristic.by_hint(alloc, space, hint, effort, best)?;
     }
     Ok(())
 }
@@ -84,22 +87,27 @@ fn judged_with(
 }
 
 // The leaf that is proposed, judged.
-fn leaf_of<P: Proposer>(
+fn leaf_of<P: Proposer, H: Heuristic<P::Hint>>(
     alloc: Global,
-    model: &Model,
-    proposer: &P,
+    guided: &Guided<'_, P, H>,
     node: &Node,
-    known: &mut Known,
-    notes: &P::State,
+    state: &mut State<P::State, H::State>,
     work: &P::Work,
     says: Option<u128>,
 ) -> Result<Option<Proposal>, AllocError>
-    requires reached { IsReached model.now known.old node.now }
-    ensures more { OnOk result (KnowsMoreRows model.now known.old known.new) }
-    ensures judged { IfFound result (IsJudgedIn model.now known.new node.now.path.items) }
+    requires reached { IsReached guided.now.model state.old.known node.now }
+    ensures more { OnOk result (KnowsMoreRows guided.now.model state.old.known state.new.known) }
+    ensures judged { IfFound result (IsJudgedIn guided.now.model state.new.known
+        node.now.path.items) }
 {
-    let first = next_number(known);
-    match proposer.leaf(alloc, model.instance, notes, work, says, first)? {
+    let model = &guided.model;
+    let first_cut = next_number(&state.known);
+    let wanted = LeafWanted { says, first_cut };
+    let found = guided
+        .proposer
+        .leaf(alloc, model.instance, &state.notes, work, wanted)?;
+    let known = &mut state.known;
+    match found {
         Some(Proposed { cuts, leaf }) => judged_with(alloc, model, node, known, cuts, leaf),
         None => Ok(None),
     }
@@ -115,20 +123,28 @@ fn with_note(proposal: Proposal, note: Option<usize>) -> Proposal
 }
 
 // The place of a note for those below a node; None where the node isn't open.
-fn noted<P: Proposer>(
+fn noted<P: Proposer, H: Heuristic<P::Hint>>(
     alloc: Global,
-    model: &Model,
-    proposer: &P,
+    guided: &Guided<'_, P, H>,
     node: &Node,
+    state: &mut State<P::State, H::State>,
     work: P::Work,
     says: Option<u128>,
-    cost: Option<u128>,
-    notes: &mut P::State,
-) -> Result<Option<usize>, AllocError> {
+) -> Result<Option<usize>, AllocError>
+    ensures { OnOk result (state.new.known ≡ state.old.known) }
+{
+    let instance = guided.model.instance;
+    let cost = best_cost(&state.known.best);
     if !is_below(says, cost) {
         return Ok(None);
     }
-    proposer.close(alloc, model.instance, node, cost, work, notes)
+    let at = OpenNode {
+        instance,
+        node,
+        cost,
+    };
+    let notes = &mut state.notes;
+    guided.proposer.close(alloc, at, work, notes)
 }
 
 /// The leaf of a node: the one that was there, or one that is proposed where it says more. One is asked for where the
@@ -155,26 +171,13 @@ pub(crate) fn priced<P: Proposer, H: Heuristic<P::Hint>>(
         return Ok(proposal);
     }
     let above = proposal.note;
-    let mut work = proposer.open(alloc, model.instance, node, above, &mut state.notes)?;
-    let best = &mut state.known.best;
-    let effort = &mut state.effort;
-    improve(alloc, guided, node, &state.notes, &mut work, effort, best)?;
-    let known = &mut state.known;
-    let says = proposal.says;
-    let found = leaf_of(
-        alloc,
-        model,
-        proposer,
-        node,
-        known,
-        &state.notes,
-        &work,
-        says,
-    )?;
-    let stronger = stronger(model, node, known, proposal, found);
-    let cost = best_cost(&known.best);
-    let says = stronger.says;
     let notes = &mut state.notes;
-    let note = noted(alloc, model, proposer, node, work, says, cost, notes)?;
+    let mut work = proposer.open(alloc, model.instance, node, above, notes)?;
+    improve(alloc, guided, node, state, &mut work)?;
+    let says = proposal.says;
+    let found = leaf_of(alloc, guided, node, state, &work, says)?;
+    let stronger = stronger(model, node, &mut state.known, proposal, found);
+    let says = stronger.says;
+    let note = noted(alloc, guided, node, state, work, says)?;
     Ok(with_note(stronger, note))
 }

@@ -29,7 +29,7 @@ use lot_model::Instance;
 use lp_root::root;
 use node_domains::{Ranges, lie_in_whole, lies_within, listed};
 use plan_rules::{Plan, Planned};
-use search_plugins::{Heuristic, Proposer, Watch};
+use search_plugins::{Heuristic, Proposer, Space, Watch};
 use search_result::{Found, RootSays};
 use std::alloc::{AllocError, Global};
 use tree_search as engine;
@@ -48,7 +48,8 @@ fn best_at_start<T, H: Heuristic<T>>(
     ensures { IfOk result (IsFirstBest instance.now ranges.now first) }
 {
     let mut best = best_to_begin(alloc, instance, ranges, first)?;
-    heuristic.at_start(alloc, instance, ranges, effort, &mut best)?;
+    let space = Space { instance, ranges };
+    heuristic.at_start(alloc, space, effort, &mut best)?;
     Ok(best)
 }
 

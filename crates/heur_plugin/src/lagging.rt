@@ -7,12 +7,12 @@ ghost use Rattle.own_plan.specs.Made.{IsMade};
 ghost use Rattle.incumbent.specs.Kept.{IsBestSoFar, IsNoWorseBest};
 
 use crate::effort::Effort;
+use crate::scope::Scope;
 use crate::shares::{FIRST_SHARE, limit};
 use first_plans::candidates;
 use heur_lags::{has_free_lots, improved_lagged, lagged_plan, plain_model, repaired};
 use incumbent::keep_within;
 use lot_model::Instance;
-use node_domains::Ranges;
 use plan_rules::{Grid, Planned};
 use price_rounds::Average;
 use std::alloc::{AllocError, Global};
@@ -87,22 +87,22 @@ fn work_of(instance: &Instance, each: u64, until: Deadline) -> u64 {
 // Walks from no lots where there is no plan yet, or the model isn't large and it isn't time to end, and keeps what is found, if it lies within the ranges.
 fn walk_anew(
     alloc: Global,
-    instance: &Instance,
-    ranges: &Ranges,
+    scope: &Scope<'_>,
     seed: u64,
-    until: Deadline,
     best: &mut Option<Planned>,
 ) -> Result<(), AllocError>
-    requires { IsBestSoFar instance.now ranges.now best.old }
-    ensures { OnOk result (IsNoWorseBest instance.now ranges.now best.new best.old) }
+    requires { IsBestSoFar scope.now.instance.now scope.now.ranges.now best.old }
+    ensures { OnOk result
+        (IsNoWorseBest scope.now.instance.now scope.now.ranges.now best.new best.old) }
 {
-    let until = limit(until, best);
+    let instance = scope.instance;
+    let until = limit(scope.until, best);
     if best.is_some() && (until.is_past() || is_large(instance)) {
         return Ok(());
     }
     let work = work_of(instance, first_work(instance), until);
     let found = lagged_plan(alloc, instance, seed, work)?;
-    keep_within(instance, ranges, best, found);
+    keep_within(instance, scope.ranges, best, found);
     Ok(())
 }
 
@@ -164,16 +164,15 @@ fn found_by_plain(
 // Keeps that plan, if it lies within the ranges.
 fn walk_by_plain(
     alloc: Global,
-    instance: &Instance,
-    ranges: &Ranges,
-    until: Deadline,
+    scope: &Scope<'_>,
     best: &mut Option<Planned>,
 ) -> Result<(), AllocError>
-    requires { IsBestSoFar instance.now ranges.now best.old }
-    ensures { OnOk result (IsNoWorseBest instance.now ranges.now best.new best.old) }
+    requires { IsBestSoFar scope.now.instance.now scope.now.ranges.now best.old }
+    ensures { OnOk result
+        (IsNoWorseBest scope.now.instance.now scope.now.ranges.now best.new best.old) }
 {
-    let found = found_by_plain(alloc, instance, until)?;
-    keep_within(instance, ranges, best, found);
+    let found = found_by_plain(alloc, scope.instance, scope.until)?;
+    keep_within(scope.instance, scope.ranges, best, found);
     Ok(())
 }
 
@@ -204,87 +203,82 @@ fn lagged_from(
 // Walks from the best plan where it isn't time to end, and keeps what is found, if it lies within the ranges.
 fn walk_further(
     alloc: Global,
-    instance: &Instance,
-    ranges: &Ranges,
+    scope: &Scope<'_>,
     seed: u64,
     each: u64,
-    until: Deadline,
     best: &mut Option<Planned>,
 ) -> Result<(), AllocError>
-    requires { IsBestSoFar instance.now ranges.now best.old }
-    ensures { OnOk result (IsNoWorseBest instance.now ranges.now best.new best.old) }
+    requires { IsBestSoFar scope.now.instance.now scope.now.ranges.now best.old }
+    ensures { OnOk result
+        (IsNoWorseBest scope.now.instance.now scope.now.ranges.now best.new best.old) }
 {
-    let found = lagged_from(alloc, instance, best, seed, each, until)?;
-    keep_within(instance, ranges, best, found);
+    let found = lagged_from(alloc, scope.instance, best, seed, each, scope.until)?;
+    keep_within(scope.instance, scope.ranges, best, found);
     Ok(())
 }
 
 // Walks twice from no lots, with a seed and the next one.
 fn walk_twice(
     alloc: Global,
-    instance: &Instance,
-    ranges: &Ranges,
+    scope: &Scope<'_>,
     seed: u64,
-    until: Deadline,
     best: &mut Option<Planned>,
 ) -> Result<(), AllocError>
-    requires { IsBestSoFar instance.now ranges.now best.old }
-    ensures { OnOk result (IsNoWorseBest instance.now ranges.now best.new best.old) }
+    requires { IsBestSoFar scope.now.instance.now scope.now.ranges.now best.old }
+    ensures { OnOk result
+        (IsNoWorseBest scope.now.instance.now scope.now.ranges.now best.new best.old) }
 {
-    walk_anew(alloc, instance, ranges, seed, until, best)?;
-    walk_anew(alloc, instance, ranges, seed.wrapping_add(1), until, best)
+    walk_anew(alloc, scope, seed, best)?;
+    walk_anew(alloc, scope, seed.wrapping_add(1), best)
 }
 
 // Walks four times more from no lots, where lots aren't free.
 fn walk_often(
     alloc: Global,
-    instance: &Instance,
-    ranges: &Ranges,
-    until: Deadline,
+    scope: &Scope<'_>,
     best: &mut Option<Planned>,
 ) -> Result<(), AllocError>
-    requires { IsBestSoFar instance.now ranges.now best.old }
-    ensures { OnOk result (IsNoWorseBest instance.now ranges.now best.new best.old) }
+    requires { IsBestSoFar scope.now.instance.now scope.now.ranges.now best.old }
+    ensures { OnOk result
+        (IsNoWorseBest scope.now.instance.now scope.now.ranges.now best.new best.old) }
 {
-    if has_free_lots(instance) {
+    if has_free_lots(scope.instance) {
         return Ok(());
     }
-    walk_twice(alloc, instance, ranges, FURTHER_SEED, until, best)?;
-    walk_twice(alloc, instance, ranges, FURTHEST_SEED, until, best)
+    walk_twice(alloc, scope, FURTHER_SEED, best)?;
+    walk_twice(alloc, scope, FURTHEST_SEED, best)
 }
 
 /// Walks from no lots and from the best plan, and keeps what is found, if it lies within the ranges.
 pub(crate) fn lag_at_start(
     alloc: Global,
-    instance: &Instance,
-    ranges: &Ranges,
-    until: Deadline,
+    scope: &Scope<'_>,
     best: &mut Option<Planned>,
 ) -> Result<(), AllocError>
-    requires { IsBestSoFar instance.now ranges.now best.old }
-    ensures { OnOk result (IsNoWorseBest instance.now ranges.now best.new best.old) }
+    requires { IsBestSoFar scope.now.instance.now scope.now.ranges.now best.old }
+    ensures { OnOk result
+        (IsNoWorseBest scope.now.instance.now scope.now.ranges.now best.new best.old) }
 {
-    walk_by_plain(alloc, instance, ranges, until, best)?;
-    walk_twice(alloc, instance, ranges, FIRST_SEED, until, best)?;
-    walk_often(alloc, instance, ranges, until, best)?;
-    let end = limit(until, best);
-    let each = first_work(instance);
-    walk_further(alloc, instance, ranges, THIRD_SEED, each, end, best)
+    walk_by_plain(alloc, scope, best)?;
+    walk_twice(alloc, scope, FIRST_SEED, best)?;
+    walk_often(alloc, scope, best)?;
+    let early = scope.before_first_node(best);
+    let each = first_work(scope.instance);
+    walk_further(alloc, &early, THIRD_SEED, each, best)
 }
 
 /// Walks from the best plan once more before the first node.
 pub(crate) fn lag_after_programs(
     alloc: Global,
-    instance: &Instance,
-    ranges: &Ranges,
-    until: Deadline,
+    scope: &Scope<'_>,
     best: &mut Option<Planned>,
 ) -> Result<(), AllocError>
-    requires { IsBestSoFar instance.now ranges.now best.old }
-    ensures { OnOk result (IsNoWorseBest instance.now ranges.now best.new best.old) }
+    requires { IsBestSoFar scope.now.instance.now scope.now.ranges.now best.old }
+    ensures { OnOk result
+        (IsNoWorseBest scope.now.instance.now scope.now.ranges.now best.new best.old) }
 {
-    let end = limit(until, best);
-    walk_further(alloc, instance, ranges, LAST_SEED, LAST_WORK, end, best)
+    let early = scope.before_first_node(best);
+    walk_further(alloc, &early, LAST_SEED, LAST_WORK, best)
 }
 
 // The lots of an item that rounds of prices make on the average are written.
@@ -335,43 +329,42 @@ fn mark_of(instance: &Instance, average: &Average) -> u64 {
 /// found, if it lies within the ranges.
 pub(crate) fn lag_from_average(
     alloc: Global,
-    instance: &Instance,
-    ranges: &Ranges,
+    scope: &Scope<'_>,
     average: &Average,
     effort: &mut Effort,
-    until: Deadline,
     best: &mut Option<Planned>,
 ) -> Result<(), AllocError>
-    requires { IsBestSoFar instance.now ranges.now best.old }
-    ensures { OnOk result (IsNoWorseBest instance.now ranges.now best.new best.old) }
+    requires { IsBestSoFar scope.now.instance.now scope.now.ranges.now best.old }
+    ensures { OnOk result
+        (IsNoWorseBest scope.now.instance.now scope.now.ranges.now best.new best.old) }
 {
-    if until.is_past() || has_free_lots(instance) {
+    let instance = scope.instance;
+    if scope.until.is_past() || has_free_lots(instance) {
         return Ok(());
     }
     if !effort.remember(mark_of(instance, average))? {
         return Ok(());
     }
-    let work = work_of(instance, HINT_WORK, until);
+    let work = work_of(instance, HINT_WORK, scope.until);
     if !effort.takes_walks(work) {
         return Ok(());
     }
     let lots = lots_of(alloc, instance, average)?;
     let found = repaired(alloc, instance, &lots, FIRST_SEED, work)?;
-    keep_within(instance, ranges, best, found);
+    keep_within(instance, scope.ranges, best, found);
     Ok(())
 }
 
 /// Walks from the best plan in the tree.
 pub(crate) fn lag_in_tree(
     alloc: Global,
-    instance: &Instance,
-    ranges: &Ranges,
+    scope: &Scope<'_>,
     seed: u64,
-    until: Deadline,
     best: &mut Option<Planned>,
 ) -> Result<(), AllocError>
-    requires { IsBestSoFar instance.now ranges.now best.old }
-    ensures { OnOk result (IsNoWorseBest instance.now ranges.now best.new best.old) }
+    requires { IsBestSoFar scope.now.instance.now scope.now.ranges.now best.old }
+    ensures { OnOk result
+        (IsNoWorseBest scope.now.instance.now scope.now.ranges.now best.new best.old) }
 {
-    walk_further(alloc, instance, ranges, seed, TREE_WORK, until, best)
+    walk_further(alloc, scope, seed, TREE_WORK, best)
 }

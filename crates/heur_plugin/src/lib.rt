@@ -13,6 +13,7 @@ mod effort;
 mod lagging;
 mod plans;
 mod programs;
+mod scope;
 mod setup_walking;
 mod shares;
 mod starting;

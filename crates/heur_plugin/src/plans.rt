@@ -2,15 +2,16 @@
 ghost use Rattle.std.specs.Prelude.{OnOk};
 
 use crate::effort::Effort;
+use crate::scope::Scope;
 use crate::starting::try_at_start;
 use crate::trying::try_average;
 use heur_build::built_plan;
 use incumbent::keep_within;
 use lot_model::Instance;
-use node_domains::{Ranges, least_grid};
+use node_domains::least_grid;
 use plan_rules::Planned;
 use price_rounds::Average;
-use search_plugins::Heuristic;
+use search_plugins::{Heuristic, Space};
 use std::alloc::{AllocError, Global};
 use tree_search::Range;
 use work_clock::Deadline;
@@ -32,35 +33,35 @@ impl Heuristic<Average> for Plans {
     fn at_start(
         &self,
         alloc: Global,
-        instance: &Instance,
-        ranges: &Ranges,
+        space: Space<'_>,
         _state: &mut Effort,
         best: &mut Option<Planned>,
     ) -> Result<(), AllocError> {
-        try_at_start(alloc, instance, ranges, self.until, best)
+        let scope = Scope::of(space, self.until);
+        try_at_start(alloc, &scope, best)
     }
 
     fn by_hint(
         &self,
         alloc: Global,
-        instance: &Instance,
-        ranges: &Ranges,
+        space: Space<'_>,
         hint: &Average,
         state: &mut Effort,
         best: &mut Option<Planned>,
     ) -> Result<(), AllocError> {
-        try_average(alloc, instance, ranges, hint, state, self.until, best)
+        let scope = Scope::of(space, self.until);
+        try_average(alloc, &scope, hint, state, best)
     }
 
     fn at_node(
         &self,
         alloc: Global,
-        instance: &Instance,
-        ranges: &Ranges,
+        space: Space<'_>,
         left: &[Range],
         _state: &mut Effort,
         best: &mut Option<Planned>,
     ) -> Result<(), AllocError> {
+        let Space { instance, ranges } = space;
         let cells = instance.items() as usize * instance.periods() as usize;
         let setup = least_grid(alloc, instance, left, cells)?;
         let built = built_plan(alloc, instance, &setup)?;

@@ -4,12 +4,12 @@ ghost use Rattle.plan_rules.specs.Rows.{IfFound};
 ghost use Rattle.own_plan.specs.Made.{IsMade};
 ghost use Rattle.incumbent.specs.Kept.{IsBestSoFar, IsNoWorseBest};
 
+use crate::scope::Scope;
 use crate::shares::limit;
 use heur_lags::has_free_lots;
 use heur_setup_walks::walked_setups;
 use incumbent::keep_within;
 use lot_model::Instance;
-use node_domains::Ranges;
 use plan_rules::Planned;
 use std::alloc::{AllocError, Global};
 use work_clock::Deadline;
@@ -64,19 +64,18 @@ pub(crate) fn best_cost(best: &Option<Planned>) -> Option<u128> {
 /// they find something cheaper.
 pub(crate) fn walk_over_setups(
     alloc: Global,
-    instance: &Instance,
-    ranges: &Ranges,
-    until: Deadline,
+    scope: &Scope<'_>,
     best: &mut Option<Planned>,
 ) -> Result<(), AllocError>
-    requires { IsBestSoFar instance.now ranges.now best.old }
-    ensures { OnOk result (IsNoWorseBest instance.now ranges.now best.new best.old) }
+    requires { IsBestSoFar scope.now.instance.now scope.now.ranges.now best.old }
+    ensures { OnOk result
+        (IsNoWorseBest scope.now.instance.now scope.now.ranges.now best.new best.old) }
 {
-    let end = limit(until, best);
+    let end = limit(scope.until, best);
     for seed in 1..WALKS + 1 {
         let before = best_cost(best);
-        let found = walked_from(alloc, instance, best, seed, end)?;
-        keep_within(instance, ranges, best, found);
+        let found = walked_from(alloc, scope.instance, best, seed, end)?;
+        keep_within(scope.instance, scope.ranges, best, found);
         if best_cost(best) == before {
             return Ok(());
         }

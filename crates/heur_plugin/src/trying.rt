@@ -9,16 +9,15 @@ ghost use Rattle.incumbent.specs.Kept.{IsBestSoFar, IsNoWorseBest};
 use crate::effort::Effort;
 use crate::lagging::lag_from_average;
 use crate::programs::{try_program, try_walk};
+use crate::scope::Scope;
 use first_plans::{improved, tries_for};
 use heur_build::built_plan;
 use incumbent::keep_within;
 use integer_grids::numbers::ONE;
 use lot_model::Instance;
-use node_domains::Ranges;
 use plan_rules::{Grid, Planned};
 use price_rounds::Average;
 use std::alloc::{AllocError, Global};
-use work_clock::Deadline;
 
 // How often all changes of a plan are tried: of one that is near the best.
 const SWEEPS: u32 = 2;
@@ -156,24 +155,24 @@ fn built_near(
 // them. The better one is kept, if it lies within the ranges.
 fn try_setups(
     alloc: Global,
-    instance: &Instance,
-    ranges: &Ranges,
+    scope: &Scope<'_>,
     average: &Average,
     least: i128,
     effort: &mut Effort,
-    until: Deadline,
     best: &mut Option<Planned>,
 ) -> Result<(), AllocError>
-    requires { IsBestSoFar instance.now ranges.now best.old }
-    ensures { OnOk result (IsNoWorseBest instance.now ranges.now best.new best.old) }
+    requires { IsBestSoFar scope.now.instance.now scope.now.ranges.now best.old }
+    ensures { OnOk result
+        (IsNoWorseBest scope.now.instance.now scope.now.ranges.now best.new best.old) }
 {
-    if until.is_past() || !effort.remember(mark_of(instance, average, least))? {
+    let instance = scope.instance;
+    if scope.until.is_past() || !effort.remember(mark_of(instance, average, least))? {
         return Ok(());
     }
     let wanted = wanted_of(alloc, instance, average, least)?;
     let found = built_near(alloc, instance, &wanted, effort, best)?;
-    keep_within(instance, ranges, best, found);
-    try_program(alloc, instance, ranges, &wanted, effort, until, best)
+    keep_within(instance, scope.ranges, best, found);
+    try_program(alloc, scope, &wanted, effort, best)
 }
 
 /// Makes plans with the setups that are made in more than a half of the rounds of prices, and in more than a fifth, where there
@@ -185,18 +184,17 @@ fn try_setups(
 /// for the plans and for a tableau.
 pub(crate) fn try_average(
     alloc: Global,
-    instance: &Instance,
-    ranges: &Ranges,
+    scope: &Scope<'_>,
     average: &Average,
     effort: &mut Effort,
-    until: Deadline,
     best: &mut Option<Planned>,
 ) -> Result<(), AllocError>
-    requires { IsBestSoFar instance.now ranges.now best.old }
-    ensures { OnOk result (IsNoWorseBest instance.now ranges.now best.new best.old) }
+    requires { IsBestSoFar scope.now.instance.now scope.now.ranges.now best.old }
+    ensures { OnOk result
+        (IsNoWorseBest scope.now.instance.now scope.now.ranges.now best.new best.old) }
 {
-    lag_from_average(alloc, instance, ranges, average, effort, until, best)?;
-    try_setups(alloc, instance, ranges, average, HALF, effort, until, best)?;
-    try_setups(alloc, instance, ranges, average, FIFTH, effort, until, best)?;
-    try_walk(alloc, instance, ranges, effort, until, best)
+    lag_from_average(alloc, scope, average, effort, best)?;
+    try_setups(alloc, scope, average, HALF, effort, best)?;
+    try_setups(alloc, scope, average, FIFTH, effort, best)?;
+    try_walk(alloc, scope, effort, best)
 }

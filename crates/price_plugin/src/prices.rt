@@ -16,7 +16,7 @@ use price_leaves::{
     dropped_grouped_leaf, dropped_leaf, fixed_setups, grouped_leaf, priced_leaf, split_prices,
     tune_openings,
 };
-use search_plugins::{Progress, Proposed, Proposer};
+use search_plugins::{LeafWanted, OpenNode, Progress, Proposed, Proposer};
 use std::alloc::{AllocError, Global};
 use tree_search::{Node, Range};
 use work_clock::Deadline;
@@ -616,12 +616,15 @@ impl Proposer for Prices {
     fn improve(
         &self,
         alloc: Global,
-        instance: &Instance,
-        node: &Node,
-        cost: Option<u128>,
+        at: OpenNode<'_>,
         state: &Pricings,
         work: &mut Round,
     ) -> Result<Progress, AllocError> {
+        let OpenNode {
+            instance,
+            node,
+            cost,
+        } = at;
         let until = self.until;
         if until.is_past() {
             return Ok(Progress::Done);
@@ -656,9 +659,9 @@ impl Proposer for Prices {
         instance: &Instance,
         state: &Pricings,
         work: &Round,
-        says: Option<u128>,
-        first_cut: u32,
+        wanted: LeafWanted,
     ) -> Result<Option<Proposed>, AllocError> {
+        let LeafWanted { says, first_cut } = wanted;
         let refuted = work.is_refuted;
         let rounds = &work.rounds;
         if !refuted && !is_promising(rounds, says) {
@@ -679,12 +682,15 @@ impl Proposer for Prices {
     fn close(
         &self,
         alloc: Global,
-        instance: &Instance,
-        node: &Node,
-        cost: Option<u128>,
+        at: OpenNode<'_>,
         work: Round,
         state: &mut Pricings,
     ) -> Result<Option<usize>, AllocError> {
+        let OpenNode {
+            instance,
+            node,
+            cost,
+        } = at;
         let Round { rounds, fixed, .. } = work;
         let mut held = fixed;
         let pricing = &state.pricing;

@@ -9,6 +9,15 @@ use plan_rules::Planned;
 use std::alloc::{AllocError, Global};
 use tree_search::Range;
 
+/// The space in which plans are sought.
+#[derive(Clone, Copy)]
+pub struct Space<'a> {
+    /// The model.
+    pub instance: &'a Instance,
+    /// The ranges within which plans are to lie.
+    pub ranges: &'a Ranges,
+}
+
 /// What proposes plans, by hints of type `T`. It may better the best plan, by plans that were made within the ranges alone:
 /// `incumbent::keep_within` is such a step.
 ///
@@ -25,38 +34,38 @@ pub trait Heuristic<T> {
     fn at_start(
         &self,
         alloc: Global,
-        instance: &Instance,
-        ranges: &Ranges,
+        space: Space<'_>,
         state: &mut Self::State,
         best: &mut Option<Planned>,
     ) -> Result<(), AllocError>
-        requires { IsBestSoFar instance.now ranges.now best.old }
-        ensures { OnOk result (IsNoWorseBest instance.now ranges.now best.new best.old) };
+        requires { IsBestSoFar space.instance.now space.ranges.now best.old }
+        ensures { OnOk result (IsNoWorseBest space.entry.instance.now space.entry.ranges.now
+            best.new best.old) };
 
     /// Plans after some work at a node, by what the proposer tells of it.
     fn by_hint(
         &self,
         alloc: Global,
-        instance: &Instance,
-        ranges: &Ranges,
+        space: Space<'_>,
         hint: &T,
         state: &mut Self::State,
         best: &mut Option<Planned>,
     ) -> Result<(), AllocError>
-        requires { IsBestSoFar instance.now ranges.now best.old }
-        ensures { OnOk result (IsNoWorseBest instance.now ranges.now best.new best.old) };
+        requires { IsBestSoFar space.instance.now space.ranges.now best.old }
+        ensures { OnOk result (IsNoWorseBest space.entry.instance.now space.entry.ranges.now
+            best.new best.old) };
 
     /// Plans at a node whose setups are all chosen. `left` has what its path leaves: a range for each quantity and each setup.
     fn at_node(
         &self,
         alloc: Global,
-        instance: &Instance,
-        ranges: &Ranges,
+        space: Space<'_>,
         left: &[Range],
         state: &mut Self::State,
         best: &mut Option<Planned>,
     ) -> Result<(), AllocError>
-        requires size { length left.now ≡ choice_count instance.now }
-        requires best { IsBestSoFar instance.now ranges.now best.old }
-        ensures { OnOk result (IsNoWorseBest instance.now ranges.now best.new best.old) };
+        requires size { length left.now ≡ choice_count space.instance.now }
+        requires best { IsBestSoFar space.instance.now space.ranges.now best.old }
+        ensures { OnOk result (IsNoWorseBest space.entry.instance.now space.entry.ranges.now
+            best.new best.old) };
 }

@@ -22,7 +22,7 @@ mod nothing;
 mod proposer;
 mod watch;
 
-pub use heuristic::Heuristic;
+pub use heuristic::{Heuristic, Space};
 pub use nothing::Nothing;
-pub use proposer::{Progress, Proposed, Proposer};
+pub use proposer::{LeafWanted, OpenNode, Progress, Proposed, Proposer};
 pub use watch::{Limited, Unstopped, Watch};

@@ -1,8 +1,7 @@
 // What proposes nothing.
-use crate::heuristic::Heuristic;
-use crate::proposer::{Progress, Proposed, Proposer};
+use crate::heuristic::{Heuristic, Space};
+use crate::proposer::{LeafWanted, OpenNode, Progress, Proposed, Proposer};
 use lot_model::Instance;
-use node_domains::Ranges;
 use plan_rules::Planned;
 use std::alloc::{AllocError, Global};
 use tree_search::{Node, Range};
@@ -41,9 +40,7 @@ impl Proposer for Nothing {
     fn improve(
         &self,
         _alloc: Global,
-        _instance: &Instance,
-        _node: &Node,
-        _cost: Option<u128>,
+        _at: OpenNode<'_>,
         _state: &(),
         _work: &mut (),
     ) -> Result<Progress, AllocError> {
@@ -60,8 +57,7 @@ impl Proposer for Nothing {
         _instance: &Instance,
         _state: &(),
         _work: &(),
-        _says: Option<u128>,
-        _first_cut: u32,
+        _wanted: LeafWanted,
     ) -> Result<Option<Proposed>, AllocError> {
         Ok(None)
     }
@@ -69,9 +65,7 @@ impl Proposer for Nothing {
     fn close(
         &self,
         _alloc: Global,
-        _instance: &Instance,
-        _node: &Node,
-        _cost: Option<u128>,
+        _at: OpenNode<'_>,
         _work: (),
         _state: &mut (),
     ) -> Result<Option<usize>, AllocError> {
@@ -99,8 +93,7 @@ impl<T> Heuristic<T> for Nothing {
     fn at_start(
         &self,
         _alloc: Global,
-        _instance: &Instance,
-        _ranges: &Ranges,
+        _space: Space<'_>,
         _state: &mut (),
         _best: &mut Option<Planned>,
     ) -> Result<(), AllocError> {
@@ -110,8 +103,7 @@ impl<T> Heuristic<T> for Nothing {
     fn by_hint(
         &self,
         _alloc: Global,
-        _instance: &Instance,
-        _ranges: &Ranges,
+        _space: Space<'_>,
         _hint: &T,
         _state: &mut (),
         _best: &mut Option<Planned>,
@@ -122,8 +114,7 @@ impl<T> Heuristic<T> for Nothing {
     fn at_node(
         &self,
         _alloc: Global,
-        _instance: &Instance,
-        _ranges: &Ranges,
+        _space: Space<'_>,
         _left: &[Range],
         _state: &mut (),
         _best: &mut Option<Planned>,

@@ -28,6 +28,26 @@ pub enum Progress {
     Done,
 }
 
+/// An open node of a model, while the search is at it.
+#[derive(Clone, Copy)]
+pub struct OpenNode<'a> {
+    /// The model.
+    pub instance: &'a Instance,
+    /// The node.
+    pub node: &'a Node,
+    /// What the best plan so far costs, None where there is none.
+    pub cost: Option<u128>,
+}
+
+/// What a leaf is asked for.
+#[derive(Clone, Copy, Debug)]
+pub struct LeafWanted {
+    /// It is expected to say more than this, which is None where the node's leaf says that there is no plan.
+    pub says: Option<u128>,
+    /// The number of its first cut, counted from 1.
+    pub first_cut: u32,
+}
+
 /// What proposes leaves and branches. Each leaf is judged and each cut tested by the search: nothing is claimed of what a leaf
 /// says, and a place is taken only where it can be branched on.
 ///
@@ -58,13 +78,11 @@ pub trait Proposer {
     /// How often it is gone on with, at most.
     fn times(&self, node: &Node) -> u32;
 
-    /// It is gone on with. `cost` is that of the best plan so far, None where there is none.
+    /// It is gone on with.
     fn improve(
         &self,
         alloc: Global,
-        instance: &Instance,
-        node: &Node,
-        cost: Option<u128>,
+        at: OpenNode<'_>,
         state: &Self::State,
         work: &mut Self::Work,
     ) -> Result<Progress, AllocError>;
@@ -72,8 +90,7 @@ pub trait Proposer {
     /// What those that propose plans are told.
     fn hint<'a>(&self, work: &'a Self::Work) -> &'a Self::Hint;
 
-    /// A leaf, where it is expected to say more than `says`, which is None where the node's leaf says that there is no plan. Its
-    /// cuts have the numbers from `first_cut` on, counted from 1. It takes rows by their names; a leaf that has no lines in
+    /// A leaf, where it is expected to say more than what is wanted. It takes rows by their names; a leaf that has no lines in
     /// certificates isn't taken.
     fn leaf(
         &self,
@@ -81,8 +98,7 @@ pub trait Proposer {
         instance: &Instance,
         state: &Self::State,
         work: &Self::Work,
-        says: Option<u128>,
-        first_cut: u32,
+        wanted: LeafWanted,
     ) -> Result<Option<Proposed>, AllocError>
         ensures { IfFound result IsProposal };
 
@@ -90,9 +106,7 @@ pub trait Proposer {
     fn close(
         &self,
         alloc: Global,
-        instance: &Instance,
-        node: &Node,
-        cost: Option<u128>,
+        at: OpenNode<'_>,
         work: Self::Work,
         state: &mut Self::State,
     ) -> Result<Option<usize>, AllocError>;

@@ -5,6 +5,6 @@ use Rattle.branching.proofs.pricing.leaf_of.Goals as goal
 pub returns-in-None-clause-more : goal.returns-in-None-clause-more
 returns-in-None-clause-more ghosts c = record {
   known = c.requires.reached.known;
-  after = after_kept c.args.known.now _ refl;
+  after = after_kept c.args.state.now.known _ refl;
   best = refl;
 }

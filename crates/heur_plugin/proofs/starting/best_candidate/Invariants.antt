@@ -8,8 +8,8 @@ use Rattle.heur_plugin.proofs.starting.best_candidate.Given as goal
 
 abbrev pub invariant-loop-made : goal.invariant-loop-made
 invariant-loop-made l = record {
-  made : IfSome l.best (IsMadeWithin l.instance (given_ranges l.ranges));
-  each : All (IsMade l.instance) l.list.items;
+  made : IfSome l.best (IsMadeWithin l.scope.instance.now (given_ranges l.scope.ranges.now));
+  each : All (IsMade l.scope.instance.now) l.list.items;
 }
 
 abbrev pub decreases-loop-made : goal.decreases-loop-made

@@ -5,7 +5,7 @@ use Rattle.node_domains.specs.Within.{given_ranges}
 use Rattle.heur_plugin.proofs.starting.best_carried.Given as goal
 
 abbrev pub invariant-loop-made : goal.invariant-loop-made
-invariant-loop-made l = IfSome l.best (IsMadeWithin l.instance (given_ranges l.ranges))
+invariant-loop-made l = IfSome l.best (IsMadeWithin l.scope.instance.now (given_ranges l.scope.ranges.now))
 
 abbrev pub decreases-loop-made : goal.decreases-loop-made
 decreases-loop-made l = vec_len l.list
