@@ -17,6 +17,21 @@ const NAMES: [&str; 5] = ["resource", "period", "item", "start", "end"];
 
 const HEADER: &str = "resource,period,item,start,end";
 
+// A schedule file: its name, as it is shown, and its bytes.
+#[derive(Clone, Copy)]
+struct ScheduleFile<'a, 'b> {
+    name: &'a str,
+    bytes: &'b [u8],
+}
+
+// A record of a file, by its number, with the records that the file begins with; the header is number 0.
+#[derive(Clone, Copy)]
+struct Numbered<'a, 'b> {
+    bytes: &'a [u8],
+    rows: &'b [ByteRecord],
+    number: u32,
+}
+
 // The time that the lot of a slot takes. None where the plan isn't at hand.
 fn time_of(instance: &Instance, plan: Option<&Plan>, slot: FoundSlot) -> Option<u128> {
     let plan = plan?;
@@ -32,23 +47,21 @@ enum Earlier {
     Overlap,
 }
 
-// The row of the first earlier record that is of the same lot, or takes the same time; 0 where there is none.
+// The row of the first record before this one that is of the same lot, or takes the same time; 0 where there is none.
 fn earlier_row(
     instance: &Instance,
-    bytes: &[u8],
-    rows: &[ByteRecord],
-    number: u32,
+    record: Numbered<'_, '_>,
     slot: FoundSlot,
     wanted: Earlier,
 ) -> u64 {
-    for row in rows.iter().take(number as usize).skip(1) {
+    for row in record.rows.iter().take(record.number as usize).skip(1) {
         let other = found_slot(instance, row);
         let is_found = match wanted {
             Earlier::SameLot => is_same_lot(slot, other),
             Earlier::Overlap => is_same_place(slot, other) && do_overlap(slot, other),
         };
         if is_found {
-            return row_of(bytes, row);
+            return row_of(record.bytes, row);
         }
     }
     0
@@ -103,22 +116,20 @@ fn on_slot(
     alloc: Global,
     instance: &Instance,
     plan: Option<&Plan>,
-    bytes: &[u8],
-    rows: &[ByteRecord],
-    number: u32,
+    record: Numbered<'_, '_>,
     fault: &str,
     slot: FoundSlot,
 ) -> Result<String, AllocError> {
     let lot = lot_words(alloc, instance, slot)?;
     match fault {
         "1" => {
-            let earlier = earlier_row(instance, bytes, rows, number, slot, Earlier::SameLot);
+            let earlier = earlier_row(instance, record, slot, Earlier::SameLot);
             on_extra(alloc, lot.as_str(), earlier)
         }
         "2" => on_length(alloc, lot.as_str(), slot, time_of(instance, plan, slot)),
         "3" => on_past(alloc, instance, lot.as_str(), slot),
         _ => {
-            let earlier = earlier_row(instance, bytes, rows, number, slot, Earlier::Overlap);
+            let earlier = earlier_row(instance, record, slot, Earlier::Overlap);
             format!(in alloc;
                 "{lot} begins before the one in row {earlier} ends. Let one begin where the other ends.\n"
             )
@@ -131,11 +142,11 @@ fn on_record(
     alloc: Global,
     instance: &Instance,
     plan: Option<&Plan>,
-    file: &str,
-    bytes: &[u8],
+    file: ScheduleFile<'_, '_>,
     number: u32,
     fault: &str,
 ) -> Result<String, AllocError> {
+    let ScheduleFile { name, bytes } = file;
     let rows = first_records(alloc, bytes, (number as usize).saturating_add(1))?;
     let Some(row) = rows.get(number as usize) else {
         return Ok(String::new(alloc));
@@ -145,9 +156,14 @@ fn on_record(
         on_no_slot(alloc, instance, row)?
     } else {
         let slot = found_slot(instance, row);
-        on_slot(alloc, instance, plan, bytes, &rows, number, fault, slot)?
+        let record = Numbered {
+            bytes,
+            rows: &rows,
+            number,
+        };
+        on_slot(alloc, instance, plan, record, fault, slot)?
     };
-    format!(in alloc; "{file}, row {place}: {what}")
+    format!(in alloc; "{name}, row {place}: {what}")
 }
 
 // Words on a lot without a slot: `rejected slot 5 resource K period T item I`.
@@ -177,13 +193,12 @@ fn on_rejected(
     alloc: Global,
     instance: &Instance,
     plan: Option<&Plan>,
-    file: &str,
-    bytes: &[u8],
+    file: ScheduleFile<'_, '_>,
     line: &str,
 ) -> Result<String, AllocError> {
     match word_at(line, 2) {
-        "5" => on_absent(alloc, instance, plan, file, line),
-        fault => on_record(alloc, instance, plan, file, bytes, place_at(line, 4), fault),
+        "5" => on_absent(alloc, instance, plan, file.name, line),
+        fault => on_record(alloc, instance, plan, file, place_at(line, 4), fault),
     }
 }
 
@@ -201,11 +216,14 @@ pub fn words_on_schedule(
     line: &str,
 ) -> Result<String, AllocError> {
     let name = plain(alloc, file)?;
-    let file = name.as_str();
+    let file = ScheduleFile {
+        name: name.as_str(),
+        bytes,
+    };
     match (word_at(line, 0), word_at(line, 1)) {
-        ("slot", "header") => on_header(alloc, file, bytes, NAMES.as_slice(), HEADER),
-        ("slot", "row") => on_record(alloc, instance, plan, file, bytes, place_at(line, 2), ""),
-        ("rejected", "slot") => on_rejected(alloc, instance, plan, file, bytes, line),
+        ("slot", "header") => on_header(alloc, file.name, bytes, NAMES.as_slice(), HEADER),
+        ("slot", "row") => on_record(alloc, instance, plan, file, place_at(line, 2), ""),
+        ("rejected", "slot") => on_rejected(alloc, instance, plan, file, line),
         _ => Ok(String::new(alloc)),
     }
 }

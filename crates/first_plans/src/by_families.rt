@@ -4,7 +4,7 @@ ghost use Rattle.plan_rules.specs.Rows.{IfFound};
 ghost use Rattle.first_plans.specs.Families.{AreLots};
 ghost use Rattle.first_plans.specs.Made.{IsMade, IsNoDearer};
 
-use crate::families::{Families, Lots, family_alone, give_rows, take_rows};
+use crate::families::{Families, Family, Lots, family_alone, give_rows, take_rows};
 use crate::improving::{Improving, improved_so};
 use crate::kicks::kicked;
 use heur_items::copy_grid;
@@ -52,16 +52,15 @@ fn own_plan(
     alloc: Global,
     instance: &Instance,
     alone: &Instance,
-    families: &Families,
-    family: u32,
+    family: Family<'_>,
     lots: Lots<'_>,
 ) -> Result<Option<Planned>, AllocError>
     ensures { IfFound result (IsMade alone.now) }
 {
     let mut make = Grid::filled(alloc, alone.items(), alone.periods(), 0)?;
     let mut setup = Grid::filled(alloc, alone.items(), alone.periods(), 0)?;
-    take_rows(instance, families, family, lots.make, &mut make);
-    take_rows(instance, families, family, lots.setup, &mut setup);
+    take_rows(instance, family, lots.make, &mut make);
+    take_rows(instance, family, lots.setup, &mut setup);
     complete_at_cost(alloc, alone, make, setup)
 }
 
@@ -69,8 +68,7 @@ fn own_plan(
 fn plan_with(
     alloc: Global,
     instance: &Instance,
-    families: &Families,
-    family: u32,
+    family: Family<'_>,
     lots: Lots<'_>,
     own: Lots<'_>,
 ) -> Result<Option<Planned>, AllocError>
@@ -81,8 +79,8 @@ fn plan_with(
     let mut setup = Grid::filled(alloc, instance.items(), instance.periods(), 0)?;
     copy_grid(instance, lots.make, &mut make);
     copy_grid(instance, lots.setup, &mut setup);
-    give_rows(instance, families, family, own.make, &mut make);
-    give_rows(instance, families, family, own.setup, &mut setup);
+    give_rows(instance, family, own.make, &mut make);
+    give_rows(instance, family, own.setup, &mut setup);
     complete_at_cost(alloc, instance, make, setup)
 }
 
@@ -97,8 +95,7 @@ struct Tried {
 fn try_family(
     alloc: Global,
     instance: &Instance,
-    families: &Families,
-    family: u32,
+    family: Family<'_>,
     lots: Lots<'_>,
     work: u64,
     until: Deadline,
@@ -107,10 +104,10 @@ fn try_family(
     ensures { IfOk result (λ tried. IfSome tried.found (IsMade instance.now)) }
 {
     let none = Tried { found: None, work };
-    let Some(alone) = family_alone(alloc, instance, families, family, lots)? else {
+    let Some(alone) = family_alone(alloc, instance, family, lots)? else {
         return Ok(none);
     };
-    let Some(start) = own_plan(alloc, instance, &alone, families, family, lots)? else {
+    let Some(start) = own_plan(alloc, instance, &alone, family, lots)? else {
         return Ok(none);
     };
     let tries = tries_within(&alone, work);
@@ -126,7 +123,7 @@ fn try_family(
         setup: &best.plan.setup,
     };
     Ok(Tried {
-        found: plan_with(alloc, instance, families, family, lots, own)?,
+        found: plan_with(alloc, instance, family, lots, own)?,
         work: work.saturating_sub(used.saturating_mul(size_of(&alone))),
     })
 }
@@ -135,8 +132,7 @@ fn try_family(
 fn improve_family(
     alloc: Global,
     instance: &Instance,
-    families: &Families,
-    family: u32,
+    family: Family<'_>,
     best: &mut Planned,
     work: u64,
     until: Deadline,
@@ -148,7 +144,7 @@ fn improve_family(
         make: &best.plan.make,
         setup: &best.plan.setup,
     };
-    let Tried { found, work } = try_family(alloc, instance, families, family, lots, work, until)?;
+    let Tried { found, work } = try_family(alloc, instance, family, lots, work, until)?;
     if let Some(planned) = found {
         if planned.cost < best.cost {
             *best = planned;
@@ -170,9 +166,10 @@ fn improve_all(
     ensures { OnOk result (IsNoDearer instance.now best.old best.new) }
 {
     let mut left = work;
-    for family in 1..instance.items() + 1 {
-        if left > 0 && families.has(family, family) && !until.is_past() {
-            left = improve_family(alloc, instance, families, family, best, left, until)?;
+    for least in 1..instance.items() + 1 {
+        let family = Family { families, least };
+        if left > 0 && family.has(least) && !until.is_past() {
+            left = improve_family(alloc, instance, family, best, left, until)?;
         }
     }
     Ok(left)

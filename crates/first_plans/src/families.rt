@@ -78,10 +78,21 @@ impl Families {
         }
         true
     }
+}
 
-    /// Whether an item is of a family, by the least number of an item there.
-    pub(crate) fn has(&self, family: u32, item: u32) -> bool {
-        self.mark(item) == Some(family)
+/// A family of items.
+#[derive(Clone, Copy)]
+pub struct Family<'a> {
+    /// All families of the model.
+    pub(crate) families: &'a Families,
+    /// The least number of an item of this one.
+    pub(crate) least: u32,
+}
+
+impl Family<'_> {
+    /// Whether an item is of the family.
+    pub(crate) fn has(&self, item: u32) -> bool {
+        self.families.mark(item) == Some(self.least)
     }
 }
 
@@ -176,12 +187,11 @@ fn item_of(alloc: Global, instance: &Instance, item: u32) -> Result<DraftItem, A
 fn items_of(
     alloc: Global,
     instance: &Instance,
-    families: &Families,
-    family: u32,
+    family: Family<'_>,
 ) -> Result<Vec<DraftItem>, AllocError> {
     let mut list = Vec::new(alloc);
     for item in 1..instance.items() + 1 {
-        if families.has(family, item) {
+        if family.has(item) {
             list.push(item_of(alloc, instance, item)?)?;
         }
     }
@@ -198,8 +208,7 @@ pub struct Lots<'a> {
 // The time of a resource in a period that the lots of other families leave.
 fn time_left(
     instance: &Instance,
-    families: &Families,
-    family: u32,
+    family: Family<'_>,
     lots: Lots<'_>,
     resource: u32,
     period: u32,
@@ -212,7 +221,7 @@ fn time_left(
 {
     let mut left = instance.capacity(resource, period) as u128;
     for item in 1..instance.items() + 1 {
-        if !families.has(family, item) {
+        if !family.has(item) {
             let units = instance.unit_time(item, resource) as u128
                 * lots.make.get(item, period) as u128;
             let setups = instance.setup_time(item, resource) as u128
@@ -227,8 +236,7 @@ fn time_left(
 fn resource_of(
     alloc: Global,
     instance: &Instance,
-    families: &Families,
-    family: u32,
+    family: Family<'_>,
     lots: Lots<'_>,
     resource: u32,
 ) -> Result<DraftResource, AllocError>
@@ -238,7 +246,7 @@ fn resource_of(
 {
     let mut capacity = Vec::new(alloc);
     for period in 1..instance.periods() + 1 {
-        let left = time_left(instance, families, family, lots, resource, period);
+        let left = time_left(instance, family, lots, resource, period);
         capacity.push(signed(left))?;
     }
     Ok(DraftResource {
@@ -251,15 +259,14 @@ fn resource_of(
 fn resources_of(
     alloc: Global,
     instance: &Instance,
-    families: &Families,
-    family: u32,
+    family: Family<'_>,
     lots: Lots<'_>,
 ) -> Result<Vec<DraftResource>, AllocError>
     requires lots { AreLots instance.now lots }
 {
     let mut list = Vec::new(alloc);
     for resource in 1..instance.resources() + 1 {
-        list.push(resource_of(alloc, instance, families, family, lots, resource)?)?;
+        list.push(resource_of(alloc, instance, family, lots, resource)?)?;
     }
     Ok(list)
 }
@@ -269,16 +276,15 @@ fn resources_of(
 pub(crate) fn family_alone(
     alloc: Global,
     instance: &Instance,
-    families: &Families,
-    family: u32,
+    family: Family<'_>,
     lots: Lots<'_>,
 ) -> Result<Option<Instance>, AllocError>
     requires lots { AreLots instance.now lots }
 {
     let draft = Draft {
         periods: i64::from(instance.periods()),
-        resources: resources_of(alloc, instance, families, family, lots)?,
-        items: items_of(alloc, instance, families, family)?,
+        resources: resources_of(alloc, instance, family, lots)?,
+        items: items_of(alloc, instance, family)?,
     };
     match Instance::from_draft(alloc, draft) {
         Ok(alone) => Ok(Some(alone)),
@@ -303,13 +309,13 @@ fn copy_row(from: &Grid, item: u32, to: &mut Grid, other: u32)
 }
 
 /// Copies the rows of a family out of the grid of all items.
-pub fn take_rows(instance: &Instance, families: &Families, family: u32, all: &Grid, own: &mut Grid)
+pub fn take_rows(instance: &Instance, family: Family<'_>, all: &Grid, own: &mut Grid)
     ensures items { own.new.items ≡ own.old.items }
     ensures periods { own.new.periods ≡ own.old.periods }
 {
     let mut row = 0u32;
     for item in 1..instance.items() + 1 {
-        if families.has(family, item) {
+        if family.has(item) {
             row = row.saturating_add(1);
             copy_row(all, item, own, row);
         }
@@ -317,13 +323,13 @@ pub fn take_rows(instance: &Instance, families: &Families, family: u32, all: &Gr
 }
 
 /// Copies the rows of a family into the grid of all items.
-pub fn give_rows(instance: &Instance, families: &Families, family: u32, own: &Grid, all: &mut Grid)
+pub fn give_rows(instance: &Instance, family: Family<'_>, own: &Grid, all: &mut Grid)
     ensures items { all.new.items ≡ all.old.items }
     ensures periods { all.new.periods ≡ all.old.periods }
 {
     let mut row = 0u32;
     for item in 1..instance.items() + 1 {
-        if families.has(family, item) {
+        if family.has(item) {
             row = row.saturating_add(1);
             copy_row(own, row, all, item);
         }

@@ -14,6 +14,13 @@ use lot_model::Instance;
 use plan_rules::{Grid, Planned, complete_at_cost};
 use std::alloc::{AllocError, Global};
 
+// Lots, and their setups.
+#[derive(Drop)]
+struct Lots {
+    make: Grid,
+    setup: Grid,
+}
+
 /// The value of a column at a point.
 pub(crate) fn value_at(instance: &Instance, solved: &Solved, column: Column) -> Frac {
     match role_of(instance, &solved.roles, column) {
@@ -26,30 +33,22 @@ pub(crate) fn value_at(instance: &Instance, solved: &Solved, column: Column) -> 
 }
 
 // Puts a lot of an item in a period where there may be a setup, with the setup if there is some of it.
-fn put_lot(
-    _instance: &Instance,
-    high: &Grid,
-    item: u32,
-    period: u32,
-    lot: u64,
-    make: &mut Grid,
-    setup: &mut Grid,
-)
+fn put_lot(_instance: &Instance, high: &Grid, item: u32, period: u32, lot: u64, lots: &mut Lots)
     requires high_fits { Fits _instance.now high.now }
-    requires make { Fits _instance.now make.old }
-    requires setup { Fits _instance.now setup.old }
+    requires make { Fits _instance.now lots.old.make }
+    requires setup { Fits _instance.now lots.old.setup }
     requires item_low { 1 ≤ item }
     requires item_high { item ≤ item_count _instance.now }
     requires low { 1 ≤ period }
     requires high { period ≤ _instance.now.periods }
-    requires within { IsSetUpWithin _instance.now high.now setup.old }
-    ensures make { Fits _instance.now make.new }
-    ensures setup { Fits _instance.now setup.new }
-    ensures within { IsSetUpWithin _instance.now high.now setup.new }
+    requires within { IsSetUpWithin _instance.now high.now lots.old.setup }
+    ensures make { Fits _instance.now lots.new.make }
+    ensures setup { Fits _instance.now lots.new.setup }
+    ensures within { IsSetUpWithin _instance.now high.now lots.new.setup }
 {
     if lot > 0 && high.get(item, period) > 0 {
-        make.set(item, period, lot);
-        setup.set(item, period, 1);
+        lots.make.set(item, period, lot);
+        lots.setup.set(item, period, 1);
     }
 }
 
@@ -65,18 +64,17 @@ fn put_item(
     high: &Grid,
     solved: &Solved,
     item: u32,
-    make: &mut Grid,
-    setup: &mut Grid,
+    lots: &mut Lots,
 ) -> Option<()>
     requires high_fits { Fits instance.now high.now }
-    requires make { Fits instance.now make.old }
-    requires setup { Fits instance.now setup.old }
+    requires make { Fits instance.now lots.old.make }
+    requires setup { Fits instance.now lots.old.setup }
     requires low { 1 ≤ item }
     requires item_high { item ≤ item_count instance.now }
-    requires within { IsSetUpWithin instance.now high.now setup.old }
-    ensures make { Fits instance.now make.new }
-    ensures setup { Fits instance.now setup.new }
-    ensures within { IsSetUpWithin instance.now high.now setup.new }
+    requires within { IsSetUpWithin instance.now high.now lots.old.setup }
+    ensures make { Fits instance.now lots.new.make }
+    ensures setup { Fits instance.now lots.new.setup }
+    ensures within { IsSetUpWithin instance.now high.now lots.new.setup }
 {
     let mut total = Frac::from(0i64);
     let mut made = 0u64;
@@ -84,7 +82,7 @@ fn put_item(
         let value = value_at(instance, solved, Column::X { item, period });
         total = total.add(value)?;
         let lot = rounded(total)?.saturating_sub(made);
-        put_lot(instance, high, item, period, lot, make, setup);
+        put_lot(instance, high, item, period, lot, lots);
         made = made.saturating_add(lot);
     }
     Some(())
@@ -102,12 +100,14 @@ pub(crate) fn plan_of(
     ensures plan { IfFound result (IsMade instance.now) }
     ensures within { IfFound result (SetsUpWithin instance.now high.now) }
 {
-    let mut make = Grid::filled(alloc, instance.items(), instance.periods(), 0)?;
-    let mut setup = Grid::filled(alloc, instance.items(), instance.periods(), 0)?;
+    let mut lots = Lots {
+        make: Grid::filled(alloc, instance.items(), instance.periods(), 0)?,
+        setup: Grid::filled(alloc, instance.items(), instance.periods(), 0)?,
+    };
     for item in 1..instance.items() + 1 {
-        if put_item(instance, high, solved, item, &mut make, &mut setup).is_none() {
+        if put_item(instance, high, solved, item, &mut lots).is_none() {
             return Ok(None);
         }
     }
-    complete_at_cost(alloc, instance, make, setup)
+    complete_at_cost(alloc, instance, lots.make, lots.setup)
 }

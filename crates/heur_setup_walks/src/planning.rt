@@ -6,7 +6,7 @@ ghost use Rattle.plan_rules.specs.Rows.{IfFound};
 ghost use Rattle.own_plan.specs.Made.{IsMade};
 
 use crate::frame::Frame;
-use crate::walking::{Setups, walk};
+use crate::walking::{Setups, Tour, walk};
 use lot_model::Instance;
 use plan_rules::{Grid, Planned};
 use std::alloc::{AllocError, Global};
@@ -69,7 +69,8 @@ pub fn walked_setups(
     match frame.cost_of(alloc, &open, i64::MAX)? {
         Some(cost) => {
             let from = Setups { open, cost };
-            walk(alloc, instance, &frame, from, seed, steps, until)
+            let tour = Tour::new(instance, &frame, from, seed);
+            walk(alloc, instance, tour, steps, until)
         }
         None => Ok(None),
     }

@@ -82,9 +82,9 @@ fn least_of(best: &Option<Planned>, most: i64) -> i64 {
     }
 }
 
-// Where a walk stands.
+/// Where a walk stands.
 #[derive(Drop)]
-struct Tour<'a> {
+pub(crate) struct Tour<'a> {
     instance: &'a Instance,
     frame: &'a Frame,
     here: Setups,
@@ -96,6 +96,23 @@ struct Tour<'a> {
 }
 
 impl<'a> Tour<'a> {
+    /// A walk that begins at these setups.
+    pub(crate) fn new(
+        instance: &'a Instance,
+        frame: &'a Frame,
+        from: Setups,
+        seed: u64,
+    ) -> Tour<'a> {
+        Tour {
+            instance,
+            frame,
+            here: from,
+            least: i64::MAX,
+            words: Lcg64Xsh32::new(seed, STREAM),
+            trials: MOST_TRIALS,
+        }
+    }
+
     // Goes to setups that differ by a random change, where they don't cost much more. It says whether it went.
     fn go(&mut self, alloc: Global, left: i64) -> Result<bool, AllocError> {
         let cost = self.here.cost;
@@ -165,27 +182,17 @@ fn plan_here(
     keep_rounded(alloc, instance, tour, Order::Earliest, best)
 }
 
-/// The cheapest plan that a walk of so many steps finds from these setups. It ends early when it is time.
+/// The cheapest plan that a walk of so many steps finds from where it stands. It ends early when it is time.
 pub(crate) fn walk(
     alloc: Global,
     instance: &Instance,
-    frame: &Frame,
-    from: Setups,
-    seed: u64,
+    mut tour: Tour<'_>,
     steps: u32,
     until: Deadline,
 ) -> Result<Option<Planned>, AllocError>
     ensures { IfFound result (IsMade instance.now) }
 {
     let mut best = None;
-    let mut tour = Tour {
-        instance,
-        frame,
-        here: from,
-        least: i64::MAX,
-        words: Lcg64Xsh32::new(seed, STREAM),
-        trials: MOST_TRIALS,
-    };
     for step in 0..steps {
         let left = times(i64::from(steps - step), THOUSAND) / i64::from(steps).max(1);
         if until.is_past() {

@@ -17,7 +17,7 @@ use crate::progress::Teller;
 use command_line::seconds_asked;
 use explain::{Remembering, Seen, explain};
 use heur_plugin::Plans;
-use lot_io::{Shelf, Sink, StdSink};
+use lot_io::{Sink, StdSink};
 use lotplan::status::{NO_MEMORY, UNPRINTED, UNWRITTEN};
 use lotplan::{refuse_words, run};
 use price_plugin::Prices;
@@ -30,16 +30,8 @@ use work_clock::Deadline;
 
 // Writes words on a run to the error stream. Where that fails, or memory for them is short, the status and the lines stand as they
 // are.
-fn say_why<R: Eprint, S: Shelf>(
-    rt: &R,
-    alloc: Global,
-    words: &[String],
-    status: u8,
-    printed: &str,
-    seen: Seen<'_>,
-    shelf: &mut S,
-) {
-    if let Ok(said) = explain(alloc, words, status, printed, seen, shelf) {
+fn say_why<R: Eprint>(rt: &R, why: Result<String, AllocError>) {
+    if let Ok(said) = why {
         if !said.is_empty() {
             let _ = rt.eprint(said);
         }
@@ -98,7 +90,8 @@ fn run_words(rt: &HostRuntime, alloc: Global, words: &[String]) -> Result<u8, Al
         same: outputs.same(),
         course: watched.history.course(),
     };
-    say_why(rt, alloc, words, status, out.printed(), seen, &mut shelf);
+    let why = explain(alloc, words, status, out.printed(), seen, &mut shelf);
+    say_why(rt, why);
     Ok(status)
 }
 

@@ -1,5 +1,5 @@
 use Rattle.first_plans.specs.Made.{IsNoDearer}
 use Rattle.first_plans.proofs.by_families.improve_all.Given as goal
 
-abbrev pub invariant-loop-family : goal.invariant-loop-family
-invariant-loop-family l = IsNoDearer l.instance l.fn.best l.best
+abbrev pub invariant-loop-least : goal.invariant-loop-least
+invariant-loop-least l = IsNoDearer l.instance l.fn.best l.best
